@@ -1,0 +1,2 @@
+-- The definition of 01's 'The run', and the statements of what holds of it.
+pub mod Run

@@ -1,0 +1,1 @@
+// The run: its definition (specs/) and the theorems on it.
