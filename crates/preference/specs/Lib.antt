@@ -1,0 +1,2 @@
+-- The definitions of 01's 'Preferences'.
+pub mod Preference
