@@ -10,13 +10,13 @@ use lib.ListN.{length, getD}
 abbrev pub odd : ℕ → Bool
 odd n = eqb (n % 2) 1
 
--- How many of the lowest binary digits of a number, so many of them, are ones: the last digit is the remainder by 2, and the others are
+-- The number of ones among the lowest binary digits of n, as many as `digits` says: the last digit is the remainder by 2, the others are
 -- those of the half.
 abbrev pub ones : ℕ → ℕ → ℕ
 ones zero n = 0
 ones (suc digits) n = n % 2 + ones digits (n / 2)
 
--- 'Entry i is 1 if the binary form of i has an odd number of ones, else 0.' A number below 256 has no more than eight binary digits.
+-- 'Entry i is 1 if the binary form of i has an odd number of ones, else 0.' A number below 256 has at most eight binary digits.
 unfoldable pub parity : ℕ → Bool
 parity n = odd (ones 8 n)
 

@@ -21,6 +21,7 @@ bit-is-one false = refl
 array-read-result : tie.Need-array-read-result
 array-read-result c = search needs
 
+-- `tt`: the test over the table has come out true.
 returns : tie.Need-returns
 unfolding parity
 returns c = rw (entry-follows (λ k. bit (parity k)), tt, c .pre) (bit-is-one (parity (c .args .k)))
