@@ -1,2 +1,4 @@
 pub mod Cuts
 pub mod Node
+pub mod Steps
+pub mod Success
