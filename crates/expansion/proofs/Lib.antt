@@ -2,3 +2,4 @@ pub mod Cuts
 pub mod Node
 pub mod Steps
 pub mod Success
+pub mod ClauseCuts
