@@ -1,5 +1,8 @@
 -- The laws of the definitions, each file about one notion, and the theorems that a reader wants, each in a file of its own.
 pub mod Booleans
 pub mod Membership
+pub mod Walk
+pub mod CopyLaws
+pub mod FirstModel
 pub mod Leading
 pub mod LeadingPath

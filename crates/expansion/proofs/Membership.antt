@@ -3,8 +3,8 @@
 -- Assumes nothing.
 use Prim.Native.Nat.{ℕ, zero, suc, _<_}
 use native.Mathlib.Omega.{arith}
-use mathlib.Core.Path.{_≡_, refl, sym, ap, ap₂, subst, _∙_}
-use mathlib.Core.Bool.{Bool, true, false, _&&_, cond, Bool·beq, and-eq-true-iff, false≢true}
+use mathlib.Core.Path.{_≡_, refl, sym, ap, ap₂}
+use mathlib.Core.Bool.{Bool, true, false, Bool·beq, and-eq-true-iff, false≢true}
 use mathlib.Core.List.{List, [], _∷_, _++_, map}
 use mathlib.Core.Logic.{_⊎_, inl, inr, ⊎-elim, ⊎-map}
 use lib.ListN.{length, getD}
@@ -68,12 +68,12 @@ module _ {A B : Type 0} (f : A → B) where
 
   pub distinct-map : (xs : List A) → ((x y : A) → f x ≡ f y → x ≡ y) → Distinct xs → Distinct (map f xs)
   distinct-map [] one-to-one d = tt
-  distinct-map (x ∷ xs) one-to-one d = (
-    λ h.
-        let p = in-map-cases (f x) xs h in
-        d .0 (subst (λ z. In z xs) (sym (one-to-one x (p .0) (p .1))) (p .2)),
-    distinct-map xs one-to-one (d .1),
-  )
+  distinct-map (x ∷ xs) one-to-one d =
+      let first-again : In (f x) (map f xs) → In x xs =
+      λ h.
+      let p = in-map-cases (f x) xs h in
+      rw (one-to-one x (p .0) (p .1)) (p .2) in
+      (λ h. d .0 (first-again h), distinct-map xs one-to-one (d .1))
 
 -- The tests.
 pub same-refl : (r : Row) → same r r ≡ true
@@ -132,21 +132,13 @@ in-or-not r rows = ⊎-elim (λ e. inl (among-in r rows e)) (λ e. inr (not-amon
 pub in-fresh : (r : Row) (seen rows : List Row) → In r rows → (In r seen → ⊥) → In r (fresh seen rows)
 in-fresh r seen [] h unseen = absurd h
 in-fresh r seen (x ∷ rows) h unseen =
-    ⊎-elim
-    (λ (p : among x seen ≡ true).
-    rw p (⊎-elim (λ (e : r ≡ x). absurd (unseen (among-in r seen (rw (← e) at p)))) (λ (l : In r rows). in-fresh r seen rows l unseen) h)
-    )
-    (λ (p : among x seen ≡ false).
-    rw p
-    (⊎-elim
-    (λ (e : r ≡ x). inl e)
-    (λ (l : In r rows).
-    ⊎-map (λ e. e) (λ (ne : r ≡ x → ⊥). in-fresh r (x ∷ seen) rows l (⊎-elim ne unseen)) (equal-or-not r x)
-    )
-    h
-    )
-    )
-    (true-or-false (among x seen))
+    let not-first : among x seen ≡ true → r ≡ x → ⊥ = λ p e. unseen (among-in r seen (rw (← e) at p)) in
+    let if-seen : among x seen ≡ true → In r (fresh seen (x ∷ rows)) =
+    λ p. rw p (⊎-elim (λ e. absurd (not-first p e)) (λ l. in-fresh r seen rows l unseen) h) in
+    let later : In r rows → (r ≡ x) ⊎ In r (fresh (x ∷ seen) rows) =
+    λ l. ⊎-map (λ e. e) (λ ne. in-fresh r (x ∷ seen) rows l (⊎-elim ne unseen)) (equal-or-not r x) in
+    let if-new : among x seen ≡ false → In r (fresh seen (x ∷ rows)) = λ p. rw p (⊎-elim inl later h) in
+    ⊎-elim if-seen if-new (true-or-false (among x seen))
 
 pub fresh-in : (r : Row) (seen rows : List Row) → In r (fresh seen rows) → In r rows
 fresh-in r seen [] h = h
@@ -159,15 +151,11 @@ fresh-in r seen (x ∷ rows) h =
 pub fresh-unseen : (r : Row) (seen rows : List Row) → In r (fresh seen rows) → In r seen → ⊥
 fresh-unseen r seen [] h s = h
 fresh-unseen r seen (x ∷ rows) h s =
-    ⊎-elim
-    (λ (p : among x seen ≡ true). fresh-unseen r seen rows (rw p at h) s)
-    (λ (p : among x seen ≡ false).
-    ⊎-elim
-    (λ (e : r ≡ x). not-among x seen p (rw e at s))
-    (λ (l : In r (fresh (x ∷ seen) rows)). fresh-unseen r (x ∷ seen) rows l (inr s))
-    (rw p at h)
-    )
-    (true-or-false (among x seen))
+    let if-seen : among x seen ≡ true → ⊥ = λ p. fresh-unseen r seen rows (rw p at h) s in
+    let not-first : among x seen ≡ false → r ≡ x → ⊥ = λ p e. not-among x seen p (rw e at s) in
+    let if-new : among x seen ≡ false → ⊥ =
+    λ p. ⊎-elim (not-first p) (λ l. fresh-unseen r (x ∷ seen) rows l (inr s)) (rw p at h) in
+    ⊎-elim if-seen if-new (true-or-false (among x seen))
 
 pub distinct-fresh : (seen rows : List Row) → Distinct (fresh seen rows)
 distinct-fresh seen [] = tt
