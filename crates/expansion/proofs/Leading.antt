@@ -8,8 +8,10 @@ use mathlib.Core.List.{List, [], _∷_}
 use mathlib.Core.Logic.{_⊎_}
 use lib.Dec.{eqb}
 use lib.ListN.{length, getD}
-use Rattle.expansion.specs.Play.{Row, first-value, later-values, restriction, Strategy, past-own, past-row}
+use Rattle.expansion.specs.Play.{Row, first-value, later-values, restriction, Strategy, past-own, past-row, play}
 use Rattle.expansion.specs.Copies.{Copy, same, copies}
+use Rattle.expansion.specs.Model.{wins}
+use Rattle.expansion.proofs.CopyLaws.{Own}
 
 -- The number of a copy: its place in the list of copies.
 abbrev pub number : List Copy → ℕ → Row → ℕ
@@ -37,7 +39,7 @@ pub record Fits (ts : List Bool) (row : Row) (P : List Bool) : Type 0 where
 
 -- Rows with the same restriction have the same value: each copy has one value.
 abbrev pub Uniform : List Bool → List Row → List (List Bool) → Type 0
-Uniform ts rows plays = (i j k : ℕ) → i < length rows → j < length rows → getD ts k false ≡ true
+Uniform ts rows plays = (i j k : ℕ) → i < length rows → j < length rows → Own ts k
     → restriction ts k (getD rows i []) ≡ restriction ts k (getD rows j [])
     → getD (getD plays i []) k false ≡ getD (getD plays j []) k false
 
@@ -53,6 +55,15 @@ LeadsPath W (false ∷ ts) row P Q =
 
 -- .. and by index.
 abbrev pub LeadsAt : Strategy → List Bool → Row → List Bool → List Bool → Type 0
-LeadsAt W ts row P Q = (k : ℕ) → getD ts k false ≡ true
+LeadsAt W ts row P Q = (k : ℕ) → Own ts k
     → ((j : ℕ) → j < k → getD P j false ≡ getD Q j false)
     → (getD P k false ≡ getD Q k false) ⊎ (getD P k false ≡ W k (restriction ts k row))
+
+-- What a search owes for plays that it returns, one for each row in the rows' order: they make the first model.
+pub record Leading (prefer : ℕ → Bool) (ts : List Bool) (psi : List Bool → Bool) (rows : List Row) (plays : List (List Bool)) : Type 0 where
+  pub one-each : length plays ≡ length rows
+  pub fits : (i : ℕ) → i < length rows → Fits ts (getD rows i []) (getD plays i [])
+  pub uniform : Uniform ts rows plays
+  pub reach : (i : ℕ) → i < length rows → psi (getD plays i []) ≡ true
+  pub lead : (σ : Strategy) → wins ts psi σ rows ≡ true → (i : ℕ) → i < length rows
+      → LeadsAt (wanted prefer ts rows) ts (getD rows i []) (getD plays i []) (play ts σ (getD rows i []))

@@ -2,13 +2,15 @@
 -- Assumes nothing.
 use Prim.Native.Nat.{ℕ, zero, suc, _<_}
 use native.Mathlib.Omega.{arith}
-use mathlib.Core.Path.{_≡_, refl, sym, ap, _∙_}
+use mathlib.Core.Path.{_≡_, refl, sym, ap, subst, _∙_}
 use mathlib.Core.Bool.{Bool, true, false, false≢true, true≢false}
 use mathlib.Core.List.{List, [], _∷_}
-use mathlib.Core.Logic.{_⊎_, inl, inr}
+use mathlib.Core.Logic.{_⊎_, ⊎-elim}
 use lib.ListN.{length, getD}
 use lib.Seq.{ext-getD}
 use Rattle.expansion.specs.Play.{Row, first-value, later-values, restriction, Strategy, past-own, past-row, play}
+use Rattle.expansion.proofs.Booleans.{true-or-false}
+use Rattle.expansion.proofs.CopyLaws.{Own}
 use Rattle.expansion.proofs.Leading.{row-value, Fits, LeadsPath, LeadsAt}
 
 first-at : (P : List Bool) → getD P zero false ≡ first-value P
@@ -59,7 +61,7 @@ length-play [] σ row = refl
 length-play (true ∷ ts) σ row = ap suc (length-play ts (past-own σ) row)
 length-play (false ∷ ts) σ row = ap suc (length-play ts (past-row (first-value row) σ) (later-values row))
 
-pub play-at-own : (ts : List Bool) (σ : Strategy) (row : Row) (k : ℕ) → getD ts k false ≡ true
+pub play-at-own : (ts : List Bool) (σ : Strategy) (row : Row) (k : ℕ) → Own ts k
     → getD (play ts σ row) k false ≡ σ k (restriction ts k row)
 play-at-own [] σ row k o = absurd (false≢true o)
 play-at-own (true ∷ ts) σ row zero o = refl
@@ -67,13 +69,32 @@ play-at-own (true ∷ ts) σ row (suc k) o = play-at-own ts (past-own σ) row k 
 play-at-own (false ∷ ts) σ row zero o = absurd (false≢true o)
 play-at-own (false ∷ ts) σ row (suc k) o = play-at-own ts (past-row (first-value row) σ) (later-values row) k o
 
-play-at-other : (ts : List Bool) (σ : Strategy) (row : Row) (k : ℕ) → k < length ts → getD ts k false ≡ false
-    → getD (play ts σ row) k false ≡ row-value ts row k
-play-at-other [] σ row k l o = absurd (omega arith)
-play-at-other (true ∷ ts) σ row zero l o = absurd (true≢false o)
-play-at-other (true ∷ ts) σ row (suc k) l o = play-at-other ts (past-own σ) row k (omega arith) o
-play-at-other (false ∷ ts) σ row zero l o = refl
-play-at-other (false ∷ ts) σ row (suc k) l o = play-at-other ts (past-row (first-value row) σ) (later-values row) k (omega arith) o
+pub play-at-other : (ts : List Bool) (σ : Strategy) (row : Row) (k : ℕ) → getD ts k false ≡ false → getD (play ts σ row) k false ≡ row-value ts row k
+play-at-other [] σ row k o = refl
+play-at-other (true ∷ ts) σ row zero o = absurd (true≢false o)
+play-at-other (true ∷ ts) σ row (suc k) o = play-at-other ts (past-own σ) row k o
+play-at-other (false ∷ ts) σ row zero o = refl
+play-at-other (false ∷ ts) σ row (suc k) o = play-at-other ts (past-row (first-value row) σ) (later-values row) k o
 
 pub play-fits : (ts : List Bool) (σ : Strategy) (row : Row) → Fits ts row (play ts σ row)
-play-fits ts σ row = record { whole = length-play ts σ row; row-values = play-at-other ts σ row }
+play-fits ts σ row = record { whole = length-play ts σ row; row-values = λ k l. play-at-other ts σ row k }
+
+-- What fits a row is the play of every strategy that has its own values along the row.
+pub fits-is-play : (ts : List Bool) (σ : Strategy) (row : Row) (P : List Bool) → Fits ts row P
+    → ((k : ℕ) → Own ts k → σ k (restriction ts k row) ≡ getD P k false) → play ts σ row ≡ P
+fits-is-play ts σ row P fits own =
+    ext-getD false (play ts σ row) P (length-play ts σ row ∙ sym (fits .whole))
+    (λ k l. ⊎-elim
+    (λ (o : Own ts k). play-at-own ts σ row k o ∙ own k o)
+    (λ (o : getD ts k false ≡ false). play-at-other ts σ row k o ∙ sym (fits .row-values k (subst (λ (n : ℕ). k < n) (length-play ts σ row) l) o))
+    (true-or-false (getD ts k false)))
+
+-- Plays of two strategies: before an own position they agree if the strategies agree along the row.
+pub plays-agree-below : (ts : List Bool) (σ τ : Strategy) (row : Row) (k : ℕ)
+    → ((j : ℕ) → j < k → Own ts j → σ j (restriction ts j row) ≡ τ j (restriction ts j row))
+    → (j : ℕ) → j < k → getD (play ts σ row) j false ≡ getD (play ts τ row) j false
+plays-agree-below ts σ τ row k agree j l =
+    ⊎-elim
+    (λ (o : Own ts j). play-at-own ts σ row j o ∙ agree j l o ∙ sym (play-at-own ts τ row j o))
+    (λ (o : getD ts j false ≡ false). play-at-other ts σ row j o ∙ sym (play-at-other ts τ row j o))
+    (true-or-false (getD ts j false))

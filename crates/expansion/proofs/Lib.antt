@@ -6,3 +6,5 @@ pub mod CopyLaws
 pub mod FirstModel
 pub mod Leading
 pub mod LeadingPath
+pub mod LeadingCopies
+pub mod LeadingFirst
