@@ -142,7 +142,6 @@ names-below n (pos (suc x)) h = h
 names-below n (negsuc x) h = h
 
 module _ (P : Problem) (k lo hi : ℕ) (v : ℕ → Bool) (T : Cells) (M : ℕ → Mask) (D : Mask) (A : Node P k lo hi v T M) (i : ℕ) (il : lo ≤ i) (ih : i < hi) where
-
   -- every model that heeds D has the literal's value
   pub rests-in-model : (m : Values) → Model P m → Heeds m i k v D → (y : Bool) (z : ℤ) → Rests (P .n) k T M D i y z → literal-at (m i) z ≡ y
   rests-in-model m Mm heeds y z r =
@@ -177,6 +176,7 @@ tautology-true f z c n named a b = go (literal-at f z) refl
     opposite : (x : ℤ) → Names n x → literal-at f x ≡ false → literal-at f (negℤ x) ≡ true
     opposite (pos (suc x)) h e = ap not e
     opposite (negsuc x) h e = sym (Bool·not-not (f x)) ∙ ap not e
+
     go : (y : Bool) → literal-at f z ≡ y → clause-at f c ≡ true
     go true h = clause-true f c (some-map (λ x. x ≡ z) (λ x. literal-at f x ≡ true) (λ x e. subst (λ (w : ℤ). literal-at f w ≡ true) (sym e) h) c a)
     go false h = clause-true f c (some-map (λ x. x ≡ negℤ z) (λ x. literal-at f x ≡ true) (λ x e. subst (λ (w : ℤ). literal-at f w ≡ true) (sym e) (opposite z named h)) c b)

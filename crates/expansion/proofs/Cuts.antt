@@ -83,7 +83,6 @@ below-or-last l k lt =
 -- ---- rows that agree
 
 module _ (P : Problem) where
-
   pub agree-shorter : (i h k j : ℕ) → j ≤ k → Agree P i h k → Agree P i h j
   agree-shorter i h k j le a l lt = a l (omega arith)
 

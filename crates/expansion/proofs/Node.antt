@@ -81,6 +81,7 @@ grown-trans b lo hi T U X pos g h i j = ⊎-elim same new (g i j)
         (λ t. inl (t .0 ∙ s .0, λ q. t .1 (positive (U .level i j) (T .level i j) (s .0) q) ∙ s .1 q))
         (λ o. inr (o .0, o .1, sym (s .0) ∙ o .2, o .3))
         (h i j)
+
     new : (lo ≤ i) × (i < hi) × (T .level i j ≡ 0) × (b ≤ U .level i j) → SameCell T X i j ⊎ ((lo ≤ i) × (i < hi) × (T .level i j ≡ 0) × (b ≤ X .level i j))
     new o =
         ⊎-elim
@@ -93,13 +94,15 @@ grown-stored b lo hi s e p y T U ls eh open-at st i j = go (decLe s i) (decLt i 
   where
     out : ((s ≤ i) × (i < e) × (j ≡ p) → ⊥) → SameCell T U i j ⊎ ((lo ≤ i) × (i < hi) × (T .level i j ≡ 0) × (b ≤ U .level i j))
     out n = inl (st .elsewhere i j n .0, λ q. st .elsewhere i j n .1)
+
     go : Dec (s ≤ i) → Dec (i < e) → Dec (j ≡ p) → SameCell T U i j ⊎ ((lo ≤ i) × (i < hi) × (T .level i j ≡ 0) × (b ≤ U .level i j))
     go (yes a) (yes c) (yes d) =
-        inr
-        (omega arith,
-        omega arith,
-        ap (T .level i) d ∙ open-at i a c,
-        (let q : U .level i j ≡ b = ap (U .level i) d ∙ st .there i a c .0 in omega arith))
+        inr (
+          omega arith,
+          omega arith,
+          ap (T .level i) d ∙ open-at i a c,
+          (let q : U .level i j ≡ b = ap (U .level i) d ∙ st .there i a c .0 in omega arith),
+        )
     go (yes a) (yes c) (no d) = out (λ t. d (t .2))
     go (yes a) (no c) d = out (λ t. c (t .1))
     go (no a) c d = out (λ t. a (t .0))
@@ -116,6 +119,7 @@ cleared-back b lo hi T U X below g c i j = ⊎-elim same new (g i j)
     same s =
         let kept : (X .level i j ≡ U .level i j) × (X .value i j ≡ U .value i j) = c .low i j (λ t. let z : T .level i j < b = below i j (t .0) (t .1) in let y : b ≤ U .level i j = t .2 in let x : U .level i j ≡ T .level i j = s .0 in omega arith) in
         (kept .0 ∙ s .0, λ q. kept .1 ∙ s .1 q)
+
     new : (lo ≤ i) × (i < hi) × (T .level i j ≡ 0) × (b ≤ U .level i j) → SameCell T X i j
     new o =
         (c .high i j (o .0) (o .1) (o .3) ∙ sym (o .2), λ q. absurd (let z : T .level i j ≡ 0 = o .2 in omega arith))

@@ -10,7 +10,6 @@ use Rattle.expansion.proofs.Cuts.{Values, Mask, Problem, Agree, Sound, 
 use Rattle.expansion.proofs.Node.{Cells, Node, Won, SameCell, Grown, Stored, MasksWithin, positive, grown-keeps}
 
 module _ (P : Problem) where
-
   -- ---- nodes
 
   -- a part of a group is a node of its own
@@ -25,7 +24,8 @@ module _ (P : Problem) where
         given = λ i j p q. N .given i j (omega arith) (omega arith);
         alike = λ i h j p q r s. N .alike i h j (omega arith) (omega arith) (omega arith) (omega arith);
         implied = λ i j p q. N .implied i j (omega arith) (omega arith);
-        levels = λ i j p q. N .levels i j (omega arith) (omega arith) }
+        levels = λ i j p q. N .levels i j (omega arith) (omega arith);
+      }
 
   -- the same cells in the group and larger masks: the same node
   pub node-same : (k lo hi : ℕ) (v : ℕ → Bool) (T U : Cells) (M N : ℕ → Mask) → ((i j : ℕ) → lo ≤ i → i < hi → SameCell T U i j) → MasksWithin k M N → Node P k lo hi v T M → Node P k lo hi v U N
@@ -43,10 +43,12 @@ module _ (P : Problem) where
         implied = λ i j p q lt z.
             subst (λ (y : Bool). Implied P k v (N j) i j y) (sym (same i j p q .1 (back i j p q z)))
             (implied-larger P k v (M j) (N j) i j (T .value i j) (larger j) (A .implied i j p q lt (back i j p q z)));
-        levels = λ i j p q lt. subst (λ (x : ℕ). x ≤ k + 1) (sym (same i j p q .0)) (A .levels i j p q lt) }
+        levels = λ i j p q lt. subst (λ (x : ℕ). x ≤ k + 1) (sym (same i j p q .0)) (A .levels i j p q lt);
+      }
     where
       back : (i j : ℕ) → lo ≤ i → i < hi → 0 < U .level i j → 0 < T .level i j
       back i j p q z = let e : U .level i j ≡ T .level i j = same i j p q .0 in omega arith
+
       forth : (i j : ℕ) → lo ≤ i → i < hi → 0 < T .level i j → 0 < U .level i j
       forth i j p q z = let e : U .level i j ≡ T .level i j = same i j p q .0 in omega arith
 
@@ -66,7 +68,8 @@ module _ (P : Problem) where
         given = A .given;
         alike = A .alike;
         implied = λ i j p q lt z. implied-later P k (k + 1) v w (M j) i j (T .value i j) (omega arith) same (A .implied i j p q lt z);
-        levels = λ i j p q lt. let z : T .level i j ≤ k + 1 = A .levels i j p q lt in omega arith }
+        levels = λ i j p q lt. let z : T .level i j ≤ k + 1 = A .levels i j p q lt in omega arith;
+      }
 
   -- in a group at an own position, all rows are as its first
   pub alike-first : (k lo hi : ℕ) (v : ℕ → Bool) (T : Cells) (M : ℕ → Mask) → Node P k lo hi v T M → k < P .n → P .own k ≡ true → (i h : ℕ) → lo ≤ i → i < hi → lo ≤ h → h < hi → 0 < T .level i k → (0 < T .level h k) × (T .value h k ≡ T .value i k)
@@ -76,7 +79,6 @@ module _ (P : Problem) where
   module _ (k lo hi : ℕ) (v : ℕ → Bool) (T U : Cells) (M : ℕ → Mask) (s e p b : ℕ) (y : Bool) (A : Node P k lo hi v T M) (st : Stored s e p b y T U)
       (pn : p < P .n) (po : P .own p ≡ true) (pos : 0 < b)
       (closed : (i h : ℕ) → lo ≤ i → i < hi → lo ≤ h → h < hi → Agree P i h p → s ≤ i → i < e → (s ≤ h) × (h < e)) where
-
     stored-or-kept : (i j : ℕ) → ((s ≤ i) × (i < e) × (j ≡ p)) ⊎ ((s ≤ i) × (i < e) × (j ≡ p) → ⊥)
     stored-or-kept i j = go (decLe s i) (decLt i e) (ℕ-discrete j p)
       where
@@ -92,7 +94,7 @@ module _ (P : Problem) where
     pub stored-given : (i j : ℕ) → lo ≤ i → i < hi → j < P .n → P .own j ≡ false → (0 < U .level i j) × (U .value i j ≡ P .given i j)
     stored-given i j q r lt o =
         let kept : (U .level i j ≡ T .level i j) × (U .value i j ≡ T .value i j) =
-                st .elsewhere i j (λ t. true-is-not-false (P .own j) (ap (P .own) (t .2) ∙ po) o) in
+        st .elsewhere i j (λ t. true-is-not-false (P .own j) (ap (P .own) (t .2) ∙ po) o) in
         (positive (U .level i j) (T .level i j) (kept .0) (A .given i j q r lt o .0), kept .1 ∙ A .given i j q r lt o .1)
 
     pub stored-alike : (i h j : ℕ) → lo ≤ i → i < hi → lo ≤ h → h < hi → j < P .n → P .own j ≡ true → Agree P i h j → 0 < U .level i j → (0 < U .level h j) × (U .value h j ≡ U .value i j)
@@ -103,11 +105,12 @@ module _ (P : Problem) where
             let c : (s ≤ h) × (h < e) = closed i h q r q′ r′ (subst (λ (x : ℕ). Agree P i h x) (t .2) ag) (t .0) (t .1) in
             let x : (U .level h j ≡ b) × (U .value h j ≡ y) = stored-at h j (c .0, c .1, t .2) in
             (positive (U .level h j) b (x .0) pos, x .1 ∙ sym (stored-at i j t .1))
+
         old : ((s ≤ i) × (i < e) × (j ≡ p) → ⊥) → (0 < U .level h j) × (U .value h j ≡ U .value i j)
         old n =
             let kept : (U .level i j ≡ T .level i j) × (U .value i j ≡ T .value i j) = st .elsewhere i j n in
             let other : (U .level h j ≡ T .level h j) × (U .value h j ≡ T .value h j) =
-                    st .elsewhere h j (λ t. let c : (s ≤ i) × (i < e) = closed h i q′ r′ q r (subst (λ (x : ℕ). Agree P h i x) (t .2) (agree-sym P i h j ag)) (t .0) (t .1) in n (c .0, c .1, t .2)) in
+            st .elsewhere h j (λ t. let c : (s ≤ i) × (i < e) = closed h i q′ r′ q r (subst (λ (x : ℕ). Agree P h i x) (t .2) (agree-sym P i h j ag)) (t .0) (t .1) in n (c .0, c .1, t .2)) in
             let a : (0 < T .level h j) × (T .value h j ≡ T .value i j) = A .alike i h j q r q′ r′ lt o ag (positive (T .level i j) (U .level i j) (sym (kept .0)) z) in
             (positive (U .level h j) (T .level h j) (other .0) (a .0), other .1 ∙ a .1 ∙ sym (kept .1))
 
@@ -129,12 +132,14 @@ module _ (P : Problem) where
               ⊎-elim
               (λ t. let x : U .level i j ≡ b = stored-at i j t .0 in omega arith)
               (λ n. let x : U .level i j ≡ T .level i j = st .elsewhere i j n .0 in let w : T .level i j ≤ k + 1 = A .levels i j q r lt in omega arith)
-              (stored-or-kept i j) }
+              (stored-or-kept i j);
+        }
       where
         new : (i j : ℕ) → lo ≤ i → i < hi → (s ≤ i) × (i < e) × (j ≡ p) → Implied P k v (N j) i j (U .value i j)
         new i j q r t =
             subst (λ (x : Bool). Implied P k v (N j) i j x) (sym (stored-at i j t .1))
             (subst (λ (x : ℕ). Implied P k v (N x) i x y) (sym (t .2)) (forced i q r (t .0) (t .1)))
+
         old : (i j : ℕ) → lo ≤ i → i < hi → j < P .n → 0 < U .level i j → ((s ≤ i) × (i < e) × (j ≡ p) → ⊥) → Implied P k v (N j) i j (U .value i j)
         old i j q r lt z n =
             let kept : (U .level i j ≡ T .level i j) × (U .value i j ≡ T .value i j) = st .elsewhere i j n in
@@ -153,16 +158,20 @@ module _ (P : Problem) where
         given = stored-given k lo hi v T U M lo hi k b y A st kn ko pos (λ i h p q r s ag a c. (r, s));
         alike = stored-alike k lo hi v T U M lo hi k b y A st kn ko pos (λ i h p q r s ag a c. (r, s));
         implied = λ i j p q lt z. implied-at i j p q lt z (ℕ-discrete j k);
-        levels = λ i j p q lt. levels-at i j p q lt (ℕ-discrete j k) }
+        levels = λ i j p q lt. levels-at i j p q lt (ℕ-discrete j k);
+      }
     where
       kept : (i j : ℕ) → (j ≡ k → ⊥) → (U .level i j ≡ T .level i j) × (U .value i j ≡ T .value i j)
       kept i j n = st .elsewhere i j (λ t. n (t .2))
+
       early : (i j : ℕ) → lo ≤ i → i < hi → j < k → (0 < U .level i j) × (U .value i j ≡ w j)
       early i j p q lk =
           let same-cell : (U .level i j ≡ T .level i j) × (U .value i j ≡ T .value i j) = kept i j (λ e. omega arith) in
           (positive (U .level i j) (T .level i j) (same-cell .0) (A .past i j p q lk .0), same-cell .1 ∙ A .past i j p q lk .1 ∙ same j lk)
+
       chosen : (i : ℕ) → lo ≤ i → i < hi → (0 < U .level i k) × (U .value i k ≡ w k)
       chosen i p q = (positive (U .level i k) b (st .there i p q .0) pos, st .there i p q .1 ∙ sym wk)
+
       implied-at : (i j : ℕ) → lo ≤ i → i < hi → j < P .n → 0 < U .level i j → Dec (j ≡ k) → Implied P (k + 1) w (N j) i j (U .value i j)
       implied-at i j p q lt z (yes e) =
           subst (λ (x : ℕ). Implied P (k + 1) w (N x) i x (U .value i x)) (sym e)
@@ -172,6 +181,7 @@ module _ (P : Problem) where
           (implied-later P k (k + 1) v w (N j) i j (T .value i j) (omega arith) same
           (implied-larger P k v (M j) (N j) i j (T .value i j) (larger j)
           (A .implied i j p q lt (positive (T .level i j) (U .level i j) (sym (kept i j n .0)) z))))
+
       levels-at : (i j : ℕ) → lo ≤ i → i < hi → j < P .n → Dec (j ≡ k) → U .level i j ≤ k + 1 + 1
       levels-at i j p q lt (yes e) = let x : U .level i j ≡ b = ap (U .level i) e ∙ st .there i p q .0 in omega arith
       levels-at i j p q lt (no n) = let x : U .level i j ≡ T .level i j = kept i j n .0 in let z : T .level i j ≤ k + 1 = A .levels i j p q lt in omega arith

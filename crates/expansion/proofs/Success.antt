@@ -10,7 +10,6 @@ use Rattle.expansion.proofs.Cuts.{Values, Mask, Problem, Agree, Sound, 
 use Rattle.expansion.proofs.Node.{Cells, Node, Won, SameCell, Grown, positive, grown-keeps}
 
 module _ (P : Problem) where
-
   -- the values of a node's rows before its position, also after the table has grown
   pub past-kept : (k lo hi b a e : ℕ) (v : ℕ → Bool) (T U : Cells) (M : ℕ → Mask) → Node P k lo hi v T M → Grown b a e T U → (i j : ℕ) → lo ≤ i → i < hi → j < k → U .value i j ≡ v j
   past-kept k lo hi b a e v T U M A g i j p q lt = grown-keeps b a e T U g i j (A .past i j p q lt .0) .1 ∙ A .past i j p q lt .1
@@ -23,7 +22,8 @@ module _ (P : Problem) where
         given = λ i j p q lt o. A .given i j p q lt o .1;
         alike = λ i h j p q r s lt o ag. A .alike i h j p q r s lt o ag (A .past i j p q lt .0) .1;
         reaches = λ i p q. S .goal-of-values (T .value lo) (T .value i) (λ j lt. A .past lo j (omega arith) (let z : lo < hi = A .some in omega arith) lt .1 ∙ sym (A .past i j p q lt .1)) win;
-        leads = λ m Mm i j p q kj lt o same. absurd (omega arith) }
+        leads = λ m Mm i j p q kj lt o same. absurd (omega arith);
+      }
 
   -- past a position that was set before: every model has its value
   pub won-set : (k lo hi b a e : ℕ) (v : ℕ → Bool) (T U : Cells) (M : ℕ → Mask) → Node P k lo hi v T M → ((i : ℕ) → lo ≤ i → i < hi → 0 < T .level i k) → Grown b a e T U → Won P (k + 1) lo hi U → Won P k lo hi U
@@ -33,7 +33,8 @@ module _ (P : Problem) where
         given = W .given;
         alike = W .alike;
         reaches = W .reaches;
-        leads = λ m Mm i j p q kj lt o same. ⊎-elim (λ eq. inl (at-k m Mm i j p q lt same (sym eq))) (λ later. W .leads m Mm i j p q (omega arith) lt o same) (eq-or-lt-of-le kj) }
+        leads = λ m Mm i j p q kj lt o same. ⊎-elim (λ eq. inl (at-k m Mm i j p q lt same (sym eq))) (λ later. W .leads m Mm i j p q (omega arith) lt o same) (eq-or-lt-of-le kj);
+      }
     where
       at-k : (m : Values) → Model P m → (i j : ℕ) → lo ≤ i → i < hi → j < P .n → SameBelow j (m i) (U .value i) → j ≡ k → m i j ≡ U .value i j
       at-k m Mm i j p q lt same jk =
@@ -53,7 +54,8 @@ module _ (P : Problem) where
             ⊎-elim
             (λ eq. inr (subst (λ (x : ℕ). U .value i x ≡ P .wanted i x) eq (wants i p q)))
             (λ later. W .leads m Mm i j p q (omega arith) lt o same)
-            (eq-or-lt-of-le kj) }
+            (eq-or-lt-of-le kj);
+      }
 
   -- past a position at which the rows have the other value, the first being refuted
   pub won-other : (k lo hi : ℕ) (v w : ℕ → Bool) (D : Mask) (U : Cells) → k < P .n → ((i : ℕ) → lo ≤ i → i < hi → Refuted P (k + 1) w D i) → SameBelow k v w → ((i j : ℕ) → lo ≤ i → i < hi → j < k → U .value i j ≡ v j) → ((i : ℕ) → lo ≤ i → i < hi → U .value i k ≡ not (w k)) → Won P (k + 1) lo hi U → Won P k lo hi U
@@ -63,16 +65,17 @@ module _ (P : Problem) where
         given = W .given;
         alike = W .alike;
         reaches = W .reaches;
-        leads = λ m Mm i j p q kj lt o below. ⊎-elim (λ eq. inl (at-k m Mm i j p q below (sym eq))) (λ later. W .leads m Mm i j p q (omega arith) lt o below) (eq-or-lt-of-le kj) }
+        leads = λ m Mm i j p q kj lt o below. ⊎-elim (λ eq. inl (at-k m Mm i j p q below (sym eq))) (λ later. W .leads m Mm i j p q (omega arith) lt o below) (eq-or-lt-of-le kj);
+      }
     where
       at-k : (m : Values) → Model P m → (i j : ℕ) → lo ≤ i → i < hi → SameBelow j (m i) (U .value i) → j ≡ k → m i j ≡ U .value i j
       at-k m Mm i j p q below e =
           subst (λ (x : ℕ). m i x ≡ U .value i x) (sym e)
           (other-value (m i k) (w k) (λ eq. refuted i p q m Mm (λ l lt d.
-              ⊎-elim
-              (λ lk. below l (omega arith) ∙ past i l p q lk ∙ same l lk)
-              (λ lk. subst (λ (x : ℕ). m i x ≡ w x) (sym lk) eq)
-              (below-or-last l k lt)))
+          ⊎-elim
+          (λ lk. below l (omega arith) ∙ past i l p q lk ∙ same l lk)
+          (λ lk. subst (λ (x : ℕ). m i x ≡ w x) (sym lk) eq)
+          (below-or-last l k lt)))
           ∙ sym (other i p q))
 
   -- past a position of the rows: the rows that differ there share no copy behind it
@@ -91,7 +94,8 @@ module _ (P : Problem) where
             ⊎-elim
             (λ eq. absurd (true-is-not-false (P .own j) o (ap (P .own) (sym eq) ∙ ko)))
             (λ later. ⊎-elim (λ c. A .leads m Mm i j p c (omega arith) lt o below) (λ c. B .leads m Mm i j c q (omega arith) lt o below) (side i))
-            (eq-or-lt-of-le kj) }
+            (eq-or-lt-of-le kj);
+      }
     where
       side : (i : ℕ) → (i < mid) ⊎ (mid ≤ i)
       side i = go (decLt i mid)
@@ -99,6 +103,7 @@ module _ (P : Problem) where
           go : Dec (i < mid) → (i < mid) ⊎ (mid ≤ i)
           go (yes p) = inl p
           go (no n) = inr (omega arith)
+
       -- rows of the two parts share a copy only before position k
       apart : (i h j : ℕ) → lo ≤ i → i < hi → lo ≤ h → h < hi → mid ≤ i → h < mid → P .own j ≡ true → Agree P i h j → U .value h j ≡ U .value i j
       apart i h j p q r s c d o ag = go (decLt j k)
@@ -123,7 +128,8 @@ module _ (P : Problem) where
             ⊎-elim
             (λ eq. absurd (true-is-not-false (P .own j) o (ap (P .own) (sym eq) ∙ ko)))
             (λ later. W .leads m Mm i j p q (omega arith) lt o below)
-            (eq-or-lt-of-le kj) }
+            (eq-or-lt-of-le kj);
+      }
 
   -- a success stays while the group's cells stay
   pub won-kept : (k lo hi b a e : ℕ) (T U : Cells) → Grown b a e T U → Won P k lo hi T → Sound P → Won P k lo hi U
@@ -137,7 +143,8 @@ module _ (P : Problem) where
             ⊎-elim
             (λ x. inl (x ∙ sym (keeps i j p q lt .1)))
             (λ x. inr (keeps i j p q lt .1 ∙ x))
-            (W .leads m Mm i j p q kj lt o (λ l lj. below l lj ∙ keeps i l p q (omega arith) .1)) }
+            (W .leads m Mm i j p q kj lt o (λ l lj. below l lj ∙ keeps i l p q (omega arith) .1));
+      }
     where
       keeps : (i j : ℕ) → lo ≤ i → i < hi → j < P .n → (U .level i j ≡ T .level i j) × (U .value i j ≡ T .value i j)
       keeps i j p q lt = grown-keeps b a e T U g i j (W .complete i j p q lt)
