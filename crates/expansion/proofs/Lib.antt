@@ -4,3 +4,7 @@ pub mod Membership
 pub mod Walk
 pub mod CopyLaws
 pub mod FirstModel
+pub mod Game
+pub mod Soundness
+pub mod Verdict
+pub mod Accepted
