@@ -35,7 +35,8 @@ claim-of : (claim : Bool) (ks : List Kind) (phi : List Bool → Bool) → reache
 claim-of false ks phi e = e
 claim-of true ks phi e = not-false (meaning ks phi) e
 
-pub accepted-verdict : (claim : Bool) (ks : List Kind) (phi : List Bool → Bool) (rows : List Row) → accepted claim ks phi rows ≡ true → meaning ks phi ≡ claim
+pub accepted-verdict : (claim : Bool) (ks : List Kind) (phi : List Bool → Bool) (rows : List Row) → accepted claim ks phi rows ≡ true
+    → meaning ks phi ≡ claim
 accepted-verdict claim ks phi rows e =
     claim-of claim ks phi (no-strategy-no-meaning (side-of claim) ks phi rows (accepted-exactly claim ks phi rows .0 e))
 

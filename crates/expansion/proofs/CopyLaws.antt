@@ -43,7 +43,8 @@ in-copies-from ts rows row h (false ∷ left) k (suc j) p e o =
     let later : suc k + j ≡ p = omega arith in
     in-copies-from ts rows row h left (suc k) j p later o
 
-pub in-copies : (ts : List Bool) (rows : List Row) (row : Row) (k : ℕ) → In row rows → Own ts k → In (copy-at k (restriction ts k row)) (copies ts rows)
+pub in-copies : (ts : List Bool) (rows : List Row) (row : Row) (k : ℕ) → In row rows → Own ts k
+    → In (copy-at k (restriction ts k row)) (copies ts rows)
 unfolding copies
 in-copies ts rows row k h o = in-copies-from ts rows row h ts zero k k (omega arith) o
 
@@ -73,8 +74,13 @@ value-of-values (c ∷ cs) σ k r h =
     (true-or-false test)
 
 -- What is played depends on the strategy only at the own unknowns, and there only at the row's own restrictions.
-pub play-agree : (ts : List Bool) (σ τ : Strategy) (row : Row) → ((k : ℕ) → Own ts k → σ k (restriction ts k row) ≡ τ k (restriction ts k row)) → play ts σ row ≡ play ts τ row
+pub play-agree : (ts : List Bool) (σ τ : Strategy) (row : Row)
+    → ((k : ℕ) → Own ts k → σ k (restriction ts k row) ≡ τ k (restriction ts k row)) → play ts σ row ≡ play ts τ row
 play-agree [] σ τ row h = refl
-play-agree (true ∷ ts) σ τ row h = ap₂ {C = List Bool} (λ v vs. v ∷ vs) (h zero refl) (play-agree ts (past-own σ) (past-own τ) row (λ k o. h (suc k) o))
+play-agree (true ∷ ts) σ τ row h =
+    let behind = play-agree ts (past-own σ) (past-own τ) row (λ k o. h (suc k) o) in
+    ap₂ {C = List Bool} (λ v vs. v ∷ vs) (h zero refl) behind
 play-agree (false ∷ ts) σ τ row h =
-    ap {B = List Bool} (λ vs. first-value row ∷ vs) (play-agree ts (past-row (first-value row) σ) (past-row (first-value row) τ) (later-values row) (λ k o. h (suc k) o))
+    let b = first-value row in
+    let behind = play-agree ts (past-row b σ) (past-row b τ) (later-values row) (λ k o. h (suc k) o) in
+    ap {B = List Bool} (λ vs. b ∷ vs) behind

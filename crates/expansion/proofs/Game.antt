@@ -30,9 +30,15 @@ not-and false b = refl
 pub game-of-side : (side : Kind) (ks : List Kind) (phi : List Bool → Bool) → game (flags side ks) (goal side phi) ≡ reaches side ks phi
 game-of-side existential [] phi = refl
 game-of-side universal [] phi = refl
-game-of-side existential (existential ∷ ks) phi = ap₂ _||_ (game-of-side existential ks (after true phi)) (game-of-side existential ks (after false phi))
-game-of-side existential (universal ∷ ks) phi = ap₂ _&&_ (game-of-side existential ks (after true phi)) (game-of-side existential ks (after false phi))
+game-of-side existential (existential ∷ ks) phi =
+    let behind = game-of-side existential ks in
+    ap₂ _||_ (behind (after true phi)) (behind (after false phi))
+game-of-side existential (universal ∷ ks) phi =
+    let behind = game-of-side existential ks in
+    ap₂ _&&_ (behind (after true phi)) (behind (after false phi))
 game-of-side universal (existential ∷ ks) phi =
-    ap₂ _&&_ (game-of-side universal ks (after true phi)) (game-of-side universal ks (after false phi)) ∙ not-or (meaning ks (after true phi)) (meaning ks (after false phi))
+    let behind = game-of-side universal ks in
+    ap₂ _&&_ (behind (after true phi)) (behind (after false phi)) ∙ not-or (meaning ks (after true phi)) (meaning ks (after false phi))
 game-of-side universal (universal ∷ ks) phi =
-    ap₂ _||_ (game-of-side universal ks (after true phi)) (game-of-side universal ks (after false phi)) ∙ not-and (meaning ks (after true phi)) (meaning ks (after false phi))
+    let behind = game-of-side universal ks in
+    ap₂ _||_ (behind (after true phi)) (behind (after false phi)) ∙ not-and (meaning ks (after true phi)) (meaning ks (after false phi))

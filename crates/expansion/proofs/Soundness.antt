@@ -14,7 +14,7 @@ use Rattle.expansion.proofs.Booleans.{never-both, false-if-not-true}
 use Rattle.expansion.proofs.Game.{game, reaches, game-of-side}
 
 -- At an own unknown the value true if it keeps the game won, else false.
-abbrev pub winning : List Bool → (List Bool → Bool) → Strategy
+abbrev winning : List Bool → (List Bool → Bool) → Strategy
 winning [] psi k r = false
 winning (true ∷ ts) psi zero r = game ts (after true psi)
 winning (true ∷ ts) psi (suc k) r = winning ts (after (game ts (after true psi)) psi) k r
@@ -42,7 +42,8 @@ winning-wins (false ∷ ts) psi h row =
     let b = first-value row in
     winning-wins ts (after b psi) (each-wins (λ b. game ts (after b psi)) h b) (later-values row)
 
-pub wins-everywhere : (ts : List Bool) (psi : List Bool → Bool) (σ : Strategy) → ((row : Row) → psi (play ts σ row) ≡ true) → (rows : List Row) → wins ts psi σ rows ≡ true
+wins-everywhere : (ts : List Bool) (psi : List Bool → Bool) (σ : Strategy) → ((row : Row) → psi (play ts σ row) ≡ true) → (rows : List Row)
+    → wins ts psi σ rows ≡ true
 wins-everywhere ts psi σ h [] = refl
 wins-everywhere ts psi σ h (row ∷ rows) = and-eq-true-iff (psi (play ts σ row)) (wins ts psi σ rows) .1 (h row, wins-everywhere ts psi σ h rows)
 
