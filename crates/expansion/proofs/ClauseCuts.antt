@@ -10,7 +10,8 @@ use lib.IntN.{ℤ, pos, negsuc, negℤ, natAbs}
 use lib.ListN.{getD}
 use Rattle.formula.specs.Formula.{Kind, existential, universal, Clause}
 use Rattle.formula.specs.Meaning.{literal, clause, matrix}
-use Rattle.expansion.proofs.Cuts.{Values, Mask, Problem, Model, Heeds, Refuted, Implied, Within, true-is-not-false, bool-cases}
+use Rattle.expansion.proofs.Booleans.{true-or-false, never-both}
+use Rattle.expansion.proofs.Cuts.{Values, Mask, Problem, Model, Heeds, Refuted, Implied, Within}
 use Rattle.expansion.proofs.Node.{Cells, Node}
 
 -- ---- the matrix over values by position
@@ -112,12 +113,12 @@ matrix-false f (c ∷ cs) (inr s) = rw (matrix-false f cs s) (and-false-right (c
 
 -- in a true clause whose literals are all z or false, z is true
 pub unit-true : (f : ℕ → Bool) (z : ℤ) (c : Clause) → clause-at f c ≡ true → Every (λ x. (x ≡ z) ⊎ (literal-at f x ≡ false)) c → literal-at f z ≡ true
-unit-true f z [] e every = absurd (true-is-not-false false e refl)
+unit-true f z [] e every = absurd (never-both e refl)
 unit-true f z (x ∷ c) e every =
     ⊎-elim
-    (λ h. ⊎-elim (λ q. subst (λ (y : ℤ). literal-at f y ≡ true) q h) (λ q. absurd (true-is-not-false (literal-at f x) h q)) (every .0))
+    (λ h. ⊎-elim (λ q. subst (λ (y : ℤ). literal-at f y ≡ true) q h) (λ q. absurd (never-both h q)) (every .0))
     (λ h. unit-true f z c (sym (ap (λ (b : Bool). b || clause-at f c) h) ∙ e) (every .1))
-    (bool-cases (literal-at f x))
+    (true-or-false (literal-at f x))
 
 and-left : (a b : Bool) → (a && b) ≡ true → a ≡ true
 and-left true b e = refl
@@ -125,7 +126,7 @@ and-left false b e = e
 
 and-right : (a b : Bool) → (a && b) ≡ true → b ≡ true
 and-right true b e = e
-and-right false b e = absurd (true-is-not-false false e refl)
+and-right false b e = absurd (never-both e refl)
 
 pub true-clause : (f : ℕ → Bool) (cs : List Clause) (c : Clause) → matrix-at cs f ≡ true → Some (λ x. x ≡ c) cs → clause-at f c ≡ true
 true-clause f (x ∷ cs) c e (inl q) = subst (λ (y : Clause). clause-at f y ≡ true) q (and-left (clause-at f x) (matrix-at cs f) e)
@@ -150,7 +151,7 @@ module _ (P : Problem) (k lo hi : ℕ) (v : ℕ → Bool) (T : Cells) (M : ℕ �
   -- a false clause
   pub dead-clause : (cs : List Clause) (c : Clause) → ((f : ℕ → Bool) → P .goal f ≡ matrix-at cs f) → Some (λ x. x ≡ c) cs → Every (Rests (P .n) k T M D i false) c → Refuted P k v D i
   dead-clause cs c is-matrix mem every m Mm heeds =
-      true-is-not-false (clause-at (m i) c)
+      never-both
       (true-clause (m i) cs c (sym (is-matrix (m i)) ∙ Mm .reaches i (let z : hi ≤ P .count = A .rows in omega arith)) mem)
       (clause-false (m i) c (every-map (Rests (P .n) k T M D i false) (λ z. literal-at (m i) z ≡ false) (λ z r. rests-in-model m Mm heeds false z r) c every))
 
@@ -165,7 +166,7 @@ module _ (P : Problem) (k lo hi : ℕ) (v : ℕ → Bool) (T : Cells) (M : ℕ �
   -- every clause is true in the row, whatever the open cells become
   pub dead-row : (cs : List Clause) → ((f : ℕ → Bool) → P .goal f ≡ not (matrix-at cs f)) → Every (λ c. ((f : ℕ → Bool) → clause-at f c ≡ true) ⊎ Some (Rests (P .n) k T M D i true) c) cs → Refuted P k v D i
   dead-row cs is-not-matrix every m Mm heeds =
-      true-is-not-false (P .goal (m i))
+      never-both
       (Mm .reaches i (let y : hi ≤ P .count = A .rows in omega arith))
       (is-not-matrix (m i) ∙ ap not (matrix-true (m i) cs (every-map (λ c. ((f : ℕ → Bool) → clause-at f c ≡ true) ⊎ Some (Rests (P .n) k T M D i true) c) (λ c. clause-at (m i) c ≡ true) (λ c r. ⊎-elim (λ t. t (m i)) (λ s. clause-true (m i) c (some-map (Rests (P .n) k T M D i true) (λ z. literal-at (m i) z ≡ true) (λ z q. rests-in-model m Mm heeds true z q) c s)) r) cs every)))
 

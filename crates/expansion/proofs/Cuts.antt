@@ -8,6 +8,7 @@ use mathlib.Core.Logic.{_⊎_, inl, inr, ⊎-elim}
 use mathlib.Core.Bool.{Bool, true, false, not}
 use native.Mathlib.Omega.{arith}
 use native.Mathlib.Nat.{eq-or-lt-of-le}
+use Rattle.expansion.proofs.Booleans.{true-or-false, never-both}
 
 -- Values by row and position; a set of positions.
 abbrev pub Values : Type 0
@@ -60,15 +61,6 @@ SameBelow k v w = (l : ℕ) → l < k → v l ≡ w l
 
 -- ---- Booleans and orders
 
-pub bool-cases : (b : Bool) → (b ≡ true) ⊎ (b ≡ false)
-bool-cases true = inl refl
-bool-cases false = inr refl
-
-pub true-is-not-false : (b : Bool) → b ≡ true → b ≡ false → ⊥
-true-is-not-false b p q =
-    let w : _≡_ {A = ℕ} 0 1 = cc in
-    omega arith
-
 pub other-value : (a b : Bool) → (a ≡ b → ⊥) → a ≡ not b
 other-value true true h = absurd (h refl)
 other-value true false h = refl
@@ -95,7 +87,7 @@ module _ (P : Problem) where
   -- an own position parts no rows, and another parts those that differ there
   pub agree-own : (i h k : ℕ) → P .own k ≡ true → Agree P i h k → Agree P i h (k + 1)
   agree-own i h k o a l lt f =
-      ⊎-elim (λ q. a l q f) (λ q. absurd (true-is-not-false (P .own l) (ap (P .own) q ∙ o) f)) (below-or-last l k lt)
+      ⊎-elim (λ q. a l q f) (λ q. absurd (never-both (ap (P .own) q ∙ o) f)) (below-or-last l k lt)
 
   pub agree-given : (i h k : ℕ) → P .given i k ≡ P .given h k → Agree P i h k → Agree P i h (k + 1)
   agree-given i h k e a l lt f =
@@ -110,7 +102,7 @@ module _ (P : Problem) where
       ⊎-elim
       (λ o. M .uniform i h l hi hh (omega arith) o (agree-shorter i h k l (omega arith) a))
       (λ o. M .follows i l hi (omega arith) o ∙ a l lt o ∙ sym (M .follows h l hh (omega arith) o))
-      (bool-cases (P .own l))
+      (true-or-false (P .own l))
 
   pub heeds-row : (m : Values) → Model P m → (i h k : ℕ) (v : ℕ → Bool) (D : Mask) → i < P .count → h < P .count → k ≤ P .n → Agree P i h k → Heeds m i k v D → Heeds m h k v D
   heeds-row m M i h k v D hi hh hk a e l lt d = sym (models-agree m M i h k hi hh hk a l lt) ∙ e l lt d
@@ -150,7 +142,7 @@ module _ (P : Problem) where
   -- a failure whose mask lacks the last choice fails the choice before it
   pub refuted-without : (k : ℕ) (v w : ℕ → Bool) (D : Mask) (i : ℕ) → SameBelow k v w → D k ≡ false → Refuted P (k + 1) w D i → Refuted P k v D i
   refuted-without k v w D i same lacks r m M e =
-      r m M (heeds-next m i k v w D same (λ d. absurd (true-is-not-false (D k) d lacks)) e)
+      r m M (heeds-next m i k v w D same (λ d. absurd (never-both d lacks)) e)
 
   -- a failure at a value that the row gives, or that is implied, is a failure without it
   pub refuted-given : (k : ℕ) (v w : ℕ → Bool) (D : Mask) (i : ℕ) → i < P .count → k < P .n → P .own k ≡ false → w k ≡ P .given i k → SameBelow k v w → Refuted P (k + 1) w D i → Refuted P k v D i

@@ -18,7 +18,8 @@ use Rattle.expansion.proofs.FirstModel.{none-if-no-strategy}
 use Rattle.expansion.proofs.Leading.{wanted, row-value, Fits, Uniform, LeadsAt, Leading}
 use Rattle.expansion.proofs.LeadingPath.{length-play, play-at-own, play-at-other}
 use Rattle.expansion.proofs.LeadingFirst.{leading-is-first}
-use Rattle.expansion.proofs.Cuts.{Values, Mask, Problem, Agree, Sound, Model, Heeds, Refuted, bool-cases, true-is-not-false}
+use Rattle.expansion.proofs.Booleans.{true-or-false}
+use Rattle.expansion.proofs.Cuts.{Mask, Problem, Agree, Sound, Model, Refuted}
 use Rattle.expansion.proofs.Node.{Cells, Won}
 use Rattle.expansion.proofs.ClauseCuts.{literal-at, clause-at, matrix-at, goal-at, matrix-of-list, Every, Names, place, literal-same}
 
@@ -153,7 +154,7 @@ module _ (prefer : ℕ → Bool) (side : Kind) (ks : List Kind) (cs : List Claus
   refuted-is-none v D some-row refuted =
       ap (yielded (flags side ks) rows)
       (none-if-no-strategy prefer (flags side ks) (goal side (matrix cs)) rows
-      (λ σ. ⊎-elim (λ w. absurd (refuted (λ i j. getD (play (flags side ks) σ (getD rows (row i) [])) j false) (model-of-strategy σ w) (λ l lt d. absurd (omega arith)))) (λ w. w) (bool-cases (wins (flags side ks) (goal side (matrix cs)) σ rows))))
+      (λ σ. ⊎-elim (λ w. absurd (refuted (λ i j. getD (play (flags side ks) σ (getD rows (row i) [])) j false) (model-of-strategy σ w) (λ l lt d. absurd (omega arith)))) (λ w. w) (true-or-false (wins (flags side ks) (goal side (matrix cs)) σ rows))))
 
   -- the plays of a table, in the rows' order
   abbrev pub plays : Cells → List (List Bool)

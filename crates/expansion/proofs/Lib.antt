@@ -4,6 +4,10 @@ pub mod Membership
 pub mod Walk
 pub mod CopyLaws
 pub mod FirstModel
+pub mod Game
+pub mod Soundness
+pub mod Verdict
+pub mod Accepted
 pub mod Leading
 pub mod LeadingPath
 pub mod LeadingCopies

@@ -7,7 +7,7 @@ use mathlib.Core.Logic.{_⊎_, inl, inr, ⊎-elim}
 use mathlib.Core.Bool.{Bool, true, false, not}
 use native.Mathlib.Omega.{arith}
 use native.Mathlib.Decide.{ℕ-discrete, decLe, decLt}
-use Rattle.expansion.proofs.Cuts.{Values, Mask, Problem, Agree, Sound, Model, Heeds, Refuted, Implied, Within, SameBelow, bool-cases, true-is-not-false, other-value, below-or-last, agree-shorter, agree-sym, agree-trans, agree-own, agree-given, implied-row, implied-larger, implied-later, refuted-row}
+use Rattle.expansion.proofs.Cuts.{Values, Mask, Problem, Agree, Model, Implied, Within, SameBelow}
 
 -- The level is 0 in an open cell, else one more than the level; an open cell's value means nothing.
 pub record Cells : Type 0 where

@@ -6,7 +6,8 @@ use mathlib.Core.Bool.{Bool, true, false, not}
 use native.Mathlib.Omega.{arith}
 use native.Mathlib.Nat.{eq-or-lt-of-le}
 use native.Mathlib.Decide.{ℕ-discrete, decLe, decLt}
-use Rattle.expansion.proofs.Cuts.{Values, Mask, Problem, Agree, Sound, Model, Heeds, Refuted, Implied, Within, SameBelow, bool-cases, true-is-not-false, other-value, below-or-last, agree-shorter, agree-sym, agree-trans, agree-own, agree-given, implied-row, implied-larger, implied-later, refuted-row}
+use Rattle.expansion.proofs.Booleans.{never-both}
+use Rattle.expansion.proofs.Cuts.{Mask, Problem, Agree, Implied, SameBelow, below-or-last, agree-sym, agree-own, implied-larger, implied-later}
 use Rattle.expansion.proofs.Node.{Cells, Node, Won, SameCell, Grown, Stored, MasksWithin, positive, grown-keeps}
 
 module _ (P : Problem) where
@@ -94,7 +95,7 @@ module _ (P : Problem) where
     pub stored-given : (i j : ℕ) → lo ≤ i → i < hi → j < P .n → P .own j ≡ false → (0 < U .level i j) × (U .value i j ≡ P .given i j)
     stored-given i j q r lt o =
         let kept : (U .level i j ≡ T .level i j) × (U .value i j ≡ T .value i j) =
-        st .elsewhere i j (λ t. true-is-not-false (P .own j) (ap (P .own) (t .2) ∙ po) o) in
+        st .elsewhere i j (λ t. never-both (ap (P .own) (t .2) ∙ po) o) in
         (positive (U .level i j) (T .level i j) (kept .0) (A .given i j q r lt o .0), kept .1 ∙ A .given i j q r lt o .1)
 
     pub stored-alike : (i h j : ℕ) → lo ≤ i → i < hi → lo ≤ h → h < hi → j < P .n → P .own j ≡ true → Agree P i h j → 0 < U .level i j → (0 < U .level h j) × (U .value h j ≡ U .value i j)

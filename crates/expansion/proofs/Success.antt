@@ -6,7 +6,8 @@ use mathlib.Core.Bool.{Bool, true, false, not}
 use native.Mathlib.Omega.{arith}
 use native.Mathlib.Nat.{eq-or-lt-of-le}
 use native.Mathlib.Decide.{ℕ-discrete, decLe, decLt}
-use Rattle.expansion.proofs.Cuts.{Values, Mask, Problem, Agree, Sound, Model, Heeds, Refuted, Implied, Within, SameBelow, bool-cases, true-is-not-false, other-value, below-or-last, agree-shorter, agree-sym, refuted-row}
+use Rattle.expansion.proofs.Booleans.{never-both}
+use Rattle.expansion.proofs.Cuts.{Values, Mask, Problem, Agree, Sound, Model, Refuted, SameBelow, other-value, below-or-last, agree-sym}
 use Rattle.expansion.proofs.Node.{Cells, Node, Won, SameCell, Grown, positive, grown-keeps}
 
 module _ (P : Problem) where
@@ -92,7 +93,7 @@ module _ (P : Problem) where
         reaches = λ i p q. ⊎-elim (λ c. A .reaches i p c) (λ c. B .reaches i c q) (side i);
         leads = λ m Mm i j p q kj lt o below.
             ⊎-elim
-            (λ eq. absurd (true-is-not-false (P .own j) o (ap (P .own) (sym eq) ∙ ko)))
+            (λ eq. absurd (never-both o (ap (P .own) (sym eq) ∙ ko)))
             (λ later. ⊎-elim (λ c. A .leads m Mm i j p c (omega arith) lt o below) (λ c. B .leads m Mm i j c q (omega arith) lt o below) (side i))
             (eq-or-lt-of-le kj);
       }
@@ -112,7 +113,7 @@ module _ (P : Problem) where
           go (yes lt) = past h j r s lt ∙ sym (past i j p q lt)
           go (no n) =
               ⊎-elim
-              (λ eq. absurd (true-is-not-false (P .own j) o (ap (P .own) (sym eq) ∙ ko)))
+              (λ eq. absurd (never-both o (ap (P .own) (sym eq) ∙ ko)))
               (λ lt. absurd (differ h i r d c q (sym (ag k lt ko))))
               (eq-or-lt-of-le (let z : k ≤ j = omega arith in z))
 
@@ -126,7 +127,7 @@ module _ (P : Problem) where
         reaches = W .reaches;
         leads = λ m Mm i j p q kj lt o below.
             ⊎-elim
-            (λ eq. absurd (true-is-not-false (P .own j) o (ap (P .own) (sym eq) ∙ ko)))
+            (λ eq. absurd (never-both o (ap (P .own) (sym eq) ∙ ko)))
             (λ later. W .leads m Mm i j p q (omega arith) lt o below)
             (eq-or-lt-of-le kj);
       }
