@@ -1,0 +1,225 @@
+-- From a search's table to the first model: the problem that rows and preferences make, with the rows in any order; a success over all rows is
+-- the first model, and a refutation that rests on nothing means that there is none. Assumes nothing.
+use Prim.Native.Nat.{ℕ, zero, suc, _≤_, _<_}
+use mathlib.Core.Path.{_≡_, refl, sym, _∙_, ap, subst}
+use mathlib.Core.Logic.{_⊎_, inl, inr, ⊎-elim}
+use mathlib.Core.Bool.{Bool, true, false, not, _&&_, false≢true}
+use mathlib.Core.List.{List, [], _∷_, map}
+use mathlib.Core.Option.{Option, none, some}
+use native.Mathlib.Omega.{arith}
+use lib.ListN.{length, getD, length-map}
+use Rattle.formula.specs.Formula.{Kind, existential, universal, Clause}
+use Rattle.formula.specs.Meaning.{matrix}
+use Rattle.expansion.specs.Side.{flags, goal}
+use Rattle.expansion.specs.Play.{Row, Strategy, restriction, play, part, first-value, later-values}
+use Rattle.expansion.specs.Model.{wins, yielded, first-model, search}
+use Rattle.expansion.proofs.CopyLaws.{Own}
+use Rattle.expansion.proofs.FirstModel.{none-if-no-strategy}
+use Rattle.expansion.proofs.Leading.{wanted, row-value, Fits, Uniform, LeadsAt, Leading}
+use Rattle.expansion.proofs.LeadingPath.{length-play, play-at-own, play-at-other}
+use Rattle.expansion.proofs.LeadingFirst.{leading-is-first}
+use Rattle.expansion.proofs.Booleans.{true-or-false}
+use Rattle.expansion.proofs.Cuts.{Mask, Problem, Agree, Sound, Model, Refuted}
+use Rattle.expansion.proofs.Node.{Cells, Won}
+use Rattle.expansion.proofs.ClauseCuts.{literal-at, clause-at, matrix-at, goal-at, matrix-of-list, Every, Names, place, literal-same}
+
+-- ---- restrictions and the values before a position
+
+pub restriction-of-values : (ts : List Bool) (k : ℕ) (a b : Row) → ((l : ℕ) → l < k → getD ts l false ≡ false → row-value ts a l ≡ row-value ts b l) → restriction ts k a ≡ restriction ts k b
+restriction-of-values ts zero a b h = refl
+restriction-of-values [] (suc k) a b h = refl
+restriction-of-values (true ∷ ts) (suc k) a b h = restriction-of-values ts k a b (λ l lt o. h (suc l) (omega arith) o)
+restriction-of-values (false ∷ ts) (suc k) a b h =
+    rw (h zero (omega arith) refl, restriction-of-values ts k (later-values a) (later-values b) (λ l lt o. h (suc l) (omega arith) o))
+
+head-same : (x y : Bool) (xs ys : List Bool) → _≡_ {A = List Bool} (x ∷ xs) (y ∷ ys) → x ≡ y
+head-same x y xs ys e = cc
+
+tail-same : (x y : Bool) (xs ys : List Bool) → _≡_ {A = List Bool} (x ∷ xs) (y ∷ ys) → xs ≡ ys
+tail-same x y xs ys e = cc
+
+pub values-of-restriction : (ts : List Bool) (k : ℕ) (a b : Row) → restriction ts k a ≡ restriction ts k b → (l : ℕ) → l < k → row-value ts a l ≡ row-value ts b l
+values-of-restriction ts zero a b e l lt = absurd (omega arith)
+values-of-restriction [] (suc k) a b e l lt = refl
+values-of-restriction (true ∷ ts) (suc k) a b e zero lt = refl
+values-of-restriction (true ∷ ts) (suc k) a b e (suc l) lt = values-of-restriction ts k a b e l (omega arith)
+values-of-restriction (false ∷ ts) (suc k) a b e zero lt = head-same (first-value a) (first-value b) (restriction ts k (later-values a)) (restriction ts k (later-values b)) e
+values-of-restriction (false ∷ ts) (suc k) a b e (suc l) lt =
+    values-of-restriction ts k (later-values a) (later-values b) (tail-same (first-value a) (first-value b) (restriction ts k (later-values a)) (restriction ts k (later-values b)) e) l (omega arith)
+
+-- ---- values as a list
+
+module _ {A : Type 0} where
+  abbrev pub tabulate : ℕ → (ℕ → A) → List A
+  tabulate zero f = []
+  tabulate (suc n) f = f zero ∷ tabulate n (λ j. f (suc j))
+
+  pub length-tabulate : (n : ℕ) (f : ℕ → A) → length (tabulate n f) ≡ n
+  length-tabulate zero f = refl
+  length-tabulate (suc n) f = ap suc (length-tabulate n (λ j. f (suc j)))
+
+  pub tabulate-at : (n : ℕ) (f : ℕ → A) (j : ℕ) (d : A) → j < n → getD (tabulate n f) j d ≡ f j
+  tabulate-at zero f j d lt = absurd (omega arith)
+  tabulate-at (suc n) f zero d lt = refl
+  tabulate-at (suc n) f (suc j) d lt = tabulate-at n (λ i. f (suc i)) j d (omega arith)
+
+  pub map-tabulate : {B : Type 0} (g : A → B) (n : ℕ) (f : ℕ → A) → map g (tabulate n f) ≡ Rattle.expansion.proofs.Engine.tabulate n (λ j. g (f j))
+  map-tabulate g zero f = refl
+  map-tabulate g (suc n) f = ap (λ xs. g (f zero) ∷ xs) (map-tabulate g n (λ j. f (suc j)))
+
+-- the matrix looks only at unknowns that are named
+pub matrix-same : (n : ℕ) (cs : List Clause) → Every (Every (Names n)) cs → (f g : ℕ → Bool) → ((j : ℕ) → j < n → f j ≡ g j) → matrix-at cs f ≡ matrix-at cs g
+matrix-same n cs named f g same = go cs named
+  where
+    literal-case : (z : lib.IntN.ℤ) → Names n z → literal-at f z ≡ literal-at g z
+    literal-case (lib.IntN.pos zero) h = refl
+    literal-case (lib.IntN.pos (suc x)) h = same x h
+    literal-case (lib.IntN.negsuc x) h = ap not (same x h)
+
+    clause-case : (c : Clause) → Every (Names n) c → clause-at f c ≡ clause-at g c
+    clause-case [] h = refl
+    clause-case (z ∷ c) h = rw (literal-case z (h .0), clause-case c (h .1))
+
+    go : (xs : List Clause) → Every (Every (Names n)) xs → matrix-at xs f ≡ matrix-at xs g
+    go [] h = refl
+    go (c ∷ xs) h = rw (clause-case c (h .0), go xs (h .1))
+
+pub goal-same : (side : Kind) (n : ℕ) (cs : List Clause) → Every (Every (Names n)) cs → (f g : ℕ → Bool) → ((j : ℕ) → j < n → f j ≡ g j) → goal-at side cs f ≡ goal-at side cs g
+goal-same existential n cs named f g same = matrix-same n cs named f g same
+goal-same universal n cs named f g same = ap not (matrix-same n cs named f g same)
+
+goal-of-list : (side : Kind) (cs : List Clause) (vs : List Bool) → goal side (matrix cs) vs ≡ goal-at side cs (λ j. getD vs j false)
+goal-of-list existential cs vs = matrix-of-list cs vs
+goal-of-list universal cs vs = ap not (matrix-of-list cs vs)
+
+-- ---- the problem
+
+-- The places 0 to c of a table and the rows 0 to c of a list, each other's.
+pub record Places (c : ℕ) (row place-of : ℕ → ℕ) : Type 0 where
+  pub row-below : (i : ℕ) → i < c → row i < c
+  pub place-below : (i : ℕ) → i < c → place-of i < c
+  pub row-of-place : (i : ℕ) → i < c → row (place-of i) ≡ i
+
+-- The problem over rows that stand in a table at other places: place i holds row `row i`.
+unfoldable pub problem : (ℕ → Bool) → Kind → List Kind → List Clause → List Row → (ℕ → ℕ) → Problem
+problem prefer side ks cs rows row =
+    record {
+      n = length ks;
+      count = length rows;
+      own = λ j. getD (flags side ks) j false;
+      given = λ i j. row-value (flags side ks) (getD rows (row i) []) j;
+      goal = goal-at side cs;
+      wanted = λ i j. wanted prefer (flags side ks) rows j (restriction (flags side ks) j (getD rows (row i) []));
+    }
+
+module _ (prefer : ℕ → Bool) (side : Kind) (ks : List Kind) (cs : List Clause) (rows : List Row) (row place-of : ℕ → ℕ)
+    (named : Every (Every (Names (length ks))) cs) (places : Places (length rows) row place-of) where
+  pub problem-sound : Sound (problem prefer side ks cs rows row)
+  unfolding problem
+  problem-sound =
+      record {
+        goal-of-values = λ f g same e. sym (goal-same side (length ks) cs named f g same) ∙ e;
+        wanted-alike = λ i h j hi hh hj o ag. ap (wanted prefer (flags side ks) rows j) (restriction-of-values (flags side ks) j (getD rows (row i) []) (getD rows (row h) []) ag);
+      }
+
+  all-wins : (σ : Strategy) (xs : List Row) → wins (flags side ks) (goal side (matrix cs)) σ xs ≡ true → (i : ℕ) → i < length xs → goal side (matrix cs) (play (flags side ks) σ (getD xs i [])) ≡ true
+  all-wins σ [] w i lt = absurd (omega arith)
+  all-wins σ (x ∷ xs) w zero lt = left (goal side (matrix cs) (play (flags side ks) σ x)) (wins (flags side ks) (goal side (matrix cs)) σ xs) w
+    where
+      left : (a b : Bool) → (a && b) ≡ true → a ≡ true
+      left true b e = refl
+      left false b e = e
+  all-wins σ (x ∷ xs) w (suc i) lt = all-wins σ xs (right (goal side (matrix cs) (play (flags side ks) σ x)) (wins (flags side ks) (goal side (matrix cs)) σ xs) w) i (omega arith)
+    where
+      right : (a b : Bool) → (a && b) ≡ true → b ≡ true
+      right true b e = e
+      right false b e = absurd (false≢true e)
+
+  -- a winning strategy is a model of the problem
+  pub model-of-strategy : (σ : Strategy) → wins (flags side ks) (goal side (matrix cs)) σ rows ≡ true → Model (problem prefer side ks cs rows row) (λ i j. getD (play (flags side ks) σ (getD rows (row i) [])) j false)
+  unfolding problem
+  model-of-strategy σ w =
+      record {
+        follows = λ i j hi hj o. play-at-other (flags side ks) σ (getD rows (row i) []) j o;
+        uniform = λ i h j hi hh hj o ag.
+            play-at-own (flags side ks) σ (getD rows (row i) []) j o
+            ∙ ap (σ j) (restriction-of-values (flags side ks) j (getD rows (row i) []) (getD rows (row h) []) ag)
+            ∙ sym (play-at-own (flags side ks) σ (getD rows (row h) []) j o);
+        reaches = λ i hi. sym (goal-of-list side cs (play (flags side ks) σ (getD rows (row i) []))) ∙ all-wins σ rows w (row i) (places .row-below i hi);
+      }
+
+  -- nothing is left to rest on: no model
+  pub refuted-is-none : (v : ℕ → Bool) (D : Mask) → 0 < length rows → Refuted (problem prefer side ks cs rows row) 0 v D 0 → search prefer side ks (matrix cs) rows ≡ none
+  unfolding search
+  refuted-is-none v D some-row refuted =
+      ap (yielded (flags side ks) rows)
+      (none-if-no-strategy prefer (flags side ks) (goal side (matrix cs)) rows
+      (λ σ. ⊎-elim (λ w. absurd (refuted (λ i j. getD (play (flags side ks) σ (getD rows (row i) [])) j false) (model-of-strategy σ w) (λ l lt d. absurd (omega arith)))) (λ w. w) (true-or-false (wins (flags side ks) (goal side (matrix cs)) σ rows))))
+
+  -- the plays of a table, in the rows' order
+  abbrev pub plays : Cells → List (List Bool)
+  plays T = tabulate (length rows) (λ i. tabulate (length ks) (T .value (place-of i)))
+
+  play-at : (T : Cells) (i : ℕ) → i < length rows → getD (plays T) i [] ≡ tabulate (length ks) (T .value (place-of i))
+  play-at T i lt = tabulate-at (length rows) (λ h. tabulate (length ks) (T .value (place-of h))) i [] lt
+
+  value-at : (T : Cells) (i j : ℕ) → i < length rows → j < length ks → getD (getD (plays T) i []) j false ≡ T .value (place-of i) j
+  value-at T i j li lj = ap (λ (p : List Bool). getD p j false) (play-at T i li) ∙ tabulate-at (length ks) (T .value (place-of i)) j false lj
+
+  own-below : (j : ℕ) → Own (flags side ks) j → j < length ks
+  own-below j o = go ks j o
+    where
+      go : (xs : List Kind) (l : ℕ) → getD (flags side xs) l false ≡ true → l < length xs
+      go [] l e = absurd (false≢true e)
+      go (x ∷ xs) zero e = omega arith
+      go (x ∷ xs) (suc l) e = let r : l < length xs = go xs l e in omega arith
+
+  row-back : (i : ℕ) → i < length rows → getD rows (row (place-of i)) [] ≡ getD rows i []
+  row-back i lt = ap (λ (x : ℕ). getD rows x []) (places .row-of-place i lt)
+
+  agree-of-restriction : (i h j : ℕ) → i < length rows → h < length rows → restriction (flags side ks) j (getD rows i []) ≡ restriction (flags side ks) j (getD rows h []) → Agree (problem prefer side ks cs rows row) (place-of i) (place-of h) j
+  unfolding problem
+  agree-of-restriction i h j li lh e l lt o =
+      ap (λ (r : Row). row-value (flags side ks) r l) (row-back i li)
+      ∙ values-of-restriction (flags side ks) j (getD rows i []) (getD rows h []) e l lt
+      ∙ sym (ap (λ (r : Row). row-value (flags side ks) r l) (row-back h lh))
+
+  won-leading : (T : Cells) → Won (problem prefer side ks cs rows row) 0 0 (length rows) T → Leading prefer (flags side ks) (goal side (matrix cs)) rows (plays T)
+  unfolding problem
+  won-leading T W =
+      record {
+        one-each = length-tabulate (length rows) (λ i. tabulate (length ks) (T .value (place-of i)));
+        fits = λ i li.
+            record {
+              whole = ap length (play-at T i li) ∙ length-tabulate (length ks) (T .value (place-of i)) ∙ sym (length-map ks (Rattle.expansion.specs.Side.own side));
+              row-values = λ k lk o.
+                  let below : k < length ks = subst (λ (x : ℕ). k < x) (length-map ks (Rattle.expansion.specs.Side.own side)) lk in
+                  value-at T i k li below
+                  ∙ W .given (place-of i) k (omega arith) (places .place-below i li) below o
+                  ∙ ap (λ (r : Row). row-value (flags side ks) r k) (row-back i li);
+            };
+        uniform = λ i h k li lh o e.
+            value-at T i k li (own-below k o)
+            ∙ W .alike (place-of h) (place-of i) k (omega arith) (places .place-below h lh) (omega arith) (places .place-below i li) (own-below k o) o (agree-of-restriction h i k lh li (sym e))
+            ∙ sym (value-at T h k lh (own-below k o));
+        reach = λ i li.
+            goal-of-list side cs (getD (plays T) i [])
+            ∙ goal-same side (length ks) cs named (λ j. getD (getD (plays T) i []) j false) (T .value (place-of i)) (λ j lj. value-at T i j li lj)
+            ∙ W .reaches (place-of i) (omega arith) (places .place-below i li);
+        lead = λ σ w i li k o before.
+            ⊎-elim
+            (λ e. inl (value-at T i k li (own-below k o) ∙ sym e ∙ model-at σ i k li))
+            (λ e. inr (value-at T i k li (own-below k o) ∙ e ∙ ap (λ (r : Row). wanted prefer (flags side ks) rows k (restriction (flags side ks) k r)) (row-back i li)))
+            (W .leads (λ h j. getD (play (flags side ks) σ (getD rows (row h) [])) j false) (model-of-strategy σ w) (place-of i) k (omega arith) (places .place-below i li) (omega arith) (own-below k o) o
+            (λ l lk. model-at σ i l li ∙ sym (before l lk) ∙ value-at T i l li (let z : k < length ks = own-below k o in omega arith)));
+      }
+    where
+      model-at : (σ : Strategy) (i l : ℕ) → i < length rows → getD (play (flags side ks) σ (getD rows (row (place-of i)) [])) l false ≡ getD (play (flags side ks) σ (getD rows i [])) l false
+      model-at σ i l li = ap (λ (r : Row). getD (play (flags side ks) σ r) l false) (row-back i li)
+
+  -- a success over all rows is the first model, and yields its rows
+  pub won-is-first : (T : Cells) → Won (problem prefer side ks cs rows row) 0 0 (length rows) T → search prefer side ks (matrix cs) rows ≡ some (tabulate (length rows) (λ i. part (flags side ks) (tabulate (length ks) (T .value (place-of i)))))
+  unfolding search
+  won-is-first T W =
+      leading-is-first (won-leading T W)
+      ∙ ap {B = Option (List Row)} some (map-tabulate (part (flags side ks)) (length rows) (λ i. tabulate (length ks) (T .value (place-of i))))

@@ -1,0 +1,125 @@
+-- A node of the tree search: a group of rows that agree before a position, over a table of cells, and what a search of the group gives.
+-- A cell is open, or has a value and the level at which it got it; each position has a mask on which its set cells rest.
+-- The steps of a search keep these records. Assumes nothing.
+use Prim.Native.Nat.{ℕ, zero, suc, _+_, _≤_, _<_}
+use mathlib.Core.Path.{_≡_, refl, sym, _∙_, ap, subst}
+use mathlib.Core.Logic.{_⊎_, inl, inr, ⊎-elim}
+use mathlib.Core.Bool.{Bool, true, false, not}
+use native.Mathlib.Omega.{arith}
+use native.Mathlib.Decide.{ℕ-discrete, decLe, decLt}
+use Rattle.expansion.proofs.Cuts.{Values, Mask, Problem, Agree, Model, Implied, Within, SameBelow}
+
+-- The level is 0 in an open cell, else one more than the level; an open cell's value means nothing.
+pub record Cells : Type 0 where
+  pub level : ℕ → ℕ → ℕ
+  pub value : Values
+
+pub record Node (P : Problem) (k lo hi : ℕ) (v : ℕ → Bool) (T : Cells) (M : ℕ → Mask) : Type 0 where
+  pub some : lo < hi
+  pub rows : hi ≤ P .count
+  pub depth : k ≤ P .n
+  pub agree : (i h : ℕ) → lo ≤ i → i < hi → lo ≤ h → h < hi → Agree P i h k
+  pub past : (i j : ℕ) → lo ≤ i → i < hi → j < k → (0 < T .level i j) × (T .value i j ≡ v j)
+  pub given : (i j : ℕ) → lo ≤ i → i < hi → j < P .n → P .own j ≡ false → (0 < T .level i j) × (T .value i j ≡ P .given i j)
+  pub alike : (i h j : ℕ) → lo ≤ i → i < hi → lo ≤ h → h < hi → j < P .n → P .own j ≡ true → Agree P i h j → 0 < T .level i j → (0 < T .level h j) × (T .value h j ≡ T .value i j)
+  pub implied : (i j : ℕ) → lo ≤ i → i < hi → j < P .n → 0 < T .level i j → Implied P k v (M j) i j (T .value i j)
+  pub levels : (i j : ℕ) → lo ≤ i → i < hi → j < P .n → T .level i j ≤ k + 1
+
+-- A group that is searched with success: every cell is set, the goal is reached, rows that share a copy share its value, and from position k on
+-- no model leads the values on any row's path: where a model first parts from them, they have the wanted value.
+pub record Won (P : Problem) (k lo hi : ℕ) (T : Cells) : Type 0 where
+  pub complete : (i j : ℕ) → lo ≤ i → i < hi → j < P .n → 0 < T .level i j
+  pub given : (i j : ℕ) → lo ≤ i → i < hi → j < P .n → P .own j ≡ false → T .value i j ≡ P .given i j
+  pub alike : (i h j : ℕ) → lo ≤ i → i < hi → lo ≤ h → h < hi → j < P .n → P .own j ≡ true → Agree P i h j → T .value h j ≡ T .value i j
+  pub reaches : (i : ℕ) → lo ≤ i → i < hi → P .goal (T .value i) ≡ true
+  pub leads : (m : Values) → Model P m → (i j : ℕ) → lo ≤ i → i < hi → k ≤ j → j < P .n → P .own j ≡ true → SameBelow j (m i) (T .value i) → (m i j ≡ T .value i j) ⊎ (T .value i j ≡ P .wanted i j)
+
+-- Two cells say the same: the same level and, where they are set, the same value.
+abbrev pub SameCell : Cells → Cells → ℕ → ℕ → Type 0
+SameCell T U i j = (U .level i j ≡ T .level i j) × (0 < T .level i j → U .value i j ≡ T .value i j)
+
+-- From T to U only open cells of the rows lo to hi have been set, at levels from b on.
+abbrev pub Grown : ℕ → ℕ → ℕ → Cells → Cells → Type 0
+Grown b lo hi T U = (i j : ℕ) → SameCell T U i j ⊎ ((lo ≤ i) × (i < hi) × (T .level i j ≡ 0) × (b ≤ U .level i j))
+
+-- U is T with level b and value y in the rows s to e at position p.
+pub record Stored (s e p b : ℕ) (y : Bool) (T U : Cells) : Type 0 where
+  pub there : (i : ℕ) → s ≤ i → i < e → (U .level i p ≡ b) × (U .value i p ≡ y)
+  pub elsewhere : (i j : ℕ) → ((s ≤ i) × (i < e) × (j ≡ p) → ⊥) → (U .level i j ≡ T .level i j) × (U .value i j ≡ T .value i j)
+
+abbrev pub MasksWithin : ℕ → (ℕ → Mask) → (ℕ → Mask) → Type 0
+MasksWithin k M N = (j : ℕ) → Within k (M j) (N j)
+
+-- ---- cells that stay
+
+pub positive : (a b : ℕ) → a ≡ b → 0 < b → 0 < a
+positive a b e h = omega arith
+
+pub grown-refl : (b lo hi : ℕ) (T : Cells) → Grown b lo hi T T
+grown-refl b lo hi T i j = inl (refl, λ h. refl)
+
+-- a set cell stays as it is
+pub grown-keeps : (b lo hi : ℕ) (T U : Cells) → Grown b lo hi T U → (i j : ℕ) → 0 < T .level i j → (U .level i j ≡ T .level i j) × (U .value i j ≡ T .value i j)
+grown-keeps b lo hi T U g i j h = ⊎-elim (λ s. (s .0, s .1 h)) (λ o. absurd (let z : T .level i j ≡ 0 = o .2 in omega arith)) (g i j)
+
+pub grown-outside : (b lo hi : ℕ) (T U : Cells) → Grown b lo hi T U → (i j : ℕ) → ((lo ≤ i) × (i < hi) → ⊥) → SameCell T U i j
+grown-outside b lo hi T U g i j out = ⊎-elim (λ s. s) (λ o. absurd (out (o .0, o .1))) (g i j)
+
+pub grown-set : (b lo hi : ℕ) (T U : Cells) → Grown b lo hi T U → (i j : ℕ) → 0 < T .level i j → 0 < U .level i j
+grown-set b lo hi T U g i j h = positive (U .level i j) (T .level i j) (grown-keeps b lo hi T U g i j h .0) h
+
+pub grown-wider : (b c lo hi a e : ℕ) (T U : Cells) → c ≤ b → a ≤ lo → hi ≤ e → Grown b lo hi T U → Grown c a e T U
+grown-wider b c lo hi a e T U cb al he g i j =
+    ⊎-elim (λ s. inl s) (λ o. inr (let p : lo ≤ i = o .0 in omega arith, let q : i < hi = o .1 in omega arith, o .2, let r : b ≤ U .level i j = o .3 in omega arith)) (g i j)
+
+pub grown-trans : (b lo hi : ℕ) (T U X : Cells) → 0 < b → Grown b lo hi T U → Grown b lo hi U X → Grown b lo hi T X
+grown-trans b lo hi T U X pos g h i j = ⊎-elim same new (g i j)
+  where
+    same : SameCell T U i j → SameCell T X i j ⊎ ((lo ≤ i) × (i < hi) × (T .level i j ≡ 0) × (b ≤ X .level i j))
+    same s =
+        ⊎-elim
+        (λ t. inl (t .0 ∙ s .0, λ q. t .1 (positive (U .level i j) (T .level i j) (s .0) q) ∙ s .1 q))
+        (λ o. inr (o .0, o .1, sym (s .0) ∙ o .2, o .3))
+        (h i j)
+
+    new : (lo ≤ i) × (i < hi) × (T .level i j ≡ 0) × (b ≤ U .level i j) → SameCell T X i j ⊎ ((lo ≤ i) × (i < hi) × (T .level i j ≡ 0) × (b ≤ X .level i j))
+    new o =
+        ⊎-elim
+        (λ t. inr (o .0, o .1, o .2, subst (λ (x : ℕ). b ≤ x) (sym (t .0)) (o .3)))
+        (λ o′. inr (o .0, o .1, o .2, o′ .3))
+        (h i j)
+
+pub grown-stored : (b lo hi s e p : ℕ) (y : Bool) (T U : Cells) → lo ≤ s → e ≤ hi → ((i : ℕ) → s ≤ i → i < e → T .level i p ≡ 0) → Stored s e p b y T U → Grown b lo hi T U
+grown-stored b lo hi s e p y T U ls eh open-at st i j = go (decLe s i) (decLt i e) (ℕ-discrete j p)
+  where
+    out : ((s ≤ i) × (i < e) × (j ≡ p) → ⊥) → SameCell T U i j ⊎ ((lo ≤ i) × (i < hi) × (T .level i j ≡ 0) × (b ≤ U .level i j))
+    out n = inl (st .elsewhere i j n .0, λ q. st .elsewhere i j n .1)
+
+    go : Dec (s ≤ i) → Dec (i < e) → Dec (j ≡ p) → SameCell T U i j ⊎ ((lo ≤ i) × (i < hi) × (T .level i j ≡ 0) × (b ≤ U .level i j))
+    go (yes a) (yes c) (yes d) =
+        inr (
+          omega arith,
+          omega arith,
+          ap (T .level i) d ∙ open-at i a c,
+          (let q : U .level i j ≡ b = ap (U .level i) d ∙ st .there i a c .0 in omega arith),
+        )
+    go (yes a) (yes c) (no d) = out (λ t. d (t .2))
+    go (yes a) (no c) d = out (λ t. c (t .1))
+    go (no a) c d = out (λ t. a (t .0))
+
+-- clearing what has been set from level b on gives back the cells before, if those were all below b
+pub record Cleared (b lo hi : ℕ) (T U : Cells) : Type 0 where
+  pub high : (i j : ℕ) → lo ≤ i → i < hi → b ≤ T .level i j → U .level i j ≡ 0
+  pub low : (i j : ℕ) → ((lo ≤ i) × (i < hi) × (b ≤ T .level i j) → ⊥) → (U .level i j ≡ T .level i j) × (U .value i j ≡ T .value i j)
+
+pub cleared-back : (b lo hi : ℕ) (T U X : Cells) → ((i j : ℕ) → lo ≤ i → i < hi → T .level i j < b) → Grown b lo hi T U → Cleared b lo hi U X → (i j : ℕ) → SameCell T X i j
+cleared-back b lo hi T U X below g c i j = ⊎-elim same new (g i j)
+  where
+    same : SameCell T U i j → SameCell T X i j
+    same s =
+        let kept : (X .level i j ≡ U .level i j) × (X .value i j ≡ U .value i j) = c .low i j (λ t. let z : T .level i j < b = below i j (t .0) (t .1) in let y : b ≤ U .level i j = t .2 in let x : U .level i j ≡ T .level i j = s .0 in omega arith) in
+        (kept .0 ∙ s .0, λ q. kept .1 ∙ s .1 q)
+
+    new : (lo ≤ i) × (i < hi) × (T .level i j ≡ 0) × (b ≤ U .level i j) → SameCell T X i j
+    new o =
+        (c .high i j (o .0) (o .1) (o .3) ∙ sym (o .2), λ q. absurd (let z : T .level i j ≡ 0 = o .2 in omega arith))
