@@ -7,9 +7,10 @@ use mathlib.Core.Bool.{Bool, true, false, not, _&&_, false≢true}
 use mathlib.Core.List.{List, [], _∷_, map}
 use mathlib.Core.Option.{Option, none, some}
 use native.Mathlib.Omega.{arith}
+use lib.IntN.{ℤ, pos, negsuc}
 use lib.ListN.{length, getD, length-map}
 use Rattle.formula.specs.Formula.{Kind, existential, universal, Clause}
-use Rattle.formula.specs.Meaning.{matrix}
+use Rattle.formula.specs.Meaning.{literal, clause, matrix}
 use Rattle.expansion.specs.Side.{flags, goal}
 use Rattle.expansion.specs.Play.{Row, Strategy, restriction, play, part, first-value, later-values}
 use Rattle.expansion.specs.Model.{wins, yielded, first-model, search}
@@ -21,7 +22,7 @@ use Rattle.expansion.proofs.LeadingFirst.{leading-is-first}
 use Rattle.expansion.proofs.Booleans.{true-or-false}
 use Rattle.expansion.proofs.Cuts.{Mask, Problem, Agree, Sound, Model, Refuted}
 use Rattle.expansion.proofs.Node.{Cells, Won}
-use Rattle.expansion.proofs.ClauseCuts.{literal-at, clause-at, matrix-at, goal-at, matrix-of-list, Every, Names, place, literal-same}
+use Rattle.expansion.proofs.ClauseCuts.{Every, clause-at, matrix-at}
 
 -- ---- restrictions and the values before a position
 
@@ -67,30 +68,58 @@ module _ {A : Type 0} where
   map-tabulate g zero f = refl
   map-tabulate g (suc n) f = ap (λ xs. g (f zero) ∷ xs) (map-tabulate g n (λ j. f (suc j)))
 
--- the matrix looks only at unknowns that are named
-pub matrix-same : (n : ℕ) (cs : List Clause) → Every (Every (Names n)) cs → (f g : ℕ → Bool) → ((j : ℕ) → j < n → f j ≡ g j) → matrix-at cs f ≡ matrix-at cs g
-matrix-same n cs named f g same = go cs named
-  where
-    literal-case : (z : lib.IntN.ℤ) → Names n z → literal-at f z ≡ literal-at g z
-    literal-case (lib.IntN.pos zero) h = refl
-    literal-case (lib.IntN.pos (suc x)) h = same x h
-    literal-case (lib.IntN.negsuc x) h = ap not (same x h)
+-- ---- the matrix over values by position
 
-    clause-case : (c : Clause) → Every (Names n) c → clause-at f c ≡ clause-at g c
-    clause-case [] h = refl
-    clause-case (z ∷ c) h = rw (literal-case z (h .0), clause-case c (h .1))
+abbrev pub literal-at : (ℕ → Bool) → ℤ → Bool
+literal-at f (pos zero) = false
+literal-at f (pos (suc x)) = f x
+literal-at f (negsuc x) = not (f x)
 
-    go : (xs : List Clause) → Every (Every (Names n)) xs → matrix-at xs f ≡ matrix-at xs g
-    go [] h = refl
-    go (c ∷ xs) h = rw (clause-case c (h .0), go xs (h .1))
+-- the side's goal
+abbrev pub goal-at : Kind → List Clause → (ℕ → Bool) → Bool
+goal-at existential cs f = matrix-at literal-at cs f
+goal-at universal cs f = not (matrix-at literal-at cs f)
 
-pub goal-same : (side : Kind) (n : ℕ) (cs : List Clause) → Every (Every (Names n)) cs → (f g : ℕ → Bool) → ((j : ℕ) → j < n → f j ≡ g j) → goal-at side cs f ≡ goal-at side cs g
-goal-same existential n cs named f g same = matrix-same n cs named f g same
-goal-same universal n cs named f g same = ap not (matrix-same n cs named f g same)
+literal-of-list : (vs : List Bool) (z : ℤ) → literal vs z ≡ literal-at (λ j. getD vs j false) z
+literal-of-list vs (pos zero) = refl
+literal-of-list vs (pos (suc x)) = refl
+literal-of-list vs (negsuc x) = refl
+
+clause-of-list : (vs : List Bool) (c : Clause) → clause vs c ≡ clause-at literal-at (λ j. getD vs j false) c
+clause-of-list vs [] = refl
+clause-of-list vs (z ∷ c) = rw (literal-of-list, clause-of-list vs c) refl
+
+pub matrix-of-list : (cs : List Clause) (vs : List Bool) → matrix cs vs ≡ matrix-at literal-at cs (λ j. getD vs j false)
+matrix-of-list [] vs = refl
+matrix-of-list (c ∷ cs) vs = rw (clause-of-list, matrix-of-list cs vs) refl
 
 goal-of-list : (side : Kind) (cs : List Clause) (vs : List Bool) → goal side (matrix cs) vs ≡ goal-at side cs (λ j. getD vs j false)
 goal-of-list existential cs vs = matrix-of-list cs vs
 goal-of-list universal cs vs = ap not (matrix-of-list cs vs)
+
+-- The literal names one of n unknowns.
+abbrev pub Names : ℕ → ℤ → Type 0
+Names n (pos zero) = ⊥
+Names n (pos (suc x)) = x < n
+Names n (negsuc x) = x < n
+
+-- the matrix looks only at unknowns that are named
+module _ (n : ℕ) (f g : ℕ → Bool) (same : (j : ℕ) → j < n → f j ≡ g j) where
+  literal-same : (z : ℤ) → Names n z → literal-at f z ≡ literal-at g z
+  literal-same (pos (suc x)) h = same x h
+  literal-same (negsuc x) h = ap not (same x h)
+
+  clause-same : (c : Clause) → Every (Names n) c → clause-at literal-at f c ≡ clause-at literal-at g c
+  clause-same [] h = refl
+  clause-same (z ∷ c) h = rw (literal-same z (h .0), clause-same c (h .1))
+
+  pub matrix-same : (cs : List Clause) → Every (Every (Names n)) cs → matrix-at literal-at cs f ≡ matrix-at literal-at cs g
+  matrix-same [] h = refl
+  matrix-same (c ∷ cs) h = rw (clause-same c (h .0), matrix-same cs (h .1))
+
+pub goal-same : (side : Kind) (n : ℕ) (cs : List Clause) → Every (Every (Names n)) cs → (f g : ℕ → Bool) → ((j : ℕ) → j < n → f j ≡ g j) → goal-at side cs f ≡ goal-at side cs g
+goal-same existential n cs named f g same = matrix-same n f g same cs named
+goal-same universal n cs named f g same = ap not (matrix-same n f g same cs named)
 
 -- ---- the problem
 

@@ -23,7 +23,7 @@ pub record Node (P : Problem) (k lo hi : ℕ) (v : ℕ → Bool) (T : Cells) (M 
   pub given : (i j : ℕ) → lo ≤ i → i < hi → j < P .n → P .own j ≡ false → (0 < T .level i j) × (T .value i j ≡ P .given i j)
   pub alike : (i h j : ℕ) → lo ≤ i → i < hi → lo ≤ h → h < hi → j < P .n → P .own j ≡ true → Agree P i h j → 0 < T .level i j → (0 < T .level h j) × (T .value h j ≡ T .value i j)
   pub implied : (i j : ℕ) → lo ≤ i → i < hi → j < P .n → 0 < T .level i j → Implied P k v (M j) i j (T .value i j)
-  pub levels : (i j : ℕ) → lo ≤ i → i < hi → j < P .n → T .level i j ≤ k + 1
+  pub levels : (i j : ℕ) → lo ≤ i → i < hi → T .level i j ≤ k + 1
 
 -- A group that is searched with success: every cell is set, the goal is reached, rows that share a copy share its value, and from position k on
 -- no model leads the values on any row's path: where a model first parts from them, they have the wanted value.

@@ -44,7 +44,7 @@ module _ (P : Problem) where
         implied = λ i j p q lt z.
             subst (λ (y : Bool). Implied P k v (N j) i j y) (sym (same i j p q .1 (back i j p q z)))
             (implied-larger P k v (M j) (N j) i j (T .value i j) (larger j) (A .implied i j p q lt (back i j p q z)));
-        levels = λ i j p q lt. subst (λ (x : ℕ). x ≤ k + 1) (sym (same i j p q .0)) (A .levels i j p q lt);
+        levels = λ i j p q. subst (λ (x : ℕ). x ≤ k + 1) (sym (same i j p q .0)) (A .levels i j p q);
       }
     where
       back : (i j : ℕ) → lo ≤ i → i < hi → 0 < U .level i j → 0 < T .level i j
@@ -69,7 +69,7 @@ module _ (P : Problem) where
         given = A .given;
         alike = A .alike;
         implied = λ i j p q lt z. implied-later P k (k + 1) v w (M j) i j (T .value i j) (omega arith) same (A .implied i j p q lt z);
-        levels = λ i j p q lt. let z : T .level i j ≤ k + 1 = A .levels i j p q lt in omega arith;
+        levels = λ i j p q. let z : T .level i j ≤ k + 1 = A .levels i j p q in omega arith;
       }
 
   -- in a group at an own position, all rows are as its first
@@ -129,10 +129,10 @@ module _ (P : Problem) where
           given = stored-given;
           alike = stored-alike;
           implied = λ i j q r lt z. ⊎-elim (λ t. new i j q r t) (λ n. old i j q r lt z n) (stored-or-kept i j);
-          levels = λ i j q r lt.
+          levels = λ i j q r.
               ⊎-elim
               (λ t. let x : U .level i j ≡ b = stored-at i j t .0 in omega arith)
-              (λ n. let x : U .level i j ≡ T .level i j = st .elsewhere i j n .0 in let w : T .level i j ≤ k + 1 = A .levels i j q r lt in omega arith)
+              (λ n. let x : U .level i j ≡ T .level i j = st .elsewhere i j n .0 in let w : T .level i j ≤ k + 1 = A .levels i j q r in omega arith)
               (stored-or-kept i j);
         }
       where
@@ -159,7 +159,7 @@ module _ (P : Problem) where
         given = stored-given k lo hi v T U M lo hi k b y A st kn ko pos (λ i h p q r s ag a c. (r, s));
         alike = stored-alike k lo hi v T U M lo hi k b y A st kn ko pos (λ i h p q r s ag a c. (r, s));
         implied = λ i j p q lt z. implied-at i j p q lt z (ℕ-discrete j k);
-        levels = λ i j p q lt. levels-at i j p q lt (ℕ-discrete j k);
+        levels = λ i j p q. levels-at i j p q (ℕ-discrete j k);
       }
     where
       kept : (i j : ℕ) → (j ≡ k → ⊥) → (U .level i j ≡ T .level i j) × (U .value i j ≡ T .value i j)
@@ -183,6 +183,6 @@ module _ (P : Problem) where
           (implied-larger P k v (M j) (N j) i j (T .value i j) (larger j)
           (A .implied i j p q lt (positive (T .level i j) (U .level i j) (sym (kept i j n .0)) z))))
 
-      levels-at : (i j : ℕ) → lo ≤ i → i < hi → j < P .n → Dec (j ≡ k) → U .level i j ≤ k + 1 + 1
-      levels-at i j p q lt (yes e) = let x : U .level i j ≡ b = ap (U .level i) e ∙ st .there i p q .0 in omega arith
-      levels-at i j p q lt (no n) = let x : U .level i j ≡ T .level i j = kept i j n .0 in let z : T .level i j ≤ k + 1 = A .levels i j p q lt in omega arith
+      levels-at : (i j : ℕ) → lo ≤ i → i < hi → Dec (j ≡ k) → U .level i j ≤ k + 1 + 1
+      levels-at i j p q (yes e) = let x : U .level i j ≡ b = ap (U .level i) e ∙ st .there i p q .0 in omega arith
+      levels-at i j p q (no n) = let x : U .level i j ≡ T .level i j = kept i j n .0 in let z : T .level i j ≤ k + 1 = A .levels i j p q in omega arith
