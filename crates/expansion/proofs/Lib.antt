@@ -8,3 +8,4 @@ pub mod Leading
 pub mod LeadingPath
 pub mod LeadingCopies
 pub mod LeadingFirst
+pub mod Tree
