@@ -1,5 +1,5 @@
--- Copies: which ones there are over given rows, that none stands twice, and that values looked up by copy give back the strategy that they were
--- taken from, over those rows.
+-- Copies: over given rows each own unknown has one for each row's restriction, and the values that a strategy gives to copies, looked up by copy,
+-- are the strategy's.
 -- Assumes nothing.
 use Prim.Native.Nat.{ℕ, zero, suc, _+_}
 use native.Mathlib.Omega.{arith}
@@ -43,7 +43,8 @@ in-copies-from ts rows row h (false ∷ left) k (suc j) p e o =
     let later : suc k + j ≡ p = omega arith in
     in-copies-from ts rows row h left (suc k) j p later o
 
-pub in-copies : (ts : List Bool) (rows : List Row) (row : Row) (k : ℕ) → In row rows → Own ts k → In (copy-at k (restriction ts k row)) (copies ts rows)
+pub in-copies : (ts : List Bool) (rows : List Row) (row : Row) (k : ℕ) → In row rows → Own ts k
+    → In (copy-at k (restriction ts k row)) (copies ts rows)
 unfolding copies
 in-copies ts rows row k h o = in-copies-from ts rows row h ts zero k k (omega arith) o
 
@@ -51,24 +52,35 @@ in-copies ts rows row k h o = in-copies-from ts rows row h ts zero k k (omega ar
 abbrev pub values-at : List Copy → Strategy → List Bool
 values-at cs σ = map (λ c. σ (c .position) (c .restricted)) cs
 
--- A copy's value among them is the strategy's, whichever of the equal copies is found.
+-- The test by which a copy is looked up.
+pub copy-eq : (c : Copy) (k : ℕ) (r : Row) → eqb (c .position) k && same (c .restricted) r ≡ true → c ≡ copy-at k r
+copy-eq c k r p =
+    let both = and-eq-true-iff (eqb (c .position) k) (same (c .restricted) r) .0 p in
+    ap₂ copy-at (eqb-true (c .position) k (both .0)) (same-eq (c .restricted) r (both .1))
+
+pub copy-found : (k : ℕ) (r : Row) → eqb k k && same r r ≡ true
+copy-found k r = rw (eq-eqb k k refl) (same-refl r)
+
+-- A copy's value among a strategy's values is the strategy's, whichever of equal copies is found.
 pub value-of-values : (cs : List Copy) (σ : Strategy) (k : ℕ) (r : Row) → In (copy-at k r) cs → value-of cs (values-at cs σ) k r ≡ σ k r
 value-of-values [] σ k r h = absurd h
 value-of-values (c ∷ cs) σ k r h =
-    let is-it = eqb (c .position) k && same (c .restricted) r in
-    let found : is-it ≡ true → value-of (c ∷ cs) (values-at (c ∷ cs) σ) k r ≡ σ k r =
-    λ p.
-    let both = and-eq-true-iff (eqb (c .position) k) (same (c .restricted) r) .0 p in
-    rw p (ap₂ σ (eqb-true (c .position) k (both .0)) (same-eq (c .restricted) r (both .1))) in
-    let not-first : is-it ≡ false → copy-at k r ≡ c → ⊥ =
-    λ p e. never-both (rw (eq-eqb k k refl) (same-refl r)) (rw (← e) at p) in
-    let further : is-it ≡ false → value-of (c ∷ cs) (values-at (c ∷ cs) σ) k r ≡ σ k r =
-    λ p. rw p (⊎-elim (λ e. absurd (not-first p e)) (λ l. value-of-values cs σ k r l) h) in
-    ⊎-elim found further (true-or-false is-it)
+    let test = eqb (c .position) k && same (c .restricted) r in
+    let not-first : test ≡ false → copy-at k r ≡ c → ⊥ = λ p e. never-both (copy-found k r) (rw (← e) at p) in
+    let later : test ≡ false → value-of cs (values-at cs σ) k r ≡ σ k r = λ p. ⊎-elim (λ e. absurd (not-first p e)) (value-of-values cs σ k r) h in
+    ⊎-elim
+    (λ (p : test ≡ true). rw p (ap (λ c. σ (c .position) (c .restricted)) (copy-eq c k r p)))
+    (λ (p : test ≡ false). rw p (later p))
+    (true-or-false test)
 
 -- What is played depends on the strategy only at the own unknowns, and there only at the row's own restrictions.
-pub play-agree : (ts : List Bool) (σ τ : Strategy) (row : Row) → ((k : ℕ) → Own ts k → σ k (restriction ts k row) ≡ τ k (restriction ts k row)) → play ts σ row ≡ play ts τ row
+pub play-agree : (ts : List Bool) (σ τ : Strategy) (row : Row)
+    → ((k : ℕ) → Own ts k → σ k (restriction ts k row) ≡ τ k (restriction ts k row)) → play ts σ row ≡ play ts τ row
 play-agree [] σ τ row h = refl
-play-agree (true ∷ ts) σ τ row h = ap₂ {C = List Bool} (λ v vs. v ∷ vs) (h zero refl) (play-agree ts (past-own σ) (past-own τ) row (λ k o. h (suc k) o))
+play-agree (true ∷ ts) σ τ row h =
+    let behind = play-agree ts (past-own σ) (past-own τ) row (λ k o. h (suc k) o) in
+    ap₂ {C = List Bool} (λ v vs. v ∷ vs) (h zero refl) behind
 play-agree (false ∷ ts) σ τ row h =
-    ap {B = List Bool} (λ vs. first-value row ∷ vs) (play-agree ts (past-row (first-value row) σ) (past-row (first-value row) τ) (later-values row) (λ k o. h (suc k) o))
+    let b = first-value row in
+    let behind = play-agree ts (past-row b σ) (past-row b τ) (later-values row) (λ k o. h (suc k) o) in
+    ap {B = List Bool} (λ vs. b ∷ vs) behind

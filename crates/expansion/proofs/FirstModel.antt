@@ -24,24 +24,28 @@ abbrev pub values-of : List Bool → List Row → Strategy → List Bool
 values-of ts rows σ = values-at (copies ts rows) σ
 
 -- Over each of the rows it is played as the strategy is.
-pub play-of-values : (ts : List Bool) (rows : List Row) (σ : Strategy) (row : Row) → In row rows → play ts (strategy-of ts rows (values-of ts rows σ)) row ≡ play ts σ row
+pub play-of-values : (ts : List Bool) (rows : List Row) (σ : Strategy) (row : Row) → In row rows
+    → play ts (strategy-of ts rows (values-of ts rows σ)) row ≡ play ts σ row
 play-of-values ts rows σ row h =
     let agree : (k : ℕ) → Own ts k → strategy-of ts rows (values-of ts rows σ) k (restriction ts k row) ≡ σ k (restriction ts k row) =
     λ k o. value-of-values (copies ts rows) σ k (restriction ts k row) (in-copies ts rows row k h o) in
     play-agree ts (strategy-of ts rows (values-of ts rows σ)) σ row agree
 
-pub wins-agree : (ts : List Bool) (psi : List Bool → Bool) (σ τ : Strategy) (rows : List Row) → ((row : Row) → In row rows → play ts σ row ≡ play ts τ row) → wins ts psi σ rows ≡ wins ts psi τ rows
+pub wins-agree : (ts : List Bool) (psi : List Bool → Bool) (σ τ : Strategy) (rows : List Row)
+    → ((row : Row) → In row rows → play ts σ row ≡ play ts τ row) → wins ts psi σ rows ≡ wins ts psi τ rows
 wins-agree ts psi σ τ [] h = refl
 wins-agree ts psi σ τ (row ∷ rows) h = ap₂ _&&_ (ap psi (h row (inl refl))) (wins-agree ts psi σ τ rows (λ other l. h other (inr l)))
 
 -- So a strategy wins exactly if its values are a model.
-pub is-model-of-values : (ts : List Bool) (psi : List Bool → Bool) (rows : List Row) (σ : Strategy) → is-model ts psi rows (values-of ts rows σ) ≡ wins ts psi σ rows
+pub is-model-of-values : (ts : List Bool) (psi : List Bool → Bool) (rows : List Row) (σ : Strategy)
+    → is-model ts psi rows (values-of ts rows σ) ≡ wins ts psi σ rows
 unfolding is-model
 is-model-of-values ts psi rows σ = wins-agree ts psi (strategy-of ts rows (values-of ts rows σ)) σ rows (λ row h. play-of-values ts rows σ row h)
 
 module _ (prefer : ℕ → Bool) (ts : List Bool) (psi : List Bool → Bool) (rows : List Row) where
   -- The first model, if there is one, is returned, and nothing else is.
-  pub first-is-first : (vs : List Bool) → first-model prefer ts psi rows ≡ some vs → IsFirst prefer (length (copies ts rows)) (is-model ts psi rows) vs
+  pub first-is-first : (vs : List Bool) → first-model prefer ts psi rows ≡ some vs
+      → IsFirst prefer (length (copies ts rows)) (is-model ts psi rows) vs
   unfolding first-model
   first-is-first vs e = walk-first (length (copies ts rows)) prefer (is-model ts psi rows) vs e
 

@@ -9,3 +9,7 @@ pub mod LeadingPath
 pub mod LeadingCopies
 pub mod LeadingFirst
 pub mod Tree
+pub mod Game
+pub mod Soundness
+pub mod Verdict
+pub mod Accepted

@@ -66,14 +66,14 @@ module _ {A B : Type 0} (f : A → B) where
       let p = in-map-cases y xs h in
       (p .0, p .1, inr (p .2))
 
+  in-map-back : ((x y : A) → f x ≡ f y → x ≡ y) → (x : A) (xs : List A) → In (f x) (map f xs) → In x xs
+  in-map-back one-to-one x xs h =
+      let p = in-map-cases (f x) xs h in
+      rw (one-to-one x (p .0) (p .1)) (p .2)
+
   pub distinct-map : (xs : List A) → ((x y : A) → f x ≡ f y → x ≡ y) → Distinct xs → Distinct (map f xs)
   distinct-map [] one-to-one d = tt
-  distinct-map (x ∷ xs) one-to-one d =
-      let first-again : In (f x) (map f xs) → In x xs =
-      λ h.
-      let p = in-map-cases (f x) xs h in
-      rw (one-to-one x (p .0) (p .1)) (p .2) in
-      (λ h. d .0 (first-again h), distinct-map xs one-to-one (d .1))
+  distinct-map (x ∷ xs) one-to-one d = (λ h. d .0 (in-map-back one-to-one x xs h), distinct-map xs one-to-one (d .1))
 
 -- The tests.
 pub same-refl : (r : Row) → same r r ≡ true
@@ -133,12 +133,12 @@ pub in-fresh : (r : Row) (seen rows : List Row) → In r rows → (In r seen →
 in-fresh r seen [] h unseen = absurd h
 in-fresh r seen (x ∷ rows) h unseen =
     let not-first : among x seen ≡ true → r ≡ x → ⊥ = λ p e. unseen (among-in r seen (rw (← e) at p)) in
-    let if-seen : among x seen ≡ true → In r (fresh seen (x ∷ rows)) =
-    λ p. rw p (⊎-elim (λ e. absurd (not-first p e)) (λ l. in-fresh r seen rows l unseen) h) in
-    let later : In r rows → (r ≡ x) ⊎ In r (fresh (x ∷ seen) rows) =
-    λ l. ⊎-map (λ e. e) (λ ne. in-fresh r (x ∷ seen) rows l (⊎-elim ne unseen)) (equal-or-not r x) in
-    let if-new : among x seen ≡ false → In r (fresh seen (x ∷ rows)) = λ p. rw p (⊎-elim inl later h) in
-    ⊎-elim if-seen if-new (true-or-false (among x seen))
+    let new-ones = fresh (x ∷ seen) rows in
+    let later : In r rows → (r ≡ x) ⊎ In r new-ones = λ l. ⊎-map (λ e. e) (λ ne. in-fresh r (x ∷ seen) rows l (⊎-elim ne unseen)) (equal-or-not r x) in
+    ⊎-elim
+    (λ (p : among x seen ≡ true). rw p (⊎-elim (λ e. absurd (not-first p e)) (λ l. in-fresh r seen rows l unseen) h))
+    (λ (p : among x seen ≡ false). rw p (⊎-elim inl later h))
+    (true-or-false (among x seen))
 
 pub fresh-in : (r : Row) (seen rows : List Row) → In r (fresh seen rows) → In r rows
 fresh-in r seen [] h = h
@@ -151,11 +151,12 @@ fresh-in r seen (x ∷ rows) h =
 pub fresh-unseen : (r : Row) (seen rows : List Row) → In r (fresh seen rows) → In r seen → ⊥
 fresh-unseen r seen [] h s = h
 fresh-unseen r seen (x ∷ rows) h s =
-    let if-seen : among x seen ≡ true → ⊥ = λ p. fresh-unseen r seen rows (rw p at h) s in
     let not-first : among x seen ≡ false → r ≡ x → ⊥ = λ p e. not-among x seen p (rw e at s) in
-    let if-new : among x seen ≡ false → ⊥ =
-    λ p. ⊎-elim (not-first p) (λ l. fresh-unseen r (x ∷ seen) rows l (inr s)) (rw p at h) in
-    ⊎-elim if-seen if-new (true-or-false (among x seen))
+    let not-later : In r (fresh (x ∷ seen) rows) → ⊥ = λ l. fresh-unseen r (x ∷ seen) rows l (inr s) in
+    ⊎-elim
+    (λ (p : among x seen ≡ true). fresh-unseen r seen rows (rw p at h) s)
+    (λ (p : among x seen ≡ false). ⊎-elim (not-first p) not-later (rw p at h))
+    (true-or-false (among x seen))
 
 pub distinct-fresh : (seen rows : List Row) → Distinct (fresh seen rows)
 distinct-fresh seen [] = tt

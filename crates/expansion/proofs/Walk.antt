@@ -10,10 +10,11 @@ use mathlib.Core.Logic.{inl, inr}
 use lib.ListN.{length, getD}
 use Rattle.expansion.specs.Model.{first-passing, with-front, or-else}
 use Rattle.expansion.specs.Order.{PartsAt, Leads, IsFirst}
-use Rattle.expansion.proofs.Booleans.{never-both}
+use Rattle.expansion.proofs.Booleans.{never-both, never-unlike}
 
 -- A common first value changes nothing.
-parts-behind : (prefer : ℕ → Bool) (v : Bool) (vs ws : List Bool) (i : ℕ) → PartsAt (λ j. prefer (suc j)) vs ws i → PartsAt prefer (v ∷ vs) (v ∷ ws) (suc i)
+parts-behind : (prefer : ℕ → Bool) (v : Bool) (vs ws : List Bool) (i : ℕ) → PartsAt (λ j. prefer (suc j)) vs ws i
+    → PartsAt prefer (v ∷ vs) (v ∷ ws) (suc i)
 parts-behind prefer v vs ws i p = record { agree = agree; preferred = p .preferred; unlike = p .unlike }
   where
     agree : (j : ℕ) → j < suc i → getD (v ∷ vs) j false ≡ getD (v ∷ ws) j false
@@ -81,33 +82,32 @@ module _ (prefer : ℕ → Bool) (m : ℕ) (test : List Bool → Bool) where
 walk : (m : ℕ) (prefer : ℕ → Bool) (test : List Bool → Bool) → Owed prefer m test (first-passing m prefer test)
 walk zero prefer test = owed-at-end prefer test (test []) refl
 walk (suc m) prefer test =
+    let p = prefer zero in
     let rest : ℕ → Bool = λ i. prefer (suc i) in
     let begun : Bool → List Bool → Bool = λ v vs. test (v ∷ vs) in
     let first : Bool → Option (List Bool) = λ v. first-passing m rest (begun v) in
-    owed-in-front prefer m test (first (prefer zero)) (first (not (prefer zero))) (walk m rest (begun (prefer zero))) (walk m rest (begun (not (prefer zero))))
+    owed-in-front prefer m test (first p) (first (not p)) (walk m rest (begun p)) (walk m rest (begun (not p)))
 
 -- What the walk returns has m values, passes, and leads every other list of m values that passes.
-pub walk-first : (m : ℕ) (prefer : ℕ → Bool) (test : List Bool → Bool) (vs : List Bool) → first-passing m prefer test ≡ some vs → IsFirst prefer m test vs
+pub walk-first : (m : ℕ) (prefer : ℕ → Bool) (test : List Bool → Bool) (vs : List Bool) → first-passing m prefer test ≡ some vs
+    → IsFirst prefer m test vs
 walk-first m prefer test vs e = subst (Owed prefer m test) e (walk m prefer test)
 
 -- It returns none only if no list of m values passes.
-pub walk-none : (m : ℕ) (prefer : ℕ → Bool) (test : List Bool → Bool) → first-passing m prefer test ≡ none → (ws : List Bool) → length ws ≡ m → test ws ≡ false
+pub walk-none : (m : ℕ) (prefer : ℕ → Bool) (test : List Bool → Bool) → first-passing m prefer test ≡ none → (ws : List Bool)
+    → length ws ≡ m → test ws ≡ false
 walk-none m prefer test e = subst (Owed prefer m test) e (walk m prefer test)
 
 -- Two lists that lead each other are equal.
-not-itself : (p v : Bool) → v ≡ p → v ≡ not p → ⊥
-not-itself true v e f = never-both e f
-not-itself false v e f = never-both f e
-
 parts-earlier : (prefer : ℕ → Bool) (vs ws : List Bool) (i k : ℕ) → PartsAt prefer vs ws i → PartsAt prefer ws vs k → i < k → ⊥
-parts-earlier prefer vs ws i k p q h = not-itself (prefer i) (getD ws i false) (q .agree i h ∙ p .preferred) (p .unlike)
+parts-earlier prefer vs ws i k p q h = never-unlike (prefer i) (getD ws i false) (q .agree i h ∙ p .preferred) (p .unlike)
 
 parts-one-way : (prefer : ℕ → Bool) (vs ws : List Bool) (i k : ℕ) → PartsAt prefer vs ws i → PartsAt prefer ws vs k → ⊥
 parts-one-way prefer vs ws i k p q =
     let not-earlier : ¬ (i < k) = parts-earlier prefer vs ws i k p q in
     let not-later : ¬ (k < i) = parts-earlier prefer ws vs k i q p in
     let e : i ≡ k = omega arith in
-    not-itself (prefer i) (getD vs i false) (p .preferred) (rw (← e) at (q .unlike))
+    never-unlike (prefer i) (getD vs i false) (p .preferred) (rw (← e) at (q .unlike))
 
 pub leads-antisymmetric : (prefer : ℕ → Bool) (vs ws : List Bool) → Leads prefer vs ws → Leads prefer ws vs → vs ≡ ws
 leads-antisymmetric prefer vs ws (inl e) b = e
@@ -115,12 +115,14 @@ leads-antisymmetric prefer vs ws (inr p) (inl e) = sym e
 leads-antisymmetric prefer vs ws (inr p) (inr q) = absurd (parts-one-way prefer vs ws (p .0) (q .0) (p .1) (q .1))
 
 -- There is one first list at most.
-pub first-unique : (prefer : ℕ → Bool) (m : ℕ) (test : List Bool → Bool) (vs ws : List Bool) → IsFirst prefer m test vs → IsFirst prefer m test ws → vs ≡ ws
+pub first-unique : (prefer : ℕ → Bool) (m : ℕ) (test : List Bool → Bool) (vs ws : List Bool) → IsFirst prefer m test vs
+    → IsFirst prefer m test ws → vs ≡ ws
 first-unique prefer m test vs ws p q =
     leads-antisymmetric prefer vs ws (p .leads ws (q .values) (q .passes)) (q .leads vs (p .values) (p .passes))
 
 -- So the walk returns the first list where there is one.
-pub walk-returns : (m : ℕ) (prefer : ℕ → Bool) (test : List Bool → Bool) (vs : List Bool) → IsFirst prefer m test vs → first-passing m prefer test ≡ some vs
+pub walk-returns : (m : ℕ) (prefer : ℕ → Bool) (test : List Bool → Bool) (vs : List Bool) → IsFirst prefer m test vs
+    → first-passing m prefer test ≡ some vs
 walk-returns m prefer test vs p = go (first-passing m prefer test) refl
   where
     go : (o : Option (List Bool)) → first-passing m prefer test ≡ o → first-passing m prefer test ≡ some vs
