@@ -7,31 +7,37 @@ use mathlib.Core.Bool.{Bool, true, false, not, _&&_, false≢true}
 use mathlib.Core.List.{List, [], _∷_, map}
 use mathlib.Core.Option.{Option, none, some}
 use native.Mathlib.Omega.{arith}
+use native.Mathlib.Nat.{le-of-lt}
 use lib.IntN.{ℤ, pos, negsuc}
 use lib.ListN.{length, getD, length-map}
 use Rattle.formula.specs.Formula.{Kind, existential, universal, Clause}
 use Rattle.formula.specs.Meaning.{literal, clause, matrix}
-use Rattle.expansion.specs.Side.{flags, goal}
+use Rattle.expansion.specs.Side.{own, flags, goal}
 use Rattle.expansion.specs.Play.{Row, Strategy, restriction, play, part, first-value, later-values}
 use Rattle.expansion.specs.Model.{wins, yielded, first-model, search}
 use Rattle.expansion.proofs.CopyLaws.{Own}
 use Rattle.expansion.proofs.FirstModel.{none-if-no-strategy}
-use Rattle.expansion.proofs.Leading.{wanted, row-value, Fits, Uniform, LeadsAt, Leading}
-use Rattle.expansion.proofs.LeadingPath.{length-play, play-at-own, play-at-other}
+use Rattle.expansion.proofs.Leading.{wanted, others-before, Fits, Uniform, LeadsAt, Leading}
+use Rattle.expansion.proofs.LeadingPath.{first-at, later-at, play-at-own, play-at-other}
 use Rattle.expansion.proofs.LeadingFirst.{leading-is-first}
-use Rattle.expansion.proofs.Booleans.{true-or-false}
+use Rattle.expansion.proofs.Booleans.{true-or-false, never-both}
 use Rattle.expansion.proofs.Cuts.{Mask, Problem, Agree, Sound, Model, Refuted}
 use Rattle.expansion.proofs.Node.{Cells, Won}
 use Rattle.expansion.proofs.ClauseCuts.{Every, clause-at, matrix-at}
 
 -- ---- restrictions and the values before a position
 
+-- The value of a row at a position that is not own.
+abbrev pub row-value : List Bool → Row → ℕ → Bool
+row-value ts row l = getD row (others-before ts l) false
+
 pub restriction-of-values : (ts : List Bool) (k : ℕ) (a b : Row) → ((l : ℕ) → l < k → getD ts l false ≡ false → row-value ts a l ≡ row-value ts b l) → restriction ts k a ≡ restriction ts k b
 restriction-of-values ts zero a b h = refl
 restriction-of-values [] (suc k) a b h = refl
 restriction-of-values (true ∷ ts) (suc k) a b h = restriction-of-values ts k a b (λ l lt o. h (suc l) (omega arith) o)
 restriction-of-values (false ∷ ts) (suc k) a b h =
-    rw (h zero (omega arith) refl, restriction-of-values ts k (later-values a) (later-values b) (λ l lt o. h (suc l) (omega arith) o))
+    let front : first-value a ≡ first-value b = sym (first-at a) ∙ h zero (omega arith) refl ∙ first-at b in
+    rw (front, restriction-of-values ts k (later-values a) (later-values b) (λ l lt o. sym (later-at a (others-before ts l)) ∙ h (suc l) (omega arith) o ∙ later-at b (others-before ts l)))
 
 head-same : (x y : Bool) (xs ys : List Bool) → _≡_ {A = List Bool} (x ∷ xs) (y ∷ ys) → x ≡ y
 head-same x y xs ys e = cc
@@ -39,14 +45,17 @@ head-same x y xs ys e = cc
 tail-same : (x y : Bool) (xs ys : List Bool) → _≡_ {A = List Bool} (x ∷ xs) (y ∷ ys) → xs ≡ ys
 tail-same x y xs ys e = cc
 
-pub values-of-restriction : (ts : List Bool) (k : ℕ) (a b : Row) → restriction ts k a ≡ restriction ts k b → (l : ℕ) → l < k → row-value ts a l ≡ row-value ts b l
-values-of-restriction ts zero a b e l lt = absurd (omega arith)
-values-of-restriction [] (suc k) a b e l lt = refl
-values-of-restriction (true ∷ ts) (suc k) a b e zero lt = refl
-values-of-restriction (true ∷ ts) (suc k) a b e (suc l) lt = values-of-restriction ts k a b e l (omega arith)
-values-of-restriction (false ∷ ts) (suc k) a b e zero lt = head-same (first-value a) (first-value b) (restriction ts k (later-values a)) (restriction ts k (later-values b)) e
-values-of-restriction (false ∷ ts) (suc k) a b e (suc l) lt =
-    values-of-restriction ts k (later-values a) (later-values b) (tail-same (first-value a) (first-value b) (restriction ts k (later-values a)) (restriction ts k (later-values b)) e) l (omega arith)
+pub values-of-restriction : (ts : List Bool) (k : ℕ) (a b : Row) → restriction ts k a ≡ restriction ts k b → (l : ℕ) → l < k → l < length ts → getD ts l false ≡ false → row-value ts a l ≡ row-value ts b l
+values-of-restriction ts zero a b e l lt ll o = absurd (omega arith)
+values-of-restriction [] (suc k) a b e l lt ll o = absurd (omega arith)
+values-of-restriction (true ∷ ts) (suc k) a b e zero lt ll o = absurd (never-both refl o)
+values-of-restriction (true ∷ ts) (suc k) a b e (suc l) lt ll o = values-of-restriction ts k a b e l (omega arith) (omega arith) o
+values-of-restriction (false ∷ ts) (suc k) a b e zero lt ll o =
+    first-at a ∙ head-same (first-value a) (first-value b) (restriction ts k (later-values a)) (restriction ts k (later-values b)) e ∙ sym (first-at b)
+values-of-restriction (false ∷ ts) (suc k) a b e (suc l) lt ll o =
+    later-at a (others-before ts l)
+    ∙ values-of-restriction ts k (later-values a) (later-values b) (tail-same (first-value a) (first-value b) (restriction ts k (later-values a)) (restriction ts k (later-values b)) e) l (omega arith) (omega arith) o
+    ∙ sym (later-at b (others-before ts l))
 
 -- ---- values as a list
 
@@ -169,7 +178,7 @@ module _ (prefer : ℕ → Bool) (side : Kind) (ks : List Kind) (cs : List Claus
   unfolding problem
   model-of-strategy σ w =
       record {
-        follows = λ i j hi hj o. play-at-other (flags side ks) σ (getD rows (row i) []) j o;
+        follows = λ i j hi hj o. play-at-other (flags side ks) σ (getD rows (row i) []) j (subst (λ (x : ℕ). j < x) (sym (length-map ks (own side))) hj) o;
         uniform = λ i h j hi hh hj o ag.
             play-at-own (flags side ks) σ (getD rows (row i) []) j o
             ∙ ap (σ j) (restriction-of-values (flags side ks) j (getD rows (row i) []) (getD rows (row h) []) ag)
@@ -206,11 +215,11 @@ module _ (prefer : ℕ → Bool) (side : Kind) (ks : List Kind) (cs : List Claus
   row-back : (i : ℕ) → i < length rows → getD rows (row (place-of i)) [] ≡ getD rows i []
   row-back i lt = ap (λ (x : ℕ). getD rows x []) (places .row-of-place i lt)
 
-  agree-of-restriction : (i h j : ℕ) → i < length rows → h < length rows → restriction (flags side ks) j (getD rows i []) ≡ restriction (flags side ks) j (getD rows h []) → Agree (problem prefer side ks cs rows row) (place-of i) (place-of h) j
+  agree-of-restriction : (i h j : ℕ) → i < length rows → h < length rows → j ≤ length ks → restriction (flags side ks) j (getD rows i []) ≡ restriction (flags side ks) j (getD rows h []) → Agree (problem prefer side ks cs rows row) (place-of i) (place-of h) j
   unfolding problem
-  agree-of-restriction i h j li lh e l lt o =
+  agree-of-restriction i h j li lh lj e l lt o =
       ap (λ (r : Row). row-value (flags side ks) r l) (row-back i li)
-      ∙ values-of-restriction (flags side ks) j (getD rows i []) (getD rows h []) e l lt
+      ∙ values-of-restriction (flags side ks) j (getD rows i []) (getD rows h []) e l lt (subst (λ (x : ℕ). l < x) (sym (length-map ks (own side))) (omega arith)) o
       ∙ sym (ap (λ (r : Row). row-value (flags side ks) r l) (row-back h lh))
 
   won-leading : (T : Cells) → Won (problem prefer side ks cs rows row) 0 0 (length rows) T → Leading prefer (flags side ks) (goal side (matrix cs)) rows (plays T)
@@ -220,16 +229,16 @@ module _ (prefer : ℕ → Bool) (side : Kind) (ks : List Kind) (cs : List Claus
         one-each = length-tabulate (length rows) (λ i. tabulate (length ks) (T .value (place-of i)));
         fits = λ i li.
             record {
-              whole = ap length (play-at T i li) ∙ length-tabulate (length ks) (T .value (place-of i)) ∙ sym (length-map ks (Rattle.expansion.specs.Side.own side));
+              whole = ap length (play-at T i li) ∙ length-tabulate (length ks) (T .value (place-of i)) ∙ sym (length-map ks (own side));
               row-values = λ k lk o.
-                  let below : k < length ks = subst (λ (x : ℕ). k < x) (length-map ks (Rattle.expansion.specs.Side.own side)) lk in
+                  let below : k < length ks = subst (λ (x : ℕ). k < x) (length-map ks (own side)) lk in
                   value-at T i k li below
                   ∙ W .given (place-of i) k (omega arith) (places .place-below i li) below o
                   ∙ ap (λ (r : Row). row-value (flags side ks) r k) (row-back i li);
             };
         uniform = λ i h k li lh o e.
             value-at T i k li (own-below k o)
-            ∙ W .alike (place-of h) (place-of i) k (omega arith) (places .place-below h lh) (omega arith) (places .place-below i li) (own-below k o) o (agree-of-restriction h i k lh li (sym e))
+            ∙ W .alike (place-of h) (place-of i) k (omega arith) (places .place-below h lh) (omega arith) (places .place-below i li) (own-below k o) o (agree-of-restriction h i k lh li (le-of-lt (own-below k o)) (sym e))
             ∙ sym (value-at T h k lh (own-below k o));
         reach = λ i li.
             goal-of-list side cs (getD (plays T) i [])

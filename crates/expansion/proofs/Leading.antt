@@ -1,5 +1,5 @@
--- What it is for the plays of a list of rows to be those of the first model, said row by row: the wanted value of each copy, plays that
--- fit their rows, uniform plays, and plays that lead others by the wanted values.
+-- What plays of a list of rows must be in order to be those of the first model, said row by row and position by position: `Leading`.
+-- A play is the list of the values of all unknowns; plays stand in the rows' order.
 -- Assumes nothing.
 use Prim.Native.Nat.{ℕ, zero, suc, _<_}
 use mathlib.Core.Path.{_≡_}
@@ -24,27 +24,31 @@ number (c ∷ cs) k r =
 unfoldable pub wanted : (ℕ → Bool) → List Bool → List Row → Strategy
 wanted prefer ts rows k r = prefer (number (copies ts rows) k r)
 
--- The value of a row at a position that is not own; false at an own one.
-abbrev pub row-value : List Bool → Row → ℕ → Bool
-row-value [] row k = false
-row-value (true ∷ ts) row zero = false
-row-value (true ∷ ts) row (suc k) = row-value ts row k
-row-value (false ∷ ts) row zero = first-value row
-row-value (false ∷ ts) row (suc k) = row-value ts (later-values row) k
+-- How many of the unknowns before position k are not own: the place of position k's value in a row, if it is not own itself.
+abbrev pub others-before : List Bool → ℕ → ℕ
+others-before ts zero = zero
+others-before [] (suc k) = zero
+others-before (true ∷ ts) (suc k) = others-before ts k
+others-before (false ∷ ts) (suc k) = suc (others-before ts k)
 
--- P gives a value to each unknown, and to the row's unknowns the row's values.
+-- P has a value for each unknown, and at those that are not own it has the row's values.
 pub record Fits (ts : List Bool) (row : Row) (P : List Bool) : Type 0 where
   pub whole : length P ≡ length ts
-  pub row-values : (k : ℕ) → k < length ts → getD ts k false ≡ false → getD P k false ≡ row-value ts row k
+  pub row-values : (k : ℕ) → k < length ts → getD ts k false ≡ false → getD P k false ≡ getD row (others-before ts k) false
 
--- Rows with the same restriction have the same value: each copy has one value.
+-- Each copy has one value: rows with the same restriction have the same value.
 abbrev pub Uniform : List Bool → List Row → List (List Bool) → Type 0
 Uniform ts rows plays = (i j k : ℕ) → i < length rows → j < length rows → Own ts k
     → restriction ts k (getD rows i []) ≡ restriction ts k (getD rows j [])
     → getD (getD plays i []) k false ≡ getD (getD plays j []) k false
 
--- P leads Q over one row: at the first position where they differ, if it is own, P has the value that W wants.
--- By recursion over the positions ..
+-- P leads Q over one row: at the first position where they differ, if it is own, P has the value that W wants. By index ..
+abbrev pub LeadsAt : Strategy → List Bool → Row → List Bool → List Bool → Type 0
+LeadsAt W ts row P Q = (k : ℕ) → Own ts k
+    → ((j : ℕ) → j < k → getD P j false ≡ getD Q j false)
+    → (getD P k false ≡ getD Q k false) ⊎ (getD P k false ≡ W k (restriction ts k row))
+
+-- .. and by recursion over the positions.
 abbrev pub LeadsPath : Strategy → List Bool → Row → List Bool → List Bool → Type 0
 LeadsPath W [] row P Q = Unit {0}
 LeadsPath W (true ∷ ts) row P Q =
@@ -53,13 +57,7 @@ LeadsPath W (true ∷ ts) row P Q =
 LeadsPath W (false ∷ ts) row P Q =
     first-value P ≡ first-value Q → LeadsPath (past-row (first-value row) W) ts (later-values row) (later-values P) (later-values Q)
 
--- .. and by index.
-abbrev pub LeadsAt : Strategy → List Bool → Row → List Bool → List Bool → Type 0
-LeadsAt W ts row P Q = (k : ℕ) → Own ts k
-    → ((j : ℕ) → j < k → getD P j false ≡ getD Q j false)
-    → (getD P k false ≡ getD Q k false) ⊎ (getD P k false ≡ W k (restriction ts k row))
-
--- What a search owes for plays that it returns, one for each row in the rows' order: they make the first model.
+-- The plays are those of a strategy, it wins, and each play leads those of every strategy that wins over all the rows.
 pub record Leading (prefer : ℕ → Bool) (ts : List Bool) (psi : List Bool → Bool) (rows : List Row) (plays : List (List Bool)) : Type 0 where
   pub one-each : length plays ≡ length rows
   pub fits : (i : ℕ) → i < length rows → Fits ts (getD rows i []) (getD plays i [])
