@@ -1,0 +1,25 @@
+-- `formula::is_ended` meets its contract. Assumes nothing.
+use borrow.Author.Needs.{needs, sfits-of}
+use mathlib.Core.Path.{_≡_, sym}
+use Rattle.formula.proofs.Entries.{ended-empty, ended-last}
+use Rattle.formula.proofs.is_ended.Statement.{statement}
+use Rattle.formula.proofs.is_ended.Tie as tie
+
+returns : tie.Need-returns
+returns c = sym (ended-empty (c .before .args .literals .now) (c .if1 .taken))
+
+sub-result : tie.Need-sub-result
+sub-result c = search needs
+
+mul-result : tie.Need-mul-result
+mul-result c = search needs
+
+shared-slice-copy-out-result : tie.Need-shared-slice-copy-out-result
+shared-slice-copy-out-result c = search needs
+
+returns-2 : tie.Need-returns-2
+returns-2 c = ended-last (c .before .before .args .literals .now) (c .before .if1 .left) (sfits-of (c .result .given))
+
+pub is-ended-spec : {M : Type 1} → statement M
+is-ended-spec =
+    tie.close (tie.spec returns sub-result mul-result shared-slice-copy-out-result returns-2)
