@@ -8,3 +8,5 @@ pub mod Game
 pub mod Soundness
 pub mod Verdict
 pub mod Accepted
+pub mod Progress
+pub mod Counting
