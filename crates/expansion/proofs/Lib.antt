@@ -19,3 +19,5 @@ pub mod Steps
 pub mod Success
 pub mod ClauseCuts
 pub mod Engine
+pub mod Progress
+pub mod Counting

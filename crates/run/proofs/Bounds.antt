@@ -1,0 +1,33 @@
+-- Bounds of a run: its counts, its rows and its rounds. Assumes nothing.
+use Prim.Native.Nat.{ℕ, suc, _^_, _≤_}
+use native.Mathlib.Omega.{arith}
+use mathlib.Core.Path.{_≡_}
+use lib.ListN.{length}
+use Rattle.formula.specs.Formula.{Kind, universal}
+use Rattle.expansion.specs.Play.{Row}
+use Rattle.expansion.proofs.Membership.{In}
+use Rattle.run.specs.Run.{rows, spent, Lent, count, run}
+use Rattle.run.specs.Claim.{table}
+use Rattle.run.proofs.GrowthLaws.{room, length-at-most}
+use Rattle.run.proofs.RunLaws.{run-reached}
+
+module _ (l : Lent) (limit : ℕ) where
+  -- Each row has a value for each unknown of its side.
+  pub row-length : (side : Kind) (x : Row) → In x (rows (table side (run l limit))) → length x ≡ count side (l .ks)
+  row-length side = run-reached l limit .held side .sized
+
+  -- A table holds no more rows than there are, and no more than it has room for.
+  pub count-most : (side : Kind) → length (table side (run l limit)) ≤ 2 ^ count side (l .ks)
+  count-most side =
+      let held = run-reached l limit .held side in
+      length-at-most l side (table side (run l limit)) (held .distinct) (held .sized)
+
+  pub count-in-room : (side : Kind) → 1 ≤ room side l → length (table side (run l limit)) ≤ room side l
+  count-in-room side = run-reached l limit .held side .fits
+
+  -- So a round's number fits its mark: 256 rounds are the most with 256 rows. This goes for the round reached and for the one that follows a finished one.
+  pub round-in-room : 1 ≤ l .room-A → run l limit .round ≤ l .room-A
+  round-in-room some-room = omega (arith, run-reached l limit .round-A, count-in-room universal some-room)
+
+  pub next-round-in-room : 1 ≤ l .room-A → run l limit .answer ≡ spent → suc limit ≤ l .room-A
+  next-round-in-room some-room e = omega (arith, run-reached l limit .ongoing e .count-A, count-in-room universal some-room)

@@ -1,0 +1,111 @@
+-- What a step of a round makes of a table: for either side, the table grown by what a search over the other side's rows yields. Assumes nothing.
+use Prim.Native.Nat.{ℕ, suc, _^_, _≤_, _<_}
+use native.Mathlib.Omega.{arith}
+use mathlib.Core.Path.{_≡_, refl, ap, subst}
+use mathlib.Core.Bool.{Bool, true, false, not, cond}
+use mathlib.Core.List.{List, [], _∷_, _++_}
+use mathlib.Core.Logic.{⊎-elim}
+use mathlib.Core.Option.{Option, none, some}
+use lib.Dec.{T, leb, leb→le, nleb→lt}
+use lib.ListN.{length, length-map}
+use Rattle.formula.specs.Formula.{Kind, existential, universal}
+use Rattle.expansion.specs.Side.{flags, other}
+use Rattle.expansion.specs.Play.{Row, Strategy, part, later-values}
+use Rattle.expansion.specs.Copies.{fresh}
+use Rattle.expansion.specs.Model.{search}
+use Rattle.expansion.proofs.Membership.{In, Distinct, in-append-cases, in-append-left, in-append-right, in-map-cases, in-or-not, in-fresh, fresh-in, distinct-append-fresh}
+use Rattle.expansion.proofs.Progress.{Answers, search-answers, yields-fresh}
+use Rattle.expansion.proofs.Counting.{Sized, at-most-all-rows}
+use Rattle.run.specs.Run.{Entry, Table, rows, count, grown, if-fits, Lent}
+use Rattle.run.specs.Claim.{NewRow}
+use Rattle.run.proofs.TableLaws.{rows-grown, Extends, extends-grown, grown-new, length-grown}
+
+-- The rows that a side's table has room for.
+abbrev pub room : Kind → Lent → ℕ
+room universal l = l .room-A
+room existential l = l .room-S
+
+-- A side's table is in order: no row twice, in each row a value for each unknown of the side, and no more rows than there is room for.
+pub record Held (l : Lent) (side : Kind) (t : Table) : Type 0 where
+  pub distinct : Distinct (rows t)
+  pub sized : Sized (count side (l .ks)) (rows t)
+  pub fits : 1 ≤ room side l → length t ≤ room side l
+
+-- There are no more rows than there are values for the side's unknowns.
+pub length-at-most : (l : Lent) (side : Kind) (t : Table) → Distinct (rows t) → Sized (count side (l .ks)) (rows t) → length t ≤ 2 ^ count side (l .ks)
+length-at-most l side t distinct sized = omega (arith, at-most-all-rows _ (rows t) distinct sized, length-map t (λ (x : Entry). x .row))
+
+-- A yielded row has a value for each unknown of the side.
+length-part : (side : Kind) (ks : List Kind) (vs : List Bool) → length (part (flags side ks) vs) ≡ count side ks
+length-part side [] vs = refl
+length-part existential (existential ∷ ks) vs = ap suc (length-part existential ks (later-values vs))
+length-part existential (universal ∷ ks) vs = length-part existential ks (later-values vs)
+length-part universal (existential ∷ ks) vs = length-part universal ks (later-values vs)
+length-part universal (universal ∷ ks) vs = ap suc (length-part universal ks (later-values vs))
+
+-- What is asked of a table by the room: `if-fits` by its outcomes.
+abbrev pub Fitted : ℕ → Table → Option Table → Type 0
+Fitted n t none = n < length t
+Fitted n t (some u) = (t ≡ u) × (length t ≤ n)
+
+pub fitted : (n : ℕ) (t : Table) → Fitted n t (if-fits n t)
+fitted n t = by-test (leb (length t) n) (leb→le (length t) n) (nleb→lt (length t) n)
+  where
+    by-test : (b : Bool) → (T b → length t ≤ n) → (T (not b) → n < length t) → Fitted n t (cond b (some t) none)
+    by-test true le lt = (refl, le tt)
+    by-test false le lt = lt tt
+
+-- What a step of round r makes of a side's table t, over the other side's rows: t grows by a new row at least, to u, and a strategy that
+-- wins over the other side's rows has all that it yields in u.
+pub record Growth (l : Lent) (side : Kind) (r : ℕ) (from : List Row) (t u : Table) : Type 0 where
+  pub held : Held l side u
+  pub more : suc (length t) ≤ length u
+  pub extends : Extends t u
+  pub new-row : (end : Table) → Extends u end → NewRow r t u end
+  pub σ : Strategy
+  pub answers : Answers side (l .ks) (l .phi) σ (λ x. In x from) (λ x. In x (rows u))
+
+module _ (l : Lent) (side : Kind) (r : ℕ) (from : List Row) (t : Table) (held : Held l side t) (new : List Row)
+    (found : search (l .prefer) side (l .ks) (l .phi) from ≡ some new) where
+  sized-grown : Sized (count side (l .ks)) (rows (grown r t new))
+  sized-grown x h = ⊎-elim (held .sized x) of-new (in-append-cases x (rows t) (fresh (rows t) new) (rw rows-grown at h))
+    where
+      of-new : In x (fresh (rows t) new) → length x ≡ count side (l .ks)
+      of-new f =
+          let model = search-answers (l .prefer) side (l .ks) (l .phi) from new found in
+          let p = in-map-cases _ x from (subst (λ (n : List Row). In x n) (model .2) (fresh-in x (rows t) new f)) in
+          rw (p .1) (length-part side (l .ks) _)
+
+  distinct-grown : Distinct (rows (grown r t new))
+  distinct-grown = rw rows-grown (distinct-append-fresh (rows t) new (held .distinct))
+
+  yielded-in-grown : (x : Row) → In x new → In x (rows (grown r t new))
+  yielded-in-grown x h = rw rows-grown (⊎-elim old fresh-now (in-or-not x (rows t)))
+    where
+      old : In x (rows t) → In x (rows t ++ fresh (rows t) new)
+      old = in-append-left x (rows t) (fresh (rows t) new)
+
+      fresh-now : (In x (rows t) → ⊥) → In x (rows t ++ fresh (rows t) new)
+      fresh-now n = in-append-right x (rows t) (fresh (rows t) new) (in-fresh x (rows t) new h n)
+
+  -- A grown table that does not fit has less room than there are rows.
+  pub room-below-all-rows : room side l < length (grown r t new) → room side l < 2 ^ count side (l .ks)
+  room-below-all-rows full =
+      let most = length-at-most l side (grown r t new) distinct-grown sized-grown in
+      omega arith
+
+  -- A step adds a row: else the two strategies would keep within each other's rows.
+  pub growth : (τ : Strategy) → Answers (other side) (l .ks) (l .phi) τ (λ x. In x (rows t)) (λ x. In x from) → (x : Row) → In x from
+      → length (grown r t new) ≤ room side l → Growth l side r from t (grown r t new)
+  growth τ before x in-from fits =
+      let model = search-answers (l .prefer) side (l .ks) (l .phi) from new found in
+      let adds : fresh (rows t) new ≡ [] → ⊥ =
+      yields-fresh (l .prefer) side (l .ks) (l .phi) from (rows t) new τ x in-from found before in
+      record {
+        held = record { distinct = distinct-grown; sized = sized-grown; fits = λ _. fits };
+        more = length-grown r t new adds;
+        extends = extends-grown r t new;
+        new-row = λ end. grown-new r t new end adds;
+        σ = model .0;
+        answers = record { wins = model .1 .wins; within = λ y h. yielded-in-grown _ (model .1 .within y h) };
+      }

@@ -1,0 +1,209 @@
+-- What holds before and after a round. Assumes nothing.
+use Prim.Native.Nat.{ℕ, zero, suc, _^_, _≤_, _<_}
+use native.Mathlib.Omega.{arith}
+use mathlib.Core.Path.{_≡_, refl, sym, ap, subst, _∙_}
+use mathlib.Core.Bool.{Bool, true, false, not, Bool·not-not}
+use mathlib.Core.List.{List, [], _∷_}
+use mathlib.Core.Logic.{_≢_, inl, inr}
+use mathlib.Core.Option.{Option, none, some}
+use lib.ListN.{length}
+use Rattle.formula.specs.Formula.{Kind, existential, universal}
+use Rattle.formula.specs.Meaning.{meaning}
+use Rattle.expansion.specs.Play.{Row, Strategy}
+use Rattle.expansion.specs.Model.{search}
+use Rattle.expansion.proofs.Membership.{In}
+use Rattle.expansion.proofs.Verdict.{none-is-verdict}
+use Rattle.expansion.proofs.Progress.{Answers}
+use Rattle.expansion.proofs.Counting.{Sized}
+use Rattle.run.specs.Run.{Table, rows, Answer, is-false, is-true, spent, no-room-universal, no-room-existential, number, Outcome, outcome, preferred, count, grown, if-fits, Lent, start, step-1, step-2, step-3, step-4, round-of}
+use Rattle.run.specs.Claim.{table, no-room, NewRow}
+use Rattle.run.proofs.TableLaws.{Extends, extends-itself}
+use Rattle.run.proofs.GrowthLaws.{Held, Fitted, fitted, Growth, growth, room-below-all-rows}
+
+-- What an answer says: the verdict, or that there are more rows than the table has room for.
+abbrev pub Right : Lent → Answer → Type 0
+Right l is-false = meaning (l .ks) (l .phi) ≡ false
+Right l is-true = meaning (l .ks) (l .phi) ≡ true
+Right l spent = Unit {0}
+Right l no-room-universal = l .room-A < 2 ^ count universal (l .ks)
+Right l no-room-existential = l .room-S < 2 ^ count existential (l .ks)
+
+-- The answers that end a run before its limit.
+abbrev pub Over : Answer → Type 0
+Over is-false = Unit {0}
+Over is-true = Unit {0}
+Over spent = ⊥
+Over no-room-universal = Unit {0}
+Over no-room-existential = Unit {0}
+
+pub over-not-spent : (a : Answer) → Over a → a ≢ spent
+over-not-spent a over e = subst Over e over
+
+-- After r finished rounds each table has grown r times, and a universal strategy that wins over S has all that it yields in A. At the
+-- start S is empty, and any strategy does.
+pub record Ongoing (l : Lent) (r : ℕ) (o : Outcome) : Type 0 where
+  pub count-A : suc r ≤ length (o .A)
+  pub count-S : r ≤ length (o .S)
+  pub ρ : Strategy
+  pub answers : Answers universal (l .ks) (l .phi) ρ (λ s. In s (rows (o .S))) (λ u. In u (rows (o .A)))
+
+-- What holds of the outcome of a run with the limit.
+pub record Reached (l : Lent) (limit : ℕ) (o : Outcome) : Type 0 where
+  pub held : (side : Kind) → Held l side (table side o)
+  pub to-limit : o .round ≤ limit
+  pub round-A : o .round ≤ length (o .A)
+  pub round-S : o .round ≤ suc (length (o .S))
+  pub right : Right l (o .answer)
+  pub at-limit : o .answer ≡ spent → o .round ≡ limit
+  pub ongoing : o .answer ≡ spent → Ongoing l limit o
+
+-- What holds of the outcome of round r over the tables of b.
+pub record Made (l : Lent) (r : ℕ) (b o : Outcome) : Type 0 where
+  pub reached : Reached l r o
+  pub in-round : o .round ≡ r
+  pub extends : (side : Kind) → Extends (table side b) (table side o)
+  pub new-row : o .answer ≡ spent → (side : Kind) (end : Table) → Extends (table side o) end → NewRow r (table side b) (table side o) end
+  pub none-added : (side : Kind) → o .answer ≡ no-room side → table side o ≡ table side b
+
+-- What holds of A and of S holds of each table.
+each : (P : Kind → Type 0) → P universal → P existential → (side : Kind) → P side
+each P u e universal = u
+each P u e existential = e
+
+length-preferred : (n : ℕ) (prefer : ℕ → Bool) → length (preferred n prefer) ≡ n
+length-preferred zero prefer = refl
+length-preferred (suc n) prefer = ap suc (length-preferred n (λ i. prefer (suc i)))
+
+pub start-reached : (l : Lent) → Reached l zero (start l)
+start-reached l =
+    record {
+      held =
+          each (λ side. Held l side (table side (start l)))
+          (record { distinct = (λ h. h, tt); sized = only; fits = λ h. h })
+          (record { distinct = tt; sized = λ x h. absurd h; fits = λ h. omega arith });
+      to-limit = omega arith;
+      round-A = omega arith;
+      round-S = omega arith;
+      right = tt;
+      at-limit = λ _. refl;
+      ongoing =
+          λ _.
+          record {
+            count-A = omega arith;
+            count-S = omega arith;
+            ρ = λ k r. true;
+            answers = record { wins = λ x h. absurd h; within = λ x h. absurd h };
+          };
+    }
+  where
+    only : Sized (count universal (l .ks)) (rows (start l .A))
+    only x (inl e) = rw e (length-preferred (count universal (l .ks)) (l .prefer))
+    only x (inr h) = absurd h
+
+some-row : (n : ℕ) (t : Table) → suc n ≤ length t → (x : Row) × In x (rows t)
+some-row n [] h = absurd (omega arith)
+some-row n (x ∷ t) h = (x .row, inl refl)
+
+-- Round r + 1 over the tables of b, which r rounds have made.
+module _ (l : Lent) (r : ℕ) (b : Outcome) (before : Reached l r b) (ongoing : Ongoing l r b) where
+  -- A round that ends the run, with S or what step 2 has made of it.
+  over : (a : Answer) (S : Table) → Over a → Right l a → Held l existential S → Extends (b .S) S → r ≤ length S
+      → (a ≡ no-room-existential → S ≡ b .S) → Made l (suc r) b (outcome a (suc r) (b .A) S)
+  over a S ends right held extends count-S unchanged =
+      let o = outcome a (suc r) (b .A) S in
+      record {
+        reached =
+            record {
+              held = each (λ side. Held l side (table side o)) (before .held universal) held;
+              to-limit = omega arith;
+              round-A = ongoing .count-A;
+              round-S = omega arith;
+              right = right;
+              at-limit = λ e. absurd (over-not-spent a ends e);
+              ongoing = λ e. absurd (over-not-spent a ends e);
+            };
+        in-round = refl;
+        extends = each (λ side. Extends (table side b) (table side o)) (extends-itself (b .A)) extends;
+        new-row = λ e. absurd (over-not-spent a ends e);
+        none-added = each (λ side. a ≡ no-room side → table side o ≡ table side b) (λ _. refl) unchanged;
+      }
+
+  finished : (A S : Table) → Growth l existential (suc r) (rows (b .A)) (b .S) S → Growth l universal (suc r) (rows S) (b .A) A
+      → Made l (suc r) b (outcome spent (suc r) A S)
+  finished A S grown-S grown-A =
+      let o = outcome spent (suc r) A S in
+      let count-A : suc (suc r) ≤ length A = omega (arith, ongoing .count-A, grown-A .more) in
+      let count-S : suc r ≤ length S = omega (arith, ongoing .count-S, grown-S .more) in
+      record {
+        reached =
+            record {
+              held = each (λ side. Held l side (table side o)) (grown-A .held) (grown-S .held);
+              to-limit = omega arith;
+              round-A = omega arith;
+              round-S = omega arith;
+              right = tt;
+              at-limit = λ _. refl;
+              ongoing = λ _. record { count-A = count-A; count-S = count-S; ρ = grown-A .σ; answers = grown-A .answers };
+            };
+        in-round = refl;
+        extends = each (λ side. Extends (table side b) (table side o)) (grown-A .extends) (grown-S .extends);
+        new-row =
+            λ _.
+            each (λ side. (end : Table) → Extends (table side o) end → NewRow (suc r) (table side b) (table side o) end)
+            (grown-A .new-row)
+            (grown-S .new-row);
+        none-added =
+            each (λ side. spent ≡ no-room side → table side o ≡ table side b)
+            (λ e. absurd (omega (arith, ap number e)))
+            (λ e. absurd (omega (arith, ap number e)));
+      }
+
+  -- A round that ends the run after step 2.
+  over-later : (a : Answer) (S : Table) → Over a → a ≢ no-room-existential → Right l a → Growth l existential (suc r) (rows (b .A)) (b .S) S
+      → Made l (suc r) b (outcome a (suc r) (b .A) S)
+  over-later a S ends other-answer right grown-S =
+      over a S ends right (grown-S .held) (grown-S .extends) (omega (arith, ongoing .count-S, grown-S .more)) (λ e. absurd (other-answer e))
+
+  -- The steps, each by what it looks at.
+  made-4 : (S : Table) (new : List Row) → Growth l existential (suc r) (rows (b .A)) (b .S) S → search (l .prefer) universal (l .ks) (l .phi) (rows S) ≡ some new
+      → (m : Option Table) → Fitted (l .room-A) (grown (suc r) (b .A) new) m → Made l (suc r) b (step-4 (suc r) (b .A) S m)
+  made-4 S new grown-S found none full =
+      over-later no-room-universal S tt (λ e. omega (arith, ap number e))
+      (room-below-all-rows l universal (suc r) (rows S) (b .A) (before .held universal) new found full)
+      grown-S
+  made-4 S new grown-S found (some A) fits =
+      let x = some-row (length (b .S)) S (grown-S .more) in
+      finished A S grown-S
+      (subst (λ (u : Table). Growth l universal (suc r) (rows S) (b .A) u) (fits .0)
+      (growth l universal (suc r) (rows S) (b .A) (before .held universal) new found (grown-S .σ) (grown-S .answers) (x .0) (x .1) (fits .1)))
+
+  made-3 : (S : Table) → Growth l existential (suc r) (rows (b .A)) (b .S) S
+      → (m : Option (List Row)) → search (l .prefer) universal (l .ks) (l .phi) (rows S) ≡ m → Made l (suc r) b (step-3 l (suc r) (b .A) S m)
+  made-3 S grown-S none e =
+      let verdict = none-is-verdict (l .prefer) universal (l .ks) (l .phi) (rows S) e in
+      over-later is-true S tt (λ q. omega (arith, ap number q)) (sym (Bool·not-not (meaning (l .ks) (l .phi))) ∙ ap not verdict) grown-S
+  made-3 S grown-S (some new) e = made-4 S new grown-S e (if-fits (l .room-A) (grown (suc r) (b .A) new)) (fitted (l .room-A) (grown (suc r) (b .A) new))
+
+  made-2 : (new : List Row) → search (l .prefer) existential (l .ks) (l .phi) (rows (b .A)) ≡ some new
+      → (m : Option Table) → Fitted (l .room-S) (grown (suc r) (b .S) new) m → Made l (suc r) b (step-2 l (suc r) (b .A) (b .S) m)
+  made-2 new found none full =
+      over no-room-existential (b .S) tt
+      (room-below-all-rows l existential (suc r) (rows (b .A)) (b .S) (before .held existential) new found full)
+      (before .held existential) (extends-itself (b .S)) (ongoing .count-S) (λ _. refl)
+  made-2 new found (some S) fits =
+      let x = some-row r (b .A) (ongoing .count-A) in
+      made-3 S
+      (subst (λ (u : Table). Growth l existential (suc r) (rows (b .A)) (b .S) u) (fits .0)
+      (growth l existential (suc r) (rows (b .A)) (b .S) (before .held existential) new found (ongoing .ρ) (ongoing .answers) (x .0) (x .1) (fits .1)))
+      (search (l .prefer) universal (l .ks) (l .phi) (rows S)) refl
+
+  made-1 : (m : Option (List Row)) → search (l .prefer) existential (l .ks) (l .phi) (rows (b .A)) ≡ m
+      → Made l (suc r) b (step-1 l (suc r) (b .A) (b .S) m)
+  made-1 none e =
+      over is-false (b .S) tt (none-is-verdict (l .prefer) existential (l .ks) (l .phi) (rows (b .A)) e)
+      (before .held existential) (extends-itself (b .S)) (ongoing .count-S) (λ _. refl)
+  made-1 (some new) e = made-2 new e (if-fits (l .room-S) (grown (suc r) (b .S) new)) (fitted (l .room-S) (grown (suc r) (b .S) new))
+
+  pub round-made : Made l (suc r) b (round-of l (suc r) (b .A) (b .S))
+  unfolding round-of
+  round-made = made-1 (search (l .prefer) existential (l .ks) (l .phi) (rows (b .A))) refl

@@ -1,0 +1,114 @@
+-- Laws of the run over its limit: where it goes on, where it stays, and what holds at every limit. Assumes nothing.
+use Prim.Native.Nat.{ℕ, zero, suc, _≤_, _<_}
+use native.Mathlib.Omega.{arith}
+use native.Mathlib.Decide.{le-ind}
+use mathlib.Core.Path.{_≡_, refl, sym, ap, subst, _∙_}
+use mathlib.Core.Logic.{_⊎_, inl, inr, ⊎-elim}
+use Rattle.formula.specs.Formula.{Kind}
+use Rattle.run.specs.Run.{Answer, is-false, is-true, spent, no-room-universal, no-room-existential, Outcome, Lent, round-of, next, run}
+use Rattle.run.specs.Claim.{table}
+use Rattle.run.proofs.TableLaws.{Extends, extends-itself, extends-further}
+use Rattle.run.proofs.RoundLaws.{Reached, Made, Over, over-not-spent, round-made, start-reached}
+
+-- Where the run is spent, one round more is made; else it stays as it is.
+pub run-goes-on : (l : Lent) (r : ℕ) → run l r .answer ≡ spent → run l (suc r) ≡ round-of l (suc r) (run l r .A) (run l r .S)
+unfolding run
+run-goes-on l r e = ap (λ (a : Answer). next l (suc r) a (run l r)) e
+
+next-over : (l : Lent) (r : ℕ) (a : Answer) (o : Outcome) → Over a → next l r a o ≡ o
+next-over l r is-false o over = refl
+next-over l r is-true o over = refl
+next-over l r spent o over = absurd over
+next-over l r no-room-universal o over = refl
+next-over l r no-room-existential o over = refl
+
+run-over : (l : Lent) (r : ℕ) → Over (run l r .answer) → run l (suc r) ≡ run l r
+unfolding run
+run-over l r over = next-over l (suc r) (run l r .answer) (run l r) over
+
+spent-or-over : (a : Answer) → (a ≡ spent) ⊎ Over a
+spent-or-over is-false = inr tt
+spent-or-over is-true = inr tt
+spent-or-over spent = inl refl
+spent-or-over no-room-universal = inr tt
+spent-or-over no-room-existential = inr tt
+
+-- What holds at a limit holds at the next.
+later : (l : Lent) (r : ℕ) (o : Outcome) → Over (o .answer) → Reached l r o → Reached l (suc r) o
+later l r o over before =
+    record {
+      held = before .held;
+      to-limit = omega arith;
+      round-A = before .round-A;
+      round-S = before .round-S;
+      right = before .right;
+      at-limit = λ e. absurd (over-not-spent (o .answer) over e);
+      ongoing = λ e. absurd (over-not-spent (o .answer) over e);
+    }
+
+pub run-reached : (l : Lent) (r : ℕ) → Reached l r (run l r)
+unfolding run
+run-reached l zero = start-reached l
+run-reached l (suc r) =
+    ⊎-elim
+    (λ e.
+    subst (Reached l (suc r)) (sym (run-goes-on l r e)) (round-made l r (run l r) (run-reached l r) (run-reached l r .ongoing e) .reached))
+    (λ over. subst (Reached l (suc r)) (sym (run-over l r over)) (later l r (run l r) over (run-reached l r)))
+    (spent-or-over (run l r .answer))
+
+pub run-made : (l : Lent) (r : ℕ) → run l r .answer ≡ spent → Made l (suc r) (run l r) (run l (suc r))
+run-made l r e =
+    subst (Made l (suc r) (run l r)) (sym (run-goes-on l r e)) (round-made l r (run l r) (run-reached l r) (run-reached l r .ongoing e))
+
+-- Tables only grow, and at their end.
+run-grows : (l : Lent) (r : ℕ) (side : Kind) → Extends (table side (run l r)) (table side (run l (suc r)))
+run-grows l r side =
+    ⊎-elim
+    (λ e. run-made l r e .extends side)
+    (λ over. subst (λ (o : Outcome). Extends (table side (run l r)) (table side o)) (sym (run-over l r over)) (extends-itself _))
+    (spent-or-over (run l r .answer))
+
+pub run-extends : (l : Lent) (r limit : ℕ) → r ≤ limit → (side : Kind) → Extends (table side (run l r)) (table side (run l limit))
+run-extends l r limit h side =
+    le-ind
+    (λ (m : ℕ). Extends (table side (run l r)) (table side (run l m)))
+    (extends-itself (table side (run l r)))
+    (λ m _ p. extends-further (table side (run l r)) (table side (run l m)) (table side (run l (suc m))) p (run-grows l m side))
+    limit
+    h
+
+-- A run that is over stays as it is with every larger limit; so a run that is spent was spent with every smaller one.
+pub run-stays : (l : Lent) (r limit : ℕ) → r ≤ limit → Over (run l r .answer) → run l limit ≡ run l r
+run-stays l r limit h over =
+    le-ind
+    (λ (m : ℕ). run l m ≡ run l r)
+    refl
+    (λ m _ e. run-over l m (subst (λ (o : Outcome). Over (o .answer)) (sym e) over) ∙ e)
+    limit
+    h
+
+pub spent-before : (l : Lent) (r limit : ℕ) → r ≤ limit → run l limit .answer ≡ spent → run l r .answer ≡ spent
+spent-before l r limit h e =
+    ⊎-elim
+    (λ s. s)
+    (λ over. absurd (over-not-spent (run l r .answer) over (ap (λ (o : Outcome). o .answer) (sym (run-stays l r limit h over)) ∙ e)))
+    (spent-or-over (run l r .answer))
+
+-- The last round of a run, p + 1: p rounds are finished, and the outcome is that of this round.
+pub record Last (l : Lent) (limit : ℕ) : Type 0 where
+  pub p : ℕ
+  pub below : p < limit
+  pub finished : run l p .answer ≡ spent
+  pub same : run l limit ≡ run l (suc p)
+
+pub last-round : (l : Lent) (limit : ℕ) → 1 ≤ limit → Last l limit
+unfolding run
+last-round l zero h = absurd (omega arith)
+last-round l (suc zero) h = record { p = zero; below = omega arith; finished = refl; same = refl }
+last-round l (suc (suc r)) h =
+    ⊎-elim
+    (λ e. record { p = suc r; below = omega arith; finished = e; same = refl })
+    (λ over.
+    let before = last-round l (suc r) (omega arith) in
+    record { p = before .p; below = omega (arith, before .below); finished = before .finished; same = run-over l (suc r) over ∙ before .same })
+    (spent-or-over (run l (suc r) .answer))

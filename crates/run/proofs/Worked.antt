@@ -1,0 +1,11 @@
+-- The runs worked by hand come out as 01 says, by computation. Assumes nothing.
+use mathlib.Core.Path.{refl}
+use Rattle.run.specs.Worked.{Worked}
+use Rattle.run.specs.Run.{run, round-of}
+use Rattle.expansion.specs.Model.{search, first-model, is-model}
+use Rattle.expansion.specs.Copies.{copies}
+use Rattle.expansion.specs.Judge.{accepted}
+
+pub worked : Worked
+unfolding run round-of search first-model is-model copies accepted
+worked = record { runs = refl; K1-A = refl; K1-S = refl; K11-both = refl; K11-one = refl }

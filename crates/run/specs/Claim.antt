@@ -1,0 +1,83 @@
+-- What holds of every run, whatever is lent and with every limit from 1: 01's demand 3, one claim about the whole run.
+-- 'A table after round r is the rows and marks that stand below its count when the same things are lent with the limit r': it is a table of `run l r`.
+-- Assumes nothing.
+use Prim.Native.Nat.{ℕ, _+_, _-_, _^_, _≤_, _<_, min}
+use mathlib.Core.Path.{_≡_}
+use mathlib.Core.Logic.{_↔_, _≢_}
+use mathlib.Core.Bool.{Bool, true, false}
+use mathlib.Core.Option.{some}
+use lib.ListN.{getElem?}
+use Rattle.formula.specs.Formula.{Kind, existential, universal}
+use Rattle.formula.specs.Meaning.{meaning}
+use Rattle.run.specs.Run.{Entry, Table, Answer, is-true, is-false, spent, no-room-universal, no-room-existential, Outcome, Lent, count, round-of, run}
+
+-- The table of a side's rows: A holds universal rows, S existential ones.
+abbrev pub table : Kind → Outcome → Table
+table universal o = o .A
+table existential o = o .S
+
+-- The answer that a side's new rows do not all fit.
+abbrev pub no-room : Kind → Answer
+no-room universal = no-room-universal
+no-room existential = no-room-existential
+
+-- A row and its mark stand at place i, below the table's count.
+abbrev pub Stands : Table → ℕ → Entry → Type 0
+Stands t i x = getElem? t i ≡ some x
+
+-- '5. The round is finished. If r is the round limit: spent.' So a round is finished if it is one of the rounds up to the limit, and if the
+-- same things lent with r itself as the limit give spent, reached in round r.
+pub record Finished (l : Lent) (limit r : ℕ) : Type 0 where
+  pub from-one : 1 ≤ r
+  pub to-limit : r ≤ limit
+  pub reached : run l r .round ≡ r
+  pub passed : run l r .answer ≡ spent
+
+-- In a table no two rows are equal: where two places hold equal rows they are one place.
+abbrev pub AllDifferent : Table → Type 0
+AllDifferent t = (i j : ℕ) (x y : Entry) → Stands t i x → Stands t j y → x .row ≡ y .row → i ≡ j
+
+-- A table after round r 'has a row with mark r that is equal to no row of that table' before the round, 'and this row and its mark still
+-- stand below that table's count when the run ends': at the same place.
+pub record NewRow (r : ℕ) (before after end : Table) : Type 0 where
+  pub place : ℕ
+  pub entry : Entry
+  pub stands : Stands after place entry
+  pub marked : entry .mark ≡ r
+  pub new : (i : ℕ) (x : Entry) → Stands before i x → x .row ≢ entry .row
+  pub still : Stands end place entry
+
+-- The rounds that any run can reach: no more than there are universal rows, and no more than there are existential rows and one.
+abbrev pub most-rounds : Lent → ℕ
+most-rounds l = min (2 ^ count universal (l .ks)) (2 ^ count existential (l .ks) + 1)
+
+-- The answer that the verdict is.
+abbrev pub answer-of : Bool → Answer
+answer-of true = is-true
+answer-of false = is-false
+
+pub record Claim (l : Lent) (limit : ℕ) : Type 0 where
+  -- 'The round returned is the one in which the answer came': the outcome is that of this round, over the tables after the round before it.
+  pub round-from-one : 1 ≤ run l limit .round
+  pub round-to-limit : run l limit .round ≤ limit
+  pub came : run l limit ≡ round-of l (run l limit .round) (run l (run l limit .round - 1) .A) (run l (run l limit .round - 1) .S)
+  -- 'Every round before it is finished.'
+  pub before : (r : ℕ) → 1 ≤ r → r < run l limit .round → Finished l limit r
+  -- 'It is finished itself exactly if the answer is spent', and no later one is finished.
+  pub itself : Finished l limit (run l limit .round) ↔ (run l limit .answer ≡ spent)
+  pub none-later : (r : ℕ) → Finished l limit r → r ≤ run l limit .round
+  -- '5. If r is the round limit: spent', and at no other round.
+  pub spent-at-limit : run l limit .answer ≡ spent → run l limit .round ≡ limit
+  -- 'For every finished round r, each table after it has a row with mark r that is equal to no row of that table after round r - 1, and this
+  -- row and its mark still stand below that table's count when the run ends.'
+  pub new-rows : (side : Kind) (r : ℕ) → Finished l limit r → NewRow r (table side (run l (r - 1))) (table side (run l r)) (table side (run l limit))
+  -- 'In neither table, after a finished round or at the end, are two rows below its count equal.'
+  pub different-after : (side : Kind) (r : ℕ) → Finished l limit r → AllDifferent (table side (run l r))
+  pub different-at-end : (side : Kind) → AllDifferent (table side (run l limit))
+  -- 'If they don't all fit, none is added': the table for which there is no room is that after the round before.
+  pub none-added : (side : Kind) → run l limit .answer ≡ no-room side → table side (run l limit) ≡ table side (run l (run l limit .round - 1))
+  -- No round is past min(2^a, 2^e + 1), a and e being the numbers of universal and existential unknowns.
+  pub most : run l limit .round ≤ most-rounds l
+  -- With 2^a and 2^e rows and that limit the answer is the verdict.
+  pub decided : 2 ^ count universal (l .ks) ≤ l .room-A → 2 ^ count existential (l .ks) ≤ l .room-S → most-rounds l ≤ limit
+      → run l limit .answer ≡ answer-of (meaning (l .ks) (l .phi))
