@@ -1,0 +1,161 @@
+-- What the steps of the search promise, over every problem that the lent tables fit.
+-- Assumes nothing.
+use Prim.Native.Nat.{ℕ, zero, suc, _+_, _-_, _/_, _≤_, _<_}
+use mathlib.Core.Path.{_≡_}
+use mathlib.Core.Logic.{_⊎_, _↔_, _≢_}
+use mathlib.Core.Bool.{Bool, true, false, cond}
+use mathlib.Core.List.{List}
+use lib.Dec.{eqb}
+use lib.ListN.{length, getD, drop}
+use Rattle.expansion.proofs.Cuts.{Values, Mask, Problem, Agree, Sound, Refuted}
+use Rattle.expansion.proofs.Node.{Cells, Node, Won, Grown, MasksWithin}
+use Rattle.expansion.proofs.ClauseCuts.{Every, Some}
+use Rattle.search.specs.Cells.{cells, wants, SameWants}
+use Rattle.search.specs.Masks.{set-at, masks, cut, SetGrown}
+use Rattle.search.specs.Codes.{position, code-true, code-clauses, clause-of, HasEnd, Ended, code-goal, Coded}
+
+-- The sorted rows: entry i of `differs` is the first position where row i and the row before it have different values, or past the last.
+-- The codes are the clauses; the side is 0 or 1.
+pub record Fits (P : Problem) (kinds differs codes : List ℕ) (side : ℕ) : Type 0 where
+  pub unknowns : P .n ≡ length kinds
+  pub rows : P .count ≡ length differs
+  pub own : (j : ℕ) → j < length kinds → P .own j ≡ eqb (getD kinds j 0) side
+  pub goal : (f : ℕ → Bool) → P .goal f ≡ code-goal side codes f
+  pub sound : Sound P
+  pub differ : (i k : ℕ) → i + 1 < length differs → k ≤ length kinds → (k ≤ getD differs (i + 1) 0) ↔ Agree P i (i + 1) k
+  pub together : (i h g k : ℕ) → i ≤ h → h ≤ g → g < length differs → k ≤ length kinds → Agree P i g k → Agree P i h k
+  pub ended : Ended codes
+  pub coded : Coded (P .n) codes
+
+-- From the work area w and the sets s to u and t: open cells of the group were set, the sets grew, and the group is still a node or is refuted.
+pub record Settled (P : Problem) (k lo hi : ℕ) (v : ℕ → Bool) (mark : ℕ) (w u s t : List ℕ) (r : Bool) : Type 0 where
+  pub grown : Grown mark lo hi (cells w) (cells u)
+  pub wanted : SameWants w u
+  pub masked : MasksWithin k (masks s) (masks t)
+  pub kept : r ≡ true → Node P k lo hi v (cells u) (masks t)
+  pub failed : r ≡ false → Refuted P k v (cut t) lo
+
+abbrev pub Settles : ℕ → List ℕ → List ℕ → ℕ → ℕ → ℕ → List ℕ → List ℕ → List ℕ → List ℕ → Bool → Type 0
+Settles side differs codes lo hi mark w u s t r =
+    (P : Problem) (kinds : List ℕ) (k : ℕ) (v : ℕ → Bool)
+    → Fits P kinds differs codes side → Node P k lo hi v (cells w) (masks s) → 0 < mark → mark ≤ k + 1
+    → Settled P k lo hi v mark w u s t r
+
+-- A search of the group lo to hi from position k on: it succeeds, or is refuted.
+pub record Searched (P : Problem) (k lo hi : ℕ) (v : ℕ → Bool) (w u s t : List ℕ) (r : Bool) : Type 0 where
+  pub grown : Grown (k + 2) lo hi (cells w) (cells u)
+  pub wanted : SameWants w u
+  pub masked : MasksWithin k (masks s) (masks t)
+  pub won : r ≡ true → Won P k lo hi (cells u)
+  pub failed : r ≡ false → Refuted P k v (cut t) lo
+
+abbrev pub Searches : List ℕ → List ℕ → List ℕ → ℕ → ℕ → ℕ → ℕ → List ℕ → List ℕ → List ℕ → List ℕ → Bool → Type 0
+Searches kinds differs codes side k lo hi w u s t r =
+    (P : Problem) (v : ℕ → Bool)
+    → Fits P kinds differs codes side → ((i j : ℕ) → i < P .count → j < P .n → wants w i j ≡ P .wanted i j) → Node P k lo hi v (cells w) (masks s)
+    → Searched P k lo hi v w u s t r
+
+-- The values v with y at position k.
+unfoldable pub with-value : ℕ → Bool → (ℕ → Bool) → ℕ → Bool
+with-value k y v j = cond (eqb j k) y (v j)
+
+-- A trial of the value y at the own position k, open in the group.
+pub record Tried (P : Problem) (k lo hi : ℕ) (v : ℕ → Bool) (y : Bool) (w u s t : List ℕ) (r : Bool) : Type 0 where
+  pub grown : Grown (k + 2) lo hi (cells w) (cells u)
+  pub wanted : SameWants w u
+  pub masked : MasksWithin k (masks s) (masks t)
+  pub valued : r ≡ true → (i : ℕ) → lo ≤ i → i < hi → cells u .value i k ≡ y
+  pub won : r ≡ true → Won P (k + 1) lo hi (cells u)
+  pub failed : r ≡ false → Refuted P (k + 1) (with-value k y v) (cut t) lo
+
+abbrev pub Tries : List ℕ → List ℕ → List ℕ → ℕ → ℕ → ℕ → ℕ → Bool → List ℕ → List ℕ → List ℕ → List ℕ → Bool → Type 0
+Tries kinds differs codes side k lo hi y w u s t r =
+    (P : Problem) (v : ℕ → Bool)
+    → Fits P kinds differs codes side → ((i j : ℕ) → i < P .count → j < P .n → wants w i j ≡ P .wanted i j) → Node P k lo hi v (cells w) (masks s)
+    → P .own k ≡ true → cells w .level lo k ≡ 0
+    → Tried P k lo hi v y w u s t r
+
+-- A choice at the own position k, open in the group.
+abbrev pub Chooses : List ℕ → List ℕ → List ℕ → ℕ → ℕ → ℕ → ℕ → List ℕ → List ℕ → List ℕ → List ℕ → Bool → Type 0
+Chooses kinds differs codes side k lo hi w u s t r =
+    (P : Problem) (v : ℕ → Bool)
+    → Fits P kinds differs codes side → ((i j : ℕ) → i < P .count → j < P .n → wants w i j ≡ P .wanted i j) → Node P k lo hi v (cells w) (masks s)
+    → P .own k ≡ true → cells w .level lo k ≡ 0
+    → Searched P k lo hi v w u s t r
+
+-- Where the failure's set has k, it takes in the set of k.
+pub record Excused (k : ℕ) (s t : List ℕ) : Type 0 where
+  pub grown : SetGrown 128 s t
+  pub takes : set-at s 128 k ≡ true → (l : ℕ) → set-at s k l ≡ true → set-at t 128 l ≡ true
+
+-- The first row behind lo that parts from the one before it at position k or earlier, or hi.
+pub record Parts (differs : List ℕ) (k lo hi part : ℕ) : Type 0 where
+  pub low : lo < part
+  pub high : part ≤ hi
+  pub shared : (h : ℕ) → lo < h → h < part → k < getD differs h 0
+  pub parts : part < hi → getD differs part 0 ≤ k
+
+-- Past the last position: the values of row i reach the goal, or every position is to blame.
+pub record Reached (codes : List ℕ) (side : ℕ) (w : List ℕ) (i : ℕ) (s t : List ℕ) (r : Bool) : Type 0 where
+  pub others : (p : ℕ) → p ≢ 128 → (l : ℕ) → set-at t p l ≡ set-at s p l
+  pub goal : Ended codes → r ≡ code-goal side codes (cells w .value i)
+
+-- The search of all rows: what it leaves, over every problem that the tables fit, whose rows' cells are set at level 0 and whose other cells are open.
+abbrev pub FromStart : List ℕ → List ℕ → List ℕ → ℕ → List ℕ → List ℕ → Bool → Type 0
+FromStart kinds differs codes side w u r =
+    (P : Problem)
+    → Fits P kinds differs codes side → ((i j : ℕ) → i < P .count → j < P .n → wants w i j ≡ P .wanted i j)
+    → ((i j : ℕ) → i < P .count → j < P .n → P .own j ≡ false → (cells w .level i j ≡ 1) × (cells w .value i j ≡ P .given i j))
+    → ((i j : ℕ) → ((i < P .count) × (j < P .n) × (P .own j ≡ false) → ⊥) → cells w .level i j ≡ 0)
+    → (r ≡ true → Won P 0 0 (P .count) (cells u)) × (r ≡ false → (v : ℕ → Bool) → (D : Mask) × Refuted P 0 v D 0)
+
+-- ---- what is lent, and looking at one clause in one row
+
+-- The sizes of what the steps are lent.
+pub record Lent (differs codes work sets hints : List ℕ) : Type 0 where
+  pub rows : length differs ≤ 256
+  pub entries : length codes ≤ 8192
+  pub coded : Coded 128 codes
+  pub area : length work ≡ 65536
+  pub sets-lent : length sets ≡ 260
+  pub hints-lent : length hints ≡ 256
+
+-- A clause begins at `start`.
+abbrev pub Begins : List ℕ → ℕ → Type 0
+Begins codes start = (start < length codes) × ((start ≡ 0) ⊎ (getD codes (start - 1) 0 ≡ 0))
+
+-- The code's cell is set in row i, and its literal is y there.
+pub record IsAt (w : List ℕ) (i : ℕ) (y : Bool) (c : ℕ) : Type 0 where
+  pub set : 0 < cells w .level i (position c)
+  pub is : code-true (cells w .value i) c ≡ y
+
+-- What a look at the clause that begins at `start` finds: 1 for nothing; else each of its literals is false or is the one found, which is open.
+pub record Looked (codes w : List ℕ) (i start found : ℕ) : Type 0 where
+  pub ends : (found ≡ 1 → ⊥) → HasEnd (drop start codes)
+  pub rest : (found ≡ 1 → ⊥) → Every (λ c. (c ≡ found) ⊎ IsAt w i false c) (clause-of (drop start codes))
+  pub unset : 2 ≤ found → cells w .level i (position found) ≡ 0
+  pub fits : 2 ≤ found → position found < 128
+
+-- The sets of a clause's positions are united at `to`.
+pub record Blamed (clause : List ℕ) (to : ℕ) (s t : List ℕ) : Type 0 where
+  pub grown : SetGrown to s t
+  pub takes : Every (λ c. (position c ≡ to) ⊎ ((l : ℕ) → set-at s (position c) l ≡ true → set-at t to l ≡ true)) clause
+
+-- In row i every clause has a true literal, whose position's set is taken in at 128.
+pub record RowBlamed (codes w : List ℕ) (i : ℕ) (s t : List ℕ) (r : Bool) : Type 0 where
+  pub grown : SetGrown 128 s t
+  pub dead : r ≡ true → Ended codes → Every (Some (λ c. IsAt w i true c × ((l : ℕ) → set-at s (position c) l ≡ true → set-at t 128 l ≡ true))) (code-clauses codes)
+
+-- The rows from `from` up to i have one copy at position k, and the row before does not, unless it is before lo.
+pub record CopyFrom (differs : List ℕ) (k lo i from : ℕ) : Type 0 where
+  pub low : lo ≤ from
+  pub high : from ≤ i
+  pub shared : (h : ℕ) → from < h → h ≤ i → k ≤ getD differs h 0
+  pub first : lo < from → getD differs from 0 < k
+
+-- The rows from i to `to` have one copy at position k, and the next one does not, unless it is hi.
+pub record CopyTo (differs : List ℕ) (k i hi to : ℕ) : Type 0 where
+  pub low : i < to
+  pub high : to ≤ hi
+  pub shared : (h : ℕ) → i < h → h < to → k ≤ getD differs h 0
+  pub last : to < hi → getD differs to 0 < k

@@ -1,0 +1,84 @@
+// Literals as codes: 0 ends a clause, 2v stands for the literal v and 2v + 1 for -v. Each clause names a literal once, and a clause with
+// v and -v, which is always true, is left out.
+ghost use mathlib.Core.Path.{_≡_};
+ghost use Prim.Native.Nat.{ℕ, _+_, _*_, _≤_, _<_};
+ghost use mathlib.Core.Bool.{true};
+ghost use lib.IntN.{pos, natAbs};
+ghost use lib.ListN.{length, getD, take};
+ghost use Rattle.formula.specs.Causes.{ended};
+ghost use Rattle.search.specs.Codes.{Encoded};
+use super::width::wide16;
+
+// Writes the codes, and returns how many entries are used.
+pub(crate) fn encode(literals: &[i32], codes: &mut [u16]) -> usize
+    requires { ⌜ (length (now literals) ≤ 8192) × (length (now codes) ≡ 8192) × (ended (now literals) ≡ true) ⌝ }
+    requires { ⌜ ((i : ℕ) → i < length (now literals) → natAbs (getD (now literals) i (pos 0)) ≤ 128) ⌝ }
+    ensures fits { λ r. ⌜ r ≤ 8192 ⌝ }
+    ensures encoded { λ r. ⌜ Encoded (now (literals .entry)) (take r (now (codes .exit))) ⌝ }
+{
+    let mut from = 0;
+    let mut to = 0;
+    while from < literals.len() {
+        to = encode_clause(literals, from, codes, to);
+        from = past_clause(literals, from);
+    }
+    to
+}
+
+// The entry behind the clause that begins at `from`.
+fn past_clause(literals: &[i32], from: usize) -> usize {
+    let mut i = from;
+    while i < literals.len() {
+        if literals[i] == 0 {
+            return i + 1;
+        }
+        i += 1;
+    }
+    i
+}
+
+// Writes the clause that begins at `from`, and returns the entry behind it; nothing of it counts if it is always true.
+fn encode_clause(literals: &[i32], from: usize, codes: &mut [u16], start: usize) -> usize {
+    let mut seen = [0u8; 258];
+    let mut to = start;
+    let mut i = from;
+    while i < literals.len() {
+        let code = code_of(literals[i]);
+        let c = wide16(code);
+        if c == 0 {
+            codes[to] = 0;
+            return to + 1;
+        }
+        if seen[opposite(c)] == 1 {
+            return start;
+        }
+        if seen[c] == 0 {
+            seen[c] = 1;
+            codes[to] = code;
+            to += 1;
+        }
+        i += 1;
+    }
+    start
+}
+
+fn code_of(literal: i32) -> u16 {
+    if literal < 0 {
+        let name = -literal;
+        (2 * name + 1) as u16
+    } else {
+        (2 * literal) as u16
+    }
+}
+
+fn opposite(c: usize) -> usize {
+    if c % 2 == 0 { c + 1 } else { c - 1 }
+}
+
+// The position of a code's unknown.
+pub(crate) fn position(c: usize) -> usize
+    requires { ⌜ 2 ≤ c ⌝ }
+    ensures { λ r. ⌜ r ≡ Rattle.search.specs.Codes.position c ⌝ }
+{
+    c / 2 - 1
+}
