@@ -1,0 +1,49 @@
+-- One row (an assignment of one side's unknowns), as its values and as its sixteen bytes.
+-- Assumes nothing.
+use Prim.Native.Nat.{ℕ, zero, suc, _+_, _*_, _/_, _%_, _^_}
+use mathlib.Core.Bool.{Bool, true, false, _||_}
+use mathlib.Core.List.{List, [], _∷_}
+use lib.Dec.{eqb}
+use lib.ListN.{getD, take, drop}
+
+-- 'Bit k (byte k div 8, weight 2^(k mod 8))' of a row's bytes. In a byte that is not there no bit is set.
+abbrev pub odd : ℕ → Bool
+odd n = eqb (n % 2) 1
+
+unfoldable pub bit-of : List ℕ → ℕ → Bool
+bit-of bytes k = odd (getD bytes (k / 8) 0 / 2 ^ (k % 8))
+
+-- 'Bit k is the value of the k-th unknown of that kind, from 0': the values of m unknowns.
+abbrev pub values : ℕ → (ℕ → Bool) → List Bool
+values zero f = []
+values (suc m) f = f zero ∷ values m (λ i. f (suc i))
+
+unfoldable pub row-of : ℕ → List ℕ → List Bool
+row-of m bytes = values m (bit-of bytes)
+
+-- The number whose bits are the values, the lowest first.
+abbrev pub weight : Bool → ℕ
+weight false = 0
+weight true = 1
+
+abbrev pub number : List Bool → ℕ
+number [] = 0
+number (v ∷ vs) = weight v + number vs * 2
+
+-- The first n bytes of the values, eight to a byte, 'other bits are zero'.
+abbrev pub bytes : ℕ → List Bool → List ℕ
+bytes zero vs = []
+bytes (suc n) vs = number (take 8 vs) ∷ bytes n (drop 8 vs)
+
+-- 'A row is 16 bytes.'
+unfoldable pub bytes-of : List Bool → List ℕ
+bytes-of row = bytes 16 row
+
+-- A value is true.
+abbrev pub any : List Bool → Bool
+any [] = false
+any (v ∷ vs) = v || any vs
+
+-- 'A bit set beyond its unknowns', of which there are m: one of the row's 128 bits at or beyond m.
+unfoldable pub stray : ℕ → List ℕ → Bool
+stray m bytes = any (drop m (row-of 128 bytes))
