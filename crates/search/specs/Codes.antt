@@ -2,6 +2,7 @@
 -- Assumes nothing.
 use Prim.Native.Nat.{ℕ, zero, suc, _-_, _/_, _%_, _≤_, _<_}
 use mathlib.Core.Path.{_≡_}
+use mathlib.Core.Logic.{_⊎_}
 use mathlib.Core.Bool.{Bool, true, false, not, cond}
 use mathlib.Core.List.{List, [], _∷_}
 use lib.Dec.{eqb}
@@ -49,6 +50,10 @@ Ended (c ∷ cs) = HasEnd (c ∷ cs) × Ended cs
 unfoldable pub code-goal : ℕ → List ℕ → (ℕ → Bool) → Bool
 code-goal zero codes f = matrix-at code-true (code-clauses codes) f
 code-goal (suc side) codes f = not (matrix-at code-true (code-clauses codes) f)
+
+-- A clause begins at `start`.
+abbrev pub Begins : List ℕ → ℕ → Type 0
+Begins codes start = (start ≡ 0) ⊎ (getD codes (start - 1) 0 ≡ 0)
 
 -- Each code is a zero or a literal of one of n unknowns.
 abbrev pub Coded : ℕ → List ℕ → Type 0

@@ -35,7 +35,7 @@ lent-rows kinds rows lent universal? = rows-of (count (other (side-of universal?
 -- 8 for 'a bit set beyond its unknowns' in a row below the count.
 unfoldable pub cause : List ℕ → List ℤ → List ℕ → ℕ → Bool → List ℕ → ℕ
 cause kinds literals rows lent universal? work =
-    let later = cond (not (table-fits rows)) 4
+    let later : ℕ = cond (not (table-fits rows)) 4
             (cond (not (eqb (length work) work-size)) 5
             (cond (ltb (room rows) lent) 7
             (cond (stray-rows (count (other (side-of universal?)) (prefix kinds)) lent rows) 8 0))) in

@@ -11,8 +11,8 @@ use Rattle.search.specs.Cells.{cells, wants, owned}
 
 -- The first place of the copy at position k that place i has: neighbours that differ before k have different copies.
 abbrev pub first-place : List ℕ → ℕ → ℕ → ℕ
-first-place differs k zero = zero
-first-place differs k (suc i) = cond (ltb (getD differs (suc i) 0) k) (suc i) (first-place differs k i)
+first-place splits k zero = zero
+first-place splits k (suc i) = cond (ltb (getD splits (suc i) 0) k) (suc i) (first-place splits k i)
 
 -- The first places of the copies at position k, by the first lent row that has the copy.
 abbrev pub member : ℕ → List ℕ → Bool
@@ -27,7 +27,7 @@ new-ones seen (x ∷ xs) =
     cond (member x seen) skipped kept
 
 unfoldable pub copies-at : List ℕ → List ℕ → ℕ → List ℕ
-copies-at differs place k = new-ones [] (map (first-place differs k) place)
+copies-at splits place k = new-ones [] (map (first-place splits k) place)
 
 -- The place of a number in a list.
 abbrev pub index-of : ℕ → List ℕ → ℕ
@@ -38,17 +38,17 @@ index-of x (y ∷ ys) =
 
 -- The copies at the own positions before the left ones, of which k is the first.
 abbrev pub copies-before : List ℕ → List ℕ → List Bool → ℕ → ℕ
-copies-before differs place owns zero = zero
-copies-before differs place owns (suc k) =
-    cond (getD owns k false) (copies-before differs place owns k + length (copies-at differs place k)) (copies-before differs place owns k)
+copies-before splits place owns zero = zero
+copies-before splits place owns (suc k) =
+    cond (getD owns k false) (copies-before splits place owns k + length (copies-at splits place k)) (copies-before splits place owns k)
 
 -- The number of the copy that place i has at position k.
 unfoldable pub copy-number : List ℕ → List ℕ → List Bool → ℕ → ℕ → ℕ
-copy-number differs place owns i k = copies-before differs place owns k + index-of (first-place differs k i) (copies-at differs place k)
+copy-number splits place owns i k = copies-before splits place owns k + index-of (first-place splits k i) (copies-at splits place k)
 
 -- Every open own cell wants the preference of its copy's number; all else stays.
-pub record WantsFilled (kinds preferences place differs : List ℕ) (side : ℕ) (w u : List ℕ) : Type 0 where
+pub record WantsFilled (kinds preferences place splits : List ℕ) (side : ℕ) (w u : List ℕ) : Type 0 where
   pub wanted : (i k : ℕ) → i < length place → k < length kinds → getD (owned kinds side) k false ≡ true
-      → wants u i k ≡ prefer preferences (copy-number differs place (owned kinds side) i k)
+      → wants u i k ≡ prefer preferences (copy-number splits place (owned kinds side) i k)
   pub levels : (h j : ℕ) → cells u .level h j ≡ cells w .level h j
   pub values : (h j : ℕ) → getD (owned kinds side) j false ≡ false → cells u .value h j ≡ cells w .value h j

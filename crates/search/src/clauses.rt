@@ -1,12 +1,12 @@
-// Literals as codes: 0 ends a clause, 2v stands for the literal v and 2v + 1 for -v. Each clause names a literal once, and a clause with
-// v and -v, which is always true, is left out.
+// Literals as codes: 0 ends a clause, 2v stands for the literal v and 2v + 1 for -v. Each clause names a literal once, the one of its last
+// position first, and a clause with v and -v, which is always true, is left out.
 ghost use mathlib.Core.Path.{_≡_};
 ghost use Prim.Native.Nat.{ℕ, _+_, _*_, _≤_, _<_};
 ghost use mathlib.Core.Bool.{true};
 ghost use lib.IntN.{pos, natAbs};
 ghost use lib.ListN.{length, getD, take};
 ghost use Rattle.formula.specs.Causes.{ended};
-ghost use Rattle.search.specs.Codes.{Encoded};
+ghost use Rattle.search.specs.Codes.{Encoded, Begins, position as code-position};
 use super::width::wide16;
 
 // Writes the codes, and returns how many entries are used.
@@ -54,12 +54,25 @@ fn encode_clause(literals: &[i32], from: usize, codes: &mut [u16], start: usize)
         }
         if seen[c] == 0 {
             seen[c] = 1;
-            codes[to] = code;
+            add(codes, start, to, code);
             to += 1;
         }
         i += 1;
     }
     start
+}
+
+// Adds a code to the clause between `start` and `to`. The largest stands first.
+fn add(codes: &mut [u16], start: usize, to: usize, code: u16) {
+    let first = codes[start];
+    if start < to {
+        if first < code {
+            codes[to] = first;
+            codes[start] = code;
+            return;
+        }
+    }
+    codes[to] = code;
 }
 
 fn code_of(literal: i32) -> u16 {
@@ -78,7 +91,21 @@ fn opposite(c: usize) -> usize {
 // The position of a code's unknown.
 pub(crate) fn position(c: usize) -> usize
     requires { ⌜ 2 ≤ c ⌝ }
-    ensures { λ r. ⌜ r ≡ Rattle.search.specs.Codes.position c ⌝ }
+    ensures { λ r. ⌜ r ≡ code-position c ⌝ }
 {
     c / 2 - 1
+}
+
+// Whether a clause begins at an entry.
+pub(crate) fn begins(codes: &[u16], start: usize) -> bool
+    ensures { λ r. ⌜ (r ≡ true → Begins (now (codes .entry)) start) ⌝ }
+{
+    if start == 0 {
+        return true;
+    }
+    if start < codes.len() {
+        codes[start - 1] == 0
+    } else {
+        false
+    }
 }

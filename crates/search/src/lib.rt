@@ -1,8 +1,10 @@
 // The first model of one side over lent rows of the other (01, 'Copies and models'). Promised, for all that is lent: found, none or
 // the number of the first cause that applies; found leaves in the work area the rows that the model yields, none leaves zeros, and a
 // refusal leaves it as it was.
-// Below: clauses (literals as codes), order (rows sorted), table (the cells in the work area), wants (what each copy prefers),
-// masks (sets of positions), force and live (each side's consequences of a value), solve (the search), yields (the result's rows).
+// Below: clauses (literals as codes), order (rows sorted), table (cells in the work area), wants (what each copy prefers), sets (of
+// positions), index (where each code stands), force and live (each side's consequences of a value), solve (the search), yields (its rows).
+ghost use mathlib.Core.Path.{_≡_};
+ghost use Rattle.search.specs.Search.{outcome, work-after};
 use formula::Check;
 use formula::Formula;
 
@@ -10,8 +12,8 @@ mod clauses;
 mod force;
 mod index;
 mod live;
-mod masks;
 mod order;
+mod sets;
 mod solve;
 mod table;
 mod wants;
@@ -33,7 +35,10 @@ pub fn first_model(
     count: usize,
     universal: bool,
     work: &mut [u8],
-) -> Search {
+) -> Search
+    ensures { λ r. ⌜ r ≡ outcome (now (kinds .entry)) (now (literals .entry)) (now (preferences .entry)) (now (rows .entry)) count universal (now (work .entry)) ⌝ }
+    ensures { λ _. ⌜ now (work .exit) ≡ work-after (now (kinds .entry)) (now (literals .entry)) (now (preferences .entry)) (now (rows .entry)) count universal (now (work .entry)) ⌝ }
+{
     match Formula::check(kinds, literals) {
         Check::Refused(cause) => Search::Refused(cause),
         Check::Accepted(formula) => {
@@ -133,10 +138,10 @@ fn decide(
     work: &mut [u8],
 ) -> bool {
     let count = place.len();
-    let mut differs = [0u8; Formula::ROWS];
-    order::compare(kinds, work, count, side, &mut differs);
-    wants::fill(kinds, preferences, place, &differs, side, work);
+    let mut splits = [0u8; Formula::ROWS];
+    order::compare(kinds, work, count, side, &mut splits);
+    wants::fill(kinds, preferences, place, &splits, side, work);
     let mut codes = [0u16; Formula::ENTRIES];
     let used = clauses::encode(literals, &mut codes);
-    solve::from_start(kinds, &differs[..count], &codes[..used], side, work)
+    solve::from_start(kinds, &splits[..count], &codes[..used], side, work)
 }

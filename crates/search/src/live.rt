@@ -11,8 +11,8 @@ ghost use Rattle.search.specs.Cells.{cells};
 ghost use Rattle.search.specs.Codes.{position, code-true, code-clauses, Coded};
 ghost use Rattle.search.specs.Steps.{Settles, RowBlamed};
 use super::clauses::position;
-use super::masks;
-use super::masks::CUT;
+use super::sets;
+use super::sets::CUT;
 use super::table;
 use super::width::wide16;
 
@@ -20,13 +20,13 @@ use super::width::wide16;
 pub(crate) fn check(
     codes: &[u16],
     work: &[u8],
-    masks: &mut [u64],
+    sets: &mut [u64],
     hints: &mut [u16],
     lo: usize,
     hi: usize,
 ) -> bool
-    requires { ⌜ (length (now work) ≡ 65536) × (length (now masks) ≡ 260) × (length (now hints) ≡ 256) × (lo ≤ hi) × (hi ≤ 256) × (length (now codes) ≤ 8192) × Coded 128 (now codes) ⌝ }
-    ensures { λ r. ⌜ ((differs : List ℕ) (mark : ℕ) → Settles 1 differs (now (codes .entry)) lo hi mark (now (work .entry)) (now (work .entry)) (now (masks .entry)) (now (masks .exit)) r) ⌝ }
+    requires { ⌜ (length (now work) ≡ 65536) × (length (now sets) ≡ 260) × (length (now hints) ≡ 8707) × (lo ≤ hi) × (hi ≤ 256) × (length (now codes) ≤ 8192) × Coded 128 (now codes) ⌝ }
+    ensures { λ r. ⌜ ((splits : List ℕ) (mark : ℕ) → Settles 1 splits (now (codes .entry)) lo hi mark (now (work .entry)) (now (work .entry)) (now (sets .entry)) (now (sets .exit)) r) ⌝ }
 {
     let mut i = lo;
     while i < hi {
@@ -36,8 +36,8 @@ pub(crate) fn check(
             if start < codes.len() {
                 hints[i] = start as u16;
             } else {
-                masks::empty(masks, CUT);
-                if blame(codes, work, masks, i) {
+                sets::empty(sets, CUT);
+                if blame(codes, work, sets, i) {
                     return false;
                 }
             }
@@ -102,9 +102,9 @@ fn first_live(codes: &[u16], work: &[u8], i: usize) -> usize
 }
 
 // Unites, at CUT, for each clause the set of its earliest true literal in row i. False: a clause has none.
-fn blame(codes: &[u16], work: &[u8], masks: &mut [u64], i: usize) -> bool
-    requires { ⌜ (length (now work) ≡ 65536) × (length (now masks) ≡ 260) × (i < 256) × Coded 128 (now codes) ⌝ }
-    ensures { λ r. ⌜ RowBlamed (now (codes .entry)) (now (work .entry)) i (now (masks .entry)) (now (masks .exit)) r ⌝ }
+fn blame(codes: &[u16], work: &[u8], sets: &mut [u64], i: usize) -> bool
+    requires { ⌜ (length (now work) ≡ 65536) × (length (now sets) ≡ 260) × (i < 256) × Coded 128 (now codes) ⌝ }
+    ensures { λ r. ⌜ RowBlamed (now (codes .entry)) (now (work .entry)) i (now (sets .entry)) (now (sets .exit)) r ⌝ }
 {
     let mut best = CUT;
     let mut e = 0;
@@ -114,7 +114,7 @@ fn blame(codes: &[u16], work: &[u8], masks: &mut [u64], i: usize) -> bool
             if best == CUT {
                 return false;
             }
-            masks::unite(masks, CUT, best);
+            sets::unite(sets, CUT, best);
             best = CUT;
         } else if holds(work, i, c) {
             best = earlier(work, i, best, position(c));

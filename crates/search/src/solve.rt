@@ -8,13 +8,12 @@ ghost use Rattle.expansion.proofs.ClauseCuts.{matrix-at};
 ghost use Rattle.search.specs.Cells.{cells};
 ghost use Rattle.search.specs.Codes.{code-true, code-clauses, code-goal, Coded, Ended};
 ghost use Rattle.search.specs.Masks.{set-at, SetReplaced};
-ghost use Rattle.search.specs.Steps.{Lent, Settles, Searches, Tries, Chooses, Excused, Reached, Parts, FromStart};
-use super::clauses::position;
+ghost use Rattle.search.specs.Steps.{Lent, Settles, Searches, Tries, Chooses, Splits, Steps, Excused, Reached, Parting, PartedAt, Stands, FromStart};
 use super::force;
 use super::index;
 use super::live;
-use super::masks;
-use super::masks::CUT;
+use super::sets;
+use super::sets::CUT;
 use super::table;
 use super::width::wide16;
 use super::width::wide8;
@@ -22,22 +21,19 @@ use super::width::wide8;
 // The search over a filled table of at least one row. False: there is no model.
 pub(crate) fn from_start(
     kinds: &[u8],
-    differs: &[u8],
+    splits: &[u8],
     codes: &[u16],
     side: u8,
     work: &mut [u8],
 ) -> bool
-    requires { ⌜ (length (now kinds) ≤ 128) × (0 < length (now differs)) × (length (now differs) ≤ 256) × (length (now codes) ≤ 8192) × Coded 128 (now codes) × (side ≤ 1) × (length (now work) ≡ 65536) ⌝ }
-    ensures { λ r. ⌜ FromStart (now (kinds .entry)) (now (differs .entry)) (now (codes .entry)) side (now (work .entry)) (now (work .exit)) r ⌝ }
+    requires { ⌜ (length (now kinds) ≤ 128) × (0 < length (now splits)) × (length (now splits) ≤ 256) × (length (now codes) ≤ 8192) × Coded 128 (now codes) × (side ≤ 1) × (length (now work) ≡ 65536) ⌝ }
+    ensures { λ r. ⌜ FromStart (now (kinds .entry)) (now (splits .entry)) (now (codes .entry)) side (now (work .entry)) (now (work .exit)) r ⌝ }
 {
     let mut sets = [0u64; 260];
-    let mut hints = [0u16; 256];
-    let mut places = [0u16; 8_451];
-    if side == 0 {
-        index::fill(codes, &mut places);
-    }
-    if look_around(differs, codes, &places, work, &mut sets, &mut hints, side) {
-        solve(kinds, differs, codes, &places, work, &mut sets, &mut hints, side, 0, 0, differs.len())
+    let mut hints = [0u16; 8_707];
+    if look_around(splits, codes, work, &mut sets, &mut hints, side) {
+        let hi = splits.len();
+        solve(kinds, splits, codes, work, &mut sets, &mut hints, side, 0, 0, hi)
     } else {
         false
     }
@@ -45,31 +41,30 @@ pub(crate) fn from_start(
 
 // The consequences of the rows' values alone.
 fn look_around(
-    differs: &[u8],
+    splits: &[u8],
     codes: &[u16],
-    places: &[u16],
     work: &mut [u8],
     sets: &mut [u64],
     hints: &mut [u16],
     side: u8,
 ) -> bool
-    requires { ⌜ Lent (now differs) (now codes) (now work) (now sets) (now hints) ⌝ }
+    requires { ⌜ Lent (now splits) (now codes) (now work) (now sets) (now hints) ⌝ }
     requires { ⌜ side ≤ 1 ⌝ }
-    ensures { λ r. ⌜ Settles side (now (differs .entry)) (now (codes .entry)) 0 (length (now (differs .entry))) 1 (now (work .entry)) (now (work .exit)) (now (sets .entry)) (now (sets .exit)) r ⌝ }
+    ensures { λ r. ⌜ Settles side (now (splits .entry)) (now (codes .entry)) 0 (length (now (splits .entry))) 1 (now (work .entry)) (now (work .exit)) (now (sets .entry)) (now (sets .exit)) r ⌝ }
 {
     if side == 1 {
-        live::check(codes, work, sets, hints, 0, differs.len())
+        live::check(codes, work, sets, hints, 0, splits.len())
     } else {
-        force::survey(differs, codes, places, work, sets, hints)
+        index::fill(codes, hints);
+        force::survey(splits, codes, work, sets, hints)
     }
 }
 
 // Finds the values at the positions from k on in the rows from lo to hi. False: there are none, and CUT says by which decisions.
 fn solve(
     kinds: &[u8],
-    differs: &[u8],
+    splits: &[u8],
     codes: &[u16],
-    places: &[u16],
     work: &mut [u8],
     sets: &mut [u64],
     hints: &mut [u16],
@@ -78,49 +73,94 @@ fn solve(
     lo: usize,
     hi: usize,
 ) -> bool
-    requires { ⌜ Lent (now differs) (now codes) (now work) (now sets) (now hints) ⌝ }
-    requires { ⌜ (length (now kinds) ≤ 128) × (side ≤ 1) × (k ≤ length (now kinds)) × (lo < hi) × (hi ≤ length (now differs)) ⌝ }
-    ensures { λ r. ⌜ Searches (now (kinds .entry)) (now (differs .entry)) (now (codes .entry)) side k lo hi (now (work .entry)) (now (work .exit)) (now (sets .entry)) (now (sets .exit)) r ⌝ }
+    requires { ⌜ Lent (now splits) (now codes) (now work) (now sets) (now hints) ⌝ }
+    requires { ⌜ (length (now kinds) ≤ 128) × (side ≤ 1) × (k ≤ length (now kinds)) × (lo < hi) × (hi ≤ length (now splits)) ⌝ }
+    ensures { λ r. ⌜ Searches (now (kinds .entry)) (now (splits .entry)) (now (codes .entry)) side k lo hi (now (work .entry)) (now (work .exit)) (now (sets .entry)) (now (sets .exit)) r ⌝ }
 {
-    if k == kinds.len() {
-        return reached(codes, work, sets, side, lo);
+    let mid = parting(splits, lo, hi);
+    let until = parted_at(splits, lo, mid, kinds.len());
+    let at = stand(kinds, work, side, k, lo, until);
+    if step(kinds, splits, codes, work, sets, hints, side, at, until, lo, mid, hi) {
+        return true;
     }
-    if kinds[k] != side {
-        let part = parting(differs, k, lo, hi);
-        if part < hi {
-            if solve(kinds, differs, codes, places, work, sets, hints, side, k + 1, part, hi) {
-            } else {
-                return false;
-            }
-        }
-        return solve(kinds, differs, codes, places, work, sets, hints, side, k + 1, lo, part);
-    }
-    if table::is_set(work, lo, k) {
-        if solve(kinds, differs, codes, places, work, sets, hints, side, k + 1, lo, hi) {
-            return true;
-        }
-        excuse(sets, k);
-        return false;
-    }
-    choose(kinds, differs, codes, places, work, sets, hints, side, k, lo, hi)
+    excuse(sets, k, at);
+    false
 }
 
-// Where a failure was reached by the forced value at position k, it was reached by what forced that value.
-fn excuse(sets: &mut [u64], k: usize)
-    requires { ⌜ (length (now sets) ≡ 260) × (k < 128) ⌝ }
-    ensures { λ _. ⌜ Excused k (now (sets .entry)) (now (sets .exit)) ⌝ }
+// The search at the position `at` behind those that stand: past the last one, at a split, or at a choice.
+fn step(
+    kinds: &[u8],
+    splits: &[u8],
+    codes: &[u16],
+    work: &mut [u8],
+    sets: &mut [u64],
+    hints: &mut [u16],
+    side: u8,
+    at: usize,
+    until: usize,
+    lo: usize,
+    mid: usize,
+    hi: usize,
+) -> bool
+    requires { ⌜ Lent (now splits) (now codes) (now work) (now sets) (now hints) ⌝ }
+    requires { ⌜ (length (now kinds) ≤ 128) × (side ≤ 1) × (at ≤ until) × (until ≤ length (now kinds)) × (lo < hi) × (hi ≤ length (now splits)) ⌝ }
+    requires { ⌜ (lo ≤ mid) × (mid < hi) × (until < length (now kinds) → lo < mid) ⌝ }
+    ensures { λ r. ⌜ Steps (now (kinds .entry)) (now (splits .entry)) (now (codes .entry)) side at until lo mid hi (now (work .entry)) (now (work .exit)) (now (sets .entry)) (now (sets .exit)) r ⌝ }
 {
-    if masks::has(sets, CUT, k) {
-        masks::unite(sets, CUT, k);
+    if at == kinds.len() {
+        return reached(codes, work, sets, side, lo);
+    }
+    if at == until {
+        return split(kinds, splits, codes, work, sets, hints, side, at, lo, mid, hi);
+    }
+    choose(kinds, splits, codes, work, sets, hints, side, at, lo, hi)
+}
+
+// Searches the rows from mid on and those before, which have different values at position k.
+fn split(
+    kinds: &[u8],
+    splits: &[u8],
+    codes: &[u16],
+    work: &mut [u8],
+    sets: &mut [u64],
+    hints: &mut [u16],
+    side: u8,
+    k: usize,
+    lo: usize,
+    mid: usize,
+    hi: usize,
+) -> bool
+    requires { ⌜ Lent (now splits) (now codes) (now work) (now sets) (now hints) ⌝ }
+    requires { ⌜ (length (now kinds) ≤ 128) × (side ≤ 1) × (k < length (now kinds)) × (lo < mid) × (mid < hi) × (hi ≤ length (now splits)) ⌝ }
+    ensures { λ r. ⌜ Splits (now (kinds .entry)) (now (splits .entry)) (now (codes .entry)) side k lo mid hi (now (work .entry)) (now (work .exit)) (now (sets .entry)) (now (sets .exit)) r ⌝ }
+{
+    if solve(kinds, splits, codes, work, sets, hints, side, k + 1, mid, hi) {
+    } else {
+        return false;
+    }
+    sets::trim(sets, k, kinds.len());
+    solve(kinds, splits, codes, work, sets, hints, side, k + 1, lo, mid)
+}
+
+// Where a failure was reached by values that stand from k to `at`, it was reached by what they were reached by.
+fn excuse(sets: &mut [u64], k: usize, at: usize)
+    requires { ⌜ (length (now sets) ≡ 260) × (at ≤ 128) ⌝ }
+    ensures { λ _. ⌜ Excused k at (now (sets .entry)) (now (sets .exit)) ⌝ }
+{
+    let mut p = k;
+    while p < at {
+        if sets::has(sets, CUT, p) {
+            sets::unite(sets, CUT, p);
+        }
+        p += 1;
     }
 }
 
 // Tries the wanted value at the open own position k, and the other one if a failure was reached by that.
 fn choose(
     kinds: &[u8],
-    differs: &[u8],
+    splits: &[u8],
     codes: &[u16],
-    places: &[u16],
     work: &mut [u8],
     sets: &mut [u64],
     hints: &mut [u16],
@@ -129,27 +169,27 @@ fn choose(
     lo: usize,
     hi: usize,
 ) -> bool
-    requires { ⌜ Lent (now differs) (now codes) (now work) (now sets) (now hints) ⌝ }
-    requires { ⌜ (length (now kinds) ≤ 128) × (side ≤ 1) × (k < length (now kinds)) × (lo < hi) × (hi ≤ length (now differs)) ⌝ }
-    ensures { λ r. ⌜ Chooses (now (kinds .entry)) (now (differs .entry)) (now (codes .entry)) side k lo hi (now (work .entry)) (now (work .exit)) (now (sets .entry)) (now (sets .exit)) r ⌝ }
+    requires { ⌜ Lent (now splits) (now codes) (now work) (now sets) (now hints) ⌝ }
+    requires { ⌜ (length (now kinds) ≤ 128) × (side ≤ 1) × (k < length (now kinds)) × (lo < hi) × (hi ≤ length (now splits)) ⌝ }
+    ensures { λ r. ⌜ Chooses (now (kinds .entry)) (now (splits .entry)) (now (codes .entry)) side k lo hi (now (work .entry)) (now (work .exit)) (now (sets .entry)) (now (sets .exit)) r ⌝ }
 {
     let wanted = table::wanted(work, lo, k);
-    if attempt(kinds, differs, codes, places, work, sets, hints, side, k, lo, hi, wanted) {
+    if attempt(kinds, splits, codes, work, sets, hints, side, k, lo, hi, wanted) {
         return true;
     }
-    if masks::has(sets, CUT, k) {
+    if sets::has(sets, CUT, k) {
     } else {
         return false;
     }
     table::undo(work, lo, hi, k as u8 + 1);
-    masks::trim(sets, k, kinds.len());
+    sets::trim(sets, k, kinds.len());
     let low = sets[256];
     let high = sets[257];
-    if attempt(kinds, differs, codes, places, work, sets, hints, side, k, lo, hi, !wanted) {
+    if attempt(kinds, splits, codes, work, sets, hints, side, k, lo, hi, !wanted) {
         return true;
     }
-    if masks::has(sets, CUT, k) {
-        masks::unite_words(sets, CUT, low, high);
+    if sets::has(sets, CUT, k) {
+        sets::unite_words(sets, CUT, low, high);
     }
     false
 }
@@ -157,9 +197,8 @@ fn choose(
 // Tries one value at the own position k of the rows from lo to hi.
 fn attempt(
     kinds: &[u8],
-    differs: &[u8],
+    splits: &[u8],
     codes: &[u16],
-    places: &[u16],
     work: &mut [u8],
     sets: &mut [u64],
     hints: &mut [u16],
@@ -169,14 +208,14 @@ fn attempt(
     hi: usize,
     value: bool,
 ) -> bool
-    requires { ⌜ Lent (now differs) (now codes) (now work) (now sets) (now hints) ⌝ }
-    requires { ⌜ (length (now kinds) ≤ 128) × (side ≤ 1) × (k < length (now kinds)) × (lo < hi) × (hi ≤ length (now differs)) ⌝ }
-    ensures { λ r. ⌜ Tries (now (kinds .entry)) (now (differs .entry)) (now (codes .entry)) side k lo hi value (now (work .entry)) (now (work .exit)) (now (sets .entry)) (now (sets .exit)) r ⌝ }
+    requires { ⌜ Lent (now splits) (now codes) (now work) (now sets) (now hints) ⌝ }
+    requires { ⌜ (length (now kinds) ≤ 128) × (side ≤ 1) × (k < length (now kinds)) × (lo < hi) × (hi ≤ length (now splits)) ⌝ }
+    ensures { λ r. ⌜ Tries (now (kinds .entry)) (now (splits .entry)) (now (codes .entry)) side k lo hi value (now (work .entry)) (now (work .exit)) (now (sets .entry)) (now (sets .exit)) r ⌝ }
 {
-    masks::add(sets, k, k);
+    sets::add(sets, k, k);
     table::set_rows(work, k, lo, hi, k as u8 + 2, value);
-    if follow(differs, codes, places, work, sets, hints, side, k, lo, hi) {
-        solve(kinds, differs, codes, places, work, sets, hints, side, k + 1, lo, hi)
+    if follow(splits, codes, work, sets, hints, side, k, lo, hi) {
+        solve(kinds, splits, codes, work, sets, hints, side, k + 1, lo, hi)
     } else {
         false
     }
@@ -184,9 +223,8 @@ fn attempt(
 
 // The consequences of the value just set at position k.
 fn follow(
-    differs: &[u8],
+    splits: &[u8],
     codes: &[u16],
-    places: &[u16],
     work: &mut [u8],
     sets: &mut [u64],
     hints: &mut [u16],
@@ -195,30 +233,65 @@ fn follow(
     lo: usize,
     hi: usize,
 ) -> bool
-    requires { ⌜ Lent (now differs) (now codes) (now work) (now sets) (now hints) ⌝ }
-    requires { ⌜ (side ≤ 1) × (k < 128) × (lo < hi) × (hi ≤ length (now differs)) ⌝ }
-    ensures { λ r. ⌜ Settles side (now (differs .entry)) (now (codes .entry)) lo hi (k + 2) (now (work .entry)) (now (work .exit)) (now (sets .entry)) (now (sets .exit)) r ⌝ }
+    requires { ⌜ Lent (now splits) (now codes) (now work) (now sets) (now hints) ⌝ }
+    requires { ⌜ (side ≤ 1) × (k < 128) × (lo < hi) × (hi ≤ length (now splits)) ⌝ }
+    ensures { λ r. ⌜ Settles side (now (splits .entry)) (now (codes .entry)) lo hi (k + 2) (now (work .entry)) (now (work .exit)) (now (sets .entry)) (now (sets .exit)) r ⌝ }
 {
     if side == 1 {
         live::check(codes, work, sets, hints, lo, hi)
     } else {
-        force::propagate(differs, codes, places, work, sets, hints, k, lo, hi)
+        force::propagate(splits, codes, work, sets, hints, k, lo, hi)
     }
 }
 
-// The first row behind lo that differs from the one before it at position k or earlier; hi if there is none.
-fn parting(differs: &[u8], k: usize, lo: usize, hi: usize) -> usize
-    requires { ⌜ (lo < hi) × (hi ≤ length (now differs)) ⌝ }
-    ensures { λ r. ⌜ Parts (now (differs .entry)) k lo hi r ⌝ }
+// The row behind lo at which the rows from lo to hi part first; lo if none parts from the one before it.
+fn parting(splits: &[u8], lo: usize, hi: usize) -> usize
+    requires { ⌜ (lo < hi) × (hi ≤ length (now splits)) ⌝ }
+    ensures { λ r. ⌜ Parting (now (splits .entry)) lo hi r ⌝ }
 {
+    let mut mid = lo;
+    let mut least = 255;
     let mut i = lo + 1;
     while i < hi {
-        if wide8(differs[i]) <= k {
-            return i;
+        if splits[i] < least {
+            least = splits[i];
+            mid = i;
         }
         i += 1;
     }
-    i
+    mid
+}
+
+// The position at which they part there; n if they do not part before that.
+fn parted_at(splits: &[u8], lo: usize, mid: usize, n: usize) -> usize
+    requires { ⌜ mid < length (now splits) ⌝ }
+    ensures { λ r. ⌜ PartedAt (now (splits .entry)) lo mid n r ⌝ }
+{
+    if lo < mid {
+        let at = wide8(splits[mid]);
+        if at < n {
+            return at;
+        }
+    }
+    n
+}
+
+// The first position from k on, up to `until`, that is an own one and open in row lo; `until` if there is none.
+fn stand(kinds: &[u8], work: &[u8], side: u8, k: usize, lo: usize, until: usize) -> usize
+    requires { ⌜ (length (now work) ≡ 65536) × (length (now kinds) ≤ 128) × (until ≤ length (now kinds)) × (k ≤ until) × (lo < 256) ⌝ }
+    ensures { λ r. ⌜ Stands (now (kinds .entry)) (now (work .entry)) side k lo until r ⌝ }
+{
+    let mut at = k;
+    while at < until {
+        if kinds[at] == side {
+            if table::is_set(work, lo, at) {
+            } else {
+                return at;
+            }
+        }
+        at += 1;
+    }
+    at
 }
 
 // Whether the values of row i reach the side's goal. Where they do not, every position is to blame.
@@ -237,7 +310,7 @@ fn reached(codes: &[u16], work: &[u8], sets: &mut [u64], side: u8, i: usize) -> 
             return true;
         }
     }
-    masks::fill(sets, CUT);
+    sets::fill(sets, CUT);
     false
 }
 

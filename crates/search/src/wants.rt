@@ -12,20 +12,20 @@ pub(crate) fn fill(
     kinds: &[u8],
     preferences: &[u8],
     place: &[u8],
-    differs: &[u8],
+    splits: &[u8],
     side: u8,
     work: &mut [u8],
 )
-    requires { ⌜ (length (now kinds) ≤ 128) × (length (now place) ≤ 256) × (length (now differs) ≡ 256) × (length (now work) ≡ 65536) ⌝ }
+    requires { ⌜ (length (now kinds) ≤ 128) × (length (now place) ≤ 256) × (length (now splits) ≡ 256) × (length (now work) ≡ 65536) ⌝ }
     requires { ⌜ ((r : ℕ) → r < length (now place) → getD (now place) r 0 < length (now place)) ⌝ }
     requires { ⌜ ((i : ℕ) → i < length (now place) → (r : ℕ) × (r < length (now place)) × (getD (now place) r 0 ≡ i)) ⌝ }
-    ensures { λ _. ⌜ WantsFilled (now (kinds .entry)) (now (preferences .entry)) (now (place .entry)) (now (differs .entry)) side (now (work .entry)) (now (work .exit)) ⌝ }
+    ensures { λ _. ⌜ WantsFilled (now (kinds .entry)) (now (preferences .entry)) (now (place .entry)) (now (splits .entry)) side (now (work .entry)) (now (work .exit)) ⌝ }
 {
     let mut number = 0;
     let mut k = 0;
     while k < kinds.len() {
         if kinds[k] == side {
-            number = fill_at(preferences, place, differs, k, number, work);
+            number = fill_at(preferences, place, splits, k, number, work);
         }
         k += 1;
     }
@@ -35,14 +35,14 @@ pub(crate) fn fill(
 fn fill_at(
     preferences: &[u8],
     place: &[u8],
-    differs: &[u8],
+    splits: &[u8],
     k: usize,
     number: usize,
     work: &mut [u8],
 ) -> usize {
     let count = place.len();
     let mut first = [0u8; Formula::ROWS];
-    group(differs, k, &mut first[..count]);
+    group(splits, k, &mut first[..count]);
     let mut wants = [0u8; Formula::ROWS];
     let next = number_copies(preferences, place, &first, number, &mut wants);
     write(&first[..count], &wants, k, work);
@@ -50,11 +50,11 @@ fn fill_at(
 }
 
 // Writes for each sorted row the first row of its copy at position k.
-fn group(differs: &[u8], k: usize, first: &mut [u8]) {
+fn group(splits: &[u8], k: usize, first: &mut [u8]) {
     let mut start = 0;
     let mut i = 0;
     while i < first.len() {
-        if wide8(differs[i]) < k {
+        if wide8(splits[i]) < k {
             start = i as u8;
         }
         first[i] = start;
