@@ -56,10 +56,12 @@ pub record RowFilled (kinds rows : List ℕ) (row i side : ℕ) (w u : List ℕ)
   pub elsewhere : (h k : ℕ) → ((h ≡ i) × (k < length kinds) × (getD (owned kinds side) k false ≡ false) → ⊥)
       → (cells u .level h k ≡ cells w .level h k) × (cells u .value h k ≡ cells w .value h k)
 
--- Every lent row stands at its place.
+-- Every lent row stands at its place, and nothing else changes.
 pub record Filled (kinds rows place : List ℕ) (side : ℕ) (w u : List ℕ) : Type 0 where
   pub there : (row k : ℕ) → row < length place → k < length kinds → getD (owned kinds side) k false ≡ false
       → (cells u .level (getD place row 0) k ≡ 1)
       × (cells u .value (getD place row 0) k ≡ bit-of (row-at rows row) (others-before (owned kinds side) k))
   pub elsewhere : (h k : ℕ) → ((k < length kinds) × (getD (owned kinds side) k false ≡ false) → ⊥)
+      → (cells u .level h k ≡ cells w .level h k) × (cells u .value h k ≡ cells w .value h k)
+  pub unplaced : (h k : ℕ) → ((row : ℕ) → row < length place → h ≡ getD place row 0 → ⊥)
       → (cells u .level h k ≡ cells w .level h k) × (cells u .value h k ≡ cells w .value h k)

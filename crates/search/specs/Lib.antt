@@ -7,3 +7,4 @@ pub mod Codes
 pub mod Order
 pub mod Wants
 pub mod Steps
+pub mod Live

@@ -34,6 +34,11 @@ pub record SetGrown (to : ℕ) (s u : List ℕ) : Type 0 where
 pub record SetReplaced (to : ℕ) (s u : List ℕ) : Type 0 where
   pub others : (p : ℕ) → p ≢ to → (l : ℕ) → set-at u p l ≡ set-at s p l
 
+-- The set at `to` becomes that of two words.
+pub record Put (to low high : ℕ) (s u : List ℕ) : Type 0 where
+  pub others : (p : ℕ) → p ≢ to → (l : ℕ) → set-at u p l ≡ set-at s p l
+  pub there : (l : ℕ) → set-at u to l ≡ words low high l
+
 -- The set at `to` takes in the set at `from`.
 pub record United (to from : ℕ) (s u : List ℕ) : Type 0 where
   pub grown : SetGrown to s u

@@ -52,7 +52,7 @@ pub record Searched (P : Problem) (k lo hi : ℕ) (v : ℕ → Bool) (w u s t : 
 abbrev pub Searches : List ℕ → List ℕ → List ℕ → ℕ → ℕ → ℕ → ℕ → List ℕ → List ℕ → List ℕ → List ℕ → Bool → Type 0
 Searches kinds splits codes side k lo hi w u s t r =
     (P : Problem) (v : ℕ → Bool)
-    → Fits P kinds splits codes side → ((i j : ℕ) → i < P .count → j < P .n → wants w i j ≡ P .wanted i j) → Node P k lo hi v (cells w) (masks s)
+    → Fits P kinds splits codes side → ((i j : ℕ) → i < P .count → j < P .n → P .own j ≡ true → wants w i j ≡ P .wanted i j) → Node P k lo hi v (cells w) (masks s)
     → Searched P k lo hi v w u s t r
 
 -- The values v with y at position k.
@@ -71,7 +71,7 @@ pub record Tried (P : Problem) (k lo hi : ℕ) (v : ℕ → Bool) (y : Bool) (w 
 abbrev pub Tries : List ℕ → List ℕ → List ℕ → ℕ → ℕ → ℕ → ℕ → Bool → List ℕ → List ℕ → List ℕ → List ℕ → Bool → Type 0
 Tries kinds splits codes side k lo hi y w u s t r =
     (P : Problem) (v : ℕ → Bool)
-    → Fits P kinds splits codes side → ((i j : ℕ) → i < P .count → j < P .n → wants w i j ≡ P .wanted i j) → Node P k lo hi v (cells w) (masks s)
+    → Fits P kinds splits codes side → ((i j : ℕ) → i < P .count → j < P .n → P .own j ≡ true → wants w i j ≡ P .wanted i j) → Node P k lo hi v (cells w) (masks s)
     → P .own k ≡ true → cells w .level lo k ≡ 0
     → Tried P k lo hi v y w u s t r
 
@@ -79,7 +79,7 @@ Tries kinds splits codes side k lo hi y w u s t r =
 abbrev pub Chooses : List ℕ → List ℕ → List ℕ → ℕ → ℕ → ℕ → ℕ → List ℕ → List ℕ → List ℕ → List ℕ → Bool → Type 0
 Chooses kinds splits codes side k lo hi w u s t r =
     (P : Problem) (v : ℕ → Bool)
-    → Fits P kinds splits codes side → ((i j : ℕ) → i < P .count → j < P .n → wants w i j ≡ P .wanted i j) → Node P k lo hi v (cells w) (masks s)
+    → Fits P kinds splits codes side → ((i j : ℕ) → i < P .count → j < P .n → P .own j ≡ true → wants w i j ≡ P .wanted i j) → Node P k lo hi v (cells w) (masks s)
     → P .own k ≡ true → cells w .level lo k ≡ 0
     → Searched P k lo hi v w u s t r
 
@@ -100,14 +100,15 @@ pub record Parting (splits : List ℕ) (lo hi mid : ℕ) : Type 0 where
 abbrev pub Splits : List ℕ → List ℕ → List ℕ → ℕ → ℕ → ℕ → ℕ → ℕ → List ℕ → List ℕ → List ℕ → List ℕ → Bool → Type 0
 Splits kinds splits codes side k lo mid hi w u s t r =
     (P : Problem) (v : ℕ → Bool)
-    → Fits P kinds splits codes side → ((i j : ℕ) → i < P .count → j < P .n → wants w i j ≡ P .wanted i j) → Node P k lo hi v (cells w) (masks s)
+    → Fits P kinds splits codes side → ((i j : ℕ) → i < P .count → j < P .n → P .own j ≡ true → wants w i j ≡ P .wanted i j) → Node P k lo hi v (cells w) (masks s)
     → P .own k ≡ false → Parting splits lo hi mid → getD splits mid 0 ≡ k
     → Searched P k lo hi v w u s t r
 
 -- The positions from k to `at` are the other side's, or set in row lo; `at` is `until`, or is an own position that is open there.
 pub record Stands (kinds w : List ℕ) (side k lo until at : ℕ) : Type 0 where
   pub low : k ≤ at
-  pub high : at ≤ until
+  pub most : at ≤ length kinds
+  pub high : k ≤ until → at ≤ until
   pub passed : (j : ℕ) → k ≤ j → j < at → (eqb (getD kinds j 0) side ≡ false) ⊎ (0 < cells w .level lo j)
   pub stops : at < until → (eqb (getD kinds at 0) side ≡ true) × (cells w .level lo at ≡ 0)
 
@@ -121,8 +122,8 @@ pub record PartedAt (splits : List ℕ) (lo mid n at : ℕ) : Type 0 where
 abbrev pub Steps : List ℕ → List ℕ → List ℕ → ℕ → ℕ → ℕ → ℕ → ℕ → ℕ → List ℕ → List ℕ → List ℕ → List ℕ → Bool → Type 0
 Steps kinds splits codes side at until lo mid hi w u s t r =
     (P : Problem) (v : ℕ → Bool)
-    → Fits P kinds splits codes side → ((i j : ℕ) → i < P .count → j < P .n → wants w i j ≡ P .wanted i j) → Node P at lo hi v (cells w) (masks s)
-    → Parting splits lo hi mid → PartedAt splits lo mid (length kinds) until
+    → Fits P kinds splits codes side → ((i j : ℕ) → i < P .count → j < P .n → P .own j ≡ true → wants w i j ≡ P .wanted i j) → Node P at lo hi v (cells w) (masks s)
+    → Parting splits lo hi mid → PartedAt splits lo mid (length kinds) until → at ≤ until
     → (at < until → (P .own at ≡ true) × (cells w .level lo at ≡ 0))
     → (until < length kinds → P .own until ≡ false)
     → Searched P at lo hi v w u s t r
@@ -131,12 +132,13 @@ Steps kinds splits codes side at until lo mid hi w u s t r =
 pub record Reached (codes : List ℕ) (side : ℕ) (w : List ℕ) (i : ℕ) (s t : List ℕ) (r : Bool) : Type 0 where
   pub others : (p : ℕ) → p ≢ 128 → (l : ℕ) → set-at t p l ≡ set-at s p l
   pub goal : Ended codes → r ≡ code-goal side codes (cells w .value i)
+  pub full : r ≡ false → (l : ℕ) → l < 128 → set-at t 128 l ≡ true
 
 -- The search of all rows: what it leaves, over every problem that the tables fit, whose rows' cells are set at level 0 and whose other cells are open.
 abbrev pub FromStart : List ℕ → List ℕ → List ℕ → ℕ → List ℕ → List ℕ → Bool → Type 0
 FromStart kinds splits codes side w u r =
     (P : Problem)
-    → Fits P kinds splits codes side → ((i j : ℕ) → i < P .count → j < P .n → wants w i j ≡ P .wanted i j)
+    → Fits P kinds splits codes side → ((i j : ℕ) → i < P .count → j < P .n → P .own j ≡ true → wants w i j ≡ P .wanted i j)
     → ((i j : ℕ) → i < P .count → j < P .n → P .own j ≡ false → (cells w .level i j ≡ 1) × (cells w .value i j ≡ P .given i j))
     → ((i j : ℕ) → ((i < P .count) × (j < P .n) × (P .own j ≡ false) → ⊥) → cells w .level i j ≡ 0)
     → (r ≡ true → Won P 0 0 (P .count) (cells u)) × (r ≡ false → (v : ℕ → Bool) → (D : Mask) × Refuted P 0 v D 0)
@@ -162,6 +164,7 @@ pub record IsAt (w : List ℕ) (i : ℕ) (y : Bool) (c : ℕ) : Type 0 where
 pub record Looked (codes w : List ℕ) (i start found : ℕ) : Type 0 where
   pub ends : (found ≡ 1 → ⊥) → HasEnd (drop start codes)
   pub rest : (found ≡ 1 → ⊥) → Every (λ c. (c ≡ found) ⊎ IsAt w i false c) (clause-of (drop start codes))
+  pub named : 2 ≤ found → Some (λ c. c ≡ found) (clause-of (drop start codes))
   pub unset : 2 ≤ found → cells w .level i (position found) ≡ 0
   pub fits : 2 ≤ found → position found < 128
 

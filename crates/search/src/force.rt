@@ -15,8 +15,8 @@ use super::sets;
 use super::sets::CHANGED;
 use super::sets::CUT;
 use super::table;
-use super::width::wide16;
 use super::width::wide8;
+use super::width::wide16;
 
 // Looks at every clause in every row, and at what follows. False: there is no model, and CUT says by which decisions.
 pub(crate) fn survey(
@@ -32,8 +32,7 @@ pub(crate) fn survey(
     sets::empty(sets, CHANGED);
     let mut i = 0;
     while i < splits.len() {
-        if survey_row(splits, codes, work, sets, hints, i) {
-        } else {
+        if survey_row(splits, codes, work, sets, hints, i) {} else {
             return false;
         }
         i += 1;
@@ -55,10 +54,19 @@ fn survey_row(
 {
     let mut start = 0;
     while start < codes.len() {
-        if repeats(splits, codes, 0, i, start) {
-        } else {
-            if touch(splits, codes, work, sets, hints, 1, 0, splits.len(), i, start) {
-            } else {
+        if repeats(splits, codes, 0, i, start) {} else {
+            if touch(
+                splits,
+                codes,
+                work,
+                sets,
+                hints,
+                1,
+                0,
+                splits.len(),
+                i,
+                start,
+            ) {} else {
                 return false;
             }
         }
@@ -131,17 +139,15 @@ fn settle(
     requires { ⌜ hi ≤ length (now splits) ⌝ }
     ensures { λ r. ⌜ Settles 0 (now (splits .entry)) (now (codes .entry)) lo hi mark (now (work .entry)) (now (work .exit)) (now (sets .entry)) (now (sets .exit)) r ⌝ }
 {
-    let mut left = 32_768;
+    let mut left = 32_768usize;
     while left > 0 {
         let k = sets::take_lowest(sets, CHANGED);
-        if k < CUT {
-        } else {
+        if k < CUT {} else {
             return true;
         }
         let from = higher(wide16(hints[2 * k]), lo);
         let to = lower(wide16(hints[2 * k + 1]), hi);
-        if visit(splits, codes, work, sets, hints, mark, lo, hi, k, from, to) {
-        } else {
+        if visit(splits, codes, work, sets, hints, mark, lo, hi, k, from, to) {} else {
             return false;
         }
         left -= 1;
@@ -170,8 +176,7 @@ fn visit(
     let mut i = from;
     while i < to {
         let c = shortened(table::value(work, i, k), k);
-        if visit_row(splits, codes, work, sets, hints, mark, lo, hi, c, from, i) {
-        } else {
+        if visit_row(splits, codes, work, sets, hints, mark, lo, hi, c, from, i) {} else {
             return false;
         }
         i += 1;
@@ -209,10 +214,8 @@ fn visit_row(
     let mut at = wide16(hints[BOUNDS + c - 1]);
     while at < end {
         let start = wide16(hints[at]);
-        if repeats(splits, codes, from, i, start) {
-        } else {
-            if touch(splits, codes, work, sets, hints, mark, lo, hi, i, start) {
-            } else {
+        if repeats(splits, codes, from, i, start) {} else {
+            if touch(splits, codes, work, sets, hints, mark, lo, hi, i, start) {} else {
                 return false;
             }
         }
@@ -250,8 +253,7 @@ fn touch(
     requires { ⌜ (lo ≤ i) × (i < hi) × (hi ≤ length (now splits)) ⌝ }
     ensures { λ r. ⌜ Settles 0 (now (splits .entry)) (now (codes .entry)) lo hi mark (now (work .entry)) (now (work .exit)) (now (sets .entry)) (now (sets .exit)) r ⌝ }
 {
-    if begins(codes, start) {
-    } else {
+    if begins(codes, start) {} else {
         return true;
     }
     let c = look(codes, work, i, start);

@@ -1,15 +1,16 @@
 // The universal side's consequences of a value: a row in which every clause has a true literal ends the branch. For each row a clause
 // without one is remembered, as a hint.
 ghost use mathlib.Core.Path.{_≡_};
-ghost use Prim.Native.Nat.{ℕ, _+_, _*_, _≤_, _<_};
+ghost use Prim.Native.Nat.{ℕ, _≤_, _<_};
 ghost use mathlib.Core.List.{List};
 ghost use mathlib.Core.Logic.{_⊎_};
 ghost use mathlib.Core.Bool.{true, _&&_};
-ghost use lib.ListN.{length, getD, drop};
+ghost use lib.ListN.{length};
 ghost use lib.Dec.{ltb};
 ghost use Rattle.search.specs.Cells.{cells};
-ghost use Rattle.search.specs.Codes.{position, code-true, code-clauses, Coded};
-ghost use Rattle.search.specs.Steps.{Settles, RowBlamed};
+ghost use Rattle.search.specs.Codes.{position, code-true, Coded};
+ghost use Rattle.search.specs.Steps.{Settles, IsAt, RowBlamed};
+ghost use Rattle.search.specs.Live.{RowDead};
 use super::clauses::position;
 use super::sets;
 use super::sets::CUT;
@@ -30,21 +31,29 @@ pub(crate) fn check(
 {
     let mut i = lo;
     while i < hi {
-        if lives(codes, work, i, wide16(hints[i])) {
-        } else {
-            let start = first_live(codes, work, i);
-            if start < codes.len() {
-                hints[i] = start as u16;
-            } else {
-                sets::empty(sets, CUT);
-                if blame(codes, work, sets, i) {
-                    return false;
-                }
-            }
+        if dead(codes, work, sets, hints, i) {
+            return false;
         }
         i += 1;
     }
     true
+}
+
+// Whether every clause has a true literal in row i. True: CUT says by which decisions.
+fn dead(codes: &[u16], work: &[u8], sets: &mut [u64], hints: &mut [u16], i: usize) -> bool
+    requires { ⌜ (length (now work) ≡ 65536) × (length (now sets) ≡ 260) × (length (now hints) ≡ 8707) × (i < 256) × (length (now codes) ≤ 8192) × Coded 128 (now codes) ⌝ }
+    ensures { λ r. ⌜ RowDead (now (codes .entry)) (now (work .entry)) i (now (sets .entry)) (now (sets .exit)) r ⌝ }
+{
+    if lives(codes, work, i, wide16(hints[i])) {
+        return false;
+    }
+    let start = first_live(codes, work, i);
+    if start < codes.len() {
+        hints[i] = start as u16;
+        return false;
+    }
+    sets::empty(sets, CUT);
+    blame(codes, work, sets, i)
 }
 
 // Whether the entries from `start` to the end of a clause have no true literal in row i.
@@ -86,17 +95,17 @@ fn first_live(codes: &[u16], work: &[u8], i: usize) -> usize
     let mut e = 0;
     while e < codes.len() {
         let c = wide16(codes[e]);
+        e += 1;
         if c == 0 {
             if dead {
+                start = e;
+                dead = false;
             } else {
                 return start;
             }
-            start = e + 1;
-            dead = false;
         } else if holds(work, i, c) {
             dead = true;
         }
-        e += 1;
     }
     e
 }
@@ -110,18 +119,30 @@ fn blame(codes: &[u16], work: &[u8], sets: &mut [u64], i: usize) -> bool
     let mut e = 0;
     while e < codes.len() {
         let c = wide16(codes[e]);
+        e += 1;
         if c == 0 {
             if best == CUT {
                 return false;
             }
             sets::unite(sets, CUT, best);
             best = CUT;
-        } else if holds(work, i, c) {
-            best = earlier(work, i, best, position(c));
+        } else {
+            best = better(work, i, best, c);
         }
-        e += 1;
     }
     true
+}
+
+// The best position so far, or that of the literal of code c if it is true in row i and was set at a lower level.
+fn better(work: &[u8], i: usize, best: usize, c: usize) -> usize
+    requires { ⌜ (length (now work) ≡ 65536) × (i < 256) × (best ≤ 128) × (2 ≤ c) × (position c < 128) ⌝ }
+    ensures { λ r. ⌜ (r ≡ best) ⊎ ((r ≡ position c) × IsAt (now (work .entry)) i true c) ⌝ }
+{
+    if holds(work, i, c) {
+        earlier(work, i, best, position(c))
+    } else {
+        best
+    }
 }
 
 // Of two positions the one that was set at the lower level; CUT is none.

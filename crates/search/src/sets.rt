@@ -1,10 +1,10 @@
 // Sets of positions, two words each (specs/Masks.antt): the set of a position k, by which decisions its values were reached; at CUT the set
 // by which the last failure was reached; at CHANGED the positions whose changes were not looked at.
 ghost use mathlib.Core.Path.{_≡_};
-ghost use Prim.Native.Nat.{ℕ, _+_, _*_, _≤_, _<_};
-ghost use mathlib.Core.Bool.{true, false};
+ghost use Prim.Native.Nat.{ℕ, _+_, _-_, _*_, _^_, _≤_, _<_, min};
+ghost use mathlib.Core.Bool.{true};
 ghost use lib.ListN.{length};
-ghost use Rattle.search.specs.Masks.{set-at, SetGrown, SetReplaced, United, WordsUnited, Trimmed};
+ghost use Rattle.search.specs.Masks.{set-at, SetGrown, SetReplaced, Put, United, WordsUnited, Trimmed};
 
 // The place behind the positions.
 pub(crate) const CUT: usize = 128;
@@ -27,8 +27,18 @@ pub(crate) fn unite_words(sets: &mut [u64], to: usize, low: u64, high: u64)
     requires { ⌜ (length (now sets) ≡ 260) × (to < 130) ⌝ }
     ensures { λ _. ⌜ WordsUnited to low high (now (sets .entry)) (now (sets .exit)) ⌝ }
 {
-    sets[2 * to] = sets[2 * to] | low;
-    sets[2 * to + 1] = sets[2 * to + 1] | high;
+    let new_low = sets[2 * to] | low;
+    let new_high = sets[2 * to + 1] | high;
+    put(sets, to, new_low, new_high);
+}
+
+// The set at `to` becomes that of two words.
+fn put(sets: &mut [u64], to: usize, low: u64, high: u64)
+    requires { ⌜ (length (now sets) ≡ 260) × (to < 130) ⌝ }
+    ensures { λ _. ⌜ Put to low high (now (sets .entry)) (now (sets .exit)) ⌝ }
+{
+    sets[2 * to] = low;
+    sets[2 * to + 1] = high;
 }
 
 // The set at `to` takes in the position p.
@@ -54,8 +64,7 @@ pub(crate) fn empty(sets: &mut [u64], to: usize)
     requires { ⌜ (length (now sets) ≡ 260) × (to < 130) ⌝ }
     ensures { λ _. ⌜ SetReplaced to (now (sets .entry)) (now (sets .exit)) ⌝ }
 {
-    sets[2 * to] = 0;
-    sets[2 * to + 1] = 0;
+    put(sets, to, 0, 0);
 }
 
 // The set at `to` becomes that of all positions.
@@ -64,8 +73,12 @@ pub(crate) fn fill(sets: &mut [u64], to: usize)
     ensures replaced { λ _. ⌜ SetReplaced to (now (sets .entry)) (now (sets .exit)) ⌝ }
     ensures full { λ _. ⌜ ((l : ℕ) → l < 128 → set-at (now (sets .exit)) to l ≡ true) ⌝ }
 {
-    sets[2 * to] = 18_446_744_073_709_551_615;
-    sets[2 * to + 1] = 18_446_744_073_709_551_615;
+    put(
+        sets,
+        to,
+        18_446_744_073_709_551_615,
+        18_446_744_073_709_551_615,
+    );
 }
 
 // Takes the positions from k on out of the sets of the positions from k to n.
@@ -77,14 +90,17 @@ pub(crate) fn trim(sets: &mut [u64], k: usize, n: usize)
     let high = ones_above(k);
     let mut p = k;
     while p < n {
-        sets[2 * p] = sets[2 * p] & low;
-        sets[2 * p + 1] = sets[2 * p + 1] & high;
+        let new_low = sets[2 * p] & low;
+        let new_high = sets[2 * p + 1] & high;
+        put(sets, p, new_low, new_high);
         p += 1;
     }
 }
 
 // A word whose lowest k bits are ones.
-fn ones(k: usize) -> u64 {
+fn ones(k: usize) -> u64
+    ensures { λ r. ⌜ r ≡ 2 ^ min k 64 - 1 ⌝ }
+{
     if k < 64 {
         (1u64 << k) - 1
     } else {
@@ -92,7 +108,10 @@ fn ones(k: usize) -> u64 {
     }
 }
 
-fn ones_above(k: usize) -> u64 {
+// The same for the upper word of a set: the ones from position 64 on.
+fn ones_above(k: usize) -> u64
+    ensures { λ r. ⌜ r ≡ 2 ^ min (k - 64) 64 - 1 ⌝ }
+{
     if k < 64 {
         return 0;
     }

@@ -103,7 +103,7 @@ fn step(
     hi: usize,
 ) -> bool
     requires { ⌜ Lent (now splits) (now codes) (now work) (now sets) (now hints) ⌝ }
-    requires { ⌜ (length (now kinds) ≤ 128) × (side ≤ 1) × (at ≤ until) × (until ≤ length (now kinds)) × (lo < hi) × (hi ≤ length (now splits)) ⌝ }
+    requires { ⌜ (length (now kinds) ≤ 128) × (side ≤ 1) × (at ≤ length (now kinds)) × (until ≤ length (now kinds)) × (lo < hi) × (hi ≤ length (now splits)) ⌝ }
     requires { ⌜ (lo ≤ mid) × (mid < hi) × (until < length (now kinds) → lo < mid) ⌝ }
     ensures { λ r. ⌜ Steps (now (kinds .entry)) (now (splits .entry)) (now (codes .entry)) side at until lo mid hi (now (work .entry)) (now (work .exit)) (now (sets .entry)) (now (sets .exit)) r ⌝ }
 {
@@ -278,7 +278,7 @@ fn parted_at(splits: &[u8], lo: usize, mid: usize, n: usize) -> usize
 
 // The first position from k on, up to `until`, that is an own one and open in row lo; `until` if there is none.
 fn stand(kinds: &[u8], work: &[u8], side: u8, k: usize, lo: usize, until: usize) -> usize
-    requires { ⌜ (length (now work) ≡ 65536) × (length (now kinds) ≤ 128) × (until ≤ length (now kinds)) × (k ≤ until) × (lo < 256) ⌝ }
+    requires { ⌜ (length (now work) ≡ 65536) × (length (now kinds) ≤ 128) × (until ≤ length (now kinds)) × (k ≤ length (now kinds)) × (lo < 256) ⌝ }
     ensures { λ r. ⌜ Stands (now (kinds .entry)) (now (work .entry)) side k lo until r ⌝ }
 {
     let mut at = k;

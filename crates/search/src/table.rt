@@ -3,7 +3,9 @@ ghost use mathlib.Core.Path.{_≡_};
 ghost use Prim.Native.Nat.{ℕ, _+_, _-_, _*_, _≤_, _<_};
 ghost use mathlib.Core.List.{_++_};
 ghost use lib.ListN.{length, getD, take, drop, replicate};
-ghost use lib.Dec.{ltb};
+ghost use mathlib.Core.Bool.{cond};
+ghost use lib.Dec.{ltb, leb};
+ghost use Rattle.rows.specs.Row.{weight};
 ghost use Rattle.search.specs.Cells.{cells, wants, CellsSet, CellsOpened, WantSet, RowFilled, Filled};
 ghost use Rattle.search.specs.Codes.{position, code-true};
 use super::width::wide8;
@@ -56,7 +58,9 @@ pub(crate) fn set_wanted(work: &mut [u8], i: usize, k: usize, wanted: bool)
     work[32_768 + (128 * i + k)] = 2 * bit(wanted);
 }
 
-fn bit(value: bool) -> u8 {
+fn bit(value: bool) -> u8
+    ensures { λ r. ⌜ r ≡ weight value ⌝ }
+{
     if value { 1 } else { 0 }
 }
 
@@ -93,7 +97,9 @@ pub(crate) fn undo(work: &mut [u8], lo: usize, hi: usize, bound: u8)
     }
 }
 
-fn within(mark: u8, bound: u8) -> u8 {
+fn within(mark: u8, bound: u8) -> u8
+    ensures { λ r. ⌜ r ≡ cond (leb mark bound) mark 0 ⌝ }
+{
     if mark <= bound { mark } else { 0 }
 }
 
