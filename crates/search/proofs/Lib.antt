@@ -16,3 +16,8 @@ pub mod CodeLaws
 pub mod LookLaws
 pub mod ForceLaws
 pub mod TopLaws
+pub mod EncodeLaws
+pub mod NewOnes
+pub mod WantsFill
+pub mod WantsLaws
+pub mod LeafLaws

@@ -90,7 +90,7 @@ onto-some c [] e = let z : _≡_ {A = ℕ} 0 1 = cc in omega arith
 onto-some c (x ∷ xs) e = let z : _≡_ {A = ℕ} 0 1 = cc in omega arith
 
 -- Where a clause has its end, there is a clause.
-clauses-some : (cs : List ℕ) → HasEnd cs → code-clauses cs ≢ []
+pub clauses-some : (cs : List ℕ) → HasEnd cs → code-clauses cs ≢ []
 clauses-some (zero ∷ cs) h e = let z : _≡_ {A = ℕ} 0 1 = cc in omega arith
 clauses-some (suc c ∷ cs) h e = onto-some (suc c) (code-clauses cs) e
 

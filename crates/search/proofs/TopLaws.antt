@@ -23,21 +23,21 @@ use Rattle.rows.proofs.RowLaws.{getD-row-of, length-row-of}
 use Rattle.rows.proofs.TableLaws.{getD-rows-of, length-rows-of}
 use Rattle.expansion.specs.Side.{own, flags}
 use Rattle.expansion.specs.Play.{Row, restriction, part}
-use Rattle.expansion.specs.Copies.{copies}
 use Rattle.expansion.specs.Model.{search}
 use Rattle.expansion.proofs.Booleans.{true-or-false, never-both}
 use Rattle.expansion.proofs.Cuts.{Problem, Agree, Mask, Sound, Refuted}
 use Rattle.expansion.proofs.Node.{Won}
 use Rattle.expansion.proofs.ClauseCuts.{Every, matrix-at}
-use Rattle.expansion.proofs.Leading.{wanted, number, others-before}
+use Rattle.expansion.proofs.Leading.{wanted, others-before}
 use Rattle.expansion.proofs.Engine.{row-value, restriction-of-values, values-of-restriction, tabulate, literal-at, goal-at, Names, Places, problem, problem-sound, refuted-is-none, won-is-first}
 use Rattle.search.specs.Cells.{cells, wants, owned, Filled}
 use Rattle.search.specs.Codes.{Ended, Coded, code-true, code-clauses, code-goal, Encoded}
 use Rattle.search.specs.Order.{up-to, bits, Sorted, FirstDifference}
 use Rattle.search.specs.Steps.{Fits, FromStart}
-use Rattle.search.specs.Wants.{copy-number, WantsFilled}
+use Rattle.search.specs.Wants.{WantsFilled}
 use Rattle.search.proofs.OwnedLaws.{owned-at, length-owned}
 use Rattle.search.proofs.OrderLaws.{sandwich}
+use Rattle.search.proofs.WantsLaws.{Placed, wants-of-copies}
 
 -- ---- the literals name the formula's unknowns
 
@@ -79,16 +79,14 @@ goal-of-codes (suc s) literals codes h f = ap not (h f)
 
 -- ---- the problem of a search
 
-module _ (kinds : List ℕ) (literals : List ℤ) (preferences rows place splits codes : List ℕ) (side count m : ℕ) (side-fits : side ≤ 1) (accepted : Accepted kinds literals)
+module _ (kinds : List ℕ) (literals : List ℤ) (preferences rows place all splits codes : List ℕ) (side count m : ℕ) (side-fits : side ≤ 1) (accepted : Accepted kinds literals)
     (inside : count ≤ room rows) (some-row : 0 < count)
     (sorted : Sorted rows count m place)
     (others-fit : (k : ℕ) → k < length kinds → getD (owned kinds side) k false ≡ false → others-before (owned kinds side) k < m)
     (encoded : Encoded literals codes) (placed : length place ≡ count) (split : length splits ≡ count)
     (z w w2 : List ℕ) (filled : Filled kinds rows place side z w) (empty : (i j : ℕ) → cells z .level i j ≡ 0)
     (differences : (i : ℕ) → i + 1 < count → FirstDifference kinds side w i (getD splits (i + 1) 0))
-    (wanting : WantsFilled kinds preferences place splits side w w2)
-    (numbered : (i k : ℕ) → i < count → k < length kinds → getD (owned kinds side) k false ≡ true
-        → copy-number splits place (owned kinds side) i k ≡ number (copies (owned kinds side) (rows-of m count rows)) k (restriction (owned kinds side) k (getD (rows-of m count rows) (sorted .row i) []))) where
+    (wanting : WantsFilled kinds preferences place all side w w2) (same-splits : (i : ℕ) → i < count → getD all i 0 ≡ getD splits i 0) where
 
   abbrev row : ℕ → ℕ
   row = sorted .row
@@ -203,16 +201,37 @@ module _ (kinds : List ℕ) (literals : List ℤ) (preferences rows place splits
     coded = subst (λ (x : ℕ). Coded x codes) (sym known) (encoded .coded (length kinds) (λ i lt. accepted .within i));
   }
 
-  wants-right : (i j : ℕ) → i < P .count → j < P .n → P .own j ≡ true → wants w2 i j ≡ P .wanted i j
-  unfolding problem wanted
-  wants-right i j lt lj o =
-      wanting .wanted i j (omega (arith, counted, placed)) (omega (arith, known)) mine
-      ∙ ap (prefer preferences)
-      (numbered i j (omega (arith, counted)) (omega (arith, known)) mine
-      ∙ ap (λ (ts : List Bool). number (copies ts lent) j (restriction ts j (getD lent (row i) []))) (sym same-flags))
+  differ-restriction : (i k : ℕ) → i + 1 < length place → k ≤ length (owned kinds side) → (k ≤ getD all (i + 1) 0) ↔ (restriction (owned kinds side) k (getD lent (row i) []) ≡ restriction (owned kinds side) k (getD lent (row (i + 1)) []))
+  differ-restriction i k lt lk =
+      subst (λ (ts : List Bool). (k ≤ getD all (i + 1) 0) ↔ (restriction ts k (getD lent (row i) []) ≡ restriction ts k (getD lent (row (i + 1)) []))) same-flags
+      (λ h. same-restriction i (i + 1) k (differ-at i k (omega arith) short .0 (subst (λ (x : ℕ). k ≤ x) here h)),
+      λ e. subst (λ (x : ℕ). k ≤ x) (sym here) (differ-at i k (omega arith) short .1 (same-agree i (i + 1) k short e)))
     where
-      mine : getD (owned kinds side) j false ≡ true
-      mine = sym (ap (λ (ts : List Bool). getD ts j false) same-flags) ∙ o
+      short : k ≤ length kinds
+      short = let e : length (owned kinds side) ≡ length kinds = length-owned kinds side in omega arith
+      here : getD all (i + 1) 0 ≡ getD splits (i + 1) 0
+      here = same-splits (i + 1) (omega arith)
+
+  placed-rows : Placed (owned kinds side) lent place all row
+  placed-rows = record {
+    many = length-rows-of m count rows ∙ sym placed;
+    row-below = λ i lt. subst (λ (x : ℕ). row i < x) (sym placed) (sorted .row-below i (omega arith));
+    place-below = λ r lt. subst (λ (x : ℕ). getD place r 0 < x) (sym placed) (sorted .place-below r (omega arith));
+    row-of-place = λ r lt. sorted .row-of-place r (omega arith);
+    place-of-row = λ i lt. sorted .place-of-row i (omega arith);
+    differ = differ-restriction;
+    together = λ i h g k ih hg lt lk e.
+        subst (λ (ts : List Bool). restriction ts k (getD lent (row i) []) ≡ restriction ts k (getD lent (row h) [])) same-flags
+        (same-restriction i h k (together-at i h g k ih hg (omega arith) (let q : length (owned kinds side) ≡ length kinds = length-owned kinds side in omega arith)
+        (same-agree i g k (let q : length (owned kinds side) ≡ length kinds = length-owned kinds side in omega arith)
+        (subst (λ (ts : List Bool). restriction ts k (getD lent (row i) []) ≡ restriction ts k (getD lent (row g) [])) (sym same-flags) e))));
+  }
+
+  wants-right : (i j : ℕ) → i < P .count → j < P .n → P .own j ≡ true → wants w2 i j ≡ P .wanted i j
+  unfolding problem
+  wants-right i j lt lj o =
+      wants-of-copies kinds preferences place all side w w2 lent row wanting placed-rows i j (omega (arith, counted, placed)) (omega (arith, known)) (sym (ap (λ (ts : List Bool). getD ts j false) same-flags) ∙ o)
+      ∙ ap (λ (ts : List Bool). wanted (prefer preferences) ts lent j (restriction ts j (getD lent (row i) []))) (sym same-flags)
 
   filled-right : (i j : ℕ) → i < P .count → j < P .n → P .own j ≡ false → (cells w2 .level i j ≡ 1) × (cells w2 .value i j ≡ P .given i j)
   filled-right i j lt lj o =

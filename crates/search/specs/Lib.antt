@@ -8,3 +8,4 @@ pub mod Order
 pub mod Wants
 pub mod Steps
 pub mod Live
+pub mod Clauses

@@ -149,10 +149,11 @@ fn excuse(sets: &mut [u64], k: usize, at: usize)
 {
     let mut p = k;
     while p < at {
-        if sets::has(sets, CUT, p) {
-            sets::unite(sets, CUT, p);
-        }
+        let q = p;
         p += 1;
+        if sets::has(sets, CUT, q) {
+            sets::unite(sets, CUT, q);
+        }
     }
 }
 
@@ -253,11 +254,13 @@ fn parting(splits: &[u8], lo: usize, hi: usize) -> usize
     let mut least = 255;
     let mut i = lo + 1;
     while i < hi {
-        if splits[i] < least {
-            least = splits[i];
-            mid = i;
-        }
+        let h = i;
+        let at = splits[h];
         i += 1;
+        if at < least {
+            least = at;
+            mid = h;
+        }
     }
     mid
 }
@@ -283,13 +286,13 @@ fn stand(kinds: &[u8], work: &[u8], side: u8, k: usize, lo: usize, until: usize)
 {
     let mut at = k;
     while at < until {
-        if kinds[at] == side {
-            if table::is_set(work, lo, at) {
-            } else {
-                return at;
+        let j = at;
+        at += 1;
+        if kinds[j] == side {
+            if table::is_set(work, lo, j) {} else {
+                return j;
             }
         }
-        at += 1;
     }
     at
 }
@@ -323,16 +326,15 @@ fn matrix(codes: &[u16], work: &[u8], i: usize) -> bool
     let mut e = 0;
     while e < codes.len() {
         let c = wide16(codes[e]);
+        e += 1;
         if c == 0 {
-            if clause {
-            } else {
+            if clause {} else {
                 return false;
             }
             clause = false;
         } else if table::is_true(work, i, c) {
             clause = true;
         }
-        e += 1;
     }
     true
 }

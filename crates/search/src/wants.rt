@@ -2,7 +2,8 @@
 ghost use mathlib.Core.Path.{_≡_};
 ghost use Prim.Native.Nat.{ℕ, _+_, _*_, _≤_, _<_};
 ghost use lib.ListN.{length, getD};
-ghost use Rattle.search.specs.Wants.{WantsFilled};
+ghost use Rattle.preference.specs.Preference.{prefer};
+ghost use Rattle.search.specs.Wants.{Grouped, mark, firsts, Numbered, Written, FilledAt, WantsFilled};
 use super::table::set_wanted;
 use super::width::wide8;
 use formula::Formula;
@@ -39,7 +40,12 @@ fn fill_at(
     k: usize,
     number: usize,
     work: &mut [u8],
-) -> usize {
+) -> usize
+    requires { ⌜ (length (now place) ≤ 256) × (length (now splits) ≡ 256) × (k < 128) × (number ≤ 32768) × (length (now work) ≡ 65536) ⌝ }
+    requires { ⌜ ((r : ℕ) → r < length (now place) → getD (now place) r 0 < length (now place)) ⌝ }
+    requires { ⌜ ((i : ℕ) → i < length (now place) → (r : ℕ) × (r < length (now place)) × (getD (now place) r 0 ≡ i)) ⌝ }
+    ensures { λ r. ⌜ FilledAt (now (preferences .entry)) (now (place .entry)) (now (splits .entry)) k number r (now (work .entry)) (now (work .exit)) ⌝ }
+{
     let count = place.len();
     let mut first = [0u8; Formula::ROWS];
     group(splits, k, &mut first[..count]);
@@ -50,7 +56,10 @@ fn fill_at(
 }
 
 // Writes for each sorted row the first row of its copy at position k.
-fn group(splits: &[u8], k: usize, first: &mut [u8]) {
+fn group(splits: &[u8], k: usize, first: &mut [u8])
+    requires { ⌜ (length (now first) ≤ length (now splits)) × (length (now first) ≤ 256) ⌝ }
+    ensures { λ _. ⌜ Grouped (now (splits .entry)) k (length (now (first .entry))) (now (first .exit)) ⌝ }
+{
     let mut start = 0;
     let mut i = 0;
     while i < first.len() {
@@ -70,7 +79,11 @@ fn number_copies(
     first: &[u8],
     number: usize,
     wants: &mut [u8],
-) -> usize {
+) -> usize
+    requires { ⌜ (length (now place) ≤ 256) × (length (now first) ≡ 256) × (number ≤ 32768) × (length (now wants) ≡ 256) ⌝ }
+    requires { ⌜ ((x : ℕ) → getD (now wants) x 0 ≡ 0) ⌝ }
+    ensures { λ r. ⌜ Numbered (now (preferences .entry)) number (firsts (now (first .entry)) (now (place .entry))) r (now (wants .exit)) ⌝ }
+{
     let mut next = number;
     let mut row = 0;
     while row < place.len() {
@@ -85,7 +98,9 @@ fn number_copies(
     next
 }
 
-fn want(preferences: &[u8], number: usize) -> u8 {
+fn want(preferences: &[u8], number: usize) -> u8
+    ensures { λ r. ⌜ r ≡ mark (prefer (now (preferences .entry)) number) ⌝ }
+{
     if preference(preferences, number) {
         2
     } else {
@@ -93,7 +108,10 @@ fn want(preferences: &[u8], number: usize) -> u8 {
     }
 }
 
-fn write(first: &[u8], wants: &[u8], k: usize, work: &mut [u8]) {
+fn write(first: &[u8], wants: &[u8], k: usize, work: &mut [u8])
+    requires { ⌜ (length (now first) ≤ 256) × (length (now wants) ≡ 256) × (k < 128) × (length (now work) ≡ 65536) ⌝ }
+    ensures { λ _. ⌜ Written (now (first .entry)) (now (wants .entry)) k (length (now (first .entry))) (now (work .entry)) (now (work .exit)) ⌝ }
+{
     let mut i = 0;
     while i < first.len() {
         let start = wide8(first[i]);
