@@ -21,3 +21,7 @@ pub mod NewOnes
 pub mod WantsFill
 pub mod WantsLaws
 pub mod LeafLaws
+pub mod PackLaws
+pub mod YieldLaws
+pub mod WholeLaws
+pub mod OutcomeLaws

@@ -34,6 +34,7 @@ use Rattle.search.specs.Cells.{cells, wants, owned, Filled}
 use Rattle.search.specs.Codes.{Ended, Coded, code-true, code-clauses, code-goal, Encoded}
 use Rattle.search.specs.Order.{up-to, bits, Sorted, FirstDifference}
 use Rattle.search.specs.Steps.{Fits, FromStart}
+use Rattle.search.specs.Whole.{side-kind}
 use Rattle.search.specs.Wants.{WantsFilled}
 use Rattle.search.proofs.OwnedLaws.{owned-at, length-owned}
 use Rattle.search.proofs.OrderLaws.{sandwich}
@@ -57,10 +58,6 @@ named-clauses n (pos (suc x) ∷ l) h = every-onto n (pos (suc x)) (clauses l) (
 named-clauses n (negsuc x ∷ l) h = every-onto n (negsuc x) (clauses l) (h 0) (named-clauses n l (λ i. h (suc i)))
 
 -- ---- the side as a number
-
-abbrev pub side-kind : ℕ → Kind
-side-kind zero = existential
-side-kind (suc s) = universal
 
 own-kind : (side kind : ℕ) → side ≤ 1 → kind ≤ 1 → own (side-kind side) (kind-of kind) ≡ eqb kind side
 own-kind zero zero a b = refl

@@ -9,3 +9,4 @@ pub mod Wants
 pub mod Steps
 pub mod Live
 pub mod Clauses
+pub mod Whole

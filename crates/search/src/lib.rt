@@ -4,7 +4,18 @@
 // Below: clauses (literals as codes), order (rows sorted), table (cells in the work area), wants (what each copy prefers), sets (of
 // positions), index (where each code stands), force and live (each side's consequences of a value), solve (the search), yields (its rows).
 ghost use mathlib.Core.Path.{_≡_};
+ghost use Prim.Native.Nat.{ℕ, _≤_, _<_};
+ghost use mathlib.Core.Bool.{true};
+ghost use lib.IntN.{pos, natAbs};
+ghost use lib.ListN.{length, getD};
+ghost use Rattle.formula.specs.Formula.{prefix, clauses};
+ghost use Rattle.formula.specs.Meaning.{matrix};
+ghost use Rattle.formula.specs.Causes.{ended};
+ghost use Rattle.preference.specs.Preference.{prefer};
+ghost use Rattle.rows.specs.Table.{rows-of};
+ghost use Rattle.expansion.specs.Model.{search};
 ghost use Rattle.search.specs.Search.{outcome, work-after};
+ghost use Rattle.search.specs.Whole.{side-kind, Ready, Accepting, Decided, FoundIs, Answered};
 use formula::Check;
 use formula::Formula;
 
@@ -47,16 +58,7 @@ pub fn first_model(
                 let others = kinds.len() - universals;
                 over_rows(kinds, literals, preferences, rows, count, others, 1, work)
             } else {
-                over_rows(
-                    kinds,
-                    literals,
-                    preferences,
-                    rows,
-                    count,
-                    universals,
-                    0,
-                    work,
-                )
+                over_rows(kinds, literals, preferences, rows, count, universals, 0, work)
             }
         }
     }
@@ -72,29 +74,24 @@ fn over_rows(
     others: usize,
     side: u8,
     work: &mut [u8],
-) -> Search {
-    if rows::table_fits(rows) {} else {
+) -> Search
+    requires { ⌜ Accepting (now kinds) (now literals) others side ⌝ }
+    ensures { λ r. ⌜ Answered (now (kinds .entry)) (now (literals .entry)) (now (preferences .entry)) (now (rows .entry)) count others side (now (work .entry)) (now (work .exit)) r ⌝ }
+{
+    if rows::table_fits(rows) {
+    } else {
         return Search::Refused(4);
     }
     if work.len() != 65_536 {
         return Search::Refused(5);
     }
-    if count > rows.len() / 16 {
+    if rows.len() / 16 < count {
         return Search::Refused(7);
     }
     if rows::stray_bit(rows, count, others) {
         return Search::Refused(8);
     }
-    if find(
-        kinds,
-        literals,
-        preferences,
-        rows,
-        count,
-        others,
-        side,
-        work,
-    ) {
+    if find(kinds, literals, preferences, rows, count, others, side, work) {
         Search::Found
     } else {
         Search::NoModel
@@ -111,8 +108,12 @@ fn find(
     others: usize,
     side: u8,
     work: &mut [u8],
-) -> bool {
-    table::clear(work, 0, 65_536);
+) -> bool
+    requires { ⌜ Ready (now kinds) (now literals) (now rows) count others side (now work) ⌝ }
+    ensures { λ r. ⌜ FoundIs (search (prefer (now (preferences .entry))) (side-kind side) (prefix (now (kinds .entry))) (matrix (clauses (now (literals .entry)))) (rows-of others count (now (rows .entry)))) r (now (work .exit)) ⌝ }
+{
+    let end = work.len();
+    table::clear(work, 0, end);
     if count == 0 {
         return true;
     }
@@ -123,7 +124,7 @@ fn find(
         yields::pack(kinds, &place[..count], side, work);
         true
     } else {
-        table::clear(work, 0, 65_536);
+        table::clear(work, 0, end);
         false
     }
 }
@@ -136,7 +137,13 @@ fn decide(
     place: &[u8],
     side: u8,
     work: &mut [u8],
-) -> bool {
+) -> bool
+    requires { ⌜ (length (now kinds) ≤ 128) × (length (now literals) ≤ 8192) × (ended (now literals) ≡ true) × (side ≤ 1) × (0 < length (now place)) × (length (now place) ≤ 256) × (length (now work) ≡ 65536) ⌝ }
+    requires { ⌜ ((i : ℕ) → i < length (now literals) → natAbs (getD (now literals) i (pos 0)) ≤ length (now kinds)) ⌝ }
+    requires { ⌜ ((r : ℕ) → r < length (now place) → getD (now place) r 0 < length (now place)) ⌝ }
+    requires { ⌜ ((i : ℕ) → i < length (now place) → (r : ℕ) × (r < length (now place)) × (getD (now place) r 0 ≡ i)) ⌝ }
+    ensures { λ r. ⌜ Decided (now (kinds .entry)) (now (literals .entry)) (now (preferences .entry)) (now (place .entry)) side (now (work .entry)) (now (work .exit)) r ⌝ }
+{
     let count = place.len();
     let mut splits = [0u8; Formula::ROWS];
     order::compare(kinds, work, count, side, &mut splits);
