@@ -32,3 +32,12 @@ any-none test d default (x ∷ xs) none (suc i) = any-none test d default xs (or
 pub none-any : {A : Type 0} (test : A → Bool) (d : A) (l : List A) → ((i : ℕ) → test (getD l i d) ≡ false) → any test l ≡ false
 none-any test d [] none = refl
 none-any test d (x ∷ xs) none = rw (none zero) (none-any test d xs (λ i. none (suc i)))
+
+-- An element that passes one test passes another.
+pub any-implies : {A : Type 0} (test other : A → Bool) → ((x : A) → test x ≡ true → other x ≡ true) → (l : List A) → any test l ≡ true → any other l ≡ true
+any-implies test other implies [] some = some
+any-implies {A} test other implies (x ∷ xs) some = go (test x) refl some (any-implies test other implies xs)
+  where
+    go : (t : Bool) → test x ≡ t → (t || any test xs) ≡ true → (any test xs ≡ true → any other xs ≡ true) → any other (x ∷ xs) ≡ true
+    go true passes found later = rw (implies x passes)
+    go false fails found later = rw (later found) (or-true (other x))

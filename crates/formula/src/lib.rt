@@ -2,13 +2,13 @@
 // `Formula::check` promises the first cause that applies, or the sizes of an accepted formula, for every input; the other functions
 // answer for every input too. What a formula means is in specs/; rows and the run belong to other crates.
 ghost use mathlib.Core.Path.{_≡_};
-ghost use Prim.Native.Nat.{_≤_};
-ghost use mathlib.Core.Bool.{not};
+ghost use Prim.Native.Nat.{_^_, _≤_, _<_};
+ghost use mathlib.Core.Bool.{false};
 ghost use lib.IntN.{natAbs};
 ghost use lib.ListN.{length};
 ghost use Rattle.formula.specs.Formula.{universal, prefix, max-entries};
-ghost use Rattle.formula.specs.Causes.{any, other-kind, zeros, ended, cause-3, count, checked};
-ghost use Rattle.formula.specs.Literal.{magnitude-at, negative, negative-at};
+ghost use Rattle.formula.specs.Causes.{any, other-kind, zeros, ended, beyond, count, checked};
+ghost use Rattle.formula.specs.Literal.{magnitude-at, negative-at};
 ghost use Rattle.formula.specs.Progress.{fresh};
 
 // The sizes of an accepted formula.
@@ -73,6 +73,9 @@ impl Formula {
         if is_ended(literals) {} else {
             return Check::Refused(2);
         }
+        if has_lowest(literals) {
+            return Check::Refused(3);
+        }
         if has_beyond(literals, unknowns as u32) {
             return Check::Refused(3);
         }
@@ -92,6 +95,13 @@ pub fn magnitude(literal: i32) -> u32
     if literal == -2147483648 {
         return 2147483648;
     }
+    absolute(literal)
+}
+
+fn absolute(literal: i32) -> u32
+    requires { ⌜ natAbs literal < 2 ^ 31 ⌝ }
+    ensures { λ r. ⌜ r ≡ natAbs literal ⌝ }
+{
     if literal < 0 {
         let opposite = -literal;
         opposite as u32
@@ -176,14 +186,30 @@ fn is_ended(literals: &[i32]) -> bool
     literals[entries - 1] == 0
 }
 
-// Every entry is looked at: the loop with no way out in it takes a third of the time.
-fn has_beyond(literals: &[i32], unknowns: u32) -> bool
-    ensures { λ r. ⌜ r ≡ cause-3 unknowns (now (literals .entry)) ⌝ }
+// The lowest i32 is the one entry beyond 2,147,483,647. A pass of its own lets the next one negate.
+fn has_lowest(literals: &[i32]) -> bool
+    ensures { λ r. ⌜ r ≡ any (beyond 2147483647) (now (literals .entry)) ⌝ }
 {
     let mut found = false;
     let mut i = 0;
     while i < literals.len() {
-        if magnitude(literals[i]) > unknowns {
+        if literals[i] == -2147483648 {
+            found = true;
+        }
+        i += 1;
+    }
+    found
+}
+
+// Here and above the loop has one way out, so that the compiler looks at several entries at once.
+fn has_beyond(literals: &[i32], unknowns: u32) -> bool
+    requires { ⌜ any (beyond 2147483647) (now literals) ≡ false ⌝ }
+    ensures { λ r. ⌜ r ≡ any (beyond unknowns) (now (literals .entry)) ⌝ }
+{
+    let mut found = false;
+    let mut i = 0;
+    while i < literals.len() {
+        if absolute(literals[i]) > unknowns {
             found = true;
         }
         i += 1;

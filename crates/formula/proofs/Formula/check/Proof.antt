@@ -1,20 +1,16 @@
 -- `formula::Formula::check` meets its contract: the tests stand in the order of the causes. Assumes nothing.
 use borrow.Author.Needs.{needs}
-use borrow.Author.Tests.{lt-ltb, le-ltb}
-use mathlib.Core.Path.{_≡_, sym, ap, _∙_}
-use mathlib.Core.Bool.{true, false, or-true}
+use borrow.Author.Tests.{ltb-true, lt-ltb, le-ltb}
+use native.Mathlib.Omega.{arith}
+use mathlib.Core.Path.{_≡_, sym, _∙_}
+use mathlib.Core.Bool.{false, or-true}
+use lib.IntN.{natAbs}
 use lib.ListN.{length}
-use Rattle.formula.specs.Causes.{cause-1, cause-2, cause-3, zeros}
+use Rattle.formula.specs.Causes.{cause-1, cause-2, cause-3, zeros, beyond}
+use Rattle.formula.proofs.Any.{any-implies}
 use Rattle.formula.proofs.Order.{refused-1, refused-2, refused-3, accepted-all}
 use Rattle.formula.proofs.Formula.check.Statement.{statement}
 use Rattle.formula.proofs.Formula.check.Tie as tie
-use Rattle.formula.proofs.Formula.check.Reads as reads
-use Rattle.formula.proofs.Formula.check.Lts as lts
-use Rattle.formula.proofs.count_universals.Reads as count-universals-reads
-use Rattle.formula.proofs.count_zeros.Reads as count-zeros-reads
-use Rattle.formula.proofs.has_beyond.Reads as has-beyond-reads
-use Rattle.formula.proofs.has_other_kind.Reads as has-other-kind-reads
-use Rattle.formula.proofs.is_ended.Reads as is-ended-reads
 
 returns : tie.Need-returns
 unfolding cause-1
@@ -73,25 +69,39 @@ entries-pass c =
       sym (c .before .is-ended .ensures) ∙ c .if5 .taken,
     )
 
+has-lowest-requires : tie.Need-has-lowest-requires
+has-lowest-requires c κs = search needs
+
+returns-6 : tie.Need-returns-6
+unfolding cause-3
+returns-6 c =
+    let n = length (c .before .before .before .before .before .before .before .before .before .before .before .args .kinds .now) in
+    let l = c .before .before .before .before .before .before .before .before .before .before .before .args .literals .now in
+    refused-3 (c .before .before .before .before .before .before .before .before .before .before .before .args .kinds .now) l (kinds-pass ((c .before .before .before .before .before .before .before))) (entries-pass ((c .before .before)))
+    (any-implies (beyond 2147483647) (beyond n) (λ z far. let h = ltb-true 2147483647 (natAbs z) far in lt-ltb n (natAbs z) (omega (arith, c .before .before .before .before .before .before .before .before .before .if1 .left))) l
+    (sym (c .before .has-lowest .ensures) ∙ c .if6 .taken))
+
 cast-has-beyond : tie.Need-cast-has-beyond
 cast-has-beyond c = search needs
 
 has-beyond-requires : tie.Need-has-beyond-requires
-has-beyond-requires c κs = search needs
+has-beyond-requires c κs = sym (c .before .has-lowest .ensures) ∙ c .if6 .left
 
-returns-6 : tie.Need-returns-6
-returns-6 c =
-    refused-3 (c .before .before .before .before .before .before .before .before .before .before .before .args .kinds .now) (c .before .before .before .before .before .before .before .before .before .before .before .args .literals .now) (kinds-pass ((c .before .before .before .before .before .before .before))) (entries-pass ((c .before .before)))
-    (sym (c .before .has-beyond .ensures) ∙ c .if6 .taken)
+returns-7 : tie.Need-returns-7
+unfolding cause-3
+returns-7 c =
+    refused-3 (c .before .before .before .before .before .before .before .before .before .before .before .before .before .args .kinds .now) (c .before .before .before .before .before .before .before .before .before .before .before .before .before .args .literals .now) (kinds-pass ((c .before .before .before .before .before .before .before .before .before))) (entries-pass ((c .before .before .before .before)))
+    (sym (c .before .has-beyond .ensures) ∙ c .if7 .taken)
 
 count-universals-requires : tie.Need-count-universals-requires
 count-universals-requires c κs = search needs
 
-returns-7 : tie.Need-returns-7
-returns-7 c =
-    rw (c .count-universals .ensures, c .before .before .before .before .before .before .count-zeros .ensures)
-    (accepted-all (c .before .before .before .before .before .before .before .before .before .before .before .before .args .kinds .now) (c .before .before .before .before .before .before .before .before .before .before .before .before .args .literals .now) (kinds-pass ((c .before .before .before .before .before .before .before .before))) (entries-pass ((c .before .before .before)))
-    (sym (c .before .before .has-beyond .ensures) ∙ c .before .if6 .left))
+returns-8 : tie.Need-returns-8
+unfolding cause-3
+returns-8 c =
+    rw (c .count-universals .ensures, c .before .before .before .before .before .before .before .before .count-zeros .ensures)
+    (accepted-all (c .before .before .before .before .before .before .before .before .before .before .before .before .before .before .args .kinds .now) (c .before .before .before .before .before .before .before .before .before .before .before .before .before .before .args .literals .now) (kinds-pass ((c .before .before .before .before .before .before .before .before .before .before))) (entries-pass ((c .before .before .before .before .before)))
+    (sym (c .before .before .has-beyond .ensures) ∙ c .before .if7 .left))
 
 pub check-spec : {M : Type 1} → statement M
 check-spec =
@@ -106,8 +116,10 @@ check-spec =
     returns-4
     is-ended-requires
     returns-5
+    has-lowest-requires
+    returns-6
     cast-has-beyond
     has-beyond-requires
-    returns-6
+    returns-7
     count-universals-requires
-    returns-7)
+    returns-8)
