@@ -17,7 +17,7 @@ use Rattle.formula.specs.Causes.{any, other-kind, cause-1, zeros, is-zer
 use Rattle.formula.proofs.Any.{or-none, any-none, none-any}
 use Rattle.formula.proofs.Quantifiers.{kind-below}
 use Rattle.formula.proofs.Clauses.{length-clauses}
-use Rattle.formula.proofs.Order.{accepted-all}
+use Rattle.formula.proofs.Order.{no-cause-1, no-cause-2, none-refused}
 
 pub record Accepted (kinds : List ℕ) (literals : List ℤ) : Type 0 where
   pub few-unknowns : length kinds ≤ max-unknowns
@@ -75,10 +75,10 @@ module _ (kinds : List ℕ) (literals : List ℤ) where
 
   -- And nothing else is asked.
   pub accepting : Accepted kinds literals → checked kinds literals ≡ Passed (sizes kinds literals)
-  unfolding cause-1 cause-2 cause-3
+  unfolding cause-3
   accepting a =
       sym
-      (accepted-all kinds literals
-      (rw (le-ltb max-unknowns (length kinds) (a .few-unknowns)) (none-any other-kind 0 kinds (λ k. kind-below (getD kinds k 0) (a .kinds-known k))))
-      (rw (le-ltb max-entries (length literals) (a .few-entries), le-ltb max-clauses (zeros literals) (a .few-clauses), a .last-is-zero))
+      (none-refused kinds literals
+      (no-cause-1 kinds (a .few-unknowns) (none-any other-kind 0 kinds (λ k. kind-below (getD kinds k 0) (a .kinds-known k))))
+      (no-cause-2 literals (a .few-entries) (a .few-clauses) (rw (a .last-is-zero)))
       (none-any (beyond (length kinds)) (pos 0) literals (λ i. le-ltb (length kinds) (natAbs (getD literals i (pos 0))) (a .within i))))

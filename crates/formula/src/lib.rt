@@ -26,6 +26,7 @@ pub struct Progress {
     pub existential: usize,
 }
 
+// A refusal has the number of its cause.
 pub enum Check {
     Accepted(Formula),
     Refused(u32),
@@ -88,26 +89,17 @@ impl Formula {
     }
 }
 
-// The magnitude of a literal: the name of its unknown. The lowest i32 has no opposite in its type.
+// The one number of its type that has no opposite there.
+const LOWEST: i32 = -2_147_483_648;
+
+// The magnitude of a literal: the name of its unknown.
 pub fn magnitude(literal: i32) -> u32
     ensures { λ r. ⌜ r ≡ natAbs literal ⌝ }
 {
-    if literal == -2147483648 {
-        return 2147483648;
+    if literal == LOWEST {
+        return 2_147_483_648;
     }
     absolute(literal)
-}
-
-fn absolute(literal: i32) -> u32
-    requires { ⌜ natAbs literal < 2 ^ 31 ⌝ }
-    ensures { λ r. ⌜ r ≡ natAbs literal ⌝ }
-{
-    if literal < 0 {
-        let opposite = -literal;
-        opposite as u32
-    } else {
-        literal as u32
-    }
 }
 
 // The magnitude of the literal at i, and 0 past the last one.
@@ -129,6 +121,19 @@ pub fn negative_at(literals: &[i32], i: usize) -> bool
         literals[i] < 0
     } else {
         false
+    }
+}
+
+// The lowest number is ruled out before any is negated.
+fn absolute(literal: i32) -> u32
+    requires { ⌜ natAbs literal < 2 ^ 31 ⌝ }
+    ensures { λ r. ⌜ r ≡ natAbs literal ⌝ }
+{
+    if literal < 0 {
+        let opposite = -literal;
+        opposite as u32
+    } else {
+        literal as u32
     }
 }
 
@@ -160,7 +165,7 @@ fn count_universals(kinds: &[u8]) -> usize
     universals
 }
 
-// A count of 32 bits, since the compiler turns this loop into wider steps than one of 64 bits.
+// A count of 32 bits, so that the compiler looks at more entries at once than for one of 64.
 fn count_zeros(literals: &[i32]) -> u32
     requires { ⌜ length (now literals) ≤ max-entries ⌝ }
     ensures { λ r. ⌜ r ≡ zeros (now (literals .entry)) ⌝ }
@@ -186,14 +191,14 @@ fn is_ended(literals: &[i32]) -> bool
     literals[entries - 1] == 0
 }
 
-// The lowest i32 is the one entry beyond 2,147,483,647. A pass of its own lets the next one negate.
+// The lowest number is the one beyond 2,147,483,647.
 fn has_lowest(literals: &[i32]) -> bool
     ensures { λ r. ⌜ r ≡ any (beyond 2147483647) (now (literals .entry)) ⌝ }
 {
     let mut found = false;
     let mut i = 0;
     while i < literals.len() {
-        if literals[i] == -2147483648 {
+        if literals[i] == LOWEST {
             found = true;
         }
         i += 1;
@@ -201,7 +206,7 @@ fn has_lowest(literals: &[i32]) -> bool
     found
 }
 
-// Here and above the loop has one way out, so that the compiler looks at several entries at once.
+// A loop with one way out, so that the compiler looks at several entries at once.
 fn has_beyond(literals: &[i32], unknowns: u32) -> bool
     requires { ⌜ any (beyond 2147483647) (now literals) ≡ false ⌝ }
     ensures { λ r. ⌜ r ≡ any (beyond unknowns) (now (literals .entry)) ⌝ }

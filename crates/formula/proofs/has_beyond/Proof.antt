@@ -53,8 +53,8 @@ loop-again c =
     let size = c .before .absolute .ensures ∙ natAbs-bits z (c .before .before .absolute-arg .given) in (
       omega arith,
       ⊎-elim
-          (λ w. any-found (beyond n) l (c .before .before .before .before .loop .found) i (c .before .before .before .before .loop .inv .1) (pos 0) (c .if1 .found) (c .before .before .before .loop-test .taken) (lt-ltb n (natAbs z) (rw size at (w .0 .taken))) (w .1))
-          (λ w. any-passed (beyond n) l (c .before .before .before .before .loop .found) i (c .before .before .before .before .loop .inv .1) (pos 0) (c .if1 .found) (c .before .before .before .loop-test .taken) (le-ltb n (natAbs z) (rw size at (w .0 .left))) (w .1))
+          (λ w. any-found (beyond n) l (c .before .before .before .before .loop .found) i (c .before .before .before .before .loop .inv .1) (pos 0) (c .if1 .found) (c .before .before .before .loop-test .taken) (lt-ltb n (natAbs z) (omega (arith, size, w .0 .taken))) (w .1))
+          (λ w. any-passed (beyond n) l (c .before .before .before .before .loop .found) i (c .before .before .before .before .loop .inv .1) (pos 0) (c .if1 .found) (c .before .before .before .loop-test .taken) (le-ltb n (natAbs z) (omega (arith, size, w .0 .left))) (w .1))
           (c .if1 .came),
     )
 

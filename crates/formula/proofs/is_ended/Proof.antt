@@ -1,4 +1,5 @@
 -- `formula::is_ended` meets its contract. Assumes nothing.
+use native.Mathlib.Omega.{arith}
 use borrow.Author.Needs.{needs, sfits-of}
 use mathlib.Core.Path.{_≡_, sym}
 use Prim.Native.Nat.{_-_}
@@ -9,7 +10,7 @@ use Rattle.formula.proofs.is_ended.Statement.{statement}
 use Rattle.formula.proofs.is_ended.Tie as tie
 
 returns : tie.Need-returns
-returns c = sym (ended-empty (c .before .args .literals .now) (c .if1 .taken))
+returns c = sym (ended-empty (c .before .args .literals .now) (omega (arith, c .if1 .taken)))
 
 sub-result : tie.Need-sub-result
 sub-result c = search needs
