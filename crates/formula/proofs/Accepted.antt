@@ -19,6 +19,7 @@ use Rattle.formula.proofs.Quantifiers.{kind-below}
 use Rattle.formula.proofs.Clauses.{length-clauses}
 use Rattle.formula.proofs.Order.{no-cause-1, no-cause-2, none-refused}
 
+-- 'A formula to which none of the causes 1 to 3 applies', by its places; past the end of either list stands 0.
 pub record Accepted (kinds : List ℕ) (literals : List ℤ) : Type 0 where
   pub few-unknowns : length kinds ≤ max-unknowns
   pub kinds-known : (k : ℕ) → getD kinds k 0 ≤ 1
@@ -54,7 +55,6 @@ module _ (kinds : List ℕ) (literals : List ℤ) where
   pub accepted-sizes : {f : Formula} → checked kinds literals ≡ Passed f → f ≡ sizes kinds literals
   accepted-sizes {f} e = let same = none-applies f e .3 in cc
 
-  -- Each kind and each entry by its place.
   pub accepted : {f : Formula} → checked kinds literals ≡ Passed f → Accepted kinds literals
   unfolding cause-1 cause-2 cause-3
   accepted {f} e =

@@ -33,6 +33,7 @@ zeros (pos zero ∷ zs) = suc (zeros zs)
 zeros (pos (suc v) ∷ zs) = zeros zs
 zeros (negsuc v ∷ zs) = zeros zs
 
+-- Whether an entry ends a clause.
 abbrev pub is-zero : ℤ → Bool
 is-zero (pos zero) = true
 is-zero (pos (suc v)) = false
@@ -67,6 +68,7 @@ abbrev pub sizes : List ℕ → List ℤ → Formula
 sizes kinds literals =
     record { unknowns = length kinds; universals = count universal (prefix kinds); clauses = zeros literals; entries = length literals }
 
+-- A cause's number where the cause applies.
 abbrev pub refused-if : Bool → ℕ → Check → Check
 refused-if true number otherwise = Refused number
 refused-if false number otherwise = otherwise
