@@ -1,3 +1,7 @@
--- The definitions of 01's 'Formula', in the order of reading: what is lent, what it means, what is refused.
+-- The definitions of 01's 'Formula', in the order of reading: what is lent, what it means, what is refused; then how the code reads a
+-- literal, and where a run starts.
 pub mod Formula
 pub mod Meaning
+pub mod Causes
+pub mod Literal
+pub mod Progress
