@@ -1,13 +1,10 @@
 -- What `io::decimal` promises is the decimal form of `specs/Report.antt`. Assumes nothing.
-use mathlib.Core.Path.{_≡_, refl, _∙_, ap}
-use mathlib.Core.Bool.{cond}
-use mathlib.Core.List.{List, [], _∷_, _++_}
-use Prim.Native.Nat.{ℕ, zero, suc, _+_, _*_, _/_, _%_, _^_, _-_, _≤_, _<_}
-use native.Mathlib.Nat.{mod-lt, mod-eq-of-lt, pow-suc, pow-le-pow-right, one-le-pow}
+use mathlib.Core.Path.{_≡_}
+use Prim.Native.Nat.{ℕ, zero, suc, _+_, _/_, _%_, _^_, _-_, _≤_, _<_}
+use native.Mathlib.Nat.{pow-suc, pow-le-pow-right, one-le-pow}
 use native.Mathlib.Decide.{decLe}
 use native.Mathlib.Numerals.{sub-one}
 use native.Mathlib.Omega.{arith}
-use lib.Dec.{ltb}
 use borrow.Author.Tests.{lt-ltb, le-ltb}
 use Rattle.io.specs.Digits.{digits, glyph, Fewest}
 use Rattle.report.specs.Report.{decimal, decimal-within}
@@ -36,6 +33,7 @@ digits-decimal-within (suc places) (suc (suc k)) n room fewest =
     let long : 10 ≤ n = omega (arith, leading k n fewest, pow-suc 10 k, one-le-pow k 10 (omega arith)) in
     simp (front, glyph-digit n, le-ltb n 10 long)
 
+-- A number below a power of ten has at most as many digits as the exponent says.
 fewest-le : (places k n : ℕ) → n < 10 ^ places → 0 < places → Fewest 10 1 n k → k ≤ places
 fewest-le places k n small some fewest = go (decLe k places)
   where

@@ -1,6 +1,6 @@
 -- The definitions' cases, as the code tests them. Assumes nothing.
 use mathlib.Core.Path.{_≡_, refl}
-use mathlib.Core.List.{List, [], _∷_, _++_, append-assoc}
+use mathlib.Core.List.{List, _++_, append-assoc}
 use Prim.Native.Nat.{ℕ, zero, suc, _≤_, _<_}
 use lib.ListN.{length, drop}
 use borrow.Author.Tests.{le-leb, lt-leb}
@@ -11,6 +11,7 @@ truth-other zero not-false not-true = absurd (not-false refl)
 truth-other (suc zero) not-false not-true = absurd (not-true refl)
 truth-other (suc (suc answer)) not-false not-true = refl
 
+-- The parts of line two put one behind the other are the line.
 pub line-two-behind : (front : List ℕ) (rounds universal existential : ℕ)
     → front ++ ascii "c rounds " ++ decimal rounds ++ ascii " universal " ++ decimal universal ++ ascii " existential " ++ decimal existential
     ++ ascii "\n" ≡ front ++ line-two rounds universal existential

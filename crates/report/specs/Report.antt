@@ -41,6 +41,7 @@ line-two rounds universal existential =
     ascii "c rounds " ++ decimal rounds ++ ascii " universal " ++ decimal universal ++ ascii " existential " ++ decimal existential
     ++ ascii "\n"
 
+-- Both lines, each with its LF.
 unfoldable pub result-lines : ℕ → ℕ → ℕ → ℕ → ℕ → ℕ → List ℕ
 result-lines answer variables clauses rounds universal existential =
     line-one answer variables clauses ++ line-two rounds universal existential
@@ -53,6 +54,6 @@ refusal-line number line = ascii "c refused " ++ decimal number ++ ascii " " ++ 
 unfoldable pub put : List ℕ → List ℕ → List ℕ
 put text buffer = cond (leb (length text) (length buffer)) (text ++ drop (length text) buffer) buffer
 
--- How many bytes that wrote.
+-- How many bytes were written then: all of the text or none.
 unfoldable pub put-count : List ℕ → List ℕ → ℕ
 put-count text buffer = cond (leb (length text) (length buffer)) (length text) 0

@@ -20,7 +20,7 @@ pub fn result(
     ensures { λ r. ⌜ r ≡ put-count (result-lines answer variables clauses rounds universal existential) (now (out .entry)) ⌝ }
     ensures { λ _. ⌜ now (out .exit) ≡ put (result-lines answer variables clauses rounds universal existential) (now (out .entry)) ⌝ }
 {
-    let mut text = [0u8; 95];
+    let mut text = [0u8; 128];
     let one = line_one(&mut text, answer, variables, clauses);
     let two = line_two(&mut text, one, rounds, universal, existential);
     deliver(out, &text[..two])
@@ -31,17 +31,17 @@ pub fn refusal(out: &mut [u8], number: u32, line: u32) -> usize
     ensures { λ r. ⌜ r ≡ put-count (refusal-line number line) (now (out .entry)) ⌝ }
     ensures { λ _. ⌜ now (out .exit) ≡ put (refusal-line number line) (now (out .entry)) ⌝ }
 {
-    let mut text = [0u8; 32];
+    let mut text = [0u8; 64];
     let a = field(&mut text, 0, b"c refused ", number);
     let b = field(&mut text, a, b" ", line);
     let end = append(&mut text, b, b"\n");
     deliver(out, &text[..end])
 }
 
-// Line one at the start of `text`: how many bytes it takes.
+// Line one at the start of `text`: how many bytes it takes, never over 32.
 fn line_one(text: &mut [u8], answer: u32, variables: u32, clauses: u32) -> usize
-    requires { ⌜ 31 ≤ length (now text) ⌝ }
-    ensures { λ r. ⌜ r ≤ 31 ⌝ }
+    requires { ⌜ 32 ≤ length (now text) ⌝ }
+    ensures { λ r. ⌜ r ≤ 32 ⌝ }
     ensures { λ r. ⌜ take r (now (text .exit)) ≡ line-one answer variables clauses ⌝ }
 {
     let a = append(text, 0, b"s cnf ");
@@ -51,10 +51,10 @@ fn line_one(text: &mut [u8], answer: u32, variables: u32, clauses: u32) -> usize
     append(text, d, b"\n")
 }
 
-// Line two behind the first `at` bytes of `text`: how many stand there then.
+// Line two, never over 96 bytes, behind the first `at` bytes of `text`: how many stand there then.
 fn line_two(text: &mut [u8], at: usize, rounds: u32, universal: u32, existential: u32) -> usize
-    requires { ⌜ at + 64 ≤ length (now text) ⌝ }
-    ensures { λ r. ⌜ r ≤ at + 64 ⌝ }
+    requires { ⌜ at + 96 ≤ length (now text) ⌝ }
+    ensures { λ r. ⌜ r ≤ at + 96 ⌝ }
     ensures { λ r. ⌜ take r (now (text .exit)) ≡ take at (now (text .entry)) ++ line-two rounds universal existential ⌝ }
 {
     let a = field(text, at, b"c rounds ", rounds);
@@ -78,7 +78,7 @@ fn truth(text: &mut [u8], at: usize, answer: u32) -> usize
     append(text, at, b"-1")
 }
 
-// A label and a number in decimal behind the first `at` bytes.
+// A label and a number in decimal, never over ten digits, behind the first `at` bytes.
 fn field(text: &mut [u8], at: usize, label: &[u8], number: u32) -> usize
     requires { ⌜ at + length (now label) + 10 ≤ length (now text) ⌝ }
     ensures { λ r. ⌜ r ≤ at + length (now (label .entry)) + 10 ⌝ }

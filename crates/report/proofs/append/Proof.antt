@@ -1,12 +1,12 @@
 -- `report::append` meets its contract. The loop's invariant: the first i bytes of `part` stand in `out` from `at` on, and nothing else of
 -- `out` has changed. Assumes nothing.
 use mathlib.Core.Path.{_≡_, _∙_, sym, ap}
-use mathlib.Core.List.{List}
+use mathlib.Core.List.{List, _++_}
 use Prim.Native.Nat.{ℕ, _≤_, _+_, _-_}
 use native.Mathlib.Numerals.{add-one}
 use native.Mathlib.Omega.{arith}
-use lib.ListN.{length, set, getD, length-set}
-use lib.Seq.{paste, paste-zero, paste-suc, take-paste, take-length}
+use lib.ListN.{length, take, drop, set, getD, length-set, length-append, length-take}
+use lib.Seq.{paste, paste-zero, paste-suc, take-at, take-length}
 use Rattle.report.proofs.append.Statement.{statement}
 use Rattle.report.proofs.append.Tie as tie
 
@@ -59,13 +59,9 @@ returns c =
     let part = c .before .before .args .part .now in
     let at = c .before .before .args .at in
     let all : c .before .loop .i ≡ length part = omega arith in
-    let pasted : c .before .loop .out ≡ paste out₀ at part (length part) = c .before .loop .inv .2 ∙ ap (paste out₀ at part) all in (
-      omega arith,
-      (
-        pasted ∙ simp (take-length, all),
-        simp (pasted, all) (take-paste out₀ at part (length part) (omega arith) (omega arith) ∙ simp take-length),
-      ),
-    )
+    let pasted : c .before .loop .out ≡ take at out₀ ++ part ++ drop (at + c .before .loop .i) out₀ = c .before .loop .inv .2 ∙ simp (all, take-length) in
+    let head : length (take at out₀ ++ part) ≡ at + c .before .loop .i = simp (length-append, length-take) (omega arith) in
+    (omega arith, (pasted, ap (take (at + c .before .loop .i)) pasted ∙ take-at (take at out₀ ++ part) (drop (at + c .before .loop .i) out₀) (at + c .before .loop .i) head))
 
 pub append-spec : {M : Type 1} → statement M
 append-spec =

@@ -19,18 +19,21 @@ slice-aggregate-append c = search needs
 
 append-requires-2 : tie.Need-append-requires-2
 append-requires-2 c κs =
-    omega (arith, at-most-ten (c .before .before .before .before .before .before .decimal .result) (c .before .before .before .before .before .before .before .before .before .before .args .number) (c .before .before .before .before .before .before .before .before .before .before .fits .number .fits) (c .before .before .before .before .before .before .decimal .ensures .1 .0))
+    let made = c .before .before .before .before .before .before .decimal in
+    let start = (c .before .before .before .before .before .before .before .before .before .before) in
+    omega (arith, at-most-ten (made .result) (start .args .number) (start .fits .number .fits) (made .ensures .1 .0))
 
 same-length : tie.Need-same-length
 same-length c = search needs
 
 returns : tie.Need-returns
 returns c =
-    let count = c .before .before .before .before .before .before .before .before .before .decimal .result in
-    let number = c .before .before .before .before .before .before .before .before .before .before .before .before .before .args .number in
-    let small = c .before .before .before .before .before .before .before .before .before .before .before .before .before .fits .number .fits in
-    let fewest = c .before .before .before .before .before .before .before .before .before .decimal .ensures .1 .0 in
-    (omega (arith, at-most-ten count number small fewest), cc (digits-decimal count number small fewest))
+    let made = c .before .before .before .before .before .before .before .before .before .decimal in
+    let start = (c .before .before .before .before .before .before .before .before .before .before .before .before .before) in
+    let number = start .args .number in
+    let small = start .fits .number .fits in
+    let fewest = made .ensures .1 .0 in
+    (omega (arith, at-most-ten (made .result) number small fewest), cc (digits-decimal (made .result) number small fewest))
 
 pub field-spec : {M : Type 1} → statement M
 field-spec =

@@ -37,10 +37,13 @@ same-length c = search needs
 
 returns : tie.Need-returns
 unfolding line-one
-returns c = (
-  omega arith,
-  rw (c .before .before .append2 .ensures .1 .1, c .before .before .before .before .before .before .before .field2 .ensures .1, c .before .before .before .before .before .before .before .before .before .before .before .before .field .ensures .1, c .before .before .before .before .before .before .before .before .before .before .before .before .before .before .before .before .before .truth .ensures .1, c .before .before .before .before .before .before .before .before .before .before .before .before .before .before .before .before .before .before .before .before .before .append .ensures .1 .1),
-)
+returns c =
+    let fixed = c .before .before .before .before .before .before .before .before .before .before .before .before .before .before .before .before .before .before .before .before .before .append .ensures .1 .1 in
+    let with-truth = c .before .before .before .before .before .before .before .before .before .before .before .before .before .before .before .before .before .truth .ensures .1 in
+    let with-variables = c .before .before .before .before .before .before .before .before .before .before .before .before .field .ensures .1 in
+    let with-clauses = c .before .before .before .before .before .before .before .field2 .ensures .1 in
+    let ended = c .before .before .append2 .ensures .1 .1 in
+    (omega arith, rw (ended, with-clauses, with-variables, with-truth, fixed))
 
 pub line-one-spec : {M : Type 1} → statement M
 line-one-spec =

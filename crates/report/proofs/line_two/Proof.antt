@@ -35,11 +35,13 @@ same-length c = search needs
 
 returns : tie.Need-returns
 returns c =
-    let given = c .before .before .before .before .before .before .before .before .before .before .before .before .before .before .before .before .before .before .before .before .before .args in (
-      omega arith,
-      rw (c .before .before .append .ensures .1 .1, c .before .before .before .before .before .before .before .field3 .ensures .1, c .before .before .before .before .before .before .before .before .before .before .before .before .field2 .ensures .1, c .before .before .before .before .before .before .before .before .before .before .before .before .before .before .before .before .before .field .ensures .1)
-          (line-two-behind (take (given .at) (given .text .now)) (given .rounds) (given .universal) (given .existential)),
-    )
+    let given = c .before .before .before .before .before .before .before .before .before .before .before .before .before .before .before .before .before .before .before .before .before .args in
+    let with-rounds = c .before .before .before .before .before .before .before .before .before .before .before .before .before .before .before .before .before .field .ensures .1 in
+    let with-universal = c .before .before .before .before .before .before .before .before .before .before .before .before .field2 .ensures .1 in
+    let with-existential = c .before .before .before .before .before .before .before .field3 .ensures .1 in
+    let ended = c .before .before .append .ensures .1 .1 in
+    let grouped = line-two-behind (take (given .at) (given .text .now)) (given .rounds) (given .universal) (given .existential) in
+    (omega arith, rw (ended, with-existential, with-universal, with-rounds) grouped)
 
 pub line-two-spec : {M : Type 1} → statement M
 line-two-spec =

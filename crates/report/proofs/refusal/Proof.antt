@@ -1,11 +1,9 @@
 -- `report::refusal` meets its contract: the text that is delivered is the refusal's line. Assumes nothing.
-use mathlib.Core.Path.{_≡_, _∙_, ap}
-use mathlib.Core.List.{List}
-use Prim.Native.Nat.{ℕ}
+use mathlib.Core.Path.{_≡_}
 use native.Mathlib.Omega.{arith}
 use lib.ListN.{take, length-take}
 use borrow.Author.Needs.{needs}
-use Rattle.report.specs.Report.{refusal-line, put, put-count}
+use Rattle.report.specs.Report.{refusal-line}
 use Rattle.report.proofs.refusal.Statement.{statement}
 use Rattle.report.proofs.refusal.Tie as tie
 
@@ -52,9 +50,10 @@ returns : tie.Need-returns
 unfolding refusal-line
 returns c =
     let given = c .before .before .before .before .before .before .before .before .before .before .before .before .before .before .before .before .before .before .args in
+    let with-number = c .before .before .before .before .before .before .before .before .before .before .before .before .before .before .field .ensures .1 in
+    let with-line = c .before .before .before .before .before .before .before .before .before .before .field2 .ensures .1 in
     let end = c .before .before .before .before .before .before .append in
-    let line : take (end .result) (end .last .0) ≡ refusal-line (given .number) (given .line) =
-    rw (end .ensures .1 .1, c .before .before .before .before .before .before .before .before .before .before .field2 .ensures .1, c .before .before .before .before .before .before .before .before .before .before .before .before .before .before .field .ensures .1) in
+    let line : take (end .result) (end .last .0) ≡ refusal-line (given .number) (given .line) = rw (end .ensures .1 .1, with-line, with-number) in
     rw line at (c .before .before .deliver .ensures)
 
 pub refusal-spec : {M : Type 1} → statement M

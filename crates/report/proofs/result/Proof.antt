@@ -1,11 +1,9 @@
 -- `report::result` meets its contract: the text that is delivered is line one and line two. Assumes nothing.
-use mathlib.Core.Path.{_≡_, _∙_, ap}
-use mathlib.Core.List.{List, _++_}
-use Prim.Native.Nat.{ℕ}
+use mathlib.Core.Path.{_≡_}
 use native.Mathlib.Omega.{arith}
 use lib.ListN.{take, length-take}
 use borrow.Author.Needs.{needs}
-use Rattle.report.specs.Report.{line-one, line-two, result-lines, put, put-count}
+use Rattle.report.specs.Report.{result-lines}
 use Rattle.report.proofs.result.Statement.{statement}
 use Rattle.report.proofs.result.Tie as tie
 
@@ -39,11 +37,9 @@ returns c =
     let given = c .before .before .before .before .before .before .before .before .before .before .before .before .args in
     let one = c .before .before .before .before .before .before .before .before .before .line-one in
     let two = c .before .before .before .before .before .before .line-two in
-    let lines :
-    take (two .result) (two .last .0)
-    ≡ result-lines (given .answer) (given .variables) (given .clauses) (given .rounds) (given .universal) (given .existential) =
-    rw (two .ensures .1, one .ensures .1) in
-    rw lines at (c .before .before .deliver .ensures)
+    let lines = result-lines (given .answer) (given .variables) (given .clauses) (given .rounds) (given .universal) (given .existential) in
+    let both : take (two .result) (two .last .0) ≡ lines = rw (two .ensures .1, one .ensures .1) in
+    rw both at (c .before .before .deliver .ensures)
 
 pub result-spec : {M : Type 1} → statement M
 result-spec =

@@ -39,7 +39,9 @@ same-length-3 : tie.Need-same-length-3
 same-length-3 c = search needs
 
 returns-3 : tie.Need-returns-3
-returns-3 c = (omega arith, rw (truth-other (c .before .before .before .before .before .before .before .before .args .answer) (c .before .before .before .before .before .before .if1 .left) (c .before .before .before .before .before .if2 .left)) (c .before .before .append3 .ensures .1 .1))
+returns-3 c =
+    let other = truth-other (c .before .before .before .before .before .before .before .before .args .answer) (c .before .before .before .before .before .before .if1 .left) (c .before .before .before .before .before .if2 .left) in
+    (omega arith, rw other (c .before .before .append3 .ensures .1 .1))
 
 pub truth-spec : {M : Type 1} → statement M
 truth-spec =
