@@ -102,13 +102,11 @@ pub fn find(rows: &[u8], count: usize, other: &[u8], j: usize) -> Found
     if other.len() / 16 <= j {
         return Found::Absent;
     }
-    let end = rows_below(rows, count);
-    let mut i = 0;
-    while i < end {
+    let places = rows_below(rows, count);
+    for i in 0..places {
         if same_row(rows, 16 * i, other, 16 * j) {
             return Found::At(i);
         }
-        i += 1;
     }
     Found::Absent
 }
@@ -136,12 +134,10 @@ pub fn stray_bit(rows: &[u8], count: usize, m: usize) -> bool
     ensures { λ r. ⌜ r ≡ stray-rows m count (now (rows .entry)) ⌝ }
 {
     let end = rows_below(rows, count);
-    let mut i = 0;
-    while i < end {
+    for i in 0..end {
         if stray_in_row(rows, 16 * i, m) {
             return true;
         }
-        i += 1;
     }
     false
 }
@@ -159,12 +155,10 @@ fn same_row(a: &[u8], x: usize, b: &[u8], y: usize) -> bool
     requires { ⌜ (x + 16 ≤ length (now a)) × (y + 16 ≤ length (now b)) ⌝ }
     ensures { λ r. ⌜ r ≡ same-bytes (take 16 (drop x (now (a .entry)))) (take 16 (drop y (now (b .entry)))) ⌝ }
 {
-    let mut p = 0;
-    while p < 16 {
+    for p in 0..16 {
         if a[x + p] != b[y + p] {
             return false;
         }
-        p += 1;
     }
     true
 }
@@ -174,10 +168,8 @@ fn copy_row(rows: &mut [u8], x: usize, other: &[u8], y: usize)
     requires { ⌜ (x + 16 ≤ length (now rows)) × (y + 16 ≤ length (now other)) ⌝ }
     ensures { λ _. ⌜ now (rows .exit) ≡ paste (now (rows .entry)) x (drop y (now (other .entry))) 16 ⌝ }
 {
-    let mut p = 0;
-    while p < 16 {
-        rows[x + p] = other[y + p];
-        p += 1;
+    for n in 0..16 {
+        rows[x + n] = other[y + n];
     }
 }
 
@@ -194,12 +186,10 @@ fn stray_in_row(rows: &[u8], x: usize, m: usize) -> bool
     if rows[x + first] >> shift != 0 {
         return true;
     }
-    let mut p = first + 1;
-    while p < 16 {
+    for p in first + 1..16 {
         if rows[x + p] != 0 {
             return true;
         }
-        p += 1;
     }
     false
 }

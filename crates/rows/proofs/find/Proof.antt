@@ -11,10 +11,10 @@ use Rattle.rows.proofs.find.Statement.{statement}
 use Rattle.rows.proofs.find.Tie as tie
 
 abbrev Inv-loop : tie.InvT-loop
-Inv-loop rows count other j end i₀ i = (i ≤ end) × ((q : ℕ) → q < i → equal-rows rows q other j ≡ false)
+Inv-loop rows count other j places i₀ i = (i ≤ places) × ((q : ℕ) → q < i → equal-rows rows q other j ≡ false)
 
 abbrev μ-loop : tie.MeasureT-loop
-μ-loop rows count other j end i₀ i = end - i
+μ-loop rows count other j places i₀ i = places - i
 
 returns : tie.Need-returns Inv-loop μ-loop
 returns c =

@@ -1,12 +1,11 @@
 -- `rows::set_bit` meets its contract. Assumes nothing.
-use mathlib.Core.Path.{sym, ap, _∙_}
-use Prim.Native.Nat.{_%_, _<_}
-use native.Mathlib.Omega.{arith}
+use mathlib.Core.Path.{sym}
 use borrow.Author.Needs.{needs}
-use borrow.Author.Tests.{lt-ltb, le-ltb}
+use borrow.Author.Tests.{le-ltb}
 use Rattle.rows.specs.Table.{bit-set}
 use Rattle.rows.proofs.BitLaws.{bit-weight}
 use Rattle.rows.proofs.TableLaws.{inside-true, inside-false}
+use Rattle.rows.proofs.WriteLaws.{bit-set-inside}
 use Rattle.rows.proofs.set_bit.Statement.{statement}
 use Rattle.rows.proofs.set_bit.Tie as tie
 
@@ -40,8 +39,7 @@ same-length : tie.Need-same-length
 same-length c = search needs
 
 returns-3 : tie.Need-returns-3
-unfolding bit-set
-returns-3 c = rw (inside-true (c .before .before .before .args .rows .now) (c .before .before .before .args .i) (c .before .before .if1 .left), lt-ltb (c .before .before .before .args .k) 128 (c .before .if2 .left), bit-weight (c .before .before .before .args .k))
+returns-3 c = rw (bit-weight (c .before .before .before .args .k)) (sym (bit-set-inside (c .before .before .before .args .rows .now) (c .before .before .before .args .i) (c .before .before .before .args .k) (c .before .before .if1 .left) (c .before .if2 .left)))
 
 pub set-bit-spec : {M : Type 1} → statement M
 set-bit-spec =

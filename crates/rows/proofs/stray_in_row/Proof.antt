@@ -1,6 +1,6 @@
 -- `rows::stray_in_row` meets its contract. The loop's invariant: the bytes passed behind the byte of bit m are zero. Assumes nothing.
 use mathlib.Core.Path.{_≡_, sym, ap, _∙_}
-use mathlib.Core.Bool.{true, false, not-eq-not}
+use mathlib.Core.Bool.{true, not-eq-not}
 use mathlib.Core.List.{List}
 use Prim.Native.Nat.{ℕ, _+_, _-_, _*_, _/_, _%_, _^_, _≤_, _<_}
 use native.Mathlib.Nat.{div-one}
