@@ -25,7 +25,9 @@ copied-more rows₀ rows x other y p e hx hy =
     ∙ ap (paste rows₀ x (drop y other)) (sym (add-one p))
 
 loop-holds : tie.Need-loop-holds Inv-loop μ-loop
-loop-holds c = (omega arith, paste-zero (c .args .rows .now) (c .args .x) (drop (c .args .y) (c .args .other .now)), refl)
+loop-holds c =
+    let given = c .args in
+    (omega arith, paste-zero (given .rows .now) (given .x) (drop (given .y) (given .other .now)), refl)
 
 add-rows : tie.Need-add-rows Inv-loop μ-loop
 add-rows c = omega arith
@@ -46,19 +48,22 @@ loop-less : tie.Need-loop-less Inv-loop μ-loop
 loop-less c = omega arith
 
 loop-again : tie.Need-loop-again Inv-loop μ-loop
-loop-again c = (
-  omega arith,
-  copied-more (c .before .before .before .args .rows .now) (c .before .before .loop .rows) (c .before .before .before .args .x) (c .before .before .before .args .other .now) (c .before .before .before .args .y) (c .before .before .loop .n) (c .before .before .loop .inv .1) (omega arith) (omega arith),
-  simp length-set (c .before .before .loop .inv .2),
-)
+loop-again c =
+    let given = c .before .before .before .args in
+    let loop = c .before .before .loop in (
+      omega arith,
+      copied-more (given .rows .now) (loop .rows) (given .x) (given .other .now) (given .y) (loop .n) (loop .inv .1) (omega arith) (omega arith),
+      simp length-set (loop .inv .2),
+    )
 
 same-length : tie.Need-same-length Inv-loop μ-loop
 same-length c = c .before .loop .inv .2
 
 returns : tie.Need-returns Inv-loop μ-loop
 returns c =
+    let given = c .before .before .args in
     let full : c .before .loop .n ≡ 16 = omega arith in
-    c .before .loop .inv .1 ∙ ap (paste (c .before .before .args .rows .now) (c .before .before .args .x) (drop (c .before .before .args .y) (c .before .before .args .other .now))) full
+    c .before .loop .inv .1 ∙ ap (paste (given .rows .now) (given .x) (drop (given .y) (given .other .now))) full
 
 pub copy-row-spec : {M : Type 1} → statement M
 copy-row-spec =
