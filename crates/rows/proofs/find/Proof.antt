@@ -11,7 +11,7 @@ use Rattle.rows.proofs.find.Statement.{statement}
 use Rattle.rows.proofs.find.Tie as tie
 
 abbrev Inv-loop : tie.InvT-loop
-Inv-loop rows count other j places i₀ i = (i ≤ places) × ((q : ℕ) → q < i → equal-rows rows q other j ≡ false)
+Inv-loop rows count other j places i₀ i = ((q : ℕ) → q < i → equal-rows rows q other j ≡ false) × (i ≤ places)
 
 abbrev μ-loop : tie.MeasureT-loop
 μ-loop rows count other j places i₀ i = places - i
@@ -27,7 +27,7 @@ rows-below-requires : tie.Need-rows-below-requires Inv-loop μ-loop
 rows-below-requires c κs = tt
 
 loop-holds : tie.Need-loop-holds Inv-loop μ-loop
-loop-holds c = (omega arith, below-none _)
+loop-holds c = (below-none _, omega arith)
 
 mul-same-row : tie.Need-mul-same-row Inv-loop μ-loop
 mul-same-row c = omega arith
@@ -47,7 +47,7 @@ returns-2 c =
     (equal-rows-inside (given .rows .now) (loop .i) (given .other .now) (given .j) (omega arith) (c .before .before .before .before .before .if1 .left)
     ∙ sym (c .before .same-row .ensures)
     ∙ c .if2 .taken)
-    (loop .inv .1))
+    (loop .inv .0))
 
 add-i : tie.Need-add-i Inv-loop μ-loop
 add-i c = omega arith
@@ -58,11 +58,11 @@ loop-less c = omega arith
 loop-again : tie.Need-loop-again Inv-loop μ-loop
 loop-again c =
     let given = c .before .before .before .before .before .before .before .before .args in (
-      omega arith,
-      below-more _ _ (c .before .before .before .loop .inv .1)
+      below-more _ _ (c .before .before .before .loop .inv .0)
           (equal-rows-inside (given .rows .now) (c .before .before .before .loop .i) (given .other .now) (given .j) (omega arith) (c .before .before .before .before .before .if1 .left)
           ∙ sym (c .before .same-row .ensures)
           ∙ c .if2 .left),
+      omega arith,
     )
 
 returns-3 : tie.Need-returns-3 Inv-loop μ-loop
@@ -71,7 +71,7 @@ returns-3 c =
     sym
     (first-place-none (given .rows .now) (given .count) (given .other .now) (given .j)
     (below-count (λ q. equal-rows (given .rows .now) q (given .other .now) (given .j) ≡ false) (given .rows .now) (given .count) (c .before .loop .i) (omega arith)
-    (c .before .loop .inv .1)
+    (c .before .loop .inv .0)
     (λ q h. equal-rows-outside (given .rows .now) q (given .other .now) (given .j) h)))
 
 pub find-spec : {M : Type 1} → statement M
