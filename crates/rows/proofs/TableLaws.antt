@@ -1,0 +1,158 @@
+-- Rows of tables: their bytes, the rows below a count as values, stray bits.
+-- Assumes nothing.
+use mathlib.Core.Path.{_≡_, refl, sym, ap, _∙_}
+use mathlib.Core.Bool.{Bool, true, false}
+use mathlib.Core.List.{List, [], _∷_, _++_}
+use Prim.Native.Nat.{ℕ, zero, suc, _+_, _*_, _/_, _%_, _^_, _≤_, _<_, min, zero-le, suc-le-suc}
+use native.Mathlib.Nat.{le-of-suc-le-suc, not-suc-le-zero}
+use native.Mathlib.Decide.{decLt}
+use native.Mathlib.Omega.{arith}
+use lib.ListN.{length, getD, take, drop, length-drop, List·getD-eq-default}
+use lib.Seq.{ext-getD, getD-take, getD-drop, drop-drop, take-at, drop-at, length-take-le}
+use borrow.Author.Tests.{le-leb, lt-leb}
+use Rattle.rows.specs.Row.{odd, bit-of, values, row-of, bytes-of, stray}
+use Rattle.rows.specs.Table.{inside, row-at, room, rows-of, table-of, stray-rows}
+use Rattle.rows.proofs.ValueLaws.{values-false, getD-values, any-false, none-any, found-any}
+use Rattle.rows.proofs.RowLaws.{IsRow, getD-row-of, no-bit-past-end, none-stray, length-bytes-of, row-of-bytes-of}
+
+-- ---- a row of a table
+
+-- The sixteen bytes from x on.
+pub getD-part : (t : List ℕ) (x p : ℕ) → p < 16 → getD (take 16 (drop x t)) p 0 ≡ getD t (x + p) 0
+getD-part t x p h = getD-take 16 (drop x t) p 0 h ∙ getD-drop x t p 0
+
+length-part : (t : List ℕ) (x : ℕ) → x + 16 ≤ length t → length (take 16 (drop x t)) ≡ 16
+length-part t x h = length-take-le 16 (drop x t) (omega (arith, length-drop x t))
+
+-- Parts are equal if their bytes are.
+pub equal-parts : (t : List ℕ) (x : ℕ) (u : List ℕ) (y : ℕ) → x + 16 ≤ length t → y + 16 ≤ length u
+    → ((p : ℕ) → p < 16 → getD t (x + p) 0 ≡ getD u (y + p) 0) → take 16 (drop x t) ≡ take 16 (drop y u)
+equal-parts t x u y ht hu same =
+    ext-getD 0 (take 16 (drop x t)) (take 16 (drop y u)) (length-part t x ht ∙ sym (length-part u y hu)) (λ p h.
+    let below : p < 16 = omega (arith, length-part t x ht) in
+    getD-part t x p below ∙ same p below ∙ sym (getD-part u y p below))
+
+pub inside-true : (t : List ℕ) (i : ℕ) → i < room t → inside t i ≡ true
+inside-true t i h = le-leb (16 * i + 16) (length t) (omega arith)
+
+pub inside-false : (t : List ℕ) (i : ℕ) → room t ≤ i → inside t i ≡ false
+inside-false t i h = lt-leb (16 * i + 16) (length t) (omega arith)
+
+pub row-at-inside : (t : List ℕ) (i : ℕ) → i < room t → row-at t i ≡ take 16 (drop (16 * i) t)
+unfolding row-at
+row-at-inside t i h = rw (inside-true t i h)
+
+pub row-at-outside : (t : List ℕ) (i : ℕ) → room t ≤ i → row-at t i ≡ []
+unfolding row-at
+row-at-outside t i h = rw (inside-false t i h)
+
+pub length-row-at : (t : List ℕ) (i : ℕ) → i < room t → length (row-at t i) ≡ 16
+length-row-at t i h =
+    ap length (row-at-inside t i h) ∙ length-part t (16 * i) (omega arith)
+
+pub getD-row-at : (t : List ℕ) (i p : ℕ) → i < room t → p < 16 → getD (row-at t i) p 0 ≡ getD t (16 * i + p) 0
+getD-row-at t i p h below =
+    ap (λ (l : List ℕ). getD l p 0) (row-at-inside t i h) ∙ getD-part t (16 * i) p below
+
+pub equal-row-at : (t : List ℕ) (i : ℕ) (u : List ℕ) (j : ℕ) → i < room t → j < room u
+    → ((p : ℕ) → p < 16 → getD t (16 * i + p) 0 ≡ getD u (16 * j + p) 0) → row-at t i ≡ row-at u j
+equal-row-at t i u j hi hj same =
+    row-at-inside t i hi ∙ equal-parts t (16 * i) u (16 * j) (omega arith) (omega arith) same ∙ sym (row-at-inside u j hj)
+
+-- A row of a table of bytes that has no stray bit.
+pub row-at-is-row : (m : ℕ) (t : List ℕ) (i : ℕ) → i < room t → ((p : ℕ) → getD t p 0 < 256) → stray m (row-at t i) ≡ false → IsRow m (row-at t i)
+row-at-is-row m t i h bytes clean = record { width = length-row-at t i h; below = λ p. go p (decLt p 16); clean = clean }
+  where
+    go : (p : ℕ) → Dec (p < 16) → getD (row-at t i) p 0 < 256
+    go p (yes own) = let same = getD-row-at t i p h own in let byte = bytes (16 * i + p) in omega arith
+    go p (no past) =
+        let end : length (row-at t i) ≤ p = omega (arith, length-row-at t i h) in
+        let zeros = List·getD-eq-default (row-at t i) 0 end in omega arith
+
+-- Bit k of row i, where it stands in the table.
+pub bit-of-row-at : (t : List ℕ) (i k : ℕ) → i < room t → k < 128 → bit-of (row-at t i) k ≡ odd (getD t (16 * i + k / 8) 0 / 2 ^ (k % 8))
+unfolding bit-of
+bit-of-row-at t i k h own = ap (λ (x : ℕ). odd (x / 2 ^ (k % 8))) (getD-row-at t i (k / 8) h (omega arith))
+
+-- ---- the rows below a count
+
+pub length-rows-of : (m n : ℕ) (t : List ℕ) → length (rows-of m n t) ≡ n
+length-rows-of m zero t = refl
+length-rows-of m (suc n) t = ap suc (length-rows-of m n (drop 16 t))
+
+drop-row : (t : List ℕ) (i : ℕ) → drop (16 * i) (drop 16 t) ≡ drop (16 * suc i) t
+drop-row t i =
+    let next : 16 + 16 * i ≡ 16 * suc i = omega arith in
+    drop-drop (16 * i) 16 t ∙ ap (λ (d : ℕ). drop d t) next
+
+getD-rows-of-part : (m n : ℕ) (t : List ℕ) (i : ℕ) → i < n → getD (rows-of m n t) i [] ≡ row-of m (take 16 (drop (16 * i) t))
+getD-rows-of-part m zero t i h = absurd (not-suc-le-zero h)
+getD-rows-of-part m (suc n) t zero h = refl
+getD-rows-of-part m (suc n) t (suc i) h =
+    getD-rows-of-part m n (drop 16 t) i (le-of-suc-le-suc h) ∙ ap (λ (l : List ℕ). row-of m (take 16 l)) (drop-row t i)
+
+pub getD-rows-of : (m n : ℕ) (t : List ℕ) (i : ℕ) → i < n → i < room t → getD (rows-of m n t) i [] ≡ row-of m (row-at t i)
+getD-rows-of m n t i h into = getD-rows-of-part m n t i h ∙ ap (row-of m) (sym (row-at-inside t i into))
+
+-- One row more.
+pub rows-of-next : (m n : ℕ) (t : List ℕ) → n < room t → rows-of m (suc n) t ≡ rows-of m n t ++ (row-of m (row-at t n) ∷ [])
+rows-of-next m n t h = go n t ∙ ap (λ (b : List ℕ). rows-of m n t ++ (row-of m b ∷ [])) (sym (row-at-inside t n h))
+  where
+    go : (n : ℕ) (t : List ℕ) → rows-of m (suc n) t ≡ rows-of m n t ++ (row-of m (take 16 (drop (16 * n) t)) ∷ [])
+    go zero t = refl
+    go (suc n) t =
+        ap (λ (l : List (List Bool)). row-of m (take 16 t) ∷ l)
+        (go n (drop 16 t) ∙ ap (λ (l : List ℕ). rows-of m n (drop 16 t) ++ (row-of m (take 16 l) ∷ [])) (drop-row t n))
+
+-- Tables with the same rows below a count.
+pub rows-of-same : (m n : ℕ) (t u : List ℕ) → n ≤ room t → n ≤ room u → ((i : ℕ) → i < n → row-at t i ≡ row-at u i) → rows-of m n t ≡ rows-of m n u
+rows-of-same m n t u ht hu same =
+    ext-getD [] (rows-of m n t) (rows-of m n u) (length-rows-of m n t ∙ sym (length-rows-of m n u)) (λ i h.
+    let below : i < n = omega (arith, length-rows-of m n t) in
+    getD-rows-of m n t i below (omega arith) ∙ ap (row-of m) (same i below) ∙ sym (getD-rows-of m n u i below (omega arith)))
+
+-- Bit k of row i is value k of row i.
+pub bit-is-value : (m n : ℕ) (t : List ℕ) (i k : ℕ) → i < n → i < room t → k < m
+    → bit-of (row-at t i) k ≡ getD (getD (rows-of m n t) i []) k false
+bit-is-value m n t i k h into own =
+    sym (getD-row-of m (row-at t i) k own) ∙ ap (λ (r : List Bool). getD r k false) (sym (getD-rows-of m n t i h into))
+
+-- The table that holds just some rows holds those rows.
+pub rows-of-table-of : (m : ℕ) (rows : List (List Bool)) → m ≤ 128 → ((i : ℕ) → i < length rows → length (getD rows i []) ≡ m)
+    → rows-of m (length rows) (table-of rows) ≡ rows
+rows-of-table-of m [] h wide = refl
+rows-of-table-of m (r ∷ rows) h wide =
+    let first : row-of m (take 16 (bytes-of r ++ table-of rows)) ≡ r =
+    ap (row-of m) (take-at (bytes-of r) (table-of rows) 16 (length-bytes-of r)) ∙ row-of-bytes-of m r (wide zero (suc-le-suc zero-le)) h in
+    let later : rows-of m (length rows) (drop 16 (bytes-of r ++ table-of rows)) ≡ rows =
+    ap (rows-of m (length rows)) (drop-at (bytes-of r) (table-of rows) 16 (length-bytes-of r))
+    ∙ rows-of-table-of m rows h (λ i below. wide (suc i) (suc-le-suc below)) in
+    λ d. first d ∷ later d
+
+-- What holds of the rows inside the table that were passed, and of every place outside it, holds below the count.
+pub below-count : (P : ℕ → Type 0) (t : List ℕ) (n i : ℕ) → min n (room t) ≤ i → ((q : ℕ) → q < i → P q) → ((q : ℕ) → room t ≤ q → P q)
+    → (q : ℕ) → q < n → P q
+below-count P t n i end passed outside q h = go (decLt q (room t))
+  where
+    go : Dec (q < room t) → P q
+    go (yes into) = passed q (omega arith)
+    go (no past) = outside q (omega arith)
+
+-- ---- stray bits of a table
+
+pub no-stray-outside : (m : ℕ) (t : List ℕ) (i : ℕ) → room t ≤ i → stray m (row-at t i) ≡ false
+no-stray-outside m t i h = ap (stray m) (row-at-outside t i h) ∙ none-stray m [] (λ k low high. no-bit-past-end [] k zero-le)
+
+pub stray-rows-false : (m n : ℕ) (t : List ℕ) → stray-rows m n t ≡ false → (i : ℕ) → i < n → stray m (row-at t i) ≡ false
+unfolding stray-rows
+stray-rows-false m n t e i h =
+    sym (getD-values n (λ i. stray m (row-at t i)) i h) ∙ any-false (values n (λ i. stray m (row-at t i))) e i
+
+pub none-stray-rows : (m n : ℕ) (t : List ℕ) → ((i : ℕ) → i < n → stray m (row-at t i) ≡ false) → stray-rows m n t ≡ false
+unfolding stray-rows
+none-stray-rows m n t none = none-any (values n (λ i. stray m (row-at t i))) (values-false n (λ i. stray m (row-at t i)) none)
+
+pub found-stray-rows : (m n : ℕ) (t : List ℕ) (i : ℕ) → i < n → stray m (row-at t i) ≡ true → stray-rows m n t ≡ true
+unfolding stray-rows
+found-stray-rows m n t i h found =
+    found-any (values n (λ i. stray m (row-at t i))) i (getD-values n (λ i. stray m (row-at t i)) i h ∙ found)

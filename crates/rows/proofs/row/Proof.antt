@@ -1,0 +1,81 @@
+-- `rows::row` meets its contract. Assumes nothing.
+use mathlib.Core.Path.{_≡_, ap}
+use Prim.Native.Nat.{ℕ, _+_, _-_, _*_}
+use native.Mathlib.Omega.{arith}
+use lib.ListN.{take, drop}
+use borrow.Author.Needs.{needs}
+use borrow.Author.Tests.{lt-ltb, le-ltb}
+use Rattle.rows.specs.Table.{handed-back}
+use Rattle.rows.proofs.TableLaws.{row-at-inside, row-at-outside}
+use Rattle.rows.proofs.row.Statement.{statement}
+use Rattle.rows.proofs.row.Tie as tie
+
+sub-result : tie.Need-sub-result
+sub-result c = search needs
+
+part-result-start : tie.Need-part-result-start
+part-result-start c = search needs
+
+part-result-end : tie.Need-part-result-end
+part-result-end c = search needs
+
+returns : tie.Need-returns
+unfolding handed-back
+returns c = rw (le-ltb (c .before .before .args .place) (c .before .before .args .count) (c .before .if1 .taken))
+
+sub-result-2 : tie.Need-sub-result-2
+sub-result-2 c = search needs
+
+part-result-start-2 : tie.Need-part-result-start-2
+part-result-start-2 c = search needs
+
+part-result-end-2 : tie.Need-part-result-end-2
+part-result-end-2 c = search needs
+
+returns-2 : tie.Need-returns-2
+unfolding handed-back
+returns-2 c =
+    let given = c .before .before .before .args in
+    rw (lt-ltb (given .place) (given .count) (c .before .before .if1 .left), row-at-outside (given .rows .now) (given .place) (c .before .if2 .taken))
+
+mul-start : tie.Need-mul-start
+mul-start c = search needs
+
+add-end : tie.Need-add-end
+add-end c = search needs
+
+sub-result-3 : tie.Need-sub-result-3
+sub-result-3 c = search needs
+
+part-result-start-3 : tie.Need-part-result-start-3
+part-result-start-3 c = search needs
+
+part-result-end-3 : tie.Need-part-result-end-3
+part-result-end-3 c = search needs
+
+returns-3 : tie.Need-returns-3
+unfolding handed-back
+returns-3 c =
+    let given = c .before .before .before .args in
+    let width : 16 * given .place + 16 - 16 * given .place ≡ 16 = omega arith in
+    rw (lt-ltb (given .place) (given .count) (c .before .before .if1 .left), row-at-inside (given .rows .now) (given .place) (c .before .if2 .left))
+    (ap (λ (n : ℕ). take n (drop (16 * given .place) (given .rows .now))) width)
+
+pub row-spec : {M : Type 1} → statement M
+row-spec =
+    tie.close
+    (tie.spec
+    sub-result
+    part-result-start
+    part-result-end
+    returns
+    sub-result-2
+    part-result-start-2
+    part-result-end-2
+    returns-2
+    mul-start
+    add-end
+    sub-result-3
+    part-result-start-3
+    part-result-end-3
+    returns-3)
