@@ -21,3 +21,4 @@ pub mod ClauseCuts
 pub mod Engine
 pub mod Progress
 pub mod Counting
+pub mod Stand

@@ -1,19 +1,18 @@
 -- Zeros among the entries, as the code finds them: by the bits of an entry at a place.
 -- Assumes nothing.
-use Prim.Native.Nat.{ℕ, zero, suc, _-_, _^_, _<_}
-use native.Mathlib.Numerals.{sub-one}
+use Prim.Native.Nat.{zero, suc, _^_, _<_}
 use native.Mathlib.Omega.{arith}
-use mathlib.Core.Path.{_≡_, refl, sym, ap, _∙_}
-use mathlib.Core.Bool.{Bool, true, false}
+use mathlib.Core.Path.{_≡_, refl}
+use mathlib.Core.Bool.{true}
 use mathlib.Core.List.{List, [], _∷_}
-use borrow.Author.Tests.{eq-eqb, ne-eqb}
+use borrow.Author.Tests.{ne-eqb}
 use lib.Dec.{eqb}
 use lib.IntN.{ℤ, pos, negsuc}
-use lib.ListN.{length, getD}
+use lib.ListN.{length}
 use lib.Signed.{mag}
 use mir.Syntax.{w32}
 use mir.Val.{SFits, ofZ}
-use Rattle.formula.specs.Causes.{zeros, last-behind, is-zero, ended}
+use Rattle.formula.specs.Causes.{zeros, is-zero, ended}
 
 -- An entry is 0 if its bits are.
 pub is-zero-bits : (z : ℤ) → SFits w32 z → eqb (ofZ w32 z) 0 ≡ is-zero z
@@ -24,14 +23,6 @@ is-zero-bits (negsuc n) fits = ne-eqb (ofZ w32 (negsuc n)) 0 (λ e. omega arith)
 pub ended-empty : (l : List ℤ) → length l ≡ 0 → ended l ≡ true
 ended-empty [] e = refl
 ended-empty (z ∷ zs) e = absurd (omega arith)
-
-last-at : (z : ℤ) (zs : List ℤ) → getD (z ∷ zs) (length (z ∷ zs) - 1) (pos 0) ≡ last-behind z zs
-last-at z [] = refl
-last-at z (y ∷ zs) = rw (sub-one, ← sub-one (suc (length zs))) (last-at y zs)
-
-pub ended-last : (l : List ℤ) → (length l ≡ 0 → ⊥) → SFits w32 (getD l (length l - 1) (pos 0)) → eqb (ofZ w32 (getD l (length l - 1) (pos 0))) 0 ≡ ended l
-ended-last [] some fits = absurd (some refl)
-ended-last (z ∷ zs) some fits = is-zero-bits (getD (z ∷ zs) (length (z ∷ zs) - 1) (pos 0)) fits ∙ rw last-at
 
 -- An entry whose bits are 0 ends a clause, and no other does.
 pub zeros-zero : (z : ℤ) (zs : List ℤ) → mag z < 2 ^ 31 → ofZ w32 z ≡ 0 → zeros (z ∷ zs) ≡ suc (zeros zs)

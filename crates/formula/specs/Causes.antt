@@ -1,11 +1,11 @@
 -- What is refused of a formula: causes 1 to 3 of 01's table, in its order, and the sizes of what is accepted.
 -- Assumes nothing.
-use Prim.Native.Nat.{ℕ, zero, suc}
+use Prim.Native.Nat.{ℕ, zero, suc, _-_}
 use mathlib.Core.Bool.{Bool, true, false, not, _||_}
 use mathlib.Core.List.{List, [], _∷_}
 use lib.Dec.{ltb}
 use lib.IntN.{ℤ, pos, negsuc, natAbs}
-use lib.ListN.{length}
+use lib.ListN.{length, getD}
 use Rattle.formula.specs.declared.Check.{Check}
 use Rattle.formula.specs.declared.Check.the-variants.{Accepted, Refused}
 use Rattle.formula.specs.declared.Formula.{Formula}
@@ -33,20 +33,15 @@ zeros (pos zero ∷ zs) = suc (zeros zs)
 zeros (pos (suc v) ∷ zs) = zeros zs
 zeros (negsuc v ∷ zs) = zeros zs
 
--- The last entry behind an entry z: z itself if none follows.
-abbrev pub last-behind : ℤ → List ℤ → ℤ
-last-behind z [] = z
-last-behind z (y ∷ zs) = last-behind y zs
-
+-- Whether an entry ends a clause.
 abbrev pub is-zero : ℤ → Bool
 is-zero (pos zero) = true
 is-zero (pos (suc v)) = false
 is-zero (negsuc v) = false
 
--- An empty list has no last entry, and passes.
+-- Whether the last entry is 0. An empty list has none, and passes.
 abbrev pub ended : List ℤ → Bool
-ended [] = true
-ended (z ∷ zs) = is-zero (last-behind z zs)
+ended literals = is-zero (getD literals (length literals - 1) (pos 0))
 
 -- Cause 2: 'over 8,192 literals, over 2,048 clauses, a last entry other than 0'. Zeros count as literals here.
 unfoldable pub cause-2 : List ℤ → Bool
@@ -73,6 +68,7 @@ abbrev pub sizes : List ℕ → List ℤ → Formula
 sizes kinds literals =
     record { unknowns = length kinds; universals = count universal (prefix kinds); clauses = zeros literals; entries = length literals }
 
+-- A cause's number where the cause applies.
 abbrev pub refused-if : Bool → ℕ → Check → Check
 refused-if true number otherwise = Refused number
 refused-if false number otherwise = otherwise

@@ -2,13 +2,13 @@
 // `Formula::check` promises the first cause that applies, or the sizes of an accepted formula, for every input; the other functions
 // answer for every input too. What a formula means is in specs/; rows and the run belong to other crates.
 ghost use mathlib.Core.Path.{_≡_};
-ghost use Prim.Native.Nat.{_≤_};
-ghost use mathlib.Core.Bool.{not};
+ghost use Prim.Native.Nat.{_^_, _≤_, _<_};
+ghost use mathlib.Core.Bool.{false};
 ghost use lib.IntN.{natAbs};
 ghost use lib.ListN.{length};
 ghost use Rattle.formula.specs.Formula.{universal, prefix, max-entries};
-ghost use Rattle.formula.specs.Causes.{any, other-kind, zeros, ended, cause-3, count, checked};
-ghost use Rattle.formula.specs.Literal.{magnitude-at, negative, negative-at};
+ghost use Rattle.formula.specs.Causes.{any, other-kind, zeros, ended, beyond, count, checked};
+ghost use Rattle.formula.specs.Literal.{magnitude-at, negative-at};
 ghost use Rattle.formula.specs.Progress.{fresh};
 
 // The sizes of an accepted formula.
@@ -26,6 +26,7 @@ pub struct Progress {
     pub existential: usize,
 }
 
+// A refusal has the number of its cause.
 pub enum Check {
     Accepted(Formula),
     Refused(u32),
@@ -73,6 +74,9 @@ impl Formula {
         if is_ended(literals) {} else {
             return Check::Refused(2);
         }
+        if has_lowest(literals) {
+            return Check::Refused(3);
+        }
         if has_beyond(literals, unknowns as u32) {
             return Check::Refused(3);
         }
@@ -85,19 +89,17 @@ impl Formula {
     }
 }
 
-// The magnitude of a literal: the name of its unknown. The lowest i32 has no opposite in its type.
+// The one number of its type that has no opposite there.
+const LOWEST: i32 = -2_147_483_648;
+
+// The magnitude of a literal: the name of its unknown.
 pub fn magnitude(literal: i32) -> u32
     ensures { λ r. ⌜ r ≡ natAbs literal ⌝ }
 {
-    if literal == -2147483648 {
-        return 2147483648;
+    if literal == LOWEST {
+        return 2_147_483_648;
     }
-    if literal < 0 {
-        let opposite = -literal;
-        opposite as u32
-    } else {
-        literal as u32
-    }
+    absolute(literal)
 }
 
 // The magnitude of the literal at i, and 0 past the last one.
@@ -119,6 +121,19 @@ pub fn negative_at(literals: &[i32], i: usize) -> bool
         literals[i] < 0
     } else {
         false
+    }
+}
+
+// The lowest number is ruled out before any is negated.
+fn absolute(literal: i32) -> u32
+    requires { ⌜ natAbs literal < 2 ^ 31 ⌝ }
+    ensures { λ r. ⌜ r ≡ natAbs literal ⌝ }
+{
+    if literal < 0 {
+        let opposite = -literal;
+        opposite as u32
+    } else {
+        literal as u32
     }
 }
 
@@ -150,7 +165,7 @@ fn count_universals(kinds: &[u8]) -> usize
     universals
 }
 
-// A count of 32 bits, since the compiler turns this loop into wider steps than one of 64 bits.
+// A count of 32 bits, so that the compiler looks at more entries at once than for one of 64.
 fn count_zeros(literals: &[i32]) -> u32
     requires { ⌜ length (now literals) ≤ max-entries ⌝ }
     ensures { λ r. ⌜ r ≡ zeros (now (literals .entry)) ⌝ }
@@ -176,14 +191,30 @@ fn is_ended(literals: &[i32]) -> bool
     literals[entries - 1] == 0
 }
 
-// Every entry is looked at: the loop with no way out in it takes a third of the time.
-fn has_beyond(literals: &[i32], unknowns: u32) -> bool
-    ensures { λ r. ⌜ r ≡ cause-3 unknowns (now (literals .entry)) ⌝ }
+// The lowest number is the one beyond 2,147,483,647.
+fn has_lowest(literals: &[i32]) -> bool
+    ensures { λ r. ⌜ r ≡ any (beyond 2147483647) (now (literals .entry)) ⌝ }
 {
     let mut found = false;
     let mut i = 0;
     while i < literals.len() {
-        if magnitude(literals[i]) > unknowns {
+        if literals[i] == LOWEST {
+            found = true;
+        }
+        i += 1;
+    }
+    found
+}
+
+// A loop with one way out, so that the compiler looks at several entries at once.
+fn has_beyond(literals: &[i32], unknowns: u32) -> bool
+    requires { ⌜ any (beyond 2147483647) (now literals) ≡ false ⌝ }
+    ensures { λ r. ⌜ r ≡ any (beyond unknowns) (now (literals .entry)) ⌝ }
+{
+    let mut found = false;
+    let mut i = 0;
+    while i < literals.len() {
+        if absolute(literals[i]) > unknowns {
             found = true;
         }
         i += 1;

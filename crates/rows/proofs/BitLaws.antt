@@ -1,26 +1,27 @@
 -- Bits of numbers: a number below 2^n is its n lowest bits.
 -- Assumes nothing.
 use mathlib.Core.Path.{_≡_, refl, sym, ap, _∙_}
-use mathlib.Core.Bool.{Bool, true, false}
+use mathlib.Core.Bool.{Bool, true, false, _||_}
 use mathlib.Core.List.{List, [], _∷_}
-use Prim.Native.Nat.{ℕ, zero, suc, _+_, _*_, _/_, _%_, _^_, _≤_, _<_, zero-le, suc-le-suc}
+use Prim.Native.Nat.{ℕ, zero, suc, _+_, _*_, _/_, _%_, _^_, _≤_, _<_, max, zero-le, suc-le-suc}
 use native.Mathlib.Nat.{le-of-suc-le-suc, not-suc-le-zero, zero-div, div-one, one-mul, div-div-eq-div-mul, pow-succ'}
 use native.Mathlib.Omega.{arith}
-use lib.Dec.{eqb}
+use lib.Bits.{bitOr, or-step, or-shr}
+use lib.Dec.{eqb, eqb·zero-suc, eqb·suc-zero, eqb·suc-suc}
 use lib.ListN.{length, getD}
 use lib.Pow.{shl-exact}
 use borrow.Author.Tests.{eqb-true, eqb-false, eq-eqb, ne-eqb}
 use Rattle.rows.specs.Row.{odd, weight, number}
 
 -- Shifting by one place more is halving first.
-pub shift-suc : (n t : ℕ) → n / 2 ^ suc t ≡ n / 2 / 2 ^ t
+shift-suc : (n t : ℕ) → n / 2 ^ suc t ≡ n / 2 / 2 ^ t
 shift-suc n t = ap (λ (d : ℕ). n / d) (pow-succ' 2 t) ∙ sym (div-div-eq-div-mul n 2 (2 ^ t))
 
 pub odd-zero : (t : ℕ) → odd (0 / 2 ^ t) ≡ false
 odd-zero t = ap odd (zero-div (2 ^ t))
 
 -- The lowest bit is the remainder.
-pub mod-is-weight : (n : ℕ) → n % 2 ≡ weight (odd n)
+mod-is-weight : (n : ℕ) → n % 2 ≡ weight (odd n)
 mod-is-weight n = go (odd n) refl
   where
     go : (v : Bool) → odd n ≡ v → n % 2 ≡ weight v
@@ -70,3 +71,29 @@ bits-determine (suc n) x y hx hy same =
 -- The weight of bit k in its byte, as the code makes it: a shift that keeps eight bits.
 pub bit-weight : (k : ℕ) → 1 * 2 ^ (k % 8) % 256 ≡ 2 ^ (k % 8)
 bit-weight k = shl-exact 1 (k % 8) 8 (omega arith) (omega arith) ∙ one-mul (2 ^ (k % 8))
+
+-- The lowest bit of two numbers' union.
+odd-or : (a b : ℕ) → odd (bitOr a b) ≡ odd a || odd b
+odd-or a b = ap odd (or-step a b) ∙ go (odd a) (odd b) (mod-is-weight a) (mod-is-weight b)
+  where
+    go : (u v : Bool) → a % 2 ≡ weight u → b % 2 ≡ weight v → odd (bitOr (a / 2) (b / 2) * 2 + max (a % 2) (b % 2)) ≡ u || v
+    go true v ha hb = eq-eqb ((bitOr (a / 2) (b / 2) * 2 + max (a % 2) (b % 2)) % 2) 1 (omega arith)
+    go false true ha hb = eq-eqb ((bitOr (a / 2) (b / 2) * 2 + max (a % 2) (b % 2)) % 2) 1 (omega arith)
+    go false false ha hb = ne-eqb ((bitOr (a / 2) (b / 2) * 2 + max (a % 2) (b % 2)) % 2) 1 (omega arith)
+
+-- The only bit of 2^j is bit j.
+odd-pow : (j s : ℕ) → odd (2 ^ j / 2 ^ s) ≡ eqb j s
+odd-pow zero zero = refl
+odd-pow zero (suc s) = ap odd (shift-suc 1 s) ∙ odd-zero s ∙ sym (eqb·zero-suc s)
+odd-pow (suc j) zero =
+    ap odd (div-one (2 ^ suc j) ∙ pow-succ' 2 j)
+    ∙ ne-eqb (2 * 2 ^ j % 2) 1 (omega arith)
+    ∙ sym (eqb·suc-zero j)
+odd-pow (suc j) (suc s) =
+    let half : 2 ^ suc j / 2 ≡ 2 ^ j = omega (arith, pow-succ' 2 j) in
+    ap odd (shift-suc (2 ^ suc j) s) ∙ ap (λ (n : ℕ). odd (n / 2 ^ s)) half ∙ odd-pow j s ∙ sym (eqb·suc-suc j s)
+
+-- Bit s of a number whose bit j is set besides.
+pub odd-with-bit : (x j s : ℕ) → odd (bitOr x (2 ^ j) / 2 ^ s) ≡ odd (x / 2 ^ s) || eqb j s
+odd-with-bit x j s =
+    ap odd (or-shr x (2 ^ j) s) ∙ odd-or (x / 2 ^ s) (2 ^ j / 2 ^ s) ∙ ap (λ (v : Bool). odd (x / 2 ^ s) || v) (odd-pow j s)

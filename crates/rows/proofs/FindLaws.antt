@@ -8,15 +8,13 @@ use native.Mathlib.Nat.{add-zero, zero-add, add-suc, suc-add, le-of-suc-le-suc, 
 use native.Mathlib.Omega.{arith}
 use lib.Dec.{eqb}
 use lib.ListN.{length, getD, take, drop}
-use lib.Seq.{ext-getD}
 use borrow.Author.Tests.{eqb-true, eq-eqb}
 use Rattle.rows.specs.Row.{values, row-of}
 use Rattle.rows.specs.Table.{inside, row-at, room, same-bytes, equal-rows, first-true, first-place}
-use Rattle.rows.specs.declared.Found.{Found}
 use Rattle.rows.specs.declared.Found.the-variants.{At, Absent}
 use Rattle.rows.proofs.ValueLaws.{length-values, getD-values, values-false}
 use Rattle.rows.proofs.RowLaws.{IsRow, equal-values-equal-bytes}
-use Rattle.rows.proofs.TableLaws.{getD-part, length-part, inside-true, inside-false, row-at-inside}
+use Rattle.rows.proofs.TableLaws.{getD-part, equal-parts, inside-true, inside-false, row-at-inside}
 
 -- ---- equal rows
 
@@ -45,12 +43,7 @@ same-bytes-differ b c differ = go (same-bytes b c) refl
 pub same-parts : (t : List ℕ) (x : ℕ) (u : List ℕ) (y : ℕ) → x + 16 ≤ length t → y + 16 ≤ length u
     → ((p : ℕ) → p < 16 → getD t (x + p) 0 ≡ getD u (y + p) 0) → same-bytes (take 16 (drop x t)) (take 16 (drop y u)) ≡ true
 same-parts t x u y ht hu same =
-    ap (same-bytes (take 16 (drop x t)))
-    (sym
-    (ext-getD 0 (take 16 (drop x t)) (take 16 (drop y u)) (length-part t x ht ∙ sym (length-part u y hu)) (λ p h.
-    let below : p < 16 = omega (arith, length-part t x ht) in
-    getD-part t x p below ∙ same p below ∙ sym (getD-part u y p below))))
-    ∙ same-bytes-refl (take 16 (drop x t))
+    ap (same-bytes (take 16 (drop x t))) (sym (equal-parts t x u y ht hu same)) ∙ same-bytes-refl (take 16 (drop x t))
 
 pub differing-parts : (t : List ℕ) (x : ℕ) (u : List ℕ) (y p : ℕ) → p < 16
     → (getD t (x + p) 0 ≡ getD u (y + p) 0 → ⊥) → same-bytes (take 16 (drop x t)) (take 16 (drop y u)) ≡ false

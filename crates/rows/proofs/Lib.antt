@@ -4,3 +4,4 @@ pub mod ValueLaws
 pub mod RowLaws
 pub mod TableLaws
 pub mod FindLaws
+pub mod WriteLaws

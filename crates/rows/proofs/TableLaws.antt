@@ -1,4 +1,4 @@
--- Tables: their rows as values, and what stands in them after a look, a search and a store.
+-- Rows of tables: their bytes, the rows below a count as values, stray bits.
 -- Assumes nothing.
 use mathlib.Core.Path.{_≡_, refl, sym, ap, _∙_}
 use mathlib.Core.Bool.{Bool, true, false}
@@ -7,13 +7,13 @@ use Prim.Native.Nat.{ℕ, zero, suc, _+_, _*_, _/_, _%_, _^_, _≤_, _<_, min, z
 use native.Mathlib.Nat.{le-of-suc-le-suc, not-suc-le-zero}
 use native.Mathlib.Decide.{decLt}
 use native.Mathlib.Omega.{arith}
-use lib.ListN.{length, getD, take, drop, length-drop}
-use lib.Seq.{getD-take, getD-drop, drop-drop, take-at, drop-at, length-take-le}
+use lib.ListN.{length, getD, take, drop, length-drop, List·getD-eq-default}
+use lib.Seq.{ext-getD, getD-take, getD-drop, drop-drop, take-at, drop-at, length-take-le}
 use borrow.Author.Tests.{le-leb, lt-leb}
 use Rattle.rows.specs.Row.{odd, bit-of, values, row-of, bytes-of, stray}
 use Rattle.rows.specs.Table.{inside, row-at, room, rows-of, table-of, stray-rows}
 use Rattle.rows.proofs.ValueLaws.{values-false, getD-values, any-false, none-any, found-any}
-use Rattle.rows.proofs.RowLaws.{getD-row-of, no-bit-past-end, none-stray, length-bytes-of, row-of-bytes-of}
+use Rattle.rows.proofs.RowLaws.{IsRow, getD-row-of, no-bit-past-end, none-stray, length-bytes-of, row-of-bytes-of}
 
 -- ---- a row of a table
 
@@ -21,8 +21,16 @@ use Rattle.rows.proofs.RowLaws.{getD-row-of, no-bit-past-end, none-stra
 pub getD-part : (t : List ℕ) (x p : ℕ) → p < 16 → getD (take 16 (drop x t)) p 0 ≡ getD t (x + p) 0
 getD-part t x p h = getD-take 16 (drop x t) p 0 h ∙ getD-drop x t p 0
 
-pub length-part : (t : List ℕ) (x : ℕ) → x + 16 ≤ length t → length (take 16 (drop x t)) ≡ 16
+length-part : (t : List ℕ) (x : ℕ) → x + 16 ≤ length t → length (take 16 (drop x t)) ≡ 16
 length-part t x h = length-take-le 16 (drop x t) (omega (arith, length-drop x t))
+
+-- Parts are equal if their bytes are.
+pub equal-parts : (t : List ℕ) (x : ℕ) (u : List ℕ) (y : ℕ) → x + 16 ≤ length t → y + 16 ≤ length u
+    → ((p : ℕ) → p < 16 → getD t (x + p) 0 ≡ getD u (y + p) 0) → take 16 (drop x t) ≡ take 16 (drop y u)
+equal-parts t x u y ht hu same =
+    ext-getD 0 (take 16 (drop x t)) (take 16 (drop y u)) (length-part t x ht ∙ sym (length-part u y hu)) (λ p h.
+    let below : p < 16 = omega (arith, length-part t x ht) in
+    getD-part t x p below ∙ same p below ∙ sym (getD-part u y p below))
 
 pub inside-true : (t : List ℕ) (i : ℕ) → i < room t → inside t i ≡ true
 inside-true t i h = le-leb (16 * i + 16) (length t) (omega arith)
@@ -45,6 +53,21 @@ length-row-at t i h =
 pub getD-row-at : (t : List ℕ) (i p : ℕ) → i < room t → p < 16 → getD (row-at t i) p 0 ≡ getD t (16 * i + p) 0
 getD-row-at t i p h below =
     ap (λ (l : List ℕ). getD l p 0) (row-at-inside t i h) ∙ getD-part t (16 * i) p below
+
+pub equal-row-at : (t : List ℕ) (i : ℕ) (u : List ℕ) (j : ℕ) → i < room t → j < room u
+    → ((p : ℕ) → p < 16 → getD t (16 * i + p) 0 ≡ getD u (16 * j + p) 0) → row-at t i ≡ row-at u j
+equal-row-at t i u j hi hj same =
+    row-at-inside t i hi ∙ equal-parts t (16 * i) u (16 * j) (omega arith) (omega arith) same ∙ sym (row-at-inside u j hj)
+
+-- A row of a table of bytes that has no stray bit.
+pub row-at-is-row : (m : ℕ) (t : List ℕ) (i : ℕ) → i < room t → ((p : ℕ) → getD t p 0 < 256) → stray m (row-at t i) ≡ false → IsRow m (row-at t i)
+row-at-is-row m t i h bytes clean = record { width = length-row-at t i h; below = λ p. go p (decLt p 16); clean = clean }
+  where
+    go : (p : ℕ) → Dec (p < 16) → getD (row-at t i) p 0 < 256
+    go p (yes own) = let same = getD-row-at t i p h own in let byte = bytes (16 * i + p) in omega arith
+    go p (no past) =
+        let end : length (row-at t i) ≤ p = omega (arith, length-row-at t i h) in
+        let zeros = List·getD-eq-default (row-at t i) 0 end in omega arith
 
 -- Bit k of row i, where it stands in the table.
 pub bit-of-row-at : (t : List ℕ) (i k : ℕ) → i < room t → k < 128 → bit-of (row-at t i) k ≡ odd (getD t (16 * i + k / 8) 0 / 2 ^ (k % 8))
@@ -70,6 +93,23 @@ getD-rows-of-part m (suc n) t (suc i) h =
 
 pub getD-rows-of : (m n : ℕ) (t : List ℕ) (i : ℕ) → i < n → i < room t → getD (rows-of m n t) i [] ≡ row-of m (row-at t i)
 getD-rows-of m n t i h into = getD-rows-of-part m n t i h ∙ ap (row-of m) (sym (row-at-inside t i into))
+
+-- One row more.
+pub rows-of-next : (m n : ℕ) (t : List ℕ) → n < room t → rows-of m (suc n) t ≡ rows-of m n t ++ (row-of m (row-at t n) ∷ [])
+rows-of-next m n t h = go n t ∙ ap (λ (b : List ℕ). rows-of m n t ++ (row-of m b ∷ [])) (sym (row-at-inside t n h))
+  where
+    go : (n : ℕ) (t : List ℕ) → rows-of m (suc n) t ≡ rows-of m n t ++ (row-of m (take 16 (drop (16 * n) t)) ∷ [])
+    go zero t = refl
+    go (suc n) t =
+        ap (λ (l : List (List Bool)). row-of m (take 16 t) ∷ l)
+        (go n (drop 16 t) ∙ ap (λ (l : List ℕ). rows-of m n (drop 16 t) ++ (row-of m (take 16 l) ∷ [])) (drop-row t n))
+
+-- Tables with the same rows below a count.
+pub rows-of-same : (m n : ℕ) (t u : List ℕ) → n ≤ room t → n ≤ room u → ((i : ℕ) → i < n → row-at t i ≡ row-at u i) → rows-of m n t ≡ rows-of m n u
+rows-of-same m n t u ht hu same =
+    ext-getD [] (rows-of m n t) (rows-of m n u) (length-rows-of m n t ∙ sym (length-rows-of m n u)) (λ i h.
+    let below : i < n = omega (arith, length-rows-of m n t) in
+    getD-rows-of m n t i below (omega arith) ∙ ap (row-of m) (same i below) ∙ sym (getD-rows-of m n u i below (omega arith)))
 
 -- Bit k of row i is value k of row i.
 pub bit-is-value : (m n : ℕ) (t : List ℕ) (i k : ℕ) → i < n → i < room t → k < m

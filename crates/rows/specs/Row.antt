@@ -1,4 +1,4 @@
--- One row (an assignment of one side's unknowns), as its values and as its sixteen bytes.
+-- One row, an assignment of one side's unknowns: as its values, and as its sixteen bytes.
 -- Assumes nothing.
 use Prim.Native.Nat.{ℕ, zero, suc, _+_, _*_, _/_, _%_, _^_}
 use mathlib.Core.Bool.{Bool, true, false, _||_}
@@ -6,22 +6,24 @@ use mathlib.Core.List.{List, [], _∷_}
 use lib.Dec.{eqb}
 use lib.ListN.{getD, take, drop}
 
--- 'Bit k (byte k div 8, weight 2^(k mod 8))' of a row's bytes. In a byte that is not there no bit is set.
+-- The lowest bit of a number.
 abbrev pub odd : ℕ → Bool
 odd n = eqb (n % 2) 1
 
+-- 'Bit k (byte k div 8, weight 2^(k mod 8))' of a list of bytes. Past the end no bit is set.
 unfoldable pub bit-of : List ℕ → ℕ → Bool
 bit-of bytes k = odd (getD bytes (k / 8) 0 / 2 ^ (k % 8))
 
--- 'Bit k is the value of the k-th unknown of that kind, from 0': the values of m unknowns.
+-- The values of a function at 0, 1, .. and m - 1.
 abbrev pub values : ℕ → (ℕ → Bool) → List Bool
 values zero f = []
 values (suc m) f = f zero ∷ values m (λ i. f (suc i))
 
+-- 'Bit k is the value of the k-th unknown of that kind, from 0': the values of m unknowns.
 unfoldable pub row-of : ℕ → List ℕ → List Bool
 row-of m bytes = values m (bit-of bytes)
 
--- The number whose bits are the values, the lowest first.
+-- The number that has some values as its bits, the lowest first.
 abbrev pub weight : Bool → ℕ
 weight false = 0
 weight true = 1
@@ -30,7 +32,7 @@ abbrev pub number : List Bool → ℕ
 number [] = 0
 number (v ∷ vs) = weight v + number vs * 2
 
--- The first n bytes of the values, eight to a byte, 'other bits are zero'.
+-- Values as n bytes, eight to a byte; 'other bits are zero'.
 abbrev pub bytes : ℕ → List Bool → List ℕ
 bytes zero vs = []
 bytes (suc n) vs = number (take 8 vs) ∷ bytes n (drop 8 vs)
@@ -39,11 +41,11 @@ bytes (suc n) vs = number (take 8 vs) ∷ bytes n (drop 8 vs)
 unfoldable pub bytes-of : List Bool → List ℕ
 bytes-of row = bytes 16 row
 
--- A value is true.
+-- One of the values is true.
 abbrev pub any : List Bool → Bool
 any [] = false
 any (v ∷ vs) = v || any vs
 
--- 'A bit set beyond its unknowns', of which there are m: one of the row's 128 bits at or beyond m.
+-- 'A bit set beyond its unknowns', of which there are m: one of a row's 128 bits, at or beyond m.
 unfoldable pub stray : ℕ → List ℕ → Bool
 stray m bytes = any (drop m (row-of 128 bytes))

@@ -1,7 +1,7 @@
 -- Row tables and mark tables, and what is read from them, found in them and written to them.
 -- Assumes nothing.
 use Prim.Native.Nat.{ℕ, zero, suc, _+_, _*_, _/_, _%_, _^_}
-use mathlib.Core.Bool.{Bool, true, false, _&&_, _||_, cond}
+use mathlib.Core.Bool.{Bool, true, false, _&&_, cond}
 use mathlib.Core.List.{List, [], _∷_, _++_}
 use lib.Bits.{bitOr}
 use lib.Dec.{eqb, leb, ltb}
@@ -11,7 +11,7 @@ use Rattle.rows.specs.Row.{values, row-of, bytes-of, any, stray}
 use Rattle.rows.specs.declared.Found.{Found}
 use Rattle.rows.specs.declared.Found.the-variants.{At, Absent}
 
--- 'Row i starts at byte 16·i'; it is wholly inside the table.
+-- 'Row i starts at byte 16·i.' It is wholly inside the table.
 abbrev pub inside : List ℕ → ℕ → Bool
 inside table i = leb (16 * i + 16) (length table)
 
@@ -33,10 +33,11 @@ table-of (row ∷ rows) = bytes-of row ++ table-of rows
 abbrev pub room : List ℕ → ℕ
 room table = length table / 16
 
--- Cause 4: 'row table not 16 to 4,096 bytes in sixteens, or (run) marks not one a row'.
+-- Cause 4: 'row table not 16 to 4,096 bytes in sixteens, or (run) marks not one a row'. 'A row table holds 1 to 256 rows.'
 unfoldable pub table-fits : List ℕ → Bool
 table-fits table = leb 16 (length table) && leb (length table) (max-rows * 16) && eqb (length table % 16) 0
 
+-- 'A mark table has one 16-bit unsigned number a row.'
 abbrev pub marks-fit : List ℕ → List ℕ → Bool
 marks-fit table marks = eqb (length marks) (room table)
 
@@ -45,20 +46,20 @@ marks-fit table marks = eqb (length marks) (room table)
 unfoldable pub handed-back : List ℕ → ℕ → ℕ → List ℕ
 handed-back table count place = cond (ltb place count) (row-at table place) []
 
--- Bit k of row i is set; nothing changes for a row that is not wholly inside the table, or for a bit that no row has.
+-- The table with bit k of row i set. It stays as it is if the row is not wholly inside it, or if a row has no bit k.
 unfoldable pub bit-set : List ℕ → ℕ → ℕ → List ℕ
 bit-set table i k =
     let place = 16 * i + k / 8 in
     cond (inside table i && ltb k 128) (set table place (bitOr (getD table place 0) (2 ^ (k % 8)))) table
 
--- The same bytes, and at least one.
+-- Two lists of bytes are equal.
 abbrev pub same-bytes : List ℕ → List ℕ → Bool
 same-bytes [] [] = true
 same-bytes [] (y ∷ ys) = false
 same-bytes (x ∷ xs) [] = false
 same-bytes (x ∷ xs) (y ∷ ys) = eqb x y && same-bytes xs ys
 
--- Row i of a table and row j of another are equal; a row that is not wholly inside its table equals none.
+-- Row i of a table equals row j of another. A row that is not wholly inside its table equals none.
 unfoldable pub equal-rows : List ℕ → ℕ → List ℕ → ℕ → Bool
 equal-rows table i other j = inside table i && inside other j && same-bytes (row-at table i) (row-at other j)
 
@@ -72,16 +73,16 @@ first-true i (false ∷ vs) = first-true (suc i) vs
 unfoldable pub first-place : List ℕ → ℕ → List ℕ → ℕ → Found
 first-place table count other j = first-true 0 (values count (λ i. equal-rows table i other j))
 
--- A row in the place of row i, and a mark in the place of its mark.
+-- The table with a row in the place of row i.
 abbrev pub placed : List ℕ → ℕ → List ℕ → List ℕ
 placed table i row = take (16 * i) table ++ row ++ drop (16 * i + 16) table
 
--- All three are inside their tables: place i of the rows and of the marks, and row j of another table.
+-- Row i and mark i, and row j of another table, are all inside.
 abbrev pub writable : List ℕ → List ℕ → ℕ → List ℕ → ℕ → Bool
 writable table marks i other j = inside table i && ltb i (length marks) && inside other j
 
--- Row j of another table written to place i with its mark: the table and the marks afterwards. Where one of the three is not inside its
--- table nothing changes.
+-- Row j of another table written to place i with its mark: the rows and the marks afterwards. If one of the three is not inside, both stay
+-- as they are.
 unfoldable pub rows-written : List ℕ → List ℕ → ℕ → List ℕ → ℕ → List ℕ
 rows-written table marks i other j = cond (writable table marks i other j) (placed table i (row-at other j)) table
 

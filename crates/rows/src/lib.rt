@@ -9,6 +9,11 @@ ghost use lib.Seq.{paste};
 ghost use Rattle.rows.specs.Row.{bit-of, stray};
 ghost use Rattle.rows.specs.Table.{row-at, room, table-fits, marks-fit, handed-back, bit-set, same-bytes, equal-rows, first-place, rows-written, marks-written, stray-rows};
 
+// A row's bytes, and its bits.
+const BYTES: usize = 16;
+
+const BITS: usize = 128;
+
 // A place, or none.
 pub enum Found {
     At(usize),
@@ -20,20 +25,20 @@ pub fn table_fits(rows: &[u8]) -> bool
     ensures { λ r. ⌜ r ≡ table-fits (now (rows .entry)) ⌝ }
 {
     let length = rows.len();
-    if length < 16 {
+    if length < BYTES {
         return false;
     }
-    if Formula::ROWS * 16 < length {
+    if Formula::ROWS * BYTES < length {
         return false;
     }
-    length % 16 == 0
+    length % BYTES == 0
 }
 
 // Cause 4, of the marks.
 pub fn marks_fit(rows: &[u8], marks: &[u16]) -> bool
     ensures { λ r. ⌜ r ≡ marks-fit (now (rows .entry)) (now (marks .entry)) ⌝ }
 {
-    marks.len() == rows.len() / 16
+    marks.len() == rows.len() / BYTES
 }
 
 // The row at a place below the count, as the part of the table that holds it.
@@ -43,11 +48,11 @@ pub fn row(rows: &[u8], count: usize, place: usize) -> &[u8]
     if count <= place {
         return &rows[0..0];
     }
-    if rows.len() / 16 <= place {
+    if rows.len() / BYTES <= place {
         return &rows[0..0];
     }
-    let start = 16 * place;
-    let end = start + 16;
+    let start = BYTES * place;
+    let end = start + BYTES;
     &rows[start..end]
 }
 
@@ -55,13 +60,13 @@ pub fn row(rows: &[u8], count: usize, place: usize) -> &[u8]
 pub fn bit(rows: &[u8], i: usize, k: usize) -> bool
     ensures { λ r. ⌜ r ≡ bit-of (row-at (now (rows .entry)) i) k ⌝ }
 {
-    if rows.len() / 16 <= i {
+    if rows.len() / BYTES <= i {
         return false;
     }
-    if 128 <= k {
+    if BITS <= k {
         return false;
     }
-    let byte = rows[16 * i + k / 8];
+    let byte = rows[BYTES * i + k / 8];
     let shift = (k % 8) as u8;
     (byte >> shift) % 2 == 1
 }
@@ -70,13 +75,13 @@ pub fn bit(rows: &[u8], i: usize, k: usize) -> bool
 pub fn set_bit(rows: &mut [u8], i: usize, k: usize)
     ensures { λ _. ⌜ now (rows .exit) ≡ bit-set (now (rows .entry)) i k ⌝ }
 {
-    if rows.len() / 16 <= i {
+    if rows.len() / BYTES <= i {
         return;
     }
-    if 128 <= k {
+    if BITS <= k {
         return;
     }
-    let place = 16 * i + k / 8;
+    let place = BYTES * i + k / 8;
     let shift = (k % 8) as u8;
     let byte = rows[place];
     rows[place] = byte | 1 << shift;
@@ -86,29 +91,27 @@ pub fn set_bit(rows: &mut [u8], i: usize, k: usize)
 pub fn equal(a: &[u8], i: usize, b: &[u8], j: usize) -> bool
     ensures { λ r. ⌜ r ≡ equal-rows (now (a .entry)) i (now (b .entry)) j ⌝ }
 {
-    if a.len() / 16 <= i {
+    if a.len() / BYTES <= i {
         return false;
     }
-    if b.len() / 16 <= j {
+    if b.len() / BYTES <= j {
         return false;
     }
-    same_row(a, 16 * i, b, 16 * j)
+    same_row(a, BYTES * i, b, BYTES * j)
 }
 
 // The first place below the count whose row equals row j of the other table.
 pub fn find(rows: &[u8], count: usize, other: &[u8], j: usize) -> Found
     ensures { λ r. ⌜ r ≡ first-place (now (rows .entry)) count (now (other .entry)) j ⌝ }
 {
-    if other.len() / 16 <= j {
+    if other.len() / BYTES <= j {
         return Found::Absent;
     }
-    let end = rows_below(rows, count);
-    let mut i = 0;
-    while i < end {
-        if same_row(rows, 16 * i, other, 16 * j) {
+    let places = rows_below(rows, count);
+    for i in 0..places {
+        if same_row(rows, BYTES * i, other, BYTES * j) {
             return Found::At(i);
         }
-        i += 1;
     }
     Found::Absent
 }
@@ -118,16 +121,16 @@ pub fn write(rows: &mut [u8], marks: &mut [u16], i: usize, other: &[u8], j: usiz
     ensures { λ _. ⌜ now (rows .exit) ≡ rows-written (now (rows .entry)) (now (marks .entry)) i (now (other .entry)) j ⌝ }
     ensures { λ _. ⌜ now (marks .exit) ≡ marks-written (now (rows .entry)) (now (marks .entry)) i (now (other .entry)) j mark ⌝ }
 {
-    if rows.len() / 16 <= i {
+    if rows.len() / BYTES <= i {
         return;
     }
     if marks.len() <= i {
         return;
     }
-    if other.len() / 16 <= j {
+    if other.len() / BYTES <= j {
         return;
     }
-    copy_row(rows, 16 * i, other, 16 * j);
+    copy_row(rows, BYTES * i, other, BYTES * j);
     marks[i] = mark;
 }
 
@@ -136,12 +139,10 @@ pub fn stray_bit(rows: &[u8], count: usize, m: usize) -> bool
     ensures { λ r. ⌜ r ≡ stray-rows m count (now (rows .entry)) ⌝ }
 {
     let end = rows_below(rows, count);
-    let mut i = 0;
-    while i < end {
-        if stray_in_row(rows, 16 * i, m) {
+    for i in 0..end {
+        if stray_in_row(rows, BYTES * i, m) {
             return true;
         }
-        i += 1;
     }
     false
 }
@@ -150,7 +151,7 @@ pub fn stray_bit(rows: &[u8], count: usize, m: usize) -> bool
 fn rows_below(rows: &[u8], count: usize) -> usize
     ensures { λ r. ⌜ r ≡ min count (room (now (rows .entry))) ⌝ }
 {
-    let room = rows.len() / 16;
+    let room = rows.len() / BYTES;
     if count < room { count } else { room }
 }
 
@@ -159,12 +160,10 @@ fn same_row(a: &[u8], x: usize, b: &[u8], y: usize) -> bool
     requires { ⌜ (x + 16 ≤ length (now a)) × (y + 16 ≤ length (now b)) ⌝ }
     ensures { λ r. ⌜ r ≡ same-bytes (take 16 (drop x (now (a .entry)))) (take 16 (drop y (now (b .entry)))) ⌝ }
 {
-    let mut p = 0;
-    while p < 16 {
+    for p in 0..BYTES {
         if a[x + p] != b[y + p] {
             return false;
         }
-        p += 1;
     }
     true
 }
@@ -174,10 +173,8 @@ fn copy_row(rows: &mut [u8], x: usize, other: &[u8], y: usize)
     requires { ⌜ (x + 16 ≤ length (now rows)) × (y + 16 ≤ length (now other)) ⌝ }
     ensures { λ _. ⌜ now (rows .exit) ≡ paste (now (rows .entry)) x (drop y (now (other .entry))) 16 ⌝ }
 {
-    let mut p = 0;
-    while p < 16 {
-        rows[x + p] = other[y + p];
-        p += 1;
+    for n in 0..BYTES {
+        rows[x + n] = other[y + n];
     }
 }
 
@@ -186,7 +183,7 @@ fn stray_in_row(rows: &[u8], x: usize, m: usize) -> bool
     requires { ⌜ x + 16 ≤ length (now rows) ⌝ }
     ensures { λ r. ⌜ r ≡ stray m (take 16 (drop x (now (rows .entry)))) ⌝ }
 {
-    if 128 <= m {
+    if BITS <= m {
         return false;
     }
     let first = m / 8;
@@ -194,12 +191,10 @@ fn stray_in_row(rows: &[u8], x: usize, m: usize) -> bool
     if rows[x + first] >> shift != 0 {
         return true;
     }
-    let mut p = first + 1;
-    while p < 16 {
+    for p in first + 1..BYTES {
         if rows[x + p] != 0 {
             return true;
         }
-        p += 1;
     }
     false
 }

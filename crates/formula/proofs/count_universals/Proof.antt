@@ -3,7 +3,7 @@
 use Prim.Native.Nat.{ℕ, _+_, _-_, _≤_}
 use native.Mathlib.Omega.{arith}
 use borrow.Author.Needs.{needs}
-use mathlib.Core.Path.{_≡_, refl, ap}
+use mathlib.Core.Path.{_≡_, ap}
 use mathlib.Core.List.{List}
 use mathlib.Core.Logic.{⊎-elim}
 use lib.ListN.{length, getD, drop, drop-of-length-le}
@@ -13,8 +13,6 @@ use Rattle.formula.proofs.Quantifiers.{count-universal, count-existenti
 use Rattle.formula.proofs.Places.{drop-front}
 use Rattle.formula.proofs.count_universals.Statement.{statement}
 use Rattle.formula.proofs.count_universals.Tie as tie
-use Rattle.formula.proofs.count_universals.Reads as reads
-use Rattle.formula.proofs.count_universals.Lts as lts
 
 abbrev universals-of : List ℕ → ℕ
 universals-of ks = count universal (prefix ks)

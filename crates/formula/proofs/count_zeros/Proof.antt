@@ -3,7 +3,7 @@
 use Prim.Native.Nat.{_+_, _-_, _≤_}
 use native.Mathlib.Omega.{arith}
 use borrow.Author.Needs.{needs}
-use mathlib.Core.Path.{_≡_, refl, ap}
+use mathlib.Core.Path.{_≡_, ap}
 use mathlib.Core.Logic.{⊎-elim}
 use lib.IntN.{pos}
 use lib.ListN.{length, getD, drop, drop-of-length-le}
@@ -12,8 +12,6 @@ use Rattle.formula.proofs.Entries.{zeros-zero, zeros-other}
 use Rattle.formula.proofs.Places.{drop-front}
 use Rattle.formula.proofs.count_zeros.Statement.{statement}
 use Rattle.formula.proofs.count_zeros.Tie as tie
-use Rattle.formula.proofs.count_zeros.Reads as reads
-use Rattle.formula.proofs.count_zeros.Lts as lts
 
 abbrev Inv-loop : tie.InvT-loop
 Inv-loop literals count₀ i₀ count i = (i ≤ length literals) × (count ≤ i) × (zeros literals ≡ count + zeros (drop i literals))

@@ -3,20 +3,17 @@
 use Prim.Native.Nat.{_≤_, _-_}
 use native.Mathlib.Omega.{arith}
 use borrow.Author.Needs.{needs}
-use borrow.Author.Tests.{lt-ltb, le-ltb}
+use borrow.Author.Tests.{ltb-false, lt-ltb, le-ltb}
 use mathlib.Core.Path.{_≡_, refl, _∙_}
 use mathlib.Core.Bool.{_||_}
 use mathlib.Core.Logic.{⊎-elim}
 use lib.IntN.{pos, natAbs}
 use lib.ListN.{length, getD, drop}
-use Rattle.formula.specs.Causes.{any, beyond, cause-3}
-use Rattle.formula.proofs.Any.{any-found, any-passed, any-all}
+use Rattle.formula.specs.Causes.{any, beyond}
+use Rattle.formula.proofs.Any.{any-found, any-passed, any-all, any-none}
 use Rattle.formula.proofs.Opposite.{natAbs-bits}
 use Rattle.formula.proofs.has_beyond.Statement.{statement}
 use Rattle.formula.proofs.has_beyond.Tie as tie
-use Rattle.formula.proofs.has_beyond.Reads as reads
-use Rattle.formula.proofs.has_beyond.Lts as lts
-use Rattle.formula.proofs.magnitude.Reads as magnitude-reads
 
 abbrev Inv-loop : tie.InvT-loop
 Inv-loop literals unknowns found₀ i₀ found i =
@@ -28,14 +25,18 @@ abbrev μ-loop : tie.MeasureT-loop
 loop-holds : tie.Need-loop-holds Inv-loop μ-loop
 loop-holds c = (search needs, refl)
 
-mul-magnitude : tie.Need-mul-magnitude Inv-loop μ-loop
-mul-magnitude c = search needs
+mul-absolute : tie.Need-mul-absolute Inv-loop μ-loop
+mul-absolute c = search needs
 
-shared-slice-copy-out-magnitude : tie.Need-shared-slice-copy-out-magnitude Inv-loop μ-loop
-shared-slice-copy-out-magnitude c = search needs
+shared-slice-copy-out-absolute : tie.Need-shared-slice-copy-out-absolute Inv-loop μ-loop
+shared-slice-copy-out-absolute c = search needs
 
-magnitude-requires : tie.Need-magnitude-requires Inv-loop μ-loop
-magnitude-requires c κs = search needs
+absolute-requires : tie.Need-absolute-requires Inv-loop μ-loop
+absolute-requires c κs =
+    let l = c .before .before .before .args .literals .now in
+    let z = getD l (c .before .before .loop .i) (pos 0) in
+    let small = ltb-false 2147483647 (natAbs z) (any-none (beyond 2147483647) (pos 0) refl l (c .before .before .before .pre) (c .before .before .loop .i)) in
+    rw (natAbs-bits z (c .absolute-arg .given)) (omega arith)
 
 add-i : tie.Need-add-i Inv-loop μ-loop
 add-i c = omega arith
@@ -48,16 +49,16 @@ loop-again c =
     let n = c .before .before .before .before .before .args .unknowns in
     let l = c .before .before .before .before .before .args .literals .now in
     let i = c .before .before .before .before .loop .i in
-    let size = c .before .magnitude .ensures ∙ natAbs-bits (getD l i (pos 0)) (c .before .before .magnitude-arg .given) in (
+    let z = getD l i (pos 0) in
+    let size = c .before .absolute .ensures ∙ natAbs-bits z (c .before .before .absolute-arg .given) in (
       omega arith,
       ⊎-elim
-          (λ w. any-found (beyond n) l (c .before .before .before .before .loop .found) i (c .before .before .before .before .loop .inv .1) (pos 0) (c .if1 .found) (c .before .before .before .loop-test .taken) (lt-ltb n (natAbs (getD l i (pos 0))) (rw size at (w .0 .taken))) (w .1))
-          (λ w. any-passed (beyond n) l (c .before .before .before .before .loop .found) i (c .before .before .before .before .loop .inv .1) (pos 0) (c .if1 .found) (c .before .before .before .loop-test .taken) (le-ltb n (natAbs (getD l i (pos 0))) (rw size at (w .0 .left))) (w .1))
+          (λ w. any-found (beyond n) l (c .before .before .before .before .loop .found) i (c .before .before .before .before .loop .inv .1) (pos 0) (c .if1 .found) (c .before .before .before .loop-test .taken) (lt-ltb n (natAbs z) (omega (arith, size, w .0 .taken))) (w .1))
+          (λ w. any-passed (beyond n) l (c .before .before .before .before .loop .found) i (c .before .before .before .before .loop .inv .1) (pos 0) (c .if1 .found) (c .before .before .before .loop-test .taken) (le-ltb n (natAbs z) (omega (arith, size, w .0 .left))) (w .1))
           (c .if1 .came),
     )
 
 returns : tie.Need-returns Inv-loop μ-loop
-unfolding cause-3
 returns c = any-all (beyond (c .before .before .args .unknowns)) (c .before .before .args .literals .now) (c .before .loop .found) (c .before .loop .i) (c .before .loop .inv .1) (c .loop-test .left)
 
 pub has-beyond-spec : {M : Type 1} → statement M
@@ -67,9 +68,9 @@ has-beyond-spec =
     Inv-loop
     μ-loop
     loop-holds
-    mul-magnitude
-    shared-slice-copy-out-magnitude
-    magnitude-requires
+    mul-absolute
+    shared-slice-copy-out-absolute
+    absolute-requires
     add-i
     loop-less
     loop-again

@@ -37,8 +37,8 @@ loop-again c =
     let i = c .before .before .before .loop .i in (
       omega arith,
       ⊎-elim
-          (λ w. any-found other-kind l (c .before .before .before .loop .found) i (c .before .before .before .loop .inv .1) 0 (c .if1 .found) (c .before .before .loop-test .taken) (other-above (getD l i 0) (w .0 .taken)) (w .1))
-          (λ w. any-passed other-kind l (c .before .before .before .loop .found) i (c .before .before .before .loop .inv .1) 0 (c .if1 .found) (c .before .before .loop-test .taken) (kind-below (getD l i 0) (w .0 .left)) (w .1))
+          (λ w. any-found other-kind l (c .before .before .before .loop .found) i (c .before .before .before .loop .inv .1) 0 (c .if1 .found) (c .before .before .loop-test .taken) (other-above (getD l i 0) (omega (arith, w .0 .taken))) (w .1))
+          (λ w. any-passed other-kind l (c .before .before .before .loop .found) i (c .before .before .before .loop .inv .1) 0 (c .if1 .found) (c .before .before .loop-test .taken) (kind-below (getD l i 0) (omega (arith, w .0 .left))) (w .1))
           (c .if1 .came),
     )
 

@@ -1,14 +1,11 @@
 -- `formula::magnitude_at` meets its contract. Assumes nothing.
 use borrow.Author.Needs.{needs}
-use mathlib.Core.Path.{_≡_, sym, ap, _∙_}
+use mathlib.Core.Path.{sym, ap, _∙_}
 use lib.ListN.{getD, List·getD-eq-default}
-use lib.IntN.{ℤ, pos, natAbs}
+use lib.IntN.{pos, natAbs}
 use Rattle.formula.proofs.Opposite.{natAbs-bits}
 use Rattle.formula.proofs.magnitude_at.Statement.{statement}
 use Rattle.formula.proofs.magnitude_at.Tie as tie
-use Rattle.formula.proofs.magnitude_at.Reads as reads
-use Rattle.formula.proofs.magnitude_at.Lts as lts
-use Rattle.formula.proofs.magnitude.Reads as magnitude-reads
 
 mul-magnitude : tie.Need-mul-magnitude
 mul-magnitude c = search needs

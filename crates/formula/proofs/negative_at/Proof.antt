@@ -1,8 +1,8 @@
 -- `formula::negative_at` meets its contract. Assumes nothing.
 use borrow.Author.Needs.{needs, sfits-of}
-use mathlib.Core.Path.{_≡_, sym, ap}
+use mathlib.Core.Path.{sym, ap}
 use lib.ListN.{getD, List·getD-eq-default}
-use lib.IntN.{ℤ, pos}
+use lib.IntN.{pos}
 use mir.Facts.{toZ-ofZ}
 use Rattle.formula.specs.Literal.{negative}
 use Rattle.formula.proofs.Opposite.{below-zero-negative}

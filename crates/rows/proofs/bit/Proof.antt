@@ -12,12 +12,15 @@ use Rattle.rows.proofs.bit.Tie as tie
 
 returns : tie.Need-returns
 returns c =
+    let given = c .before .args in
     sym
-    (ap (λ (l : List ℕ). bit-of l (c .before .args .k)) (row-at-outside (c .before .args .rows .now) (c .before .args .i) (c .if1 .taken))
-    ∙ no-bit-past-end [] (c .before .args .k) zero-le)
+    (ap (λ (l : List ℕ). bit-of l (given .k)) (row-at-outside (given .rows .now) (given .i) (c .if1 .taken))
+    ∙ no-bit-past-end [] (given .k) zero-le)
 
 returns-2 : tie.Need-returns-2
-returns-2 c = sym (no-bit-past-end _ (c .before .before .args .k) (omega (arith, length-row-at (c .before .before .args .rows .now) (c .before .before .args .i) (c .before .if1 .left))))
+returns-2 c =
+    let given = c .before .before .args in
+    sym (no-bit-past-end _ (given .k) (omega (arith, length-row-at (given .rows .now) (given .i) (c .before .if1 .left))))
 
 mul-byte : tie.Need-mul-byte
 mul-byte c = search needs
@@ -35,7 +38,9 @@ shr-result : tie.Need-shr-result
 shr-result c = search needs
 
 returns-3 : tie.Need-returns-3
-returns-3 c = sym (bit-of-row-at (c .before .before .before .args .rows .now) (c .before .before .before .args .i) (c .before .before .before .args .k) (c .before .before .if1 .left) (c .before .if2 .left))
+returns-3 c =
+    let given = c .before .before .before .args in
+    sym (bit-of-row-at (given .rows .now) (given .i) (given .k) (c .before .before .if1 .left) (c .before .if2 .left))
 
 pub bit-spec : {M : Type 1} → statement M
 bit-spec =

@@ -6,10 +6,14 @@ use Rattle.rows.proofs.equal.Statement.{statement}
 use Rattle.rows.proofs.equal.Tie as tie
 
 returns : tie.Need-returns
-returns c = sym (equal-rows-outside (c .before .before .before .args .a .now) (c .before .before .before .args .i) (c .before .before .before .args .b .now) (c .before .before .before .args .j) (c .if1 .taken))
+returns c =
+    let given = c .before .before .before .args in
+    sym (equal-rows-outside (given .a .now) (given .i) (given .b .now) (given .j) (c .if1 .taken))
 
 returns-2 : tie.Need-returns-2
-returns-2 c = sym (equal-rows-other-outside (c .before .before .before .before .args .a .now) (c .before .before .before .before .args .i) (c .before .before .before .before .args .b .now) (c .before .before .before .before .args .j) (c .if2 .taken))
+returns-2 c =
+    let given = c .before .before .before .before .args in
+    sym (equal-rows-other-outside (given .a .now) (given .i) (given .b .now) (given .j) (c .if2 .taken))
 
 mul-same-row : tie.Need-mul-same-row
 mul-same-row c = search needs
@@ -22,7 +26,8 @@ same-row-requires c κs = search needs
 
 returns-3 : tie.Need-returns-3
 returns-3 c =
-    c .same-row .ensures ∙ sym (equal-rows-inside (c .before .before .before .before .before .args .a .now) (c .before .before .before .before .before .args .i) (c .before .before .before .before .before .args .b .now) (c .before .before .before .before .before .args .j) (c .before .before .if1 .left) (c .before .if2 .left))
+    let given = c .before .before .before .before .before .args in
+    c .same-row .ensures ∙ sym (equal-rows-inside (given .a .now) (given .i) (given .b .now) (given .j) (c .before .before .if1 .left) (c .before .if2 .left))
 
 pub equal-spec : {M : Type 1} → statement M
 equal-spec =

@@ -11,22 +11,23 @@ use Rattle.rows.proofs.find.Statement.{statement}
 use Rattle.rows.proofs.find.Tie as tie
 
 abbrev Inv-loop : tie.InvT-loop
-Inv-loop rows count other j end i₀ i = (i ≤ end) × ((q : ℕ) → q < i → equal-rows rows q other j ≡ false)
+Inv-loop rows count other j places i₀ i = ((q : ℕ) → q < i → equal-rows rows q other j ≡ false) × (i ≤ places)
 
 abbrev μ-loop : tie.MeasureT-loop
-μ-loop rows count other j end i₀ i = end - i
+μ-loop rows count other j places i₀ i = places - i
 
 returns : tie.Need-returns Inv-loop μ-loop
 returns c =
+    let given = c .before .before .before .args in
     sym
-    (first-place-none (c .before .before .before .args .rows .now) (c .before .before .before .args .count) (c .before .before .before .args .other .now) (c .before .before .before .args .j)
-    (λ q h. equal-rows-other-outside (c .before .before .before .args .rows .now) q (c .before .before .before .args .other .now) (c .before .before .before .args .j) (c .if1 .taken)))
+    (first-place-none (given .rows .now) (given .count) (given .other .now) (given .j)
+    (λ q h. equal-rows-other-outside (given .rows .now) q (given .other .now) (given .j) (c .if1 .taken)))
 
 rows-below-requires : tie.Need-rows-below-requires Inv-loop μ-loop
 rows-below-requires c κs = tt
 
 loop-holds : tie.Need-loop-holds Inv-loop μ-loop
-loop-holds c = (omega arith, below-none _)
+loop-holds c = (below-none _, omega arith)
 
 mul-same-row : tie.Need-mul-same-row Inv-loop μ-loop
 mul-same-row c = omega arith
@@ -39,12 +40,14 @@ same-row-requires c κs = omega arith
 
 returns-2 : tie.Need-returns-2 Inv-loop μ-loop
 returns-2 c =
+    let given = c .before .before .before .before .before .before .before .before .args in
+    let loop = c .before .before .before .loop in
     sym
-    (first-place-found (c .before .before .before .before .before .before .before .before .args .rows .now) (c .before .before .before .before .before .before .before .before .args .count) (c .before .before .before .before .before .before .before .before .args .other .now) (c .before .before .before .before .before .before .before .before .args .j) (c .before .before .before .loop .i) (omega arith)
-    (equal-rows-inside (c .before .before .before .before .before .before .before .before .args .rows .now) (c .before .before .before .loop .i) (c .before .before .before .before .before .before .before .before .args .other .now) (c .before .before .before .before .before .before .before .before .args .j) (omega arith) (c .before .before .before .before .before .if1 .left)
+    (first-place-found (given .rows .now) (given .count) (given .other .now) (given .j) (loop .i) (omega arith)
+    (equal-rows-inside (given .rows .now) (loop .i) (given .other .now) (given .j) (omega arith) (c .before .before .before .before .before .if1 .left)
     ∙ sym (c .before .same-row .ensures)
     ∙ c .if2 .taken)
-    (c .before .before .before .loop .inv .1))
+    (loop .inv .0))
 
 add-i : tie.Need-add-i Inv-loop μ-loop
 add-i c = omega arith
@@ -53,21 +56,23 @@ loop-less : tie.Need-loop-less Inv-loop μ-loop
 loop-less c = omega arith
 
 loop-again : tie.Need-loop-again Inv-loop μ-loop
-loop-again c = (
-  omega arith,
-  below-more _ _ (c .before .before .before .loop .inv .1)
-      (equal-rows-inside (c .before .before .before .before .before .before .before .before .args .rows .now) (c .before .before .before .loop .i) (c .before .before .before .before .before .before .before .before .args .other .now) (c .before .before .before .before .before .before .before .before .args .j) (omega arith) (c .before .before .before .before .before .if1 .left)
-      ∙ sym (c .before .same-row .ensures)
-      ∙ c .if2 .left),
-)
+loop-again c =
+    let given = c .before .before .before .before .before .before .before .before .args in (
+      below-more _ _ (c .before .before .before .loop .inv .0)
+          (equal-rows-inside (given .rows .now) (c .before .before .before .loop .i) (given .other .now) (given .j) (omega arith) (c .before .before .before .before .before .if1 .left)
+          ∙ sym (c .before .same-row .ensures)
+          ∙ c .if2 .left),
+      omega arith,
+    )
 
 returns-3 : tie.Need-returns-3 Inv-loop μ-loop
 returns-3 c =
+    let given = c .before .before .before .before .before .before .args in
     sym
-    (first-place-none (c .before .before .before .before .before .before .args .rows .now) (c .before .before .before .before .before .before .args .count) (c .before .before .before .before .before .before .args .other .now) (c .before .before .before .before .before .before .args .j)
-    (below-count (λ q. equal-rows (c .before .before .before .before .before .before .args .rows .now) q (c .before .before .before .before .before .before .args .other .now) (c .before .before .before .before .before .before .args .j) ≡ false) (c .before .before .before .before .before .before .args .rows .now) (c .before .before .before .before .before .before .args .count) (c .before .loop .i) (omega arith)
-    (c .before .loop .inv .1)
-    (λ q h. equal-rows-outside (c .before .before .before .before .before .before .args .rows .now) q (c .before .before .before .before .before .before .args .other .now) (c .before .before .before .before .before .before .args .j) h)))
+    (first-place-none (given .rows .now) (given .count) (given .other .now) (given .j)
+    (below-count (λ q. equal-rows (given .rows .now) q (given .other .now) (given .j) ≡ false) (given .rows .now) (given .count) (c .before .loop .i) (omega arith)
+    (c .before .loop .inv .0)
+    (λ q h. equal-rows-outside (given .rows .now) q (given .other .now) (given .j) h)))
 
 pub find-spec : {M : Type 1} → statement M
 find-spec =

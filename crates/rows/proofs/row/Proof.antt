@@ -34,7 +34,9 @@ part-result-end-2 c = search needs
 
 returns-2 : tie.Need-returns-2
 unfolding handed-back
-returns-2 c = rw (lt-ltb (c .before .before .before .args .place) (c .before .before .before .args .count) (c .before .before .if1 .left), row-at-outside (c .before .before .before .args .rows .now) (c .before .before .before .args .place) (c .before .if2 .taken))
+returns-2 c =
+    let given = c .before .before .before .args in
+    rw (lt-ltb (given .place) (given .count) (c .before .before .if1 .left), row-at-outside (given .rows .now) (given .place) (c .before .if2 .taken))
 
 mul-start : tie.Need-mul-start
 mul-start c = search needs
@@ -54,9 +56,10 @@ part-result-end-3 c = search needs
 returns-3 : tie.Need-returns-3
 unfolding handed-back
 returns-3 c =
-    let width : 16 * c .before .before .before .args .place + 16 - 16 * c .before .before .before .args .place ≡ 16 = omega arith in
-    rw (lt-ltb (c .before .before .before .args .place) (c .before .before .before .args .count) (c .before .before .if1 .left), row-at-inside (c .before .before .before .args .rows .now) (c .before .before .before .args .place) (c .before .if2 .left))
-    (ap (λ (n : ℕ). take n (drop (16 * c .before .before .before .args .place) (c .before .before .before .args .rows .now))) width)
+    let given = c .before .before .before .args in
+    let width : 16 * given .place + 16 - 16 * given .place ≡ 16 = omega arith in
+    rw (lt-ltb (given .place) (given .count) (c .before .before .if1 .left), row-at-inside (given .rows .now) (given .place) (c .before .if2 .left))
+    (ap (λ (n : ℕ). take n (drop (16 * given .place) (given .rows .now))) width)
 
 pub row-spec : {M : Type 1} → statement M
 row-spec =

@@ -30,7 +30,9 @@ shared-slice-read-if1-2 : tie.Need-shared-slice-read-if1-2 Inv-loop μ-loop
 shared-slice-read-if1-2 c = omega arith
 
 returns : tie.Need-returns Inv-loop μ-loop
-returns c = sym (differing-parts (c .before .before .before .before .before .args .a .now) (c .before .before .before .before .before .args .x) (c .before .before .before .before .before .args .b .now) (c .before .before .before .before .before .args .y) (c .before .before .before .before .loop .p) (omega arith) (c .if1 .taken))
+returns c =
+    let given = c .before .before .before .before .before .args in
+    sym (differing-parts (given .a .now) (given .x) (given .b .now) (given .y) (c .before .before .before .before .loop .p) (omega arith) (c .if1 .taken))
 
 add-p : tie.Need-add-p Inv-loop μ-loop
 add-p c = omega arith
@@ -42,7 +44,9 @@ loop-again : tie.Need-loop-again Inv-loop μ-loop
 loop-again c = (omega arith, below-more _ _ (c .before .before .before .before .loop .inv .1) (c .if1 .left))
 
 returns-2 : tie.Need-returns-2 Inv-loop μ-loop
-returns-2 c = sym (same-parts (c .before .before .args .a .now) (c .before .before .args .x) (c .before .before .args .b .now) (c .before .before .args .y) (c .before .before .pre .0) (c .before .before .pre .1) (λ q h. c .before .loop .inv .1 q (omega arith)))
+returns-2 c =
+    let given = c .before .before .args in
+    sym (same-parts (given .a .now) (given .x) (given .b .now) (given .y) (c .before .before .pre .0) (c .before .before .pre .1) (λ q h. c .before .loop .inv .1 q (omega arith)))
 
 pub same-row-spec : {M : Type 1} → statement M
 same-row-spec =

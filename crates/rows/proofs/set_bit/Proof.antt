@@ -1,12 +1,14 @@
 -- `rows::set_bit` meets its contract. Assumes nothing.
 use mathlib.Core.Path.{sym, ap, _∙_}
-use Prim.Native.Nat.{_%_, _<_}
-use native.Mathlib.Omega.{arith}
+use Prim.Native.Nat.{ℕ, _+_, _*_, _/_}
+use lib.Bits.{bitOr}
+use lib.ListN.{getD, set}
 use borrow.Author.Needs.{needs}
-use borrow.Author.Tests.{lt-ltb, le-ltb}
+use borrow.Author.Tests.{le-ltb}
 use Rattle.rows.specs.Table.{bit-set}
 use Rattle.rows.proofs.BitLaws.{bit-weight}
 use Rattle.rows.proofs.TableLaws.{inside-true, inside-false}
+use Rattle.rows.proofs.WriteLaws.{bit-set-inside}
 use Rattle.rows.proofs.set_bit.Statement.{statement}
 use Rattle.rows.proofs.set_bit.Tie as tie
 
@@ -16,7 +18,9 @@ returns c = rw (inside-false (c .before .args .rows .now) (c .before .args .i) (
 
 returns-2 : tie.Need-returns-2
 unfolding bit-set
-returns-2 c = rw (inside-true (c .before .before .args .rows .now) (c .before .before .args .i) (c .before .if1 .left), le-ltb (c .before .before .args .k) 128 (c .if2 .taken))
+returns-2 c =
+    let given = c .before .before .args in
+    rw (inside-true (given .rows .now) (given .i) (c .before .if1 .left), le-ltb (given .k) 128 (c .if2 .taken))
 
 mul-place : tie.Need-mul-place
 mul-place c = search needs
@@ -40,8 +44,14 @@ same-length : tie.Need-same-length
 same-length c = search needs
 
 returns-3 : tie.Need-returns-3
-unfolding bit-set
-returns-3 c = rw (inside-true (c .before .before .before .args .rows .now) (c .before .before .before .args .i) (c .before .before .if1 .left), lt-ltb (c .before .before .before .args .k) 128 (c .before .if2 .left), bit-weight (c .before .before .before .args .k))
+returns-3 c =
+    let given = c .before .before .before .args in
+    ap
+    (λ (w : ℕ).
+    set (given .rows .now) (16 * given .i + given .k / 8)
+    (bitOr (getD (given .rows .now) (16 * given .i + given .k / 8) 0) w))
+    (bit-weight (given .k))
+    ∙ sym (bit-set-inside (given .rows .now) (given .i) (given .k) (c .before .before .if1 .left) (c .before .if2 .left))
 
 pub set-bit-spec : {M : Type 1} → statement M
 set-bit-spec =

@@ -30,9 +30,10 @@ stray-in-row-requires c κs = omega arith
 
 returns : tie.Need-returns Inv-loop μ-loop
 returns c =
+    let given = c .before .before .before .before .before .before .args in
     sym
-    (found-stray-rows (c .before .before .before .before .before .before .args .m) (c .before .before .before .before .before .before .args .count) (c .before .before .before .before .before .before .args .rows .now) (c .before .before .before .loop .i) (omega arith)
-    (ap (stray (c .before .before .before .before .before .before .args .m)) (row-at-inside (c .before .before .before .before .before .before .args .rows .now) (c .before .before .before .loop .i) (omega arith)) ∙ sym (c .before .stray-in-row .ensures) ∙ c .if1 .taken))
+    (found-stray-rows (given .m) (given .count) (given .rows .now) (c .before .before .before .loop .i) (omega arith)
+    (ap (stray (given .m)) (row-at-inside (given .rows .now) (c .before .before .before .loop .i) (omega arith)) ∙ sym (c .before .stray-in-row .ensures) ∙ c .if1 .taken))
 
 add-i : tie.Need-add-i Inv-loop μ-loop
 add-i c = omega arith
@@ -49,11 +50,12 @@ loop-again c = (
 
 returns-2 : tie.Need-returns-2 Inv-loop μ-loop
 returns-2 c =
+    let given = c .before .before .before .before .args in
     sym
-    (none-stray-rows (c .before .before .before .before .args .m) (c .before .before .before .before .args .count) (c .before .before .before .before .args .rows .now)
-    (below-count (λ q. stray (c .before .before .before .before .args .m) (row-at (c .before .before .before .before .args .rows .now) q) ≡ false) (c .before .before .before .before .args .rows .now) (c .before .before .before .before .args .count) (c .before .loop .i) (omega arith)
+    (none-stray-rows (given .m) (given .count) (given .rows .now)
+    (below-count (λ q. stray (given .m) (row-at (given .rows .now) q) ≡ false) (given .rows .now) (given .count) (c .before .loop .i) (omega arith)
     (c .before .loop .inv .1)
-    (λ q h. no-stray-outside (c .before .before .before .before .args .m) (c .before .before .before .before .args .rows .now) q h)))
+    (λ q h. no-stray-outside (given .m) (given .rows .now) q h)))
 
 pub stray-bit-spec : {M : Type 1} → statement M
 stray-bit-spec =

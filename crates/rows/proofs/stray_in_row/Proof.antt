@@ -1,6 +1,6 @@
 -- `rows::stray_in_row` meets its contract. The loop's invariant: the bytes passed behind the byte of bit m are zero. Assumes nothing.
 use mathlib.Core.Path.{_≡_, sym, ap, _∙_}
-use mathlib.Core.Bool.{true, false, not-eq-not}
+use mathlib.Core.Bool.{true, not-eq-not}
 use mathlib.Core.List.{List}
 use Prim.Native.Nat.{ℕ, _+_, _-_, _*_, _/_, _%_, _^_, _≤_, _<_}
 use native.Mathlib.Nat.{div-one}
@@ -28,7 +28,9 @@ stray-found t x m p s hp hs beyond below found =
     (λ e. found (ap (λ (y : ℕ). y / 2 ^ s) (sym same) ∙ byte-beyond m (take 16 (drop x t)) p s e (omega arith) hp hs beyond))
 
 returns : tie.Need-returns Inv-loop μ-loop
-returns c = sym (none-stray (c .before .args .m) (take 16 (drop (c .before .args .x) (c .before .args .rows .now))) (λ k low high. absurd (omega arith)))
+returns c =
+    let given = c .before .args in
+    sym (none-stray (given .m) (take 16 (drop (given .x) (given .rows .now))) (λ k low high. absurd (omega arith)))
 
 cast-shift : tie.Need-cast-shift Inv-loop μ-loop
 cast-shift c = omega arith
@@ -44,9 +46,10 @@ shr-if2 c = omega arith
 
 returns-2 : tie.Need-returns-2 Inv-loop μ-loop
 returns-2 c =
+    let given = c .before .before .before .args in
     sym
-    (stray-found (c .before .before .before .args .rows .now) (c .before .before .before .args .x) (c .before .before .before .args .m) (c .before .before .before .args .m / 8) (c .before .before .before .args .m % 8) (omega arith) (omega arith) (omega arith)
-    (c .before .shared-slice-known .given (c .before .before .before .args .x + c .before .before .before .args .m / 8) .fits) (c .if2 .taken))
+    (stray-found (given .rows .now) (given .x) (given .m) (given .m / 8) (given .m % 8) (omega arith) (omega arith) (omega arith)
+    (c .before .shared-slice-known .given (given .x + given .m / 8) .fits) (c .if2 .taken))
 
 add-p : tie.Need-add-p Inv-loop μ-loop
 add-p c = omega arith
@@ -62,9 +65,10 @@ shared-slice-read-if3 c = omega arith
 
 returns-3 : tie.Need-returns-3 Inv-loop μ-loop
 returns-3 c =
+    let given = c .before .before .before .before .before .before .before .args in
     sym
-    (stray-found (c .before .before .before .before .before .before .before .args .rows .now) (c .before .before .before .before .before .before .before .args .x) (c .before .before .before .before .before .before .before .args .m) (c .before .before .before .loop .p) 0 (omega arith) (omega arith) (omega arith)
-    (c .before .before .before .before .before .shared-slice-known .given (c .before .before .before .before .before .before .before .args .x + c .before .before .before .loop .p) .fits)
+    (stray-found (given .rows .now) (given .x) (given .m) (c .before .before .before .loop .p) 0 (omega arith) (omega arith) (omega arith)
+    (c .before .before .before .before .before .shared-slice-known .given (given .x + c .before .before .before .loop .p) .fits)
     (λ e. c .if3 .taken (sym (div-one _) ∙ e)))
 
 add-p-2 : tie.Need-add-p-2 Inv-loop μ-loop
@@ -78,10 +82,11 @@ loop-again c = (omega arith, omega arith, below-more _ _ (c .before .before .bef
 
 returns-4 : tie.Need-returns-4 Inv-loop μ-loop
 returns-4 c =
+    let given = c .before .before .before .before .before .args in
     sym
-    (none-stray-bytes (c .before .before .before .before .before .args .m) (take 16 (drop (c .before .before .before .before .before .args .x) (c .before .before .before .before .before .args .rows .now)))
-    (ap (λ (y : ℕ). y / 2 ^ (c .before .before .before .before .before .args .m % 8)) (getD-part (c .before .before .before .before .before .args .rows .now) (c .before .before .before .before .before .args .x) (c .before .before .before .before .before .args .m / 8) (omega arith)) ∙ c .before .before .if2 .left)
-    (λ p h beyond. getD-part (c .before .before .before .before .before .args .rows .now) (c .before .before .before .before .before .args .x) p h ∙ c .before .loop .inv .2 p (omega arith) beyond))
+    (none-stray-bytes (given .m) (take 16 (drop (given .x) (given .rows .now)))
+    (ap (λ (y : ℕ). y / 2 ^ (given .m % 8)) (getD-part (given .rows .now) (given .x) (given .m / 8) (omega arith)) ∙ c .before .before .if2 .left)
+    (λ p h beyond. getD-part (given .rows .now) (given .x) p h ∙ c .before .loop .inv .2 p (omega arith) beyond))
 
 pub stray-in-row-spec : {M : Type 1} → statement M
 stray-in-row-spec =

@@ -1,10 +1,11 @@
 -- `rows::write` meets its contract. Assumes nothing.
-use mathlib.Core.Path.{refl}
+use mathlib.Core.Path.{refl, sym, ap, _∙_}
 use lib.ListN.{length}
 use borrow.Author.Needs.{needs}
 use borrow.Author.Tests.{lt-ltb, le-ltb}
-use Rattle.rows.specs.Table.{rows-written, marks-written}
+use Rattle.rows.specs.Table.{placed, rows-written, marks-written}
 use Rattle.rows.proofs.TableLaws.{inside-true, inside-false, row-at-inside}
+use Rattle.rows.proofs.WriteLaws.{rows-written-inside, marks-written-inside}
 use Rattle.rows.proofs.write.Statement.{statement}
 use Rattle.rows.proofs.write.Tie as tie
 
@@ -15,15 +16,17 @@ returns c = rw (inside-false (c .before .before .before .before .args .rows .now
 returns-2 : tie.Need-returns-2
 unfolding rows-written marks-written
 returns-2 c =
-    rw (inside-true (c .before .before .before .before .before .args .rows .now) (c .before .before .before .before .before .args .i) (c .before .if1 .left), le-ltb (c .before .before .before .before .before .args .i) (length (c .before .before .before .before .before .args .marks .now)) (c .if2 .taken)) (refl, refl)
+    let given = c .before .before .before .before .before .args in
+    rw (inside-true (given .rows .now) (given .i) (c .before .if1 .left), le-ltb (given .i) (length (given .marks .now)) (c .if2 .taken)) (refl, refl)
 
 returns-3 : tie.Need-returns-3
 unfolding rows-written marks-written
 returns-3 c =
+    let given = c .before .before .before .before .before .before .args in
     rw (
-      inside-true (c .before .before .before .before .before .before .args .rows .now) (c .before .before .before .before .before .before .args .i) (c .before .before .if1 .left),
-      lt-ltb (c .before .before .before .before .before .before .args .i) (length (c .before .before .before .before .before .before .args .marks .now)) (c .before .if2 .left),
-      inside-false (c .before .before .before .before .before .before .args .other .now) (c .before .before .before .before .before .before .args .j) (c .if3 .taken),
+      inside-true (given .rows .now) (given .i) (c .before .before .if1 .left),
+      lt-ltb (given .i) (length (given .marks .now)) (c .before .if2 .left),
+      inside-false (given .other .now) (given .j) (c .if3 .taken),
     )
     (refl, refl)
 
@@ -49,15 +52,13 @@ same-length-2 : tie.Need-same-length-2
 same-length-2 c = search needs
 
 returns-4 : tie.Need-returns-4
-unfolding rows-written marks-written
 returns-4 c =
-    rw (
-      inside-true (c .before .before .before .before .before .before .before .before .before .before .args .rows .now) (c .before .before .before .before .before .before .before .before .before .before .args .i) (c .before .before .before .before .before .before .if1 .left),
-      lt-ltb (c .before .before .before .before .before .before .before .before .before .before .args .i) (length (c .before .before .before .before .before .before .before .before .before .before .args .marks .now)) (c .before .before .before .before .before .if2 .left),
-      inside-true (c .before .before .before .before .before .before .before .before .before .before .args .other .now) (c .before .before .before .before .before .before .before .before .before .before .args .j) (c .before .before .before .before .if3 .left),
-      row-at-inside (c .before .before .before .before .before .before .before .before .before .before .args .other .now) (c .before .before .before .before .before .before .before .before .before .before .args .j) (c .before .before .before .before .if3 .left),
+    let given = c .before .before .before .before .before .before .before .before .before .before .args in (
+      c .before .before .copy-row .ensures
+          ∙ ap (placed (given .rows .now) (given .i)) (sym (row-at-inside (given .other .now) (given .j) (c .before .before .before .before .if3 .left)))
+          ∙ sym (rows-written-inside (given .rows .now) (given .marks .now) (given .i) (given .other .now) (given .j) (c .before .before .before .before .before .before .if1 .left) (c .before .before .before .before .before .if2 .left) (c .before .before .before .before .if3 .left)),
+      sym (marks-written-inside (given .rows .now) (given .marks .now) (given .i) (given .other .now) (given .j) (c .before .before .before .before .before .before .if1 .left) (c .before .before .before .before .before .if2 .left) (c .before .before .before .before .if3 .left) (given .mark)),
     )
-    (c .before .before .copy-row .ensures, refl)
 
 pub write-spec : {M : Type 1} → statement M
 write-spec =

@@ -1,45 +1,29 @@
--- `formula::Formula::check` meets its contract: the tests stand in the order of the causes. Assumes nothing.
+-- `formula::Formula::check` meets its contract: the tests stand in the order of the causes.
+-- Assumes nothing.
+use native.Mathlib.Omega.{arith}
 use borrow.Author.Needs.{needs}
-use borrow.Author.Tests.{lt-ltb, le-ltb}
-use mathlib.Core.Path.{_≡_, sym, ap, _∙_}
-use mathlib.Core.Bool.{true, false, or-true}
-use lib.ListN.{length}
-use Rattle.formula.specs.Causes.{cause-1, cause-2, cause-3, zeros}
-use Rattle.formula.proofs.Order.{refused-1, refused-2, refused-3, accepted-all}
+use mathlib.Core.Path.{_≡_, sym, _∙_}
+use mathlib.Core.Bool.{false}
+use Rattle.formula.specs.Causes.{cause-1, cause-2, cause-3}
+use Rattle.formula.proofs.Order.{cause-1-many, cause-1-other, no-cause-1, cause-2-many, cause-2-zeros, cause-2-last, no-cause-2, cause-3-lowest, refused-1, refused-2, refused-3, none-refused}
 use Rattle.formula.proofs.Formula.check.Statement.{statement}
 use Rattle.formula.proofs.Formula.check.Tie as tie
-use Rattle.formula.proofs.Formula.check.Reads as reads
-use Rattle.formula.proofs.Formula.check.Lts as lts
-use Rattle.formula.proofs.count_universals.Reads as count-universals-reads
-use Rattle.formula.proofs.count_zeros.Reads as count-zeros-reads
-use Rattle.formula.proofs.has_beyond.Reads as has-beyond-reads
-use Rattle.formula.proofs.has_other_kind.Reads as has-other-kind-reads
-use Rattle.formula.proofs.is_ended.Reads as is-ended-reads
 
 returns : tie.Need-returns
-unfolding cause-1
-returns c =
-    refused-1 (c .before .before .args .kinds .now) (c .before .before .args .literals .now) (rw (lt-ltb 128 (length (c .before .before .args .kinds .now)) (c .if1 .taken)))
+returns c = refused-1 _ _ (cause-1-many _ (omega (arith, c .if1 .taken)))
 
 has-other-kind-requires : tie.Need-has-other-kind-requires
 has-other-kind-requires c κs = search needs
 
 returns-2 : tie.Need-returns-2
-unfolding cause-1
-returns-2 c =
-    refused-1 (c .before .before .before .before .args .kinds .now) (c .before .before .before .before .args .literals .now) (simp (sym (c .before .has-other-kind .ensures) ∙ c .if2 .taken, or-true))
+returns-2 c = refused-1 _ _ (cause-1-other _ (sym (c .before .has-other-kind .ensures) ∙ c .if2 .taken))
 
--- Past the first two tests no kind is refused.
+-- Past the first two tests the kinds are not refused.
 kinds-pass : (c : tie.Else2) → cause-1 (c .before .before .before .before .args .kinds .now) ≡ false
-unfolding cause-1
-kinds-pass c =
-    rw (le-ltb 128 (length (c .before .before .before .before .args .kinds .now)) (c .before .before .if1 .left), sym (c .before .has-other-kind .ensures) ∙ c .if2 .left)
+kinds-pass c = no-cause-1 _ (omega (arith, c .before .before .if1 .left)) (sym (c .before .has-other-kind .ensures) ∙ c .if2 .left)
 
 returns-3 : tie.Need-returns-3
-unfolding cause-2
-returns-3 c =
-    refused-2 (c .before .before .before .before .before .args .kinds .now) (c .before .before .before .before .before .args .literals .now) (kinds-pass ((c .before)))
-    (rw (lt-ltb 8192 (length (c .before .before .before .before .before .args .literals .now)) (c .if3 .taken)))
+returns-3 c = refused-2 _ _ (kinds-pass (c .before)) (cause-2-many _ (omega (arith, c .if3 .taken)))
 
 count-zeros-requires : tie.Need-count-zeros-requires
 count-zeros-requires c κs = search needs
@@ -48,50 +32,48 @@ cast-clauses : tie.Need-cast-clauses
 cast-clauses c = search needs
 
 returns-4 : tie.Need-returns-4
-unfolding cause-2
-returns-4 c =
-    refused-2 (c .before .before .before .before .before .before .before .args .kinds .now) (c .before .before .before .before .before .before .before .args .literals .now) (kinds-pass ((c .before .before .before)))
-    (simp (lt-ltb 2048 (zeros (c .before .before .before .before .before .before .before .args .literals .now)) (rw (c .before .count-zeros .ensures) at (c .if4 .taken)), or-true))
+returns-4 c = refused-2 _ _ (kinds-pass (c .before .before .before)) (cause-2-zeros _ (omega (arith, c .before .count-zeros .ensures, c .if4 .taken)))
 
 is-ended-requires : tie.Need-is-ended-requires
 is-ended-requires c κs = search needs
 
 returns-5 : tie.Need-returns-5
-unfolding cause-2
-returns-5 c =
-    refused-2 (c .before .before .before .before .before .before .before .before .before .args .kinds .now) (c .before .before .before .before .before .before .before .before .before .args .literals .now) (kinds-pass ((c .before .before .before .before .before)))
-    (simp (sym (c .before .is-ended .ensures) ∙ c .if5 .left, or-true))
+returns-5 c = refused-2 _ _ (kinds-pass (c .before .before .before .before .before)) (cause-2-last _ (sym (c .before .is-ended .ensures) ∙ c .if5 .left))
 
--- Past the next three no entry is refused for its place.
+-- Past the next three the entries are within the limits and end in 0.
 entries-pass : (c : tie.Then5) → cause-2 (c .before .before .before .before .before .before .before .before .before .args .literals .now) ≡ false
-unfolding cause-2
 entries-pass c =
-    let l = c .before .before .before .before .before .before .before .before .before .args .literals .now in
-    rw (
-      le-ltb 8192 (length l) (c .before .before .before .before .if3 .left),
-      le-ltb 2048 (zeros l) (rw (c .before .before .before .count-zeros .ensures) at (c .before .before .if4 .left)),
-      sym (c .before .is-ended .ensures) ∙ c .if5 .taken,
-    )
+    no-cause-2 _
+    (omega (arith, c .before .before .before .before .if3 .left))
+    (omega (arith, c .before .before .before .count-zeros .ensures, c .before .before .if4 .left))
+    (sym (c .before .is-ended .ensures) ∙ c .if5 .taken)
+
+has-lowest-requires : tie.Need-has-lowest-requires
+has-lowest-requires c κs = search needs
+
+returns-6 : tie.Need-returns-6
+returns-6 c =
+    refused-3 _ _ (kinds-pass (c .before .before .before .before .before .before .before)) (entries-pass (c .before .before))
+    (cause-3-lowest _ _ (omega (arith, c .before .before .before .before .before .before .before .before .before .if1 .left)) (sym (c .before .has-lowest .ensures) ∙ c .if6 .taken))
 
 cast-has-beyond : tie.Need-cast-has-beyond
 cast-has-beyond c = search needs
 
 has-beyond-requires : tie.Need-has-beyond-requires
-has-beyond-requires c κs = search needs
+has-beyond-requires c κs = sym (c .before .has-lowest .ensures) ∙ c .if6 .left
 
-returns-6 : tie.Need-returns-6
-returns-6 c =
-    refused-3 (c .before .before .before .before .before .before .before .before .before .before .before .args .kinds .now) (c .before .before .before .before .before .before .before .before .before .before .before .args .literals .now) (kinds-pass ((c .before .before .before .before .before .before .before))) (entries-pass ((c .before .before)))
-    (sym (c .before .has-beyond .ensures) ∙ c .if6 .taken)
+returns-7 : tie.Need-returns-7
+unfolding cause-3
+returns-7 c = refused-3 _ _ (kinds-pass (c .before .before .before .before .before .before .before .before .before)) (entries-pass (c .before .before .before .before)) (sym (c .before .has-beyond .ensures) ∙ c .if7 .taken)
 
 count-universals-requires : tie.Need-count-universals-requires
 count-universals-requires c κs = search needs
 
-returns-7 : tie.Need-returns-7
-returns-7 c =
-    rw (c .count-universals .ensures, c .before .before .before .before .before .before .count-zeros .ensures)
-    (accepted-all (c .before .before .before .before .before .before .before .before .before .before .before .before .args .kinds .now) (c .before .before .before .before .before .before .before .before .before .before .before .before .args .literals .now) (kinds-pass ((c .before .before .before .before .before .before .before .before))) (entries-pass ((c .before .before .before)))
-    (sym (c .before .before .has-beyond .ensures) ∙ c .before .if6 .left))
+returns-8 : tie.Need-returns-8
+unfolding cause-3
+returns-8 c =
+    rw (c .count-universals .ensures, c .before .before .before .before .before .before .before .before .count-zeros .ensures)
+    (none-refused _ _ (kinds-pass (c .before .before .before .before .before .before .before .before .before .before)) (entries-pass (c .before .before .before .before .before)) (sym (c .before .before .has-beyond .ensures) ∙ c .before .if7 .left))
 
 pub check-spec : {M : Type 1} → statement M
 check-spec =
@@ -106,8 +88,10 @@ check-spec =
     returns-4
     is-ended-requires
     returns-5
+    has-lowest-requires
+    returns-6
     cast-has-beyond
     has-beyond-requires
-    returns-6
+    returns-7
     count-universals-requires
-    returns-7)
+    returns-8)

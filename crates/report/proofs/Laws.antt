@@ -1,0 +1,37 @@
+-- The definitions' cases, as the code tests them. Assumes nothing.
+use mathlib.Core.Path.{_≡_, refl}
+use mathlib.Core.List.{List, _++_, append-assoc}
+use Prim.Native.Nat.{ℕ, zero, suc, _≤_, _<_}
+use lib.ListN.{length, drop}
+use borrow.Author.Tests.{le-leb, lt-leb}
+use Rattle.report.specs.Report.{ascii, decimal, truth, line-two, put, put-count}
+
+pub truth-other : (answer : ℕ) → (answer ≡ 0 → ⊥) → (answer ≡ 1 → ⊥) → truth answer ≡ "-1"
+truth-other zero not-false not-true = absurd (not-false refl)
+truth-other (suc zero) not-false not-true = absurd (not-true refl)
+truth-other (suc (suc answer)) not-false not-true = refl
+
+-- The parts of line two put one behind the other are the line.
+pub line-two-behind : (front : List ℕ) (rounds universal existential : ℕ)
+    → front ++ ascii "c rounds " ++ decimal rounds ++ ascii " universal " ++ decimal universal ++ ascii " existential " ++ decimal existential
+    ++ ascii "\n" ≡ front ++ line-two rounds universal existential
+unfolding line-two
+line-two-behind front rounds universal existential = simp append-assoc
+
+module _ (text buffer : List ℕ) (fits : length text ≤ length buffer) where
+  pub put-fits : put text buffer ≡ text ++ drop (length text) buffer
+  unfolding put
+  put-fits = rw (le-leb (length text) (length buffer) fits)
+
+  pub put-count-fits : put-count text buffer ≡ length text
+  unfolding put-count
+  put-count-fits = rw (le-leb (length text) (length buffer) fits)
+
+module _ (text buffer : List ℕ) (short : length buffer < length text) where
+  pub put-short : put text buffer ≡ buffer
+  unfolding put
+  put-short = rw (lt-leb (length text) (length buffer) short)
+
+  pub put-count-short : put-count text buffer ≡ 0
+  unfolding put-count
+  put-count-short = rw (lt-leb (length text) (length buffer) short)
