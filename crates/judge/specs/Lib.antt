@@ -1,0 +1,2 @@
+-- The definitions of 01's 'The judge'.
+pub mod Judge
