@@ -1,9 +1,9 @@
 -- Lines after the p line, as the counts and the tables hold what they give. Assumes nothing.
-use Prim.Native.Nat.{ℕ, zero, suc, _+_, _≤_, _<_}
-use mathlib.Core.Path.{_≡_, refl, ap, sym, _∙_, subst}
-use mathlib.Core.Bool.{Bool, true, false, _&&_}
-use mathlib.Core.List.{List, [], _∷_}
-use lib.Dec.{eqb, ltb}
+use Prim.Native.Nat.{ℕ, zero, suc, _≤_}
+use mathlib.Core.Path.{_≡_, refl, subst}
+use mathlib.Core.Bool.{true, false, _&&_}
+use mathlib.Core.List.{List}
+use lib.Dec.{eqb}
 use lib.IntN.{ℤ}
 use lib.ListN.{length}
 use native.Mathlib.Omega.{arith}
@@ -11,7 +11,7 @@ use Rattle.formula.specs.Formula.{max-unknowns, max-entries}
 use Rattle.text.specs.declared.body.Counts.{Counts}
 use Rattle.text.specs.Lines.{Bytes, words}
 use Rattle.text.specs.Shapes.{is-prefix, is-clause}
-use Rattle.text.specs.Reading.{State, Step, went, fault, unless, prefix-line, clause-line, clause-read, add-entries, body-line, Result, refused, taken, go-on}
+use Rattle.text.specs.Reading.{State, went, fault, unless, prefix-line, clause-line, clause-read, body-line, Result, go-on}
 use Rattle.text.specs.Steps.{Sized, settled}
 
 -- The sizes do not hang on the cause, the line and the clauses.

@@ -1,8 +1,8 @@
 -- The first line of a text from a place on. Assumes nothing.
-use Prim.Native.Nat.{ℕ, zero, suc, _+_, _-_, _≤_, _<_}
-use mathlib.Core.Path.{_≡_, refl, ap, sym, _∙_}
+use Prim.Native.Nat.{ℕ, suc, _+_, _-_, _≤_, _<_}
+use mathlib.Core.Path.{_≡_, refl, _∙_}
 use mathlib.Core.Bool.{Bool, true, false}
-use mathlib.Core.List.{List, [], _∷_}
+use mathlib.Core.List.{[], _∷_}
 use native.Mathlib.Nat.{add-zero}
 use native.Mathlib.Numerals.{add-one}
 use native.Mathlib.Omega.{arith}
@@ -10,10 +10,9 @@ use borrow.Author.Tests.{eqb-true}
 use lib.Dec.{eqb}
 use lib.ListN.{length, getD, take, drop, length-drop, drop-of-length-le}
 use lib.Seq.{drop-cons, drop-drop, getD-drop, take-all}
-use Rattle.text.specs.Lines.{Bytes, pieces, Line, ended, unended, as-lines, remainder, lines}
+use Rattle.text.specs.Lines.{Bytes, pieces, ended, unended, as-lines, remainder, lines}
 use Rattle.text.specs.Shapes.{is-comment}
 use Rattle.text.specs.Steps.{before, more-if-not}
-use Rattle.text.proofs.Spans.{before-le}
 use Rattle.text.proofs.Pieces.{after, pieces-first}
 
 -- A piece with others behind it is a line.

@@ -1,8 +1,8 @@
 -- The words of prefix and clause lines, taken from the left into tables. Assumes nothing.
 use Prim.Native.Nat.{ℕ, zero, suc, _+_, _≤_, _<_}
-use mathlib.Core.Path.{_≡_, refl, ap, sym, _∙_}
+use mathlib.Core.Path.{_≡_, refl, _∙_}
 use mathlib.Core.Bool.{Bool, true, false, cond, not}
-use mathlib.Core.List.{List, [], _∷_, _++_}
+use mathlib.Core.List.{List, _∷_}
 use native.Mathlib.Numerals.{add-one}
 use native.Mathlib.Omega.{arith}
 use borrow.Author.Tests.{eq-eqb, ne-eqb, ltb-true, ltb-false}
@@ -13,7 +13,7 @@ use lib.Seq.{take-suc-set, length-take-le}
 use Rattle.formula.specs.Formula.{max-unknowns, max-entries}
 use Rattle.text.specs.Lines.{Bytes}
 use Rattle.text.specs.Numbers.{number, unsigned, is-zero}
-use Rattle.text.specs.Reading.{State, Step, went, fault, unless, position, name-cause, with-prefix, bind, bind-all, room-cause, literal-cause, entry, with-literals, add-entry, add-entries}
+use Rattle.text.specs.Reading.{State, Step, went, unless, position, name-cause, with-prefix, bind, bind-all, literal-cause, entry, with-literals, add-entry, add-entries}
 
 pub refused-alike : (cause : ℕ) → (cause ≡ 0 → ⊥) → (t u : Step) → unless cause t ≡ unless cause u
 refused-alike zero h t u = absurd (h refl)

@@ -8,8 +8,9 @@ use lib.IntN.{ℤ}
 use lib.ListN.{length, take, drop}
 use Rattle.formula.specs.Formula.{max-unknowns, max-clauses, max-entries}
 use Rattle.text.specs.declared.body.Counts.{Counts}
-use Rattle.text.specs.Lines.{Bytes, lines, words, first, rest, third, fourth}
+use Rattle.text.specs.Lines.{Bytes, lines, words, first, rest, second, third, fourth, same}
 use Rattle.text.specs.Numbers.{number, no-number, is-name, is-literal}
+use Rattle.text.specs.Shapes.{is-trimmed, p-word, cnf-word}
 use Rattle.text.specs.Reading.{max-variables, State, Step, went, unless, with-prefix, with-literals, bind-all, add-entries, literal-cause, entry, problem-cause, problem, after-comments, Result, taken, refused}
 
 -- The number of bytes before the first b.
@@ -48,6 +49,11 @@ good true w = is-literal w
 -- The cause of the p line's numbers.
 unfoldable pub range-cause : ℕ → ℕ → ℕ
 range-cause v c = cond (ltb v no-number && ltb c no-number) (cond (ltb max-variables v) 11 (cond (ltb max-clauses c) 11 0)) 10
+
+pub record Opening-read (line : Bytes) (good : Bool) (end : ℕ) : Type 0 where
+  pub right : good ≡ (is-trimmed line && same (first (words line)) p-word && same (second (words line)) cnf-word)
+  pub within : end ≤ length line
+  pub others : words (drop end line) ≡ rest (rest (words line))
 
 pub record Problem-read (line : Bytes) (cause variables clauses : ℕ) : Type 0 where
   pub right : cause ≡ problem-cause line

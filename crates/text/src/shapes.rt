@@ -5,7 +5,7 @@ ghost use Prim.Native.Nat.{_≤_};
 ghost use lib.ListN.{length, drop};
 ghost use Rattle.text.specs.Lines.{words, same};
 ghost use Rattle.text.specs.Shapes.{a-word, e-word, is-trimmed as trimmed-shape, is-prefix as prefix-shape, is-clause as clause-shape, closed-by-zero};
-ghost use Rattle.text.specs.Steps.{Problem-read, range-cause as range, good};
+ghost use Rattle.text.specs.Steps.{Problem-read, Opening-read, range-cause as range, good};
 use crate::lines;
 use crate::numbers;
 use formula::Formula;
@@ -24,46 +24,26 @@ pub(crate) struct Problem {
 pub(crate) fn read_problem(line: &[u8]) -> Problem
     ensures { λ r. ⌜ Problem-read (now (line .entry)) (r .cause) (r .variables) (r .clauses) ⌝ }
 {
-    let p = lines::next(line, 0);
-    let cnf = lines::next(line, p.end);
-    let v = lines::next(line, cnf.end);
+    let opening = opens(line);
+    let v = lines::next(line, opening.end);
     let c = lines::next(line, v.end);
     let more = lines::next(line, c.end);
-    let p_start = p.start;
-    let p_end = p.end;
-    let cnf_start = cnf.start;
-    let cnf_end = cnf.end;
     let v_start = v.start;
     let v_end = v.end;
     let c_start = c.start;
     let c_end = c.end;
     let variables = numbers::number(&line[v_start..v_end]);
     let clauses = numbers::number(&line[c_start..c_end]);
-    let cause = 10;
-    if is_trimmed(line) {} else {
+    if opening.good {} else {
         return Problem {
-            cause,
-            variables,
-            clauses,
-        };
-    }
-    if numbers::same(&line[p_start..p_end], b"p") {} else {
-        return Problem {
-            cause,
-            variables,
-            clauses,
-        };
-    }
-    if numbers::same(&line[cnf_start..cnf_end], b"cnf") {} else {
-        return Problem {
-            cause,
+            cause: 10,
             variables,
             clauses,
         };
     }
     if more.start != more.end {
         return Problem {
-            cause,
+            cause: 10,
             variables,
             clauses,
         };
@@ -72,6 +52,39 @@ pub(crate) fn read_problem(line: &[u8]) -> Problem
         cause: range_cause(variables, clauses),
         variables,
         clauses,
+    }
+}
+
+// Whether a line opens as the p line does, and where its second word ends.
+struct Opening {
+    good: bool,
+    end: usize,
+}
+
+fn opens(line: &[u8]) -> Opening
+    ensures { λ r. ⌜ Opening-read (now (line .entry)) (r .good) (r .end) ⌝ }
+{
+    let p = lines::next(line, 0);
+    let cnf = lines::next(line, p.end);
+    let p_start = p.start;
+    let p_end = p.end;
+    let cnf_start = cnf.start;
+    let cnf_end = cnf.end;
+    if is_trimmed(line) {} else {
+        return Opening {
+            good: false,
+            end: cnf_end,
+        };
+    }
+    if numbers::same(&line[p_start..p_end], b"p") {} else {
+        return Opening {
+            good: false,
+            end: cnf_end,
+        };
+    }
+    Opening {
+        good: numbers::same(&line[cnf_start..cnf_end], b"cnf"),
+        end: cnf_end,
     }
 }
 

@@ -3,13 +3,10 @@ use Prim.Native.Nat.{_-_, _≤_}
 use mathlib.Core.Path.{_≡_, refl}
 use mathlib.Core.List.{_++_}
 use native.Mathlib.Omega.{arith}
-use lib.IntN.{pos}
 use lib.ListN.{length, take, drop, length-set}
 use Rattle.text.proofs.Tables.{copied-more}
 use Rattle.text.proofs.copy_names.Statement.{statement}
 use Rattle.text.proofs.copy_names.Tie as tie
-use Rattle.text.proofs.copy_names.Reads as reads
-use Rattle.text.proofs.copy_names.Lts as lts
 
 abbrev Inv-loop : tie.InvT-loop
 Inv-loop to₀ from n i₀ to i = (i ≤ n) × (length to ≡ length to₀) × (to ≡ take i from ++ drop i to₀)
@@ -17,43 +14,33 @@ Inv-loop to₀ from n i₀ to i = (i ≤ n) × (length to ≡ length to₀) × (
 abbrev μ-loop : tie.MeasureT-loop
 μ-loop to₀ from n i₀ to i = n - i
 
--- src/lib.rt:153:5
 loop-holds : tie.Need-loop-holds Inv-loop μ-loop
 loop-holds c = (omega arith, refl, refl)
 
--- src/lib.rt:154:17
 mul-to : tie.Need-mul-to Inv-loop μ-loop
 mul-to c = omega arith
 
--- src/lib.rt:154:17
 shared-slice-read-to : tie.Need-shared-slice-read-to Inv-loop μ-loop
 shared-slice-read-to c = omega arith
 
--- src/lib.rt:154:9
 mul-to-2 : tie.Need-mul-to-2 Inv-loop μ-loop
 mul-to-2 c = omega arith
 
--- src/lib.rt:154:9
 slice-write-to : tie.Need-slice-write-to Inv-loop μ-loop
 slice-write-to c = omega arith
 
--- src/lib.rt:155:9
 add-i : tie.Need-add-i Inv-loop μ-loop
 add-i c = omega arith
 
--- src/lib.rt:153:5
 loop-less : tie.Need-loop-less Inv-loop μ-loop
 loop-less c = omega arith
 
--- src/lib.rt:153:5
 loop-again : tie.Need-loop-again Inv-loop μ-loop
 loop-again c = (omega arith, simp length-set (c .before .before .loop .inv .1), rw (c .before .before .loop .inv .2) (copied-more 0 (c .before .before .before .args .from .now) (c .before .before .before .args .to .now) (c .before .before .loop .i) (omega arith) (omega arith)))
 
--- src/lib.rt:148:1
 same-length : tie.Need-same-length Inv-loop μ-loop
 same-length c = c .before .loop .inv .1
 
--- src/lib.rt:148:1
 returns : tie.Need-returns Inv-loop μ-loop
 returns c = let e : c .before .loop .i ≡ c .before .before .args .n = omega arith in rw (← e) (c .before .loop .inv .2)
 

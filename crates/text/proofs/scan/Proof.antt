@@ -1,9 +1,9 @@
 -- The c lines, the p line, and the lines after it. Assumes nothing.
-use Prim.Native.Nat.{_+_, _-_, _≤_, _<_}
-use mathlib.Core.Path.{_≡_, refl, ap, sym, _∙_}
+use Prim.Native.Nat.{_<_}
+use mathlib.Core.Path.{refl, sym, _∙_}
 use native.Mathlib.Omega.{arith}
 use native.Mathlib.Numerals.{add-one}
-use lib.ListN.{length, take, drop, length-drop}
+use lib.ListN.{length, drop, length-drop}
 use Rattle.text.specs.Reading.{opened}
 use Rattle.text.specs.Steps.{held, outcome}
 use Rattle.text.proofs.Spans.{before-le}
@@ -12,96 +12,70 @@ use Rattle.text.proofs.BodyLaws.{nothing-held, settled-refused}
 use borrow.Author.Needs.{needs}
 use Rattle.text.proofs.scan.Statement.{statement}
 use Rattle.text.proofs.scan.Tie as tie
-use Rattle.text.proofs.scan.Reads as reads
-use Rattle.text.proofs.scan.Lts as lts
-use Rattle.text.proofs.body.read_body.Reads as read-body-reads
-use Rattle.text.proofs.body.refused.Reads as refused-reads
-use Rattle.text.proofs.comments.Reads as comments-reads
-use Rattle.text.proofs.lines.find.Reads as find-reads
-use Rattle.text.proofs.shapes.read_problem.Reads as read-problem-reads
 
--- src/lib.rt:74:9
 comments-requires : tie.Need-comments-requires
 comments-requires c κs = search needs
 
--- src/lib.rt:78:9
 refused-requires : tie.Need-refused-requires
 refused-requires c κs = search needs
 
--- src/lib.rt:78:9
 returns : tie.Need-returns
 unfolding outcome held opened
 returns c = record { sized = nothing-held (c .refused .ensures) (c .before .before .before .before .before .before .pre); right = rw (c .refused .ensures .0, c .refused .ensures .1, ← c .before .before .comments .ensures .right, lines-none (c .before .before .before .before .before .before .args .text .now) (c .before .before .comments .result .at) (omega arith)) refl }
 
--- src/lib.rt:80:9
 find-requires : tie.Need-find-requires
 find-requires c κs = search needs
 
--- src/lib.rt:82:9
 refused-requires-2 : tie.Need-refused-requires-2
 refused-requires-2 c κs = search needs
 
--- src/lib.rt:82:9
 returns-2 : tie.Need-returns-2
 unfolding outcome held opened
 returns-2 c = record { sized = nothing-held (c .refused2 .ensures) (c .before .before .before .before .before .before .before .before .pre); right = rw (c .refused2 .ensures .0, c .refused2 .ensures .1, ← c .before .before .before .before .comments .ensures .right, lines-rest (c .before .before .before .before .before .before .before .before .args .text .now) (c .before .before .before .before .comments .result .at) (c .before .before .find .result) (c .before .before .find .ensures) (omega arith) (c .before .if2 .taken)) refl }
 
--- src/lib.rt:84:34
 sub-read-problem : tie.Need-sub-read-problem
 sub-read-problem c = search needs
 
--- src/lib.rt:84:34
 part-read-problem-start : tie.Need-part-read-problem-start
 part-read-problem-start c = search needs
 
--- src/lib.rt:84:34
 part-read-problem-end : tie.Need-part-read-problem-end
 part-read-problem-end c = omega (arith, before-le 10 (drop (c .before .before .before .comments .result .at) (c .before .before .before .before .before .before .before .args .text .now)), length-drop (c .before .before .before .comments .result .at) (c .before .before .before .before .before .before .before .args .text .now))
 
--- src/lib.rt:84:9
 read-problem-requires : tie.Need-read-problem-requires
 read-problem-requires c κs = search needs
 
--- src/lib.rt:86:9
 refused-requires-3 : tie.Need-refused-requires-3
 refused-requires-3 c κs = search needs
 
--- src/lib.rt:86:9
 returns-3 : tie.Need-returns-3
 unfolding outcome held opened
 returns-3 c =
     let inside : c .before .before .before .before .before .before .find .result < length (c .before .before .before .before .before .before .before .before .before .before .before .before .args .text .now) = omega (arith, before-le 10 (drop (c .before .before .before .before .before .before .before .before .comments .result .at) (c .before .before .before .before .before .before .before .before .before .before .before .before .args .text .now)), length-drop (c .before .before .before .before .before .before .before .before .comments .result .at) (c .before .before .before .before .before .before .before .before .before .before .before .before .args .text .now)) in
     record { sized = nothing-held (c .refused3 .ensures) (c .before .before .before .before .before .before .before .before .before .before .before .before .pre); right = rw (c .refused3 .ensures .0, c .refused3 .ensures .1, ← c .before .before .before .before .before .before .before .before .comments .ensures .right, lines-line (c .before .before .before .before .before .before .before .before .before .before .before .before .args .text .now) (c .before .before .before .before .before .before .before .before .comments .result .at) (c .before .before .before .before .before .before .find .result) (c .before .before .before .before .before .before .find .ensures) inside, ← c .before .before .before .read-problem .ensures .right) (sym (settled-refused (c .before .before .before .read-problem .result .cause) (c .before .if3 .taken) _ _ _ _)) }
 
--- src/lib.rt:95:15
 add-read-body : tie.Need-add-read-body
 add-read-body c = search needs
 
--- src/lib.rt:97:27
 add-read-body-2 : tie.Need-add-read-body-2
 add-read-body-2 c =
     let inside : c .before .before .before .before .before .find .result < length (c .before .before .before .before .before .before .before .before .before .before .before .args .text .now) = omega (arith, before-le 10 (drop (c .before .before .before .before .before .before .before .comments .result .at) (c .before .before .before .before .before .before .before .before .before .before .before .args .text .now)), length-drop (c .before .before .before .before .before .before .before .comments .result .at) (c .before .before .before .before .before .before .before .before .before .before .before .args .text .now)) in
     omega arith
 
--- src/lib.rt:97:5
 read-body-requires : tie.Need-read-body-requires
 read-body-requires c κs =
     let inside : c .before .before .before .before .before .before .before .before .find .result < length (c .before .before .before .before .before .before .before .before .before .before .before .before .before .before .args .text .now) = omega (arith, before-le 10 (drop (c .before .before .before .before .before .before .before .before .before .before .comments .result .at) (c .before .before .before .before .before .before .before .before .before .before .before .before .before .before .args .text .now)), length-drop (c .before .before .before .before .before .before .before .before .before .before .comments .result .at) (c .before .before .before .before .before .before .before .before .before .before .before .before .before .before .args .text .now)) in
     (record { kinds = c .before .before .before .before .before .before .before .before .before .before .before .before .before .before .pre .0; names = c .before .before .before .before .before .before .before .before .before .before .before .before .before .before .pre .1; literals = c .before .before .before .before .before .before .before .before .before .before .before .before .before .before .pre .2; unknowns = omega arith; entries = omega arith; variables = c .before .before .before .before .before .read-problem .ensures .small (c .before .before .before .if3 .left) }, (omega arith, omega (arith, c .before .before .before .before .before .before .before .before .before .before .comments .ensures .small), refl))
 
--- src/lib.rt:70:1
 same-length : tie.Need-same-length
 same-length c = search needs
 
--- src/lib.rt:70:1
 same-length-2 : tie.Need-same-length-2
 same-length-2 c = search needs
 
--- src/lib.rt:70:1
 same-length-3 : tie.Need-same-length-3
 same-length-3 c = search needs
 
--- src/lib.rt:70:1
 returns-4 : tie.Need-returns-4
 unfolding outcome held opened
 returns-4 c =

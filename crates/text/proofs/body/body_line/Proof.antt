@@ -1,7 +1,6 @@
 -- A line is a prefix line, a clause line, or refused. Assumes nothing.
 use mathlib.Core.Path.{refl, sym, _∙_}
 use borrow.Author.Needs.{needs}
-use Rattle.text.specs.Reading.{body-line}
 use Rattle.text.specs.Steps.{held}
 use Rattle.text.proofs.BodyLaws.{resized, body-prefix, body-clause, body-none}
 use Rattle.text.proofs.body.body_line.Statement.{statement}

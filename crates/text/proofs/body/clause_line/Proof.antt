@@ -1,37 +1,29 @@
 -- A clause line adds its entries, unless it is one too many. Assumes nothing.
-use mathlib.Core.Path.{_≡_, refl, ap, sym, _∙_}
+use mathlib.Core.Path.{refl, sym, _∙_}
 use native.Mathlib.Omega.{arith}
-use borrow.Author.Tests.{lt-ltb, le-ltb, lt-leb, le-leb, eq-eqb, ne-eqb}
+use borrow.Author.Tests.{lt-ltb, le-ltb}
 use native.Mathlib.Numerals.{add-one}
 use lib.ListN.{take}
-use Rattle.text.specs.Reading.{clause-line, clause-read, with-literals}
+use Rattle.text.specs.Reading.{clause-line, with-literals}
 use Rattle.text.specs.Steps.{held}
 use Rattle.text.proofs.BodyLaws.{resized, clause-read-unless}
 use borrow.Author.Needs.{needs}
 use Rattle.text.proofs.body.clause_line.Statement.{statement}
 use Rattle.text.proofs.body.clause_line.Tie as tie
-use Rattle.text.proofs.body.clause_line.Reads as reads
-use Rattle.text.proofs.body.clause_line.Lts as lts
-use Rattle.text.proofs.names.add_entries.Reads as add-entries-reads
 
--- src/body.rt:109:9
 returns : tie.Need-returns
 unfolding clause-line held
-returns c = λ K z. record { sized = resized refl refl refl z; line = refl; right = rw (le-ltb ((c .before .before .before .before .args .c) .«clauses_read») ((c .before .before .before .before .args .c) .clauses) (c .if1 .taken)) refl }
+returns c = λ K z. record { sized = resized refl refl refl z; line = refl; right = rw (le-ltb ((c .before .before .before .before .args .c) .«clauses_read») ((c .before .before .before .before .args .c) .clauses) (omega arith)) refl }
 
--- src/body.rt:111:9
 add-entries-requires : tie.Need-add-entries-requires
 add-entries-requires c κs = search needs
 
--- src/body.rt:114:5
 add-s : tie.Need-add-s
 add-s c = search needs
 
--- src/body.rt:102:1
 same-length : tie.Need-same-length
 same-length c = search needs
 
--- src/body.rt:102:1
 returns-2 : tie.Need-returns-2
 unfolding clause-line held
 returns-2 c = λ K z.
@@ -39,7 +31,7 @@ returns-2 c = λ K z.
     record {
       sized = record { kinds = z .kinds; names = z .names; literals = c .before .before .add-entries .kept .1 .1 .1 .1 .1 .0 ∙ z .literals; unknowns = z .unknowns; entries = c .before .before .add-entries .ensures .room; variables = z .variables };
       line = refl;
-      right = rw (lt-ltb ((c .before .before .before .before .before .before .before .before .args .c) .«clauses_read») ((c .before .before .before .before .before .before .before .before .args .c) .clauses) (c .before .before .before .before .if1 .left), ← added)
+      right = rw (lt-ltb ((c .before .before .before .before .before .before .before .before .args .c) .«clauses_read») ((c .before .before .before .before .before .before .before .before .args .c) .clauses) (omega arith), ← added)
           (sym (clause-read-unless (c .before .before .add-entries .result .cause) (with-literals (held (c .before .before .before .before .before .before .before .before .args .c) K (c .before .before .before .before .before .before .before .before .args .names .now) (c .before .before .before .before .before .before .before .before .args .literals .now)) (take (c .before .before .add-entries .result .count) (c .before .before .add-entries .last .1 .1 .1 .1 .1 .0))) ∙ rw (← add-one ((c .before .before .before .before .before .before .before .before .args .c) .«clauses_read»)) refl));
     }
 

@@ -1,50 +1,35 @@
 -- A prefix line binds its names with the kind of its first word. Assumes nothing.
-use mathlib.Core.Path.{_≡_, refl, ap, ap₂, sym, _∙_}
-use Rattle.text.specs.Lines.{words, first, rest}
+use mathlib.Core.Path.{refl, ap, ap₂, _∙_}
 use Rattle.text.specs.Reading.{prefix-line, kind-of-word, bind-all}
 use Rattle.text.specs.Steps.{held}
 use borrow.Author.Needs.{needs}
 use Rattle.text.proofs.body.prefix_line.Statement.{statement}
 use Rattle.text.proofs.body.prefix_line.Tie as tie
-use Rattle.text.proofs.body.prefix_line.Reads as reads
-use Rattle.text.proofs.body.prefix_line.Lts as lts
-use Rattle.text.proofs.body.kind_of.Reads as kind-of-reads
-use Rattle.text.proofs.lines.next.Reads as next-reads
-use Rattle.text.proofs.names.bind_all.Reads as bind-all-reads
 
--- src/body.rt:84:9
 next-requires : tie.Need-next-requires
 next-requires c κs = search needs
 
--- src/body.rt:87:24
 sub-kind-of : tie.Need-sub-kind-of
 sub-kind-of c = search needs
 
--- src/body.rt:87:24
 part-kind-of-start : tie.Need-part-kind-of-start
 part-kind-of-start c = search needs
 
--- src/body.rt:87:24
 part-kind-of-end : tie.Need-part-kind-of-end
 part-kind-of-end c = search needs
 
--- src/body.rt:87:9
 kind-of-requires : tie.Need-kind-of-requires
 kind-of-requires c κs = search needs
 
--- src/body.rt:88:9
 bind-all-requires : tie.Need-bind-all-requires
 bind-all-requires c κs = search needs
 
--- src/body.rt:80:1
 same-length : tie.Need-same-length
 same-length c = search needs
 
--- src/body.rt:80:1
 same-length-2 : tie.Need-same-length-2
 same-length-2 c = search needs
 
--- src/body.rt:80:1
 returns : tie.Need-returns
 unfolding prefix-line held
 returns c = λ M z.

@@ -7,8 +7,6 @@ use Rattle.text.specs.Steps.{before}
 use Rattle.text.proofs.Spans.{before-here, before-past, before-end}
 use Rattle.text.proofs.lines.find.Statement.{statement}
 use Rattle.text.proofs.lines.find.Tie as tie
-use Rattle.text.proofs.lines.find.Reads as reads
-use Rattle.text.proofs.lines.find.Lts as lts
 
 abbrev Inv-loop : tie.InvT-loop
 Inv-loop bytes i b at₀ at = (at ≤ length bytes) × (i + before b (drop i bytes) ≡ at + before b (drop at bytes))
@@ -16,31 +14,24 @@ Inv-loop bytes i b at₀ at = (at ≤ length bytes) × (i + before b (drop i byt
 abbrev μ-loop : tie.MeasureT-loop
 μ-loop bytes i b at₀ at = length bytes - at
 
--- src/lines.rt:28:5
 loop-holds : tie.Need-loop-holds Inv-loop μ-loop
 loop-holds c = (c .pre, refl)
 
--- src/lines.rt:29:12
 shared-slice-read-if1 : tie.Need-shared-slice-read-if1 Inv-loop μ-loop
 shared-slice-read-if1 c = omega arith
 
--- src/lines.rt:30:13
 returns : tie.Need-returns Inv-loop μ-loop
 returns c = omega (arith, before-here (c .before .before .before .before .args .b) (c .before .before .before .before .args .bytes .now) (c .before .before .before .loop .at) (c .before .before .loop-test .taken) (c .if1 .taken))
 
--- src/lines.rt:32:9
 add-at : tie.Need-add-at Inv-loop μ-loop
 add-at c = omega arith
 
--- src/lines.rt:28:5
 loop-less : tie.Need-loop-less Inv-loop μ-loop
 loop-less c = omega arith
 
--- src/lines.rt:28:5
 loop-again : tie.Need-loop-again Inv-loop μ-loop
 loop-again c = omega (arith, before-past (c .before .before .before .before .args .b) (c .before .before .before .before .args .bytes .now) (c .before .before .before .loop .at) (c .before .before .loop-test .taken) (c .if1 .left))
 
--- src/lines.rt:23:1
 returns-2 : tie.Need-returns-2 Inv-loop μ-loop
 returns-2 c = omega (arith, before-end (c .before .before .args .b) (c .before .before .args .bytes .now) (c .before .loop .at) (c .loop-test .left))
 

@@ -1,66 +1,47 @@
 -- The causes of a word of a clause line are tested in the definition's order. Assumes nothing.
-use mathlib.Core.Path.{_≡_, refl, ap, sym, _∙_}
+use mathlib.Core.Path.{refl}
 use native.Mathlib.Omega.{arith}
-use borrow.Author.Tests.{lt-ltb, le-ltb, lt-leb, le-leb, eq-eqb, ne-eqb}
+use borrow.Author.Tests.{lt-ltb, le-ltb, eq-eqb, ne-eqb}
 use mir.Syntax.{w32}
 use mir.ValLaws.{toZ-ofZ}
 use Rattle.text.specs.Reading.{literal-cause, entry}
 use borrow.Author.Needs.{needs}
 use Rattle.text.proofs.names.entry.Statement.{statement}
 use Rattle.text.proofs.names.entry.Tie as tie
-use Rattle.text.proofs.names.entry.Reads as reads
-use Rattle.text.proofs.names.entry.Lts as lts
-use Rattle.text.proofs.names.position.Reads as position-reads
-use Rattle.text.proofs.names.room_cause.Reads as room-cause-reads
-use Rattle.text.proofs.names.signed.Reads as signed-reads
-use Rattle.text.proofs.numbers.magnitude.Reads as magnitude-reads
-use Rattle.text.proofs.numbers.negative.Reads as negative-reads
-use Rattle.text.proofs.numbers.number.Reads as number-reads
 
--- src/names.rt:102:8
 number-requires : tie.Need-number-requires
 number-requires c κs = search needs
 
--- src/names.rt:103:33
 room-cause-requires : tie.Need-room-cause-requires
 room-cause-requires c κs = search needs
 
--- src/names.rt:103:9
 returns : tie.Need-returns
 unfolding literal-cause entry
 returns c = record { right = rw (← c .before .before .number .ensures, eq-eqb (c .before .before .number .result) 0 (c .before .if1 .taken)) (c .room-cause .ensures); written = λ h. rw (← c .before .before .number .ensures, eq-eqb (c .before .before .number .result) 0 (c .before .if1 .taken)) refl }
 
--- src/names.rt:105:9
 magnitude-requires : tie.Need-magnitude-requires
 magnitude-requires c κs = search needs
 
--- src/names.rt:107:9
 returns-2 : tie.Need-returns-2
 unfolding literal-cause entry
 returns-2 c = record { right = rw (← c .before .before .before .number .ensures, ne-eqb (c .before .before .before .number .result) 0 (c .before .before .if1 .left), ← c .before .magnitude .ensures, lt-ltb (c .before .before .before .before .before .before .args .variables) (c .before .magnitude .result) (c .if2 .taken)) refl; written = λ h. absurd (omega arith) }
 
--- src/names.rt:109:9
 position-requires : tie.Need-position-requires
 position-requires c κs = search needs
 
--- src/names.rt:111:9
 returns-3 : tie.Need-returns-3
 unfolding literal-cause entry
 returns-3 c = record { right = rw (← c .before .before .before .before .before .number .ensures, ne-eqb (c .before .before .before .before .before .number .result) 0 (c .before .before .before .before .if1 .left), ← c .before .before .before .magnitude .ensures, le-ltb (c .before .before .before .before .before .before .before .before .args .variables) (c .before .before .before .magnitude .result) (c .before .before .if2 .left), ← c .before .position .ensures .0, eq-eqb (c .before .position .result) 0 (c .if3 .taken)) refl; written = λ h. absurd (omega arith) }
 
--- src/names.rt:113:22
 room-cause-requires-2 : tie.Need-room-cause-requires-2
 room-cause-requires-2 c κs = search needs
 
--- src/names.rt:113:53
 negative-requires : tie.Need-negative-requires
 negative-requires c κs = search needs
 
--- src/names.rt:113:46
 signed-requires : tie.Need-signed-requires
 signed-requires c κs = search needs
 
--- src/names.rt:98:1
 returns-4 : tie.Need-returns-4
 unfolding literal-cause entry
 returns-4 c = record { right = rw (← c .before .before .before .before .before .before .before .before .number .ensures, ne-eqb (c .before .before .before .before .before .before .before .before .number .result) 0 (c .before .before .before .before .before .before .before .if1 .left), ← c .before .before .before .before .before .before .magnitude .ensures, le-ltb (c .before .before .before .before .before .before .before .before .before .before .before .args .variables) (c .before .before .before .before .before .before .magnitude .result) (c .before .before .before .before .before .if2 .left), ← c .before .before .before .before .position .ensures .0, ne-eqb (c .before .before .before .before .position .result) 0 (c .before .before .before .if3 .left)) (c .before .before .room-cause2 .ensures); written = λ h. rw (← c .before .before .before .before .before .before .before .before .number .ensures, ne-eqb (c .before .before .before .before .before .before .before .before .number .result) 0 (c .before .before .before .before .before .before .before .if1 .left), ← c .before .before .before .before .before .before .magnitude .ensures, ← c .before .before .before .before .position .ensures .0, ← c .before .negative .ensures, toZ-ofZ w32 (c .signed .result) (record { sfits = c .signed .ok })) (c .signed .ensures) }

@@ -2,14 +2,12 @@
 use Prim.Native.Nat.{_+_, _-_, _≤_}
 use mathlib.Core.Path.{_≡_, refl, sym, _∙_}
 use native.Mathlib.Omega.{arith}
-use lib.ListN.{length, take, drop}
+use lib.ListN.{take, drop}
 use lib.Seq.{length-take-le, getD-take}
 use Rattle.text.specs.Reading.{place-from, position}
 use Rattle.text.proofs.Tables.{place-here, place-past, place-end}
 use Rattle.text.proofs.names.position.Statement.{statement}
 use Rattle.text.proofs.names.position.Tie as tie
-use Rattle.text.proofs.names.position.Reads as reads
-use Rattle.text.proofs.names.position.Lts as lts
 
 abbrev Inv-loop : tie.InvT-loop
 Inv-loop v n names i₀ i = (i ≤ n) × (place-from 1 v (take n names) ≡ place-from (i + 1) v (drop i (take n names)))
@@ -17,48 +15,38 @@ Inv-loop v n names i₀ i = (i ≤ n) × (place-from 1 v (take n names) ≡ plac
 abbrev μ-loop : tie.MeasureT-loop
 μ-loop v n names i₀ i = n - i
 
--- src/names.rt:140:5
 loop-holds : tie.Need-loop-holds Inv-loop μ-loop
 loop-holds c = (omega arith, refl)
 
--- src/names.rt:141:12
 mul-if1 : tie.Need-mul-if1 Inv-loop μ-loop
 mul-if1 c = omega arith
 
--- src/names.rt:141:12
 shared-slice-read-if1 : tie.Need-shared-slice-read-if1 Inv-loop μ-loop
 shared-slice-read-if1 c = omega arith
 
--- src/names.rt:141:12
 cast-if1 : tie.Need-cast-if1 Inv-loop μ-loop
 cast-if1 c = omega (arith, c .shared-slice-known .given (c .before .before .loop .i))
 
--- src/names.rt:142:20
 add-result : tie.Need-add-result Inv-loop μ-loop
 add-result c = omega arith
 
--- src/names.rt:142:13
 returns : tie.Need-returns Inv-loop μ-loop
 unfolding position
 returns c =
     let l = length-take-le (c .before .before .before .before .args .n) (c .before .before .before .before .args .names .now) (c .before .before .before .before .pre) in
     (sym (c .before .before .before .loop .inv .1 ∙ place-here (c .before .before .before .loop .i + 1) (c .before .before .before .before .args .v) (take (c .before .before .before .before .args .n) (c .before .before .before .before .args .names .now)) (c .before .before .before .loop .i) (omega arith) (getD-take (c .before .before .before .before .args .n) (c .before .before .before .before .args .names .now) (c .before .before .before .loop .i) 0 (c .before .before .loop-test .taken) ∙ c .if1 .taken)), omega arith)
 
--- src/names.rt:144:9
 add-i : tie.Need-add-i Inv-loop μ-loop
 add-i c = omega arith
 
--- src/names.rt:140:5
 loop-less : tie.Need-loop-less Inv-loop μ-loop
 loop-less c = omega arith
 
--- src/names.rt:140:5
 loop-again : tie.Need-loop-again Inv-loop μ-loop
 loop-again c =
     let l = length-take-le (c .before .before .before .before .args .n) (c .before .before .before .before .args .names .now) (c .before .before .before .before .pre) in
     (omega arith, c .before .before .before .loop .inv .1 ∙ place-past (c .before .before .before .loop .i + 1) (c .before .before .before .before .args .v) (take (c .before .before .before .before .args .n) (c .before .before .before .before .args .names .now)) (c .before .before .before .loop .i) (omega arith) (λ e. c .if1 .left (sym (getD-take (c .before .before .before .before .args .n) (c .before .before .before .before .args .names .now) (c .before .before .before .loop .i) 0 (c .before .before .loop-test .taken)) ∙ e)))
 
--- src/names.rt:135:1
 returns-2 : tie.Need-returns-2 Inv-loop μ-loop
 unfolding position
 returns-2 c =

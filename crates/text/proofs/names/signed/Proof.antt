@@ -1,5 +1,5 @@
 -- A position is small, so its negation fits. Assumes nothing.
-use mathlib.Core.Path.{_≡_, refl, ap, sym, _∙_}
+use mathlib.Core.Path.{refl}
 use lib.IntN.{pos, negℤ}
 use mir.Syntax.{w32}
 use mir.ValLaws.{toZ-ofZ}
@@ -7,22 +7,16 @@ use Rattle.text.proofs.Negation.{as-positive, as-negative, negative-fit
 use borrow.Author.Needs.{needs}
 use Rattle.text.proofs.names.signed.Statement.{statement}
 use Rattle.text.proofs.names.signed.Tie as tie
-use Rattle.text.proofs.names.signed.Reads as reads
-use Rattle.text.proofs.names.signed.Lts as lts
 
--- src/names.rt:130:13
 cast-z : tie.Need-cast-z
 cast-z c = search needs
 
--- src/names.rt:131:19
 sub-result : tie.Need-sub-result
 sub-result c = rw (as-negative (c .before .args .p) (c .before .pre)) (negative-fits (c .before .args .p) (c .before .pre))
 
--- src/names.rt:126:1
 returns : tie.Need-returns
 returns c = rw (as-negative (c .before .args .p) (c .before .pre), toZ-ofZ w32 (negℤ (pos (c .before .args .p))) (negative-fits (c .before .args .p) (c .before .pre)), c .if1 .taken) refl
 
--- src/names.rt:126:1
 returns-2 : tie.Need-returns-2
 returns-2 c = rw (as-positive (c .before .args .p) (c .before .pre), c .if1 .left) refl
 

@@ -1,45 +1,33 @@
 -- The word without its minus sign. Assumes nothing.
-use mathlib.Core.Path.{_≡_, refl, ap, sym, _∙_}
+use mathlib.Core.Path.{ap, sym, _∙_}
 use native.Mathlib.Omega.{arith}
 use Rattle.text.specs.Numbers.{number}
 use Rattle.text.proofs.Words.{minus-inside, unsigned-minus, unsigned-plain}
 use borrow.Author.Needs.{needs}
 use Rattle.text.proofs.numbers.magnitude.Statement.{statement}
 use Rattle.text.proofs.numbers.magnitude.Tie as tie
-use Rattle.text.proofs.numbers.magnitude.Reads as reads
-use Rattle.text.proofs.numbers.magnitude.Lts as lts
-use Rattle.text.proofs.numbers.negative.Reads as negative-reads
-use Rattle.text.proofs.numbers.number.Reads as number-reads
 
--- src/numbers.rt:93:8
 negative-requires : tie.Need-negative-requires
 negative-requires c κs = search needs
 
--- src/numbers.rt:94:16
 sub-number : tie.Need-sub-number
 sub-number c = omega (arith, minus-inside (c .before .before .before .args .word .now) (sym (c .before .negative .ensures) ∙ c .if1 .taken))
 
--- src/numbers.rt:94:16
 part-number-start : tie.Need-part-number-start
 part-number-start c = omega (arith, minus-inside (c .before .before .before .args .word .now) (sym (c .before .negative .ensures) ∙ c .if1 .taken))
 
--- src/numbers.rt:94:16
 part-number-end : tie.Need-part-number-end
 part-number-end c = search needs
 
--- src/numbers.rt:94:9
 number-requires : tie.Need-number-requires
 number-requires c κs = search needs
 
--- src/numbers.rt:96:9
 number-requires-2 : tie.Need-number-requires-2
 number-requires-2 c κs = search needs
 
--- src/numbers.rt:90:1
 returns : tie.Need-returns
 returns c = c .number .ensures ∙ ap number (unsigned-minus (c .before .before .before .before .before .args .word .now) (sym (c .before .before .before .negative .ensures) ∙ c .before .before .if1 .taken))
 
--- src/numbers.rt:90:1
 returns-2 : tie.Need-returns-2
 returns-2 c = c .number2 .ensures ∙ ap number (unsigned-plain (c .before .before .before .before .args .word .now) (sym (c .before .before .negative .ensures) ∙ c .before .if1 .left))
 

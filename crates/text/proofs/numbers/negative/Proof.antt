@@ -1,22 +1,17 @@
 -- The empty word has no minus sign. Assumes nothing.
-use mathlib.Core.Path.{_≡_, refl, ap, sym, _∙_}
+use mathlib.Core.Path.{refl}
 use native.Mathlib.Omega.{arith}
 use lib.ListN.{List·getD-eq-default}
 use borrow.Author.Needs.{needs}
 use Rattle.text.proofs.numbers.negative.Statement.{statement}
 use Rattle.text.proofs.numbers.negative.Tie as tie
-use Rattle.text.proofs.numbers.negative.Reads as reads
-use Rattle.text.proofs.numbers.negative.Lts as lts
 
--- src/numbers.rt:105:9
 returns : tie.Need-returns
 returns c = rw (List·getD-eq-default (c .before .args .word .now) 0 {n = 0} (omega arith)) refl
 
--- src/numbers.rt:107:5
 shared-slice-read-result : tie.Need-shared-slice-read-result
 shared-slice-read-result c = search needs
 
--- src/numbers.rt:101:1
 returns-2 : tie.Need-returns-2
 returns-2 c = search needs
 

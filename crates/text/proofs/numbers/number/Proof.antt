@@ -1,42 +1,31 @@
 -- A word is a number if its length and its first digit allow it. Assumes nothing.
-use mathlib.Core.Path.{_≡_, refl, ap, sym, _∙_}
+use mathlib.Core.Path.{sym, _∙_}
 use Rattle.text.proofs.Words.{number-short, number-long, number-single, number-leading, number-decimal}
 use borrow.Author.Needs.{needs}
 use Rattle.text.proofs.numbers.number.Statement.{statement}
 use Rattle.text.proofs.numbers.number.Tie as tie
-use Rattle.text.proofs.numbers.number.Reads as reads
-use Rattle.text.proofs.numbers.number.Lts as lts
-use Rattle.text.proofs.numbers.decimal.Reads as decimal-reads
 
--- src/numbers.rt:35:9
 returns : tie.Need-returns
 returns c = sym (number-short (c .before .before .args .word .now) (c .if1 .taken))
 
--- src/numbers.rt:38:9
 returns-2 : tie.Need-returns-2
 returns-2 c = sym (number-long (c .before .before .before .args .word .now) (c .if2 .taken))
 
--- src/numbers.rt:41:9
 decimal-requires : tie.Need-decimal-requires
 decimal-requires c κs = search needs
 
--- src/numbers.rt:41:9
 returns-3 : tie.Need-returns-3
 returns-3 c = c .decimal .ensures ∙ sym (number-single (c .before .before .before .before .before .args .word .now) (c .before .before .before .if1 .left) (c .before .before .if2 .left) (c .before .if3 .taken))
 
--- src/numbers.rt:43:8
 shared-slice-read-if4 : tie.Need-shared-slice-read-if4
 shared-slice-read-if4 c = search needs
 
--- src/numbers.rt:44:9
 returns-4 : tie.Need-returns-4
 returns-4 c = sym (number-leading (c .before .before .before .before .before .before .args .word .now) (c .before .before .before .before .if1 .left) (c .before .before .before .if2 .left) (c .before .before .if3 .left) (c .if4 .taken))
 
--- src/numbers.rt:46:5
 decimal-requires-2 : tie.Need-decimal-requires-2
 decimal-requires-2 c κs = search needs
 
--- src/numbers.rt:30:1
 returns-5 : tie.Need-returns-5
 returns-5 c = c .decimal2 .ensures ∙ sym (number-decimal (c .before .before .before .before .before .before .before .args .word .now) (c .before .before .before .before .before .if1 .left) (c .before .before .before .before .if2 .left) (c .before .before .before .if3 .left) (c .before .if4 .left))
 

@@ -1,28 +1,20 @@
 -- Assumes nothing.
-use mathlib.Core.Path.{_≡_, refl, ap, sym, _∙_}
+use mathlib.Core.Path.{refl, sym, _∙_}
 use Rattle.text.specs.Shapes.{is-clause}
 use borrow.Author.Needs.{needs}
 use Rattle.text.proofs.shapes.is_clause.Statement.{statement}
 use Rattle.text.proofs.shapes.is_clause.Tie as tie
-use Rattle.text.proofs.shapes.is_clause.Reads as reads
-use Rattle.text.proofs.shapes.is_clause.Lts as lts
-use Rattle.text.proofs.shapes.closed.Reads as closed-reads
-use Rattle.text.proofs.shapes.is_trimmed.Reads as is-trimmed-reads
 
--- src/shapes.rt:116:8
 is-trimmed-requires : tie.Need-is-trimmed-requires
 is-trimmed-requires c κs = search needs
 
--- src/shapes.rt:117:9
 closed-requires : tie.Need-closed-requires
 closed-requires c κs = search needs
 
--- src/shapes.rt:113:1
 returns : tie.Need-returns
 unfolding is-clause
 returns c = rw (sym (c .before .before .is-trimmed .ensures) ∙ c .before .if1 .taken) (c .closed .ensures)
 
--- src/shapes.rt:113:1
 returns-2 : tie.Need-returns-2
 unfolding is-clause
 returns-2 c = rw (sym (c .before .is-trimmed .ensures) ∙ c .if1 .left) refl

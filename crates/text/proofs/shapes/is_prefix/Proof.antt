@@ -1,56 +1,40 @@
 -- The first two words are tested, then the others. Assumes nothing.
 use mathlib.Core.Path.{_≡_, refl, ap, sym, _∙_}
 use mathlib.Core.Bool.{true, false, _||_}
-use Rattle.text.specs.Lines.{words, first, second, rest, same}
+use Rattle.text.specs.Lines.{words, first, second, same}
 use Rattle.text.specs.Numbers.{is-name}
 use Rattle.text.specs.Shapes.{is-trimmed, a-word, e-word, is-prefix, closed-by-zero}
 use Rattle.text.proofs.ShapeLaws.{taken-word}
 use borrow.Author.Needs.{needs}
 use Rattle.text.proofs.shapes.is_prefix.Statement.{statement}
 use Rattle.text.proofs.shapes.is_prefix.Tie as tie
-use Rattle.text.proofs.shapes.is_prefix.Reads as reads
-use Rattle.text.proofs.shapes.is_prefix.Lts as lts
-use Rattle.text.proofs.lines.next.Reads as next-reads
-use Rattle.text.proofs.numbers.is_name.Reads as is-name-reads
-use Rattle.text.proofs.shapes.closed.Reads as closed-reads
-use Rattle.text.proofs.shapes.is_kind.Reads as is-kind-reads
-use Rattle.text.proofs.shapes.is_trimmed.Reads as is-trimmed-reads
 
--- src/shapes.rt:83:9
 next-requires : tie.Need-next-requires
 next-requires c κs = search needs
 
--- src/shapes.rt:84:9
 next-requires-2 : tie.Need-next-requires-2
 next-requires-2 c κs = search needs
 
--- src/shapes.rt:89:8
 is-trimmed-requires : tie.Need-is-trimmed-requires
 is-trimmed-requires c κs = search needs
 
--- src/shapes.rt:91:9
 returns : tie.Need-returns
 unfolding is-prefix
 returns c =
     let t : is-trimmed (c .before .before .before .before .before .args .line .now) ≡ false = sym (c .before .is-trimmed .ensures) ∙ c .if1 .left in rw t refl
 
--- src/shapes.rt:93:16
 sub-is-kind : tie.Need-sub-is-kind
 sub-is-kind c = search needs
 
--- src/shapes.rt:93:16
 part-is-kind-start : tie.Need-part-is-kind-start
 part-is-kind-start c = search needs
 
--- src/shapes.rt:93:16
 part-is-kind-end : tie.Need-part-is-kind-end
 part-is-kind-end c = search needs
 
--- src/shapes.rt:93:8
 is-kind-requires : tie.Need-is-kind-requires
 is-kind-requires c κs = search needs
 
--- src/shapes.rt:95:9
 returns-2 : tie.Need-returns-2
 unfolding is-prefix
 returns-2 c =
@@ -59,23 +43,18 @@ returns-2 c =
     let t : is-trimmed (c .before .before .before .before .before .before .before .before .args .line .now) ≡ true = sym (c .before .before .before .before .is-trimmed .ensures) ∙ c .before .before .before .if1 .taken in
     let k : (same (first (words (c .before .before .before .before .before .before .before .before .args .line .now))) a-word || same (first (words (c .before .before .before .before .before .before .before .before .args .line .now))) e-word) ≡ false = sym (c .before .is-kind .ensures ∙ ap (λ w. same w a-word || same w e-word) (q0 .0)) ∙ c .if2 .left in rw (t, k) refl
 
--- src/shapes.rt:97:25
 sub-is-name : tie.Need-sub-is-name
 sub-is-name c = search needs
 
--- src/shapes.rt:97:25
 part-is-name-start : tie.Need-part-is-name-start
 part-is-name-start c = search needs
 
--- src/shapes.rt:97:25
 part-is-name-end : tie.Need-part-is-name-end
 part-is-name-end c = search needs
 
--- src/shapes.rt:97:8
 is-name-requires : tie.Need-is-name-requires
 is-name-requires c κs = search needs
 
--- src/shapes.rt:99:9
 returns-3 : tie.Need-returns-3
 unfolding is-prefix
 returns-3 c =
@@ -85,11 +64,9 @@ returns-3 c =
     let k : (same (first (words (c .before .before .before .before .before .before .before .before .before .before .before .args .line .now))) a-word || same (first (words (c .before .before .before .before .before .before .before .before .before .before .before .args .line .now))) e-word) ≡ true = sym (c .before .before .before .before .is-kind .ensures ∙ ap (λ w. same w a-word || same w e-word) (q0 .0)) ∙ c .before .before .before .if2 .taken in
     let n : is-name (second (words (c .before .before .before .before .before .before .before .before .before .before .before .args .line .now))) ≡ false = sym (c .before .is-name .ensures ∙ ap is-name (q1 .0)) ∙ c .if3 .left in rw (t, k, n) refl
 
--- src/shapes.rt:101:5
 closed-requires : tie.Need-closed-requires
 closed-requires c κs = search needs
 
--- src/shapes.rt:80:1
 returns-4 : tie.Need-returns-4
 unfolding is-prefix
 returns-4 c =
