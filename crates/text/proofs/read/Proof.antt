@@ -1,6 +1,7 @@
 -- The text is read into tables of the function's own, which are copied if all of it is taken. Assumes nothing.
 use mathlib.Core.Path.{_≡_, refl, sym, _∙_}
 use borrow.Author.Tests.{lt-leb, le-leb, eq-eqb, ne-eqb}
+use native.Mathlib.Omega.{arith}
 use lib.ListN.{length}
 use Rattle.text.specs.Lines.{lines}
 use Rattle.text.specs.Reading.{read, after-comments}
@@ -41,7 +42,7 @@ returns-5 : tie.Need-returns-5
 unfolding read
 returns-5 c =
     let whole : read (c .before .before .before .before .before .before .before .before .before .before .before .before .before .before .before .before .args .text .now) (length (c .before .before .before .before .before .before .before .before .before .before .before .before .before .before .before .before .args .kinds .now)) (length (c .before .before .before .before .before .before .before .before .before .before .before .before .before .before .before .before .args .literals .now)) (length (c .before .before .before .before .before .before .before .before .before .before .before .before .before .before .before .before .args .names .now)) ≡ after-comments 1 (lines (c .before .before .before .before .before .before .before .before .before .before .before .before .before .before .before .before .args .text .now)) = rw (le-leb (length (c .before .before .before .before .before .before .before .before .before .before .before .before .before .before .before .before .args .text .now)) 65536 (c .before .before .before .before .before .before .before .before .before .before .before .before .if1 .left), eq-eqb (length (c .before .before .before .before .before .before .before .before .before .before .before .before .before .before .before .before .args .kinds .now)) 128 (c .before .before .before .before .before .before .before .before .before .before .before .if2 .left), eq-eqb (length (c .before .before .before .before .before .before .before .before .before .before .before .before .before .before .before .before .args .literals .now)) 8192 (c .before .before .before .before .before .before .before .before .before .before .if3 .left), eq-eqb (length (c .before .before .before .before .before .before .before .before .before .before .before .before .before .before .before .before .args .names .now)) 128 (c .before .before .before .before .before .before .before .before .before .if4 .left)) refl in
-    refused-whole (whole ∙ sym (c .before .before .before .before .before .scan .ensures .right) ∙ outcome-refused (c .before .before .before .before .before .scan .result) (c .before .before .before .before .before .scan .last .1 .0) (c .before .before .before .before .before .scan .last .1 .1 .1 .0) (c .before .before .before .before .before .scan .last .1 .1 .0) (c .if5 .taken))
+    refused-whole (whole ∙ sym (c .before .before .before .before .before .scan .ensures .right) ∙ outcome-refused (c .before .before .before .before .before .scan .result) (c .before .before .before .before .before .scan .last .1 .0) (c .before .before .before .before .before .scan .last .1 .1 .1 .0) (c .before .before .before .before .before .scan .last .1 .1 .0) (λ e. omega (arith, c .if5 .taken)))
 
 slice-aggregate-copy-kinds : tie.Need-slice-aggregate-copy-kinds
 slice-aggregate-copy-kinds c = search needs
@@ -74,7 +75,7 @@ returns-6 : tie.Need-returns-6
 unfolding read
 returns-6 c =
     let whole : read (c .before .before .before .before .before .before .before .before .before .before .before .before .before .before .before .before .before .before .before .before .before .before .before .before .before .before .before .before .before .before .args .text .now) (length (c .before .before .before .before .before .before .before .before .before .before .before .before .before .before .before .before .before .before .before .before .before .before .before .before .before .before .before .before .before .before .args .kinds .now)) (length (c .before .before .before .before .before .before .before .before .before .before .before .before .before .before .before .before .before .before .before .before .before .before .before .before .before .before .before .before .before .before .args .literals .now)) (length (c .before .before .before .before .before .before .before .before .before .before .before .before .before .before .before .before .before .before .before .before .before .before .before .before .before .before .before .before .before .before .args .names .now)) ≡ after-comments 1 (lines (c .before .before .before .before .before .before .before .before .before .before .before .before .before .before .before .before .before .before .before .before .before .before .before .before .before .before .before .before .before .before .args .text .now)) = rw (le-leb (length (c .before .before .before .before .before .before .before .before .before .before .before .before .before .before .before .before .before .before .before .before .before .before .before .before .before .before .before .before .before .before .args .text .now)) 65536 (c .before .before .before .before .before .before .before .before .before .before .before .before .before .before .before .before .before .before .before .before .before .before .before .before .before .before .if1 .left), eq-eqb (length (c .before .before .before .before .before .before .before .before .before .before .before .before .before .before .before .before .before .before .before .before .before .before .before .before .before .before .before .before .before .before .args .kinds .now)) 128 (c .before .before .before .before .before .before .before .before .before .before .before .before .before .before .before .before .before .before .before .before .before .before .before .before .before .if2 .left), eq-eqb (length (c .before .before .before .before .before .before .before .before .before .before .before .before .before .before .before .before .before .before .before .before .before .before .before .before .before .before .before .before .before .before .args .literals .now)) 8192 (c .before .before .before .before .before .before .before .before .before .before .before .before .before .before .before .before .before .before .before .before .before .before .before .before .if3 .left), eq-eqb (length (c .before .before .before .before .before .before .before .before .before .before .before .before .before .before .before .before .before .before .before .before .before .before .before .before .before .before .before .before .before .before .args .names .now)) 128 (c .before .before .before .before .before .before .before .before .before .before .before .before .before .before .before .before .before .before .before .before .before .before .before .if4 .left)) refl in
-    taken-whole (c .before .before .before .before .before .before .before .before .before .before .before .before .before .before .before .before .before .before .before .scan .result) (c .before .before .before .before .before .before .before .before .before .before .before .before .before .before .before .before .before .before .before .scan .last .1 .0) (c .before .before .before .before .before .before .before .before .before .before .before .before .before .before .before .before .before .before .before .scan .last .1 .1 .1 .0) (c .before .before .before .before .before .before .before .before .before .before .before .before .before .before .before .before .before .before .before .scan .last .1 .1 .0) (c .before .before .before .before .before .before .before .before .before .before .before .before .before .before .before .before .before .before .before .scan .ensures .sized) (whole ∙ sym (c .before .before .before .before .before .before .before .before .before .before .before .before .before .before .before .before .before .before .before .scan .ensures .right) ∙ outcome-taken (c .before .before .before .before .before .before .before .before .before .before .before .before .before .before .before .before .before .before .before .scan .result) (c .before .before .before .before .before .before .before .before .before .before .before .before .before .before .before .before .before .before .before .scan .last .1 .0) (c .before .before .before .before .before .before .before .before .before .before .before .before .before .before .before .before .before .before .before .scan .last .1 .1 .1 .0) (c .before .before .before .before .before .before .before .before .before .before .before .before .before .before .before .before .before .before .before .scan .last .1 .1 .0) (c .before .before .before .before .before .before .before .before .before .before .before .before .before .before .if5 .left)) (c .before .before .before .before .before .before .before .before .before .before .before .copy-kinds .ensures) (c .before .before .before .before .before .before .copy-literals .ensures) (c .before .before .copy-names .ensures)
+    taken-whole (c .before .before .before .before .before .before .before .before .before .before .before .before .before .before .before .before .before .before .before .scan .result) (c .before .before .before .before .before .before .before .before .before .before .before .before .before .before .before .before .before .before .before .scan .last .1 .0) (c .before .before .before .before .before .before .before .before .before .before .before .before .before .before .before .before .before .before .before .scan .last .1 .1 .1 .0) (c .before .before .before .before .before .before .before .before .before .before .before .before .before .before .before .before .before .before .before .scan .last .1 .1 .0) (c .before .before .before .before .before .before .before .before .before .before .before .before .before .before .before .before .before .before .before .scan .ensures .sized) (whole ∙ sym (c .before .before .before .before .before .before .before .before .before .before .before .before .before .before .before .before .before .before .before .scan .ensures .right) ∙ outcome-taken (c .before .before .before .before .before .before .before .before .before .before .before .before .before .before .before .before .before .before .before .scan .result) (c .before .before .before .before .before .before .before .before .before .before .before .before .before .before .before .before .before .before .before .scan .last .1 .0) (c .before .before .before .before .before .before .before .before .before .before .before .before .before .before .before .before .before .before .before .scan .last .1 .1 .1 .0) (c .before .before .before .before .before .before .before .before .before .before .before .before .before .before .before .before .before .before .before .scan .last .1 .1 .0) (omega (arith, c .before .before .before .before .before .before .before .before .before .before .before .before .before .before .if5 .left))) (c .before .before .before .before .before .before .before .before .before .before .before .copy-kinds .ensures) (c .before .before .before .before .before .before .copy-literals .ensures) (c .before .before .copy-names .ensures)
 
 pub read-spec : {M : Type 1} → statement M
 read-spec =
