@@ -1,7 +1,7 @@
 -- 01's reader: what a text gives, and the first cause, with its line, for which it is refused. Assumes nothing.
-use Prim.Native.Nat.{ℕ, zero, suc}
+use Prim.Native.Nat.{ℕ, zero, suc, _≤_}
 use mathlib.Core.Path.{_≡_}
-use mathlib.Core.Bool.{Bool, true, false, cond, not, _&&_, _||_}
+use mathlib.Core.Bool.{Bool, true, false, cond, not, _&&_}
 use mathlib.Core.List.{List, [], _∷_, _++_}
 use lib.Dec.{leb, ltb, eqb}
 use lib.IntN.{ℤ, pos, negℤ}
@@ -43,7 +43,9 @@ unless (suc cause) next = fault (suc cause)
 -- The place of a name among those bound, from k on; 0 if it is not there.
 abbrev pub place-from : ℕ → ℕ → List ℕ → ℕ
 place-from k v [] = 0
-place-from k v (x ∷ xs) = cond (eqb x v) k (place-from (suc k) v xs)
+place-from k v (x ∷ xs) =
+    let more = place-from (suc k) v xs in
+    cond (eqb x v) k more
 
 -- Positions count from 1: 'unknowns are named 1 to n by position'.
 unfoldable pub position : ℕ → List ℕ → ℕ
@@ -56,6 +58,7 @@ name-cause variables names v =
     (cond (not (eqb (position v names) 0)) 12
     (cond (ltb (length names) max-unknowns) 0 14))
 
+-- A name is bound behind those bound before.
 abbrev pub with-prefix : State → List ℕ → List ℕ → State
 with-prefix s kinds names =
     record { variables = s .variables; clauses = s .clauses; kinds = kinds; names = names; literals = s .literals; clauses-read = s .clauses-read }
@@ -70,7 +73,7 @@ bind-all kind s (w ∷ ws) =
     let more = bind-all kind (bind kind s (number w)) ws in
     cond (is-zero w) (went s) (unless (name-cause (s .variables) (s .names) (number w)) more)
 
--- Universal is 1, existential 0.
+-- '`a` or `e`': universal is 1, existential 0.
 abbrev pub kind-of-word : Bytes → ℕ
 kind-of-word w = cond (same w a-word) 1 0
 
@@ -87,7 +90,7 @@ literal-cause variables names used w =
     (cond (ltb variables (number (unsigned w))) 11
     (cond (eqb (position (number (unsigned w)) names) 0) 13 (room-cause used)))
 
--- The literal by position: v or -v, and 0 for the closing 0.
+-- 'Literals: v or -v', v being the position; 0 for the closing 0.
 abbrev pub signed : Bool → ℕ → ℤ
 signed true v = negℤ (pos v)
 signed false v = pos v
@@ -95,6 +98,7 @@ signed false v = pos v
 unfoldable pub entry : List ℕ → Bytes → ℤ
 entry names w = cond (is-zero w) (pos 0) (signed (negative w) (position (number (unsigned w)) names))
 
+-- An entry is added behind those before.
 abbrev pub with-literals : State → List ℤ → State
 with-literals s literals =
     record { variables = s .variables; clauses = s .clauses; kinds = s .kinds; names = s .names; literals = literals; clauses-read = s .clauses-read }
@@ -102,12 +106,14 @@ with-literals s literals =
 abbrev pub add-entry : State → ℤ → State
 add-entry s z = with-literals s (s .literals ++ (z ∷ []))
 
+-- The words of a clause line, from the left.
 abbrev pub add-entries : State → List Bytes → Step
 add-entries s [] = went s
 add-entries s (w ∷ ws) =
     let more = add-entries (add-entry s (entry (s .names) w)) ws in
     unless (literal-cause (s .variables) (s .names) (length (s .literals)) w) more
 
+-- A clause line that is taken counts.
 abbrev pub clause-read : Step → Step
 clause-read (fault cause) = fault cause
 clause-read (went s) =
@@ -133,6 +139,7 @@ pub data Result : Type 0 where
   taken : State → Result
   refused : ℕ → ℕ → Result
 
+-- The first fault ends the reading, at its line.
 abbrev pub go-on : Step → ℕ → (State → Result) → Result
 go-on (fault cause) k more = refused cause k
 go-on (went s) k more = more s
@@ -142,7 +149,7 @@ abbrev pub body : State → ℕ → List Line → Result
 body s k [] = cond (eqb (s .clauses-read) (s .clauses)) (taken s) (refused 14 k)
 body s k (l ∷ ls) = go-on (step s l) k (λ t. body t (suc k) ls)
 
--- The p line's causes.
+-- The p line's causes: '10 for the whole line', then V, then C.
 unfoldable pub problem-cause : Bytes → ℕ
 problem-cause line =
     cond (is-problem line)
@@ -197,9 +204,15 @@ abbrev pub names-after : Result → List ℕ → List ℕ
 names-after (taken s) old = over (s .names) old
 names-after (refused number line) old = old
 
+-- What is taken has a kind for each name and stays within the limits, so that its caller may take the front of each table.
+abbrev pub fits : Result → Type 0
+fits (taken s) = (length (s .kinds) ≡ length (s .names)) × (length (s .names) ≤ max-unknowns) × (length (s .literals) ≤ max-entries)
+fits (refused number line) = Unit {0}
+
 -- What `read` promises: the outcome and each table at exit, from a result and the tables at entry.
 pub record Read-so (result : Result) (outcome : Reading) (kinds : List ℕ) (literals : List ℤ) (names kinds′ : List ℕ) (literals′ : List ℤ) (names′ : List ℕ) : Type 0 where
   pub returns : outcome ≡ returned result
   pub writes-kinds : kinds′ ≡ kinds-after result kinds
   pub writes-literals : literals′ ≡ literals-after result literals
   pub writes-names : names′ ≡ names-after result names
+  pub fitting : fits result

@@ -41,7 +41,9 @@ is-problem line =
 -- Words of a kind, as many as there are, then `0` as the last word.
 abbrev pub closed-by-zero : (Bytes → Bool) → List Bytes → Bool
 closed-by-zero good [] = false
-closed-by-zero good (w ∷ ws) = cond (is-zero w) (is-empty ws) (good w && closed-by-zero good ws)
+closed-by-zero good (w ∷ ws) =
+    let more = closed-by-zero good ws in
+    cond (is-zero w) (is-empty ws) (good w && more)
 
 -- '`a` or `e`, one or more names, `0`'.
 unfoldable pub is-prefix : Bytes → Bool
