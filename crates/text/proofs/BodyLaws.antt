@@ -1,0 +1,54 @@
+-- Lines after the p line, as the counts and the tables hold what they give. Assumes nothing.
+use Prim.Native.Nat.{ℕ, zero, suc, _≤_}
+use mathlib.Core.Path.{_≡_, refl, subst}
+use mathlib.Core.Bool.{true, false, _&&_}
+use mathlib.Core.List.{List}
+use lib.Dec.{eqb}
+use lib.IntN.{ℤ}
+use lib.ListN.{length}
+use native.Mathlib.Omega.{arith}
+use Rattle.formula.specs.Formula.{max-unknowns, max-entries}
+use Rattle.text.specs.declared.body.Counts.{Counts}
+use Rattle.text.specs.Lines.{Bytes, words}
+use Rattle.text.specs.Shapes.{is-prefix, is-clause}
+use Rattle.text.specs.Reading.{State, went, fault, unless, prefix-line, clause-line, clause-read, body-line, Result, go-on}
+use Rattle.text.specs.Steps.{Sized, settled}
+
+-- The sizes do not hang on the cause, the line and the clauses.
+pub resized : {c d : Counts} {K N : List ℕ} {L : List ℤ} → c .unknowns ≡ d .unknowns → c .entries ≡ d .entries → c .variables ≡ d .variables → Sized c K N L → Sized d K N L
+resized u e v z =
+    record {
+      kinds = z .kinds;
+      names = z .names;
+      literals = z .literals;
+      unknowns = subst (λ (n : ℕ). n ≤ 128) u (z .unknowns);
+      entries = subst (λ (n : ℕ). n ≤ 8192) e (z .entries);
+      variables = subst (λ (n : ℕ). n ≤ 32767) v (z .variables);
+    }
+
+pub nothing-held : {c : Counts} {cause line : ℕ} {K N : List ℕ} {L : List ℤ}
+    → (c .cause ≡ cause) × (c .line ≡ line) × (c .unknowns ≡ 0) × (c .entries ≡ 0) × (c .variables ≡ 0)
+    → (length K ≡ max-unknowns) × (length N ≡ max-unknowns) × (length L ≡ max-entries) → Sized c K N L
+nothing-held e z =
+    record { kinds = z .0; names = z .1; literals = z .2; unknowns = omega (arith, e .2); entries = omega (arith, e .3); variables = omega (arith, e .4) }
+
+pub clause-read-unless : (cause : ℕ) (s : State) → clause-read (unless cause (went s)) ≡ unless cause (clause-read (went s))
+clause-read-unless zero s = refl
+clause-read-unless (suc c) s = refl
+
+pub settled-refused : (cause : ℕ) → (cause ≡ 0 → ⊥) → (s t : State) (k : ℕ) (more : State → Result) → go-on (unless cause (went s)) k more ≡ settled cause k t
+settled-refused zero h s t k more = absurd (h refl)
+settled-refused (suc c) h s t k more = refl
+
+module _ (s : State) (line : Bytes) where
+  pub body-prefix : (eqb (s .clauses-read) 0 && is-prefix line) ≡ true → body-line s line ≡ prefix-line s (words line)
+  unfolding body-line
+  body-prefix h = rw h refl
+
+  pub body-clause : (eqb (s .clauses-read) 0 && is-prefix line) ≡ false → is-clause line ≡ true → body-line s line ≡ clause-line s (words line)
+  unfolding body-line
+  body-clause h k = rw (h, k) refl
+
+  pub body-none : (eqb (s .clauses-read) 0 && is-prefix line) ≡ false → is-clause line ≡ false → body-line s line ≡ fault 10
+  unfolding body-line
+  body-none h k = rw (h, k) refl

@@ -1,0 +1,59 @@
+-- A line is a prefix line, a clause line, or refused. Assumes nothing.
+use mathlib.Core.Path.{refl, sym, _∙_}
+use borrow.Author.Needs.{needs}
+use Rattle.text.specs.Steps.{held}
+use Rattle.text.proofs.BodyLaws.{resized, body-prefix, body-clause, body-none}
+use Rattle.text.proofs.body.body_line.Statement.{statement}
+use Rattle.text.proofs.body.body_line.Tie as tie
+
+binds-requires : tie.Need-binds-requires
+binds-requires c κs = search needs
+
+prefix-line-requires : tie.Need-prefix-line-requires
+prefix-line-requires c κs = search needs
+
+same-length : tie.Need-same-length
+same-length c = search needs
+
+same-length-2 : tie.Need-same-length-2
+same-length-2 c = search needs
+
+returns : tie.Need-returns
+unfolding held
+returns c = rw (body-prefix (held (c .before .before .before .before .before .before .before .before .before .before .before .before .args .c) (c .before .before .before .before .before .before .before .before .before .before .before .before .args .kinds .now) (c .before .before .before .before .before .before .before .before .before .before .before .before .args .names .now) (c .before .before .before .before .before .before .before .before .before .before .before .before .args .literals .now)) (c .before .before .before .before .before .before .before .before .before .before .before .before .args .line .now) (sym (c .before .before .before .before .before .before .before .before .binds .ensures) ∙ c .before .before .before .before .before .before .before .if1 .taken)) (c .before .before .before .before .prefix-line .ensures (c .before .before .before .before .before .before .before .before .before .before .before .before .args .literals .now) (c .before .before .before .before .before .before .before .before .before .before .before .before .pre))
+
+is-clause-requires : tie.Need-is-clause-requires
+is-clause-requires c κs = search needs
+
+clause-line-requires : tie.Need-clause-line-requires
+clause-line-requires c κs = search needs
+
+same-length-3 : tie.Need-same-length-3
+same-length-3 c = search needs
+
+same-length-4 : tie.Need-same-length-4
+same-length-4 c = search needs
+
+returns-2 : tie.Need-returns-2
+unfolding held
+returns-2 c = rw (body-clause (held (c .before .before .before .before .before .before .before .before .before .before .before .args .c) (c .before .before .before .before .before .before .before .before .before .before .before .args .kinds .now) (c .before .before .before .before .before .before .before .before .before .before .before .args .names .now) (c .before .before .before .before .before .before .before .before .before .before .before .args .literals .now)) (c .before .before .before .before .before .before .before .before .before .before .before .args .line .now) (sym (c .before .before .before .before .before .before .before .binds .ensures) ∙ c .before .before .before .before .before .before .if1 .left) (sym (c .before .before .before .before .before .is-clause .ensures) ∙ c .before .before .before .before .if2 .taken)) (c .before .clause-line .ensures (c .before .before .before .before .before .before .before .before .before .before .before .args .kinds .now) (c .before .before .before .before .before .before .before .before .before .before .before .pre))
+
+returns-3 : tie.Need-returns-3
+unfolding held
+returns-3 c = rw (body-none (held (c .before .before .before .before .before .before .before .args .c) (c .before .before .before .before .before .before .before .args .kinds .now) (c .before .before .before .before .before .before .before .args .names .now) (c .before .before .before .before .before .before .before .args .literals .now)) (c .before .before .before .before .before .before .before .args .line .now) (sym (c .before .before .before .binds .ensures) ∙ c .before .before .if1 .left) (sym (c .before .is-clause .ensures) ∙ c .if2 .left)) (record { sized = resized refl refl refl (c .before .before .before .before .before .before .before .pre); line = refl; right = refl })
+
+pub body-line-spec : {M : Type 1} → statement M
+body-line-spec =
+    tie.close
+    (tie.spec
+    binds-requires
+    prefix-line-requires
+    same-length
+    same-length-2
+    returns
+    is-clause-requires
+    clause-line-requires
+    same-length-3
+    same-length-4
+    returns-2
+    returns-3)

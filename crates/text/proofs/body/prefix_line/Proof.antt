@@ -1,0 +1,55 @@
+-- A prefix line binds its names with the kind of its first word. Assumes nothing.
+use mathlib.Core.Path.{refl, ap, ap₂, _∙_}
+use Rattle.text.specs.Reading.{prefix-line, kind-of-word, bind-all}
+use Rattle.text.specs.Steps.{held}
+use borrow.Author.Needs.{needs}
+use Rattle.text.proofs.body.prefix_line.Statement.{statement}
+use Rattle.text.proofs.body.prefix_line.Tie as tie
+
+next-requires : tie.Need-next-requires
+next-requires c κs = search needs
+
+sub-kind-of : tie.Need-sub-kind-of
+sub-kind-of c = search needs
+
+part-kind-of-start : tie.Need-part-kind-of-start
+part-kind-of-start c = search needs
+
+part-kind-of-end : tie.Need-part-kind-of-end
+part-kind-of-end c = search needs
+
+kind-of-requires : tie.Need-kind-of-requires
+kind-of-requires c κs = search needs
+
+bind-all-requires : tie.Need-bind-all-requires
+bind-all-requires c κs = search needs
+
+same-length : tie.Need-same-length
+same-length c = search needs
+
+same-length-2 : tie.Need-same-length-2
+same-length-2 c = search needs
+
+returns : tie.Need-returns
+unfolding prefix-line held
+returns c = λ M z.
+    let bound = c .before .before .before .before .bind-all .ensures .right (held (c .before .before .before .before .before .before .before .before .before .before .before .before .before .args .c) (c .before .before .before .before .before .before .before .before .before .before .before .before .before .args .kinds .now) (c .before .before .before .before .before .before .before .before .before .before .before .before .before .args .names .now) M) refl in
+    record {
+      sized = record { kinds = c .before .before .before .before .bind-all .kept .1 .1 .1 .1 .1 .0 ∙ z .kinds; names = c .before .before .before .before .bind-all .kept .1 .1 .1 .1 .1 .1 .0 ∙ z .names; literals = z .literals; unknowns = c .before .before .before .before .bind-all .ensures .room; entries = z .entries; variables = z .variables };
+      line = refl;
+      right = bound ∙ ap₂ (λ k ws. bind-all k (held (c .before .before .before .before .before .before .before .before .before .before .before .before .before .args .c) (c .before .before .before .before .before .before .before .before .before .before .before .before .before .args .kinds .now) (c .before .before .before .before .before .before .before .before .before .before .before .before .before .args .names .now) M) ws) (c .before .before .before .before .before .before .before .kind-of .ensures ∙ ap kind-of-word (c .before .before .before .before .before .before .before .before .before .next .ensures .word)) (c .before .before .before .before .before .before .before .before .before .next .ensures .others);
+    }
+
+pub prefix-line-spec : {M : Type 1} → statement M
+prefix-line-spec =
+    tie.close
+    (tie.spec
+    next-requires
+    sub-kind-of
+    part-kind-of-start
+    part-kind-of-end
+    kind-of-requires
+    bind-all-requires
+    same-length
+    same-length-2
+    returns)

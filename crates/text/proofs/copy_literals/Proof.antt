@@ -1,0 +1,68 @@
+-- The first i entries are copied. Assumes nothing.
+use Prim.Native.Nat.{_-_, _≤_}
+use mathlib.Core.Path.{_≡_, refl}
+use mathlib.Core.List.{_++_}
+use native.Mathlib.Omega.{arith}
+use lib.IntN.{pos}
+use mir.Syntax.{w32}
+use mir.ValLaws.{toZ-ofZ}
+use lib.ListN.{length, getD, take, drop, length-set}
+use Rattle.text.proofs.Tables.{copied-more}
+use Rattle.text.proofs.copy_literals.Statement.{statement}
+use Rattle.text.proofs.copy_literals.Tie as tie
+
+abbrev Inv-loop : tie.InvT-loop
+Inv-loop to₀ from n i₀ to i = (i ≤ n) × (length to ≡ length to₀) × (to ≡ take i from ++ drop i to₀)
+
+abbrev μ-loop : tie.MeasureT-loop
+μ-loop to₀ from n i₀ to i = n - i
+
+loop-holds : tie.Need-loop-holds Inv-loop μ-loop
+loop-holds c = (omega arith, refl, refl)
+
+mul-to : tie.Need-mul-to Inv-loop μ-loop
+mul-to c = omega arith
+
+shared-slice-copy-out-to : tie.Need-shared-slice-copy-out-to Inv-loop μ-loop
+shared-slice-copy-out-to c = omega arith
+
+mul-t9 : tie.Need-mul-t9 Inv-loop μ-loop
+mul-t9 c = omega arith
+
+slice-set-from-to : tie.Need-slice-set-from-to Inv-loop μ-loop
+slice-set-from-to c = omega arith
+
+add-i : tie.Need-add-i Inv-loop μ-loop
+add-i c = omega arith
+
+loop-less : tie.Need-loop-less Inv-loop μ-loop
+loop-less c = omega arith
+
+loop-again : tie.Need-loop-again Inv-loop μ-loop
+loop-again c =
+    let z = getD (c .before .before .before .args .from .now) (c .before .before .loop .i) (pos 0) in
+    let e = toZ-ofZ w32 z (record { sfits = c .to .given }) in
+    (omega arith, simp length-set (c .before .before .loop .inv .1), rw (e, c .before .before .loop .inv .2) (copied-more (pos 0) (c .before .before .before .args .from .now) (c .before .before .before .args .to .now) (c .before .before .loop .i) (omega arith) (omega arith)))
+
+same-length : tie.Need-same-length Inv-loop μ-loop
+same-length c = c .before .loop .inv .1
+
+returns : tie.Need-returns Inv-loop μ-loop
+returns c = let e : c .before .loop .i ≡ c .before .before .args .n = omega arith in rw (← e) (c .before .loop .inv .2)
+
+pub copy-literals-spec : {M : Type 1} → statement M
+copy-literals-spec =
+    tie.close
+    (tie.spec
+    Inv-loop
+    μ-loop
+    loop-holds
+    mul-to
+    shared-slice-copy-out-to
+    mul-t9
+    slice-set-from-to
+    add-i
+    loop-less
+    loop-again
+    same-length
+    returns)

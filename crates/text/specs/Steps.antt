@@ -1,0 +1,118 @@
+-- What private functions promise; the contract of `read` rests on none of it. Assumes nothing.
+use Prim.Native.Nat.{ℕ, zero, suc, _+_, _-_, _≤_, _<_}
+use mathlib.Core.Path.{_≡_}
+use mathlib.Core.Bool.{Bool, true, false, cond, _&&_}
+use mathlib.Core.List.{List, [], _∷_}
+use lib.Dec.{eqb, ltb}
+use lib.IntN.{ℤ}
+use lib.ListN.{length, take, drop}
+use Rattle.formula.specs.Formula.{max-unknowns, max-clauses, max-entries}
+use Rattle.text.specs.declared.body.Counts.{Counts}
+use Rattle.text.specs.Lines.{Bytes, lines, words, first, rest, second, third, fourth, same}
+use Rattle.text.specs.Numbers.{number, no-number, is-name, is-literal}
+use Rattle.text.specs.Shapes.{is-trimmed, p-word, cnf-word}
+use Rattle.text.specs.Reading.{max-variables, State, Step, went, unless, with-prefix, with-literals, bind-all, add-entries, literal-cause, entry, problem-cause, problem, after-comments, Result, taken, refused}
+
+-- The number of bytes before the first b.
+abbrev pub more-if-not : Bool → ℕ → ℕ
+more-if-not true n = 0
+more-if-not false n = suc n
+
+abbrev pub before : ℕ → Bytes → ℕ
+before b [] = 0
+before b (x ∷ xs) = more-if-not (eqb x b) (before b xs)
+
+-- The number of spaces at the front.
+abbrev pub more-if : Bool → ℕ → ℕ
+more-if true n = suc n
+more-if false n = 0
+
+abbrev pub spaces : Bytes → ℕ
+spaces [] = 0
+spaces (x ∷ xs) = more-if (eqb x 32) (spaces xs)
+
+-- The first word at or after i stands from `start` to `end`; there is none if the two are equal.
+pub record Next (line : Bytes) (i start end : ℕ) : Type 0 where
+  pub ordered : start ≤ end
+  pub within : end ≤ length line
+  pub word : take (end - start) (drop start line) ≡ first (words (drop i line))
+  pub others : words (drop end line) ≡ rest (words (drop i line))
+  pub none : start ≡ end → words (drop i line) ≡ []
+  pub some : start < end → words (drop i line) ≡ take (end - start) (drop start line) ∷ words (drop end line)
+  pub onward : start < end → i < end
+
+-- The words that a prefix line, or a signed clause line, holds before its 0.
+abbrev pub good : Bool → Bytes → Bool
+good false w = is-name w
+good true w = is-literal w
+
+-- The cause of the p line's numbers.
+unfoldable pub range-cause : ℕ → ℕ → ℕ
+range-cause v c = cond (ltb v no-number && ltb c no-number) (cond (ltb max-variables v) 11 (cond (ltb max-clauses c) 11 0)) 10
+
+pub record Opening-read (line : Bytes) (good : Bool) (end : ℕ) : Type 0 where
+  pub right : good ≡ (is-trimmed line && same (first (words line)) p-word && same (second (words line)) cnf-word)
+  pub within : end ≤ length line
+  pub others : words (drop end line) ≡ rest (rest (words line))
+
+pub record Problem-read (line : Bytes) (cause variables clauses : ℕ) : Type 0 where
+  pub right : cause ≡ problem-cause line
+  pub v : variables ≡ number (third (words line))
+  pub c : clauses ≡ number (fourth (words line))
+  pub small : cause ≡ 0 → variables ≤ max-variables
+
+-- The names of a prefix line from i on are bound: of the tables n entries were used and `count` are.
+pub record Bound-all (line : Bytes) (i kind variables n : ℕ) (K N : List ℕ) (cause count : ℕ) (K′ N′ : List ℕ) : Type 0 where
+  pub room : count ≤ max-unknowns
+  pub right : (s : State) → s .variables ≡ variables
+      → unless cause (went (with-prefix s (take count K′) (take count N′))) ≡ bind-all kind (with-prefix s (take n K) (take n N)) (words (drop i line))
+
+-- A word of a clause line, with its literal by position.
+pub record Placed (variables : ℕ) (names : List ℕ) (used : ℕ) (w : Bytes) (cause : ℕ) (literal : ℤ) : Type 0 where
+  pub right : cause ≡ literal-cause variables names used w
+  pub written : cause ≡ 0 → literal ≡ entry names w
+
+-- The entries of a clause line are added: of the literals m entries were used and `count` are.
+pub record Added-all (line : Bytes) (variables m : ℕ) (names : List ℕ) (L : List ℤ) (cause count : ℕ) (L′ : List ℤ) : Type 0 where
+  pub room : count ≤ max-entries
+  pub right : (s : State) → s .variables ≡ variables → s .names ≡ names
+      → unless cause (went (with-literals s (take count L′))) ≡ add-entries (with-literals s (take m L)) (words line)
+
+-- The tables are as long as a formula may be, and what is used of them is within.
+pub record Sized (c : Counts) (K N : List ℕ) (L : List ℤ) : Type 0 where
+  pub kinds : length K ≡ max-unknowns
+  pub names : length N ≡ max-unknowns
+  pub literals : length L ≡ max-entries
+  pub unknowns : c .unknowns ≤ max-unknowns
+  pub entries : c .entries ≤ max-entries
+  pub variables : c .variables ≤ max-variables
+
+-- The state that the counts and the tables hold.
+unfoldable pub held : Counts → List ℕ → List ℕ → List ℤ → State
+held c K N L =
+    record { variables = c .variables; clauses = c .clauses; kinds = take (c .unknowns) K; names = take (c .unknowns) N; literals = take (c .entries) L; clauses-read = c .«clauses_read» }
+
+abbrev pub settled : ℕ → ℕ → State → Result
+settled zero line s = taken s
+settled (suc cause) line s = refused (suc cause) line
+
+-- What has been found once the text is read.
+unfoldable pub outcome : Counts → List ℕ → List ℕ → List ℤ → Result
+outcome c K N L = settled (c .cause) (c .line) (held c K N L)
+
+-- A line is read: what is held afterwards is what was to be expected of it.
+pub record Line-read (expected : Step) (c r : Counts) (K′ N′ : List ℕ) (L′ : List ℤ) : Type 0 where
+  pub sized : Sized r K′ N′ L′
+  pub line : r .line ≡ c .line
+  pub right : unless (r .cause) (went (held r K′ N′ L′)) ≡ expected
+
+-- The whole text is read.
+pub record All-read (expected : Result) (r : Counts) (K′ N′ : List ℕ) (L′ : List ℤ) : Type 0 where
+  pub sized : Sized r K′ N′ L′
+  pub right : outcome r K′ N′ L′ ≡ expected
+
+-- The c lines end at a place, where the line of this number starts.
+pub record Comments-read (text : Bytes) (at line : ℕ) : Type 0 where
+  pub within : at ≤ length text
+  pub small : line ≤ at + 1
+  pub right : problem line (lines (drop at text)) ≡ after-comments 1 (lines text)

@@ -1,0 +1,149 @@
+// The lines after the p line.
+ghost use mathlib.Core.Path.{_≡_};
+ghost use mathlib.Core.List.{List};
+ghost use mathlib.Core.Bool.{_&&_};
+ghost use lib.Dec.{eqb};
+ghost use lib.IntN.{ℤ};
+ghost use Prim.Native.Nat.{ℕ, _+_, _≤_};
+ghost use lib.ListN.{length, drop};
+ghost use Rattle.formula.specs.Formula.{max-unknowns, max-entries};
+ghost use Rattle.text.specs.Lines.{lines, words};
+ghost use Rattle.text.specs.Shapes.{is-prefix};
+ghost use Rattle.text.specs.Reading.{max-variables, body as lines-read, body-line as line-read, prefix-line as prefix-read, clause-line as clause-read, kind-of-word};
+ghost use Rattle.text.specs.Steps.{Sized, held, Line-read, All-read};
+use crate::lines;
+use crate::names;
+use crate::numbers;
+use crate::shapes;
+
+// How far a text was taken: V and C, what is used of the tables, the clause lines, a cause, 0 for none, and the line reached.
+pub(crate) struct Counts {
+    pub(crate) variables: usize,
+    pub(crate) clauses: usize,
+    pub(crate) unknowns: usize,
+    pub(crate) entries: usize,
+    pub(crate) clauses_read: usize,
+    pub(crate) cause: u32,
+    pub(crate) line: usize,
+}
+
+// Nothing taken.
+pub(crate) fn refused(cause: u32, line: usize) -> Counts
+    ensures { λ r. ⌜ (r .cause ≡ cause) × (r .line ≡ line) × (r .unknowns ≡ 0) × (r .entries ≡ 0) × (r .variables ≡ 0) ⌝ }
+{
+    Counts {
+        variables: 0,
+        clauses: 0,
+        unknowns: 0,
+        entries: 0,
+        clauses_read: 0,
+        cause,
+        line,
+    }
+}
+
+// Reads the lines from `start` on.
+pub(crate) fn read_body(
+    text: &[u8],
+    start: usize,
+    c: Counts,
+    kinds: &mut [u8],
+    literals: &mut [i32],
+    names: &mut [u16],
+) -> Counts
+    requires { ⌜ Sized c (now kinds) (now names) (now literals) ⌝ }
+    requires { ⌜ (start ≤ length (now text)) × (c .line ≤ start + 1) × (c .cause ≡ 0) ⌝ }
+    ensures { λ r. ⌜ All-read (lines-read (held c (now (kinds .entry)) (now (names .entry)) (now (literals .entry))) (c .line) (lines (drop start (now (text .entry))))) r (now (kinds .exit)) (now (names .exit)) (now (literals .exit)) ⌝ }
+{
+    let mut s = c;
+    let mut at = start;
+    while at < text.len() {
+        let end = lines::find(text, at, b'\n');
+        if end == text.len() {
+            s.cause = 10;
+            return s;
+        }
+        s = body_line(&text[at..end], s, kinds, literals, names);
+        if s.cause != 0 {
+            return s;
+        }
+        at = end + 1;
+        s.line += 1;
+    }
+    if s.clauses_read != s.clauses {
+        s.cause = 14;
+    }
+    s
+}
+
+// Reads one line.
+fn body_line(
+    line: &[u8],
+    c: Counts,
+    kinds: &mut [u8],
+    literals: &mut [i32],
+    names: &mut [u16],
+) -> Counts
+    requires { ⌜ Sized c (now kinds) (now names) (now literals) ⌝ }
+    ensures { λ r. ⌜ Line-read (line-read (held c (now (kinds .entry)) (now (names .entry)) (now (literals .entry))) (now (line .entry))) c r (now (kinds .exit)) (now (names .exit)) (now (literals .exit)) ⌝ }
+{
+    if binds(line, c.clauses_read) {
+        return prefix_line(line, c, kinds, names);
+    }
+    if shapes::is_clause(line) {
+        return clause_line(line, c, literals, names);
+    }
+    let mut s = c;
+    s.cause = 10;
+    s
+}
+
+// Whether a line is a prefix line at its place: none stands behind a clause line.
+fn binds(line: &[u8], done: usize) -> bool
+    ensures { λ r. ⌜ r ≡ (eqb done 0 && is-prefix (now (line .entry))) ⌝ }
+{
+    if done == 0 {
+        shapes::is_prefix(line)
+    } else {
+        false
+    }
+}
+
+// Reads a prefix line.
+fn prefix_line(line: &[u8], c: Counts, kinds: &mut [u8], names: &mut [u16]) -> Counts
+    requires { ⌜ (length (now kinds) ≡ max-unknowns) × (length (now names) ≡ max-unknowns) × (c .unknowns ≤ max-unknowns) × (c .variables ≤ max-variables) ⌝ }
+    ensures { λ r. ⌜ ((L : List ℤ) → Sized c (now (kinds .entry)) (now (names .entry)) L → Line-read (prefix-read (held c (now (kinds .entry)) (now (names .entry)) L) (words (now (line .entry)))) c r (now (kinds .exit)) (now (names .exit)) L) ⌝ }
+{
+    let w = lines::next(line, 0);
+    let start = w.start;
+    let end = w.end;
+    let kind = kind_of(&line[start..end]);
+    let used = names::bind_all(line, end, kind, c.variables, c.unknowns, kinds, names);
+    let mut s = c;
+    s.unknowns = used.count;
+    s.cause = used.cause;
+    s
+}
+
+fn kind_of(word: &[u8]) -> u8
+    ensures { λ r. ⌜ r ≡ kind-of-word (now (word .entry)) ⌝ }
+{
+    if numbers::same(word, b"a") { 1 } else { 0 }
+}
+
+// Reads a clause line.
+fn clause_line(line: &[u8], c: Counts, literals: &mut [i32], names: &[u16]) -> Counts
+    requires { ⌜ (length (now names) ≡ max-unknowns) × (length (now literals) ≡ max-entries) × (c .unknowns ≤ max-unknowns) × (c .entries ≤ max-entries) ⌝ }
+    ensures { λ r. ⌜ ((K : List ℕ) → Sized c K (now (names .entry)) (now (literals .entry)) → Line-read (clause-read (held c K (now (names .entry)) (now (literals .entry))) (words (now (line .entry)))) c r K (now (names .entry)) (now (literals .exit))) ⌝ }
+{
+    let mut s = c;
+    if c.clauses <= c.clauses_read {
+        s.cause = 14;
+        return s;
+    }
+    let used = names::add_entries(line, c.variables, c.unknowns, names, c.entries, literals);
+    s.entries = used.count;
+    s.cause = used.cause;
+    s.clauses_read += 1;
+    s
+}
