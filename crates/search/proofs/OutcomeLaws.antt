@@ -31,25 +31,21 @@ use Rattle.search.specs.Whole.{side-kind, Ready, Accepting, FoundIs, lat
 -- ---- the causes behind the formula's
 
 module _ (rows : List ℕ) (lent others : ℕ) (work : List ℕ) where
-
   pub cause-table : table-fits rows ≡ false → later-cause rows lent others work ≡ 4
   unfolding later-cause
   cause-table e = rw e
 
   module _ (fits : table-fits rows ≡ true) where
-
     pub cause-area : (length work ≡ 65536 → ⊥) → later-cause rows lent others work ≡ 5
     unfolding later-cause
     cause-area n = rw (fits, ne-eqb (length work) 65536 n)
 
     module _ (area : length work ≡ 65536) where
-
       pub cause-count : room rows < lent → later-cause rows lent others work ≡ 7
       unfolding later-cause
       cause-count lt = rw (fits, eq-eqb (length work) 65536 area, lt-ltb (room rows) lent lt)
 
       module _ (inside : lent ≤ room rows) where
-
         pub cause-stray : stray-rows others lent rows ≡ true → later-cause rows lent others work ≡ 8
         unfolding later-cause
         cause-stray e = rw (fits, eq-eqb (length work) 65536 area, le-ltb (room rows) lent inside, e)
@@ -69,7 +65,6 @@ fits-few rows e =
 -- ---- answers for an accepted formula
 
 module _ (kinds : List ℕ) (literals : List ℤ) (preferences rows : List ℕ) (lent others side : ℕ) (w : List ℕ) where
-
   pub answered-refused : (n : ℕ) → later-cause rows lent others w ≡ suc n → Answered kinds literals preferences rows lent others side w w (Refused (suc n))
   answered-refused n e = record {
     refused = λ f. (ap Refused (sym e), refl);
@@ -109,7 +104,6 @@ unfolding checked
 checked-positive kinds literals n e z = turned-positive (cause-1 kinds) (cause-2 literals) (cause-3 (length kinds) literals) (sizes kinds literals) n e z
 
 module _ (kinds : List ℕ) (literals : List ℤ) (preferences rows : List ℕ) (lent : ℕ) (universal? : Bool) (w : List ℕ) where
-
   -- a cause of the formula's is the cause
   cause-first : (n : ℕ) → checked kinds literals ≡ Turned n → cause kinds literals rows lent universal? w ≡ n
   unfolding cause
@@ -124,7 +118,6 @@ module _ (kinds : List ℕ) (literals : List ℤ) (preferences rows : List ℕ) 
   refused-work n e = sym (rw (cause-first n e, ne-eqb n 0 (checked-positive kinds literals n e)))
 
   module _ (f : Formula) (passed : checked kinds literals ≡ Passed f) (others side : ℕ) (same-side : side-kind side ≡ side-of universal?) (others-known : others ≡ count (other (side-kind side)) (prefix kinds)) where
-
     others-same : count (other (side-of universal?)) (prefix kinds) ≡ others
     others-same = ap (λ (s : Kind). count (other s) (prefix kinds)) (sym same-side) ∙ sym others-known
 
@@ -160,7 +153,6 @@ count-both (existential ∷ ks) = let r : count universal ks + count existential
 count-both (universal ∷ ks) = let r : count universal ks + count existential ks ≡ length ks = count-both ks in omega arith
 
 module _ (kinds : List ℕ) (literals : List ℤ) (f : Formula) (passed : checked kinds literals ≡ Passed f) where
-
   universals-known : f .universals ≡ count universal (prefix kinds)
   universals-known = ap (λ (x : Formula). x .universals) (accepted-sizes kinds literals passed)
 

@@ -20,14 +20,12 @@ unknown : (P : Problem) (kinds splits codes : List ℕ) (side k : ℕ) → Fits 
 unknown P kinds splits codes side k F h = let e : P .n ≡ length kinds = F .unknowns in omega arith
 
 module _ (kinds splits codes : List ℕ) (side k lo hi : ℕ) (kk : k < length kinds) (short : length kinds ≤ 128) where
-
   below : k < 128
   below = omega arith
 
   -- ---- a trial
 
   module _ (y : Bool) (w w1 w2 s s1 s2 : List ℕ) (r1 : Bool) (added : SetGrown k s s1) (named : set-at s1 k k ≡ true) (stored : CellsSet k lo hi (k + 2) y w w1) (followed : Settles side splits codes lo hi (k + 2) w1 w2 s1 s2 r1) where
-
     pub tries-refuted : r1 ≡ false → Tries kinds splits codes side k lo hi y w w2 s s2 false
     tries-refuted e P v F W A o z =
         let kn : k < P .n = unknown P kinds splits codes side k F kk in
@@ -39,15 +37,14 @@ module _ (kinds splits codes : List ℕ) (side k lo hi : ℕ) (kk : k < length k
     tries-searched w3 s3 r e searches P v F W A o z =
         let kn : k < P .n = unknown P kinds splits codes side k F kk in
         let settled : Settled P (k + 1) lo hi (with-value k y v) (k + 2) w1 w2 s1 s2 true =
-                subst (λ (b : Bool). Settled P (k + 1) lo hi (with-value k y v) (k + 2) w1 w2 s1 s2 b) e
-                (followed P kinds (k + 1) (with-value k y v) F (tried-node kinds splits codes side k lo hi below y w w1 w2 s s1 s2 added named stored P v F W A kn o z) (omega arith) (omega arith)) in
+        subst (λ (b : Bool). Settled P (k + 1) lo hi (with-value k y v) (k + 2) w1 w2 s1 s2 b) e
+        (followed P kinds (k + 1) (with-value k y v) F (tried-node kinds splits codes side k lo hi below y w w1 w2 s s1 s2 added named stored P v F W A kn o z) (omega arith) (omega arith)) in
         tried-searched kinds splits codes side k lo hi below y w w1 w2 s s1 s2 added named stored P v F W A kn o z w3 s3 r settled
         (searches P (with-value k y v) F (λ i j a b own. settled .wanted i j ∙ stored .wanted i j ∙ W i j a b own) (settled .kept refl))
 
   -- ---- a choice
 
   module _ (y : Bool) (w w1 s s1 : List ℕ) (r1 : Bool) (wanted : wants w lo k ≡ y) (first : Tries kinds splits codes side k lo hi y w w1 s s1 r1) where
-
     pub chooses-first : r1 ≡ true → Chooses kinds splits codes side k lo hi w w1 s s1 true
     chooses-first e P v F W A o z =
         chosen-first kinds splits codes side k lo hi below P v F w s W A (unknown P kinds splits codes side k F kk) o y wanted w1 s1
@@ -59,9 +56,7 @@ module _ (kinds splits codes : List ℕ) (side k lo hi : ℕ) (kk : k < length k
         failed-without kinds splits codes side k lo hi below P v F w s W A (unknown P kinds splits codes side k F kk) o y wanted y w1 s1 (t .grown) (t .wanted) (t .masked) (t .failed e) lacks
 
     module _ (w2 w3 s2 s3 : List ℕ) (r : Bool) (e1 : r1 ≡ false) (opened : CellsOpened lo hi (k + 1) w1 w2) (trimmed : Trimmed k s1 s2) (second : Tries kinds splits codes side k lo hi (not y) w2 w3 s2 s3 r) where
-
       module _ (P : Problem) (v : ℕ → Bool) (F : Fits P kinds splits codes side) (W : (i j : ℕ) → i < P .count → j < P .n → P .own j ≡ true → wants w i j ≡ P .wanted i j) (A : Node P k lo hi v (cells w) (masks s)) (o : P .own k ≡ true) (z : cells w .level lo k ≡ 0) where
-
         kn : k < P .n
         kn = unknown P kinds splits codes side k F kk
 
@@ -95,7 +90,6 @@ module _ (kinds splits codes : List ℕ) (side k lo hi : ℕ) (kk : k < length k
 -- ---- a split
 
 module _ (kinds splits codes : List ℕ) (side k lo mid hi : ℕ) (kk : k < length kinds) (lm : lo < mid) (w w1 s s1 : List ℕ) (r1 : Bool) (first : Searches kinds splits codes side (k + 1) mid hi w w1 s s1 r1) where
-
   pub splits-first : r1 ≡ false → Splits kinds splits codes side k lo mid hi w w1 s s1 false
   splits-first e P v F W A o parting at-k =
       let kn : k < P .n = unknown P kinds splits codes side k F kk in
@@ -106,14 +100,13 @@ module _ (kinds splits codes : List ℕ) (side k lo mid hi : ℕ) (kk : k < leng
   splits-second s2 w3 s3 r e trimmed second P v F W A o parting at-k =
       let kn : k < P .n = unknown P kinds splits codes side k F kk in
       let one : Searched P (k + 1) mid hi (with-value k (P .given mid k) v) w w1 s s1 r1 =
-              first P (with-value k (P .given mid k) v) F W (high-node P kinds splits codes side F k lo mid hi v w s A kn o parting lm at-k) in
+      first P (with-value k (P .given mid k) v) F W (high-node P kinds splits codes side F k lo mid hi v w s A kn o parting lm at-k) in
       split-second P kinds splits codes side F k lo mid hi v w s A kn o parting lm at-k w1 s1 r1 one s2 trimmed w3 s3 r e
       (second P (with-value k (P .given lo k) v) F (λ i j a b own. one .wanted i j ∙ W i j a b own) (low-node P kinds splits codes side F k lo mid hi v w s A kn o parting lm at-k w1 s1 r1 one s2 trimmed))
 
 -- ---- the position behind those that stand
 
 module _ (kinds splits codes : List ℕ) (side at until lo mid hi : ℕ) (short : length kinds ≤ 128) (w u s t : List ℕ) (r : Bool) where
-
   pub steps-reached : at ≡ length kinds → Reached codes side w lo s t r → Steps kinds splits codes side at until lo mid hi w w s t r
   unfolding cut
   steps-reached e reached P v F W A parting parted most opens others =
@@ -133,7 +126,6 @@ module _ (kinds splits codes : List ℕ) (side at until lo mid hi : ℕ) (short 
 
 module _ (kinds splits codes : List ℕ) (side k at until lo mid hi : ℕ) (short : length kinds ≤ 128) (w u s t : List ℕ) (r : Bool) (parting : Parting splits lo hi mid) (parted : PartedAt splits lo mid (length kinds) until)
     (stood : Stands kinds w side k lo until at) (stepped : Steps kinds splits codes side at until lo mid hi w u s t r) where
-
   taken : (P : Problem) (v : ℕ → Bool) (F : Fits P kinds splits codes side) (W : (i j : ℕ) → i < P .count → j < P .n → P .own j ≡ true → wants w i j ≡ P .wanted i j) (A : Node P k lo hi v (cells w) (masks s)) → Searched P at lo hi (cells w .value lo) w u s t r
   taken P v F W A =
       stepped P (cells w .value lo) F W (stood-node P kinds splits codes side F k at until lo mid hi v w s short A parting parted stood) parting parted
@@ -156,7 +148,6 @@ module _ (kinds splits codes : List ℕ) (side k at until lo mid hi : ℕ) (shor
 module _ (P : Problem) (kinds splits codes : List ℕ) (side : ℕ) (F : Fits P kinds splits codes side) (some : 0 < length splits) (w : List ℕ)
     (filled : (i j : ℕ) → i < P .count → j < P .n → P .own j ≡ false → (cells w .level i j ≡ 1) × (cells w .value i j ≡ P .given i j))
     (opened : (i j : ℕ) → ((i < P .count) × (j < P .n) × (P .own j ≡ false) → ⊥) → cells w .level i j ≡ 0) where
-
   rows-known : P .count ≡ length splits
   rows-known = F .rows
 
@@ -184,7 +175,6 @@ module _ (P : Problem) (kinds splits codes : List ℕ) (side : ℕ) (F : Fits P 
   }
 
 module _ (kinds splits codes : List ℕ) (side : ℕ) (some : 0 < length splits) (w w1 s s1 : List ℕ) (r1 : Bool) (looked : Settles side splits codes 0 (length splits) 1 w w1 s s1 r1) where
-
   pub start-refuted : r1 ≡ false → FromStart kinds splits codes side w w1 false
   start-refuted e P F W filled opened = (λ f. absurd (never-both f refl), λ f v. (cut s1, looked P kinds 0 v F (root-node P kinds splits codes side F some w filled opened v s) (omega arith) (omega arith) .failed e))
 

@@ -33,7 +33,6 @@ unfolding with-value
 with-at k y v = ap (λ (b : Bool). cond b y (v k)) (eq-eqb k k refl)
 
 module _ (kinds splits codes : List ℕ) (side k lo hi : ℕ) (k128 : k < 128) where
-
   -- ---- a trial of one value
 
   -- the group's cells at k are all open
@@ -42,6 +41,7 @@ module _ (kinds splits codes : List ℕ) (side k lo hi : ℕ) (k128 : k < 128) w
     where
       some : lo < hi
       some = A .some
+
       go : (n : ℕ) → cells w .level i k ≡ n → cells w .level i k ≡ 0
       go zero e = e
       go (suc n) e =
@@ -52,7 +52,6 @@ module _ (kinds splits codes : List ℕ) (side k lo hi : ℕ) (k128 : k < 128) w
   module _ (y : Bool) (w w1 w2 s s1 s2 : List ℕ) (added : SetGrown k s s1) (named : set-at s1 k k ≡ true) (stored : CellsSet k lo hi (k + 2) y w w1)
       (P : Problem) (v : ℕ → Bool) (F : Fits P kinds splits codes side) (W : (i j : ℕ) → i < P .count → j < P .n → P .own j ≡ true → wants w i j ≡ P .wanted i j) (A : Node P k lo hi v (cells w) (masks s))
       (kn : k < P .n) (o : P .own k ≡ true) (z : cells w .level lo k ≡ 0) where
-
     pub tried-node : Node P (k + 1) lo hi (with-value k y v) (cells w1) (masks s1)
     tried-node =
         node-decide P k lo hi (k + 2) v (with-value k y v) y (cells w) (cells w1) (masks s) (masks s1) A kn o (omega arith) (omega arith) (stored .stored) (with-same k y v) (with-at k y v) (masks-grown k k s s1 added)
@@ -85,6 +84,7 @@ module _ (kinds splits codes : List ℕ) (side k lo hi : ℕ) (k128 : k < 128) w
       where
         later : Grown (k + 2) lo hi (cells w1) (cells w3)
         later = grown-trans (k + 2) lo hi (cells w1) (cells w2) (cells w3) (omega arith) (settled .grown) (grown-wider (k + 1 + 2) (k + 2) lo hi lo hi (cells w2) (cells w3) (omega arith) (omega arith) (omega arith) (searched .grown))
+
         set-there : (i : ℕ) → lo ≤ i → i < hi → 0 < cells w1 .level i k
         set-there i p q = let e : cells w1 .level i k ≡ k + 2 = stored .stored .there i p q .0 in omega arith
 
@@ -92,7 +92,6 @@ module _ (kinds splits codes : List ℕ) (side k lo hi : ℕ) (k128 : k < 128) w
 
   module _ (P : Problem) (v : ℕ → Bool) (F : Fits P kinds splits codes side) (w s : List ℕ) (W : (i j : ℕ) → i < P .count → j < P .n → P .own j ≡ true → wants w i j ≡ P .wanted i j) (A : Node P k lo hi v (cells w) (masks s))
       (kn : k < P .n) (o : P .own k ≡ true) (y : Bool) (wanted : wants w lo k ≡ y) where
-
     some : lo < hi
     some = A .some
 
@@ -122,7 +121,6 @@ module _ (kinds splits codes : List ℕ) (side k lo hi : ℕ) (k128 : k < 128) w
     }
 
     module _ (w1 w2 s1 s2 : List ℕ) (first : Tried P k lo hi v y w w1 s s1 false) (opened : CellsOpened lo hi (k + 1) w1 w2) (trimmed : Trimmed k s1 s2) where
-
       back : (i j : ℕ) → SameCell (cells w) (cells w2) i j
       back = cleared-back (k + 1 + 1) lo hi (cells w) (cells w1) (cells w2) (λ i j p q. let l : cells w .level i j ≤ k + 1 = A .levels i j p q in omega arith) (grown-wider (k + 2) (k + 1 + 1) lo hi lo hi (cells w) (cells w1) (omega arith) (omega arith) (omega arith) (first .grown)) (opened .cleared)
 
@@ -139,7 +137,6 @@ module _ (kinds splits codes : List ℕ) (side k lo hi : ℕ) (k128 : k < 128) w
       second-open z = back lo k .0 ∙ z
 
       module _ (w3 s3 : List ℕ) (r : Bool) (second : Tried P k lo hi v (not y) w2 w3 s2 s3 r) where
-
         both-grown : Grown (k + 2) lo hi (cells w) (cells w3)
         both-grown i j =
             ⊎-elim
@@ -188,7 +185,6 @@ module _ (kinds splits codes : List ℕ) (side k lo hi : ℕ) (k128 : k < 128) w
 -- ---- rows that part
 
 module _ (P : Problem) (kinds splits codes : List ℕ) (side : ℕ) (F : Fits P kinds splits codes side) where
-
   other-given : (a b c : Bool) → (a ≡ b → ⊥) → (a ≡ c → ⊥) → b ≡ c
   other-given true true c f g = absurd (f refl)
   other-given true false true f g = absurd (g refl)
@@ -198,7 +194,6 @@ module _ (P : Problem) (kinds splits codes : List ℕ) (side : ℕ) (F : Fits P 
   other-given false false c f g = absurd (f refl)
 
   module _ (k lo mid hi : ℕ) (v : ℕ → Bool) (w s : List ℕ) (A : Node P k lo hi v (cells w) (masks s)) (kn : k < P .n) (o : P .own k ≡ false) (parting : Parting splits lo hi mid) (lm : lo < mid) (at-k : getD splits mid 0 ≡ k) where
-
     all-rows : hi ≤ length splits
     all-rows = let a : hi ≤ P .count = A .rows in let b : P .count ≡ length splits = F .rows in omega arith
 
@@ -241,7 +236,6 @@ module _ (P : Problem) (kinds splits codes : List ℕ) (side : ℕ) (F : Fits P 
     high-node = part-node mid hi (omega arith) high (omega arith) high-agree w s (λ i j p q. (refl, λ h. refl)) (within-refl k (masks s))
 
     module _ (w1 s1 : List ℕ) (r1 : Bool) (first : Searched P (k + 1) mid hi (with-value k (P .given mid k) v) w w1 s s1 r1) where
-
       first-grown : Grown (k + 2) lo hi (cells w) (cells w1)
       first-grown = grown-wider (k + 1 + 2) (k + 2) mid hi lo hi (cells w) (cells w1) (omega arith) (omega arith) (omega arith) (first .grown)
 
@@ -258,7 +252,6 @@ module _ (P : Problem) (kinds splits codes : List ℕ) (side : ℕ) (F : Fits P 
       }
 
       module _ (s2 : List ℕ) (trimmed : Trimmed k s1 s2) where
-
         between : MasksWithin k (masks s) (masks s2)
         between = within-trans k (masks s) (masks s1) (masks s2) first-masked (masks-within k s1 s2 (λ p lt l lk h. trimmed .below p l lk h))
 
@@ -295,13 +288,13 @@ module _ (P : Problem) (kinds splits codes : List ℕ) (side : ℕ) (F : Fits P 
     where
       some : lo < hi
       some = A .some
+
       below : lo < P .count
       below = let b : hi ≤ P .count = A .rows in let c : lo < hi = A .some in omega arith
 
   -- ---- positions that stand
 
   module _ (k at until lo mid hi : ℕ) (v : ℕ → Bool) (w s : List ℕ) (short : length kinds ≤ 128) (A : Node P k lo hi v (cells w) (masks s)) (parting : Parting splits lo hi mid) (parted : PartedAt splits lo mid (length kinds) until) (stood : Stands kinds w side k lo until at) where
-
     known : P .n ≡ length kinds
     known = F .unknowns
 
@@ -317,16 +310,20 @@ module _ (P : Problem) (kinds splits codes : List ℕ) (side : ℕ) (F : Fits P 
       where
         some : lo < hi
         some = A .some
+
         deep : k ≤ P .n
         deep = A .depth
+
         go : Dec (until < k) → k ≤ until
         go (no n) = omega arith
         go (yes lt) = apart mid refl
           where
             there : (lo < mid) × (getD splits mid 0 ≡ until)
             there = parted .there (omega (arith, deep, known))
+
             high : mid < hi
             high = parting .high
+
             apart : (m : ℕ) → m ≡ mid → k ≤ until
             apart zero e = absurd (let a : lo < mid = there .0 in omega arith)
             apart (suc m) e =
@@ -347,19 +344,24 @@ module _ (P : Problem) (kinds splits codes : List ℕ) (side : ℕ) (F : Fits P 
       where
         low : lo ≤ mid
         low = parting .low
+
         go : Dec (mid ≡ lo) → until ≤ getD splits g 0
         go (yes e) = let c : 255 ≤ getD splits g 0 = parting .alone e g a b in omega arith
         go (no n) = ⊎-elim near (λ c. far (ℕ-discrete g mid) c) (side-of (decLt g mid))
           where
             lm : lo < mid
             lm = omega (arith, low)
+
             first : until ≤ getD splits mid 0
             first = parted .first lm
+
             side-of : Dec (g < mid) → (g < mid) ⊎ (mid ≤ g)
             side-of (yes c) = inl c
             side-of (no c) = inr (omega arith)
+
             near : g < mid → until ≤ getD splits g 0
             near c = let d : getD splits mid 0 < getD splits g 0 = parting .before g a c in omega (arith, first)
+
             far : Dec (g ≡ mid) → mid ≤ g → until ≤ getD splits g 0
             far (yes e) c = subst (λ (x : ℕ). until ≤ getD splits x 0) (sym e) first
             far (no d) c = let f : getD splits mid 0 ≤ getD splits g 0 = parting .behind lm g (omega arith) b in omega (arith, first)
@@ -372,8 +374,10 @@ module _ (P : Problem) (kinds splits codes : List ℕ) (side : ℕ) (F : Fits P 
       where
         some : lo < hi
         some = A .some
+
         theirs : P .own j ≡ false → 0 < cells w .level i j
         theirs o = A .given i j p q (omega arith) o .0
+
         mine : P .own j ≡ true → 0 < cells w .level i j
         mine o =
             ⊎-elim
@@ -392,8 +396,10 @@ module _ (P : Problem) (kinds splits codes : List ℕ) (side : ℕ) (F : Fits P 
       where
         there : (lo < mid) × (getD splits mid 0 ≡ until)
         there = parted .there lt
+
         high : mid < hi
         high = parting .high
+
         mine : P .own until ≡ true → ⊥
         mine o = go mid refl
           where
@@ -420,10 +426,13 @@ module _ (P : Problem) (kinds splits codes : List ℕ) (side : ℕ) (F : Fits P 
       where
         low : k ≤ at
         low = stood .low
+
         wider : Grown (k + 2) lo hi (cells w) (cells u)
         wider = grown-wider (at + 2) (k + 2) lo hi lo hi (cells w) (cells u) (omega arith) (omega arith) (omega arith) (searched .grown)
+
         kept : (l : ℕ) → cut t l ≡ true → cut t′ l ≡ true
         kept l d = excused .grown .keeps l d
+
         taken : (p l : ℕ) → k ≤ p → p < at → cut t p ≡ true → set-at t p l ≡ true → cut t′ l ≡ true
         taken p l kp pa d h = excused .takes p kp pa d l h
 
@@ -439,5 +448,6 @@ module _ (P : Problem) (kinds splits codes : List ℕ) (side : ℕ) (F : Fits P 
       where
         low : k ≤ at
         low = stood .low
+
         wider : Grown (k + 2) lo hi (cells w) (cells u)
         wider = grown-wider (at + 2) (k + 2) lo hi lo hi (cells w) (cells u) (omega arith) (omega arith) (omega arith) (searched .grown)

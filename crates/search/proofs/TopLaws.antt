@@ -84,7 +84,6 @@ module _ (kinds : List ℕ) (literals : List ℤ) (preferences rows place all sp
     (z w w2 : List ℕ) (filled : Filled kinds rows place side z w) (empty : (i j : ℕ) → cells z .level i j ≡ 0)
     (differences : (i : ℕ) → i + 1 < count → FirstDifference kinds side w i (getD splits (i + 1) 0))
     (wanting : WantsFilled kinds preferences place all side w w2) (same-splits : (i : ℕ) → i < count → getD all i 0 ≡ getD splits i 0) where
-
   abbrev row : ℕ → ℕ
   row = sorted .row
 
@@ -146,13 +145,16 @@ module _ (kinds : List ℕ) (literals : List ℤ) (preferences rows place all sp
     where
       next : i + 1 < count
       next = omega arith
+
       D : FirstDifference kinds side w i (getD splits (i + 1) 0)
       D = differences i (omega arith)
+
       forth : k ≤ getD splits (i + 1) 0 → Agree P i (i + 1) k
       forth h l ll o =
           given-value i l (omega arith) (omega arith) o
           ∙ D .same l (omega arith) (sym (own-is l) ∙ o)
           ∙ sym (given-value (i + 1) l (omega arith) (omega arith) o)
+
       back : Agree P i (i + 1) k → k ≤ getD splits (i + 1) 0
       back a = go (decLt (getD splits (i + 1) 0) k)
         where
@@ -200,12 +202,14 @@ module _ (kinds : List ℕ) (literals : List ℤ) (preferences rows place all sp
 
   differ-restriction : (i k : ℕ) → i + 1 < length place → k ≤ length (owned kinds side) → (k ≤ getD all (i + 1) 0) ↔ (restriction (owned kinds side) k (getD lent (row i) []) ≡ restriction (owned kinds side) k (getD lent (row (i + 1)) []))
   differ-restriction i k lt lk =
-      subst (λ (ts : List Bool). (k ≤ getD all (i + 1) 0) ↔ (restriction ts k (getD lent (row i) []) ≡ restriction ts k (getD lent (row (i + 1)) []))) same-flags
-      (λ h. same-restriction i (i + 1) k (differ-at i k (omega arith) short .0 (subst (λ (x : ℕ). k ≤ x) here h)),
-      λ e. subst (λ (x : ℕ). k ≤ x) (sym here) (differ-at i k (omega arith) short .1 (same-agree i (i + 1) k short e)))
+      subst (λ (ts : List Bool). (k ≤ getD all (i + 1) 0) ↔ (restriction ts k (getD lent (row i) []) ≡ restriction ts k (getD lent (row (i + 1)) []))) same-flags (
+        λ h. same-restriction i (i + 1) k (differ-at i k (omega arith) short .0 (subst (λ (x : ℕ). k ≤ x) here h)),
+        λ e. subst (λ (x : ℕ). k ≤ x) (sym here) (differ-at i k (omega arith) short .1 (same-agree i (i + 1) k short e)),
+      )
     where
       short : k ≤ length kinds
       short = let e : length (owned kinds side) ≡ length kinds = length-owned kinds side in omega arith
+
       here : getD all (i + 1) 0 ≡ getD splits (i + 1) 0
       here = same-splits (i + 1) (omega arith)
 
@@ -231,9 +235,10 @@ module _ (kinds : List ℕ) (literals : List ℤ) (preferences rows place all sp
       ∙ ap (λ (ts : List Bool). wanted (prefer preferences) ts lent j (restriction ts j (getD lent (row i) []))) (sym same-flags)
 
   filled-right : (i j : ℕ) → i < P .count → j < P .n → P .own j ≡ false → (cells w2 .level i j ≡ 1) × (cells w2 .value i j ≡ P .given i j)
-  filled-right i j lt lj o =
-      (wanting .levels i j ∙ level-given i j (omega (arith, counted)) (omega (arith, known)) o,
-      wanting .values i j (sym (own-is j) ∙ o) ∙ sym (given-value i j (omega (arith, counted)) (omega (arith, known)) o))
+  filled-right i j lt lj o = (
+    wanting .levels i j ∙ level-given i j (omega (arith, counted)) (omega (arith, known)) o,
+    wanting .values i j (sym (own-is j) ∙ o) ∙ sym (given-value i j (omega (arith, counted)) (omega (arith, known)) o),
+  )
 
   open-right : (i j : ℕ) → ((i < P .count) × (j < P .n) × (P .own j ≡ false) → ⊥) → cells w2 .level i j ≡ 0
   open-right i j n = wanting .levels i j ∙ kept (decLt i count) (decLt j (length kinds)) (true-or-false (P .own j)) ∙ empty i j

@@ -76,7 +76,6 @@ sorted-take rows lent m place s = record {
 }
 
 module _ (rows : List ℕ) (lent m : ℕ) (place : List ℕ) (long : lent ≤ length place) (sorted : Sorted rows lent m place) where
-
   cut-length : length (take lent place) ≡ lent
   cut-length = length-take-le lent place long
 
@@ -88,10 +87,11 @@ module _ (rows : List ℕ) (lent m : ℕ) (place : List ℕ) (long : lent ≤ le
       sym (cut-sorted .row-of-place r (omega (arith, cut-length))) ∙ ap (cut-sorted .row) e ∙ cut-sorted .row-of-place q (omega (arith, cut-length))
 
   pub place-met : (i : ℕ) → i < length (take lent place) → (r : ℕ) × (r < length (take lent place)) × (getD (take lent place) r 0 ≡ i)
-  place-met i lt =
-      (cut-sorted .row i,
-      subst (λ (x : ℕ). cut-sorted .row i < x) (sym cut-length) (cut-sorted .row-below i (omega (arith, cut-length))),
-      cut-sorted .place-of-row i (omega (arith, cut-length)))
+  place-met i lt = (
+    cut-sorted .row i,
+    subst (λ (x : ℕ). cut-sorted .row i < x) (sym cut-length) (cut-sorted .row-below i (omega (arith, cut-length))),
+    cut-sorted .place-of-row i (omega (arith, cut-length)),
+  )
 
   pub place-inside : (r : ℕ) → r < length (take lent place) → getD (take lent place) r 0 < length (take lent place)
   place-inside r lt = subst (λ (x : ℕ). getD (take lent place) r 0 < x) (sym cut-length) (cut-sorted .place-below r (omega (arith, cut-length)))
@@ -141,13 +141,11 @@ yielded-empty ts (some vs) zs p = cc
 -- ---- what is found
 
 module _ (kinds : List ℕ) (literals : List ℤ) (preferences rows : List ℕ) (lent others side : ℕ) where
-
   abbrev result : Option (List Row)
   result = search (prefer preferences) (side-kind side) (prefix kinds) (matrix (clauses literals)) (rows-of others lent rows)
 
   module _ (w₀ place z w u : List ℕ) (ready : Ready kinds literals rows lent others side w₀) (some-row : 0 < lent) (long : lent ≤ length place) (sorted : Sorted rows lent others place)
       (cleared : z ≡ replicate (length w₀) 0) (filled : Filled kinds rows (take lent place) side z w) (r : Bool) (decided : Decided kinds literals preferences (take lent place) side w u r) where
-
     placed : length (take lent place) ≡ lent
     placed = length-take-le lent place long
 
@@ -185,6 +183,7 @@ module _ (kinds : List ℕ) (literals : List ℤ) (preferences rows : List ℕ) 
       where
         one : ℕ → Row
         one q = part (owned kinds side) (tabulate (length kinds) (cells u .value (getD (take lent place) q 0)))
+
         yields : ℕ → List Row
         yields n = tabulate n one
 

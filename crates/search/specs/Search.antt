@@ -36,9 +36,9 @@ lent-rows kinds rows lent universal? = rows-of (count (other (side-of universal?
 unfoldable pub cause : List ℕ → List ℤ → List ℕ → ℕ → Bool → List ℕ → ℕ
 cause kinds literals rows lent universal? work =
     let later : ℕ = cond (not (table-fits rows)) 4
-            (cond (not (eqb (length work) work-size)) 5
-            (cond (ltb (room rows) lent) 7
-            (cond (stray-rows (count (other (side-of universal?)) (prefix kinds)) lent rows) 8 0))) in
+    (cond (not (eqb (length work) work-size)) 5
+    (cond (ltb (room rows) lent) 7
+    (cond (stray-rows (count (other (side-of universal?)) (prefix kinds)) lent rows) 8 0))) in
     cond (eqb (number (checked kinds literals)) 0) later (number (checked kinds literals))
 
 -- The rows that the first model yields, or none.

@@ -154,7 +154,6 @@ pub record Lent (splits codes work sets hints : List ℕ) : Type 0 where
   pub sets-lent : length sets ≡ 260
   pub hints-lent : length hints ≡ 8707
 
-
 -- The code's cell is set in row i, and its literal is y there.
 pub record IsAt (w : List ℕ) (i : ℕ) (y : Bool) (c : ℕ) : Type 0 where
   pub set : 0 < cells w .level i (position c)

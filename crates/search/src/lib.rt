@@ -58,7 +58,16 @@ pub fn first_model(
                 let others = kinds.len() - universals;
                 over_rows(kinds, literals, preferences, rows, count, others, 1, work)
             } else {
-                over_rows(kinds, literals, preferences, rows, count, universals, 0, work)
+                over_rows(
+                    kinds,
+                    literals,
+                    preferences,
+                    rows,
+                    count,
+                    universals,
+                    0,
+                    work,
+                )
             }
         }
     }
@@ -78,8 +87,7 @@ fn over_rows(
     requires { ⌜ Accepting (now kinds) (now literals) others side ⌝ }
     ensures { λ r. ⌜ Answered (now (kinds .entry)) (now (literals .entry)) (now (preferences .entry)) (now (rows .entry)) count others side (now (work .entry)) (now (work .exit)) r ⌝ }
 {
-    if rows::table_fits(rows) {
-    } else {
+    if rows::table_fits(rows) {} else {
         return Search::Refused(4);
     }
     if work.len() != 65_536 {
@@ -91,7 +99,16 @@ fn over_rows(
     if rows::stray_bit(rows, count, others) {
         return Search::Refused(8);
     }
-    if find(kinds, literals, preferences, rows, count, others, side, work) {
+    if find(
+        kinds,
+        literals,
+        preferences,
+        rows,
+        count,
+        others,
+        side,
+        work,
+    ) {
         Search::Found
     } else {
         Search::NoModel

@@ -15,8 +15,8 @@ use super::live;
 use super::sets;
 use super::sets::CUT;
 use super::table;
-use super::width::wide16;
 use super::width::wide8;
+use super::width::wide16;
 
 // The search over a filled table of at least one row. False: there is no model.
 pub(crate) fn from_start(
@@ -33,7 +33,18 @@ pub(crate) fn from_start(
     let mut hints = [0u16; 8_707];
     if look_around(splits, codes, work, &mut sets, &mut hints, side) {
         let hi = splits.len();
-        solve(kinds, splits, codes, work, &mut sets, &mut hints, side, 0, 0, hi)
+        solve(
+            kinds,
+            splits,
+            codes,
+            work,
+            &mut sets,
+            &mut hints,
+            side,
+            0,
+            0,
+            hi,
+        )
     } else {
         false
     }
@@ -80,7 +91,20 @@ fn solve(
     let mid = parting(splits, lo, hi);
     let until = parted_at(splits, lo, mid, kinds.len());
     let at = stand(kinds, work, side, k, lo, until);
-    if step(kinds, splits, codes, work, sets, hints, side, at, until, lo, mid, hi) {
+    if step(
+        kinds,
+        splits,
+        codes,
+        work,
+        sets,
+        hints,
+        side,
+        at,
+        until,
+        lo,
+        mid,
+        hi,
+    ) {
         return true;
     }
     excuse(sets, k, at);
@@ -111,7 +135,19 @@ fn step(
         return reached(codes, work, sets, side, lo);
     }
     if at == until {
-        return split(kinds, splits, codes, work, sets, hints, side, at, lo, mid, hi);
+        return split(
+            kinds,
+            splits,
+            codes,
+            work,
+            sets,
+            hints,
+            side,
+            at,
+            lo,
+            mid,
+            hi,
+        );
     }
     choose(kinds, splits, codes, work, sets, hints, side, at, lo, hi)
 }
@@ -134,12 +170,33 @@ fn split(
     requires { ⌜ (length (now kinds) ≤ 128) × (side ≤ 1) × (k < length (now kinds)) × (lo < mid) × (mid < hi) × (hi ≤ length (now splits)) ⌝ }
     ensures { λ r. ⌜ Splits (now (kinds .entry)) (now (splits .entry)) (now (codes .entry)) side k lo mid hi (now (work .entry)) (now (work .exit)) (now (sets .entry)) (now (sets .exit)) r ⌝ }
 {
-    if solve(kinds, splits, codes, work, sets, hints, side, k + 1, mid, hi) {
-    } else {
+    if solve(
+        kinds,
+        splits,
+        codes,
+        work,
+        sets,
+        hints,
+        side,
+        k + 1,
+        mid,
+        hi,
+    ) {} else {
         return false;
     }
-    sets::trim(sets, k, kinds.len());
-    solve(kinds, splits, codes, work, sets, hints, side, k + 1, lo, mid)
+    sets::trim(sets, k, kinds.len()); // no choice of one part stands in the other
+    solve(
+        kinds,
+        splits,
+        codes,
+        work,
+        sets,
+        hints,
+        side,
+        k + 1,
+        lo,
+        mid,
+    )
 }
 
 // Where a failure was reached by values that stand from k to `at`, it was reached by what they were reached by.
@@ -175,18 +232,41 @@ fn choose(
     ensures { λ r. ⌜ Chooses (now (kinds .entry)) (now (splits .entry)) (now (codes .entry)) side k lo hi (now (work .entry)) (now (work .exit)) (now (sets .entry)) (now (sets .exit)) r ⌝ }
 {
     let wanted = table::wanted(work, lo, k);
-    if attempt(kinds, splits, codes, work, sets, hints, side, k, lo, hi, wanted) {
+    if attempt(
+        kinds,
+        splits,
+        codes,
+        work,
+        sets,
+        hints,
+        side,
+        k,
+        lo,
+        hi,
+        wanted,
+    ) {
         return true;
     }
-    if sets::has(sets, CUT, k) {
-    } else {
+    if sets::has(sets, CUT, k) {} else {
         return false;
     }
     table::undo(work, lo, hi, k as u8 + 1);
     sets::trim(sets, k, kinds.len());
     let low = sets[256];
     let high = sets[257];
-    if attempt(kinds, splits, codes, work, sets, hints, side, k, lo, hi, !wanted) {
+    if attempt(
+        kinds,
+        splits,
+        codes,
+        work,
+        sets,
+        hints,
+        side,
+        k,
+        lo,
+        hi,
+        !wanted,
+    ) {
         return true;
     }
     if sets::has(sets, CUT, k) {
@@ -308,8 +388,7 @@ fn reached(codes: &[u16], work: &[u8], sets: &mut [u64], side: u8, i: usize) -> 
             return true;
         }
     } else {
-        if all {
-        } else {
+        if all {} else {
             return true;
         }
     }
