@@ -14,7 +14,7 @@ use Rattle.judge.specs.declared.Judgement.{Judgement}
 use Rattle.judge.specs.declared.Judgement.the-variants.{Accepted}
 use Rattle.judge.specs.Judge.{outcome, work-after, number, outcome-number}
 use Rattle.judge.proofs.Causes.{counted}
-use Rattle.judge.proofs.Outcome.{judgement-of, is-found, same-outcome, same-number, same-work, cleared-work}
+use Rattle.judge.proofs.Outcome.{judgement-of, is-found, searched, same-outcome, same-number, same-work, cleared-work}
 use Rattle.judge.proofs.Verdict.{accepted-is-verdict}
 
 module _ (kinds : List ℕ) (literals : List ℤ) (claim : ℕ) (rows : List ℕ) (count : ℕ) (work : List ℕ) where
@@ -33,14 +33,14 @@ module _ (kinds : List ℕ) (literals : List ℤ) (claim : ℕ) (rows : List ℕ
       let same-of = ap number same ∙ same-number kinds literals claim rows count work in
       (same, (same-left, (same-of, λ e. accepted-is-verdict kinds literals claim rows count work (sym same ∙ e))))
 
+  -- The search was handed the count `lent`; what it returned is the case in hand.
   module _ (lent : ℕ) (counts : lent ≡ counted claim rows count) {result : Search} (case : Search) (told : result ≡ case)
       (returned : result ≡ search.outcome kinds literals [] rows lent (eqb claim 1) work) where
-    -- The case in hand, as the search's outcome for the count that the laws name.
-    searched : case ≡ search.outcome kinds literals [] rows (counted claim rows count) (eqb claim 1) work
-    searched = sym told ∙ returned ∙ ap (λ (n : ℕ). search.outcome kinds literals [] rows n (eqb claim 1) work) counts
+    is-searched : case ≡ searched kinds literals claim rows count work
+    is-searched = sym told ∙ returned ∙ ap (λ (n : ℕ). search.outcome kinds literals [] rows n (eqb claim 1) work) counts
 
     judged : judgement-of case ≡ outcome kinds literals claim rows count work
-    judged = ap judgement-of searched ∙ same-outcome kinds literals claim rows count work
+    judged = ap judgement-of is-searched ∙ same-outcome kinds literals claim rows count work
 
     pub promised-unless-found : is-found case ≡ false → (left : List ℕ)
         → left ≡ search.work-after kinds literals [] rows lent (eqb claim 1) work → Promised (judgement-of case) left
@@ -48,9 +48,9 @@ module _ (kinds : List ℕ) (literals : List ℤ) (claim : ℕ) (rows : List ℕ
         promised (judgement-of case) left judged
         (same-left
         ∙ ap (λ (n : ℕ). search.work-after kinds literals [] rows n (eqb claim 1) work) counts
-        ∙ same-work kinds literals claim rows count work (sym (ap is-found searched) ∙ unfound))
+        ∙ same-work kinds literals claim rows count work (sym (ap is-found is-searched) ∙ unfound))
 
     pub promised-if-found : is-found case ≡ true → (left : List ℕ) → left ≡ replicate (length work) 0 → Promised (judgement-of case) left
     promised-if-found found left cleared =
         promised (judgement-of case) left judged
-        (cleared ∙ cleared-work kinds literals claim rows count work (sym (ap is-found searched) ∙ found))
+        (cleared ∙ cleared-work kinds literals claim rows count work (sym (ap is-found is-searched) ∙ found))

@@ -42,7 +42,7 @@ module _ (kinds : List ℕ) (literals : List ℤ) (rows : List ℕ) (count : ℕ
   found-none (suc zero) e = is-none-any-preferences (prefer []) (λ i. false) _ (prefix kinds) (matrix (clauses literals)) _
   found-none (suc (suc claim)) e = absurd (true≢false e)
 
--- Whatever the cause.
+-- The same of a whole outcome, with its cause.
 judgement-by-cause : (cause : ℕ) (o : Option (List Row)) (borne none? : Bool) → eqb cause 0 ≡ none? → (cause ≡ 0 → is-none o ≡ borne)
     → judgement-of (cond none? (search.answer o) (Search.Refused cause)) ≡ cond none? (answer borne) (Refused cause)
 judgement-by-cause cause o borne true e same = judgement-of-answer o ∙ ap answer (same (eqb-true cause 0 e))
@@ -53,6 +53,7 @@ number-by-cause cause true true = refl
 number-by-cause cause false true = refl
 number-by-cause cause borne false = refl
 
+-- The one outcome after which the code clears the work area.
 abbrev pub is-found : Search → Bool
 is-found Search.Found = true
 is-found Search.NoModel = false
@@ -75,7 +76,7 @@ module _ (kinds : List ℕ) (literals : List ℤ) (claim : ℕ) (rows : List ℕ
   abbrev pub searched : Search
   searched = search.outcome kinds literals [] rows (counted claim rows count) (eqb claim 1) work
 
-  abbrev pub searched-work : List ℕ
+  abbrev searched-work : List ℕ
   searched-work = search.work-after kinds literals [] rows (counted claim rows count) (eqb claim 1) work
 
   abbrev found : Option (List Row)

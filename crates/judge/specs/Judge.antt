@@ -35,11 +35,12 @@ width kinds claim = Causes.count (other (side-of (claims-true claim))) (prefix k
 -- the rows lent', 8 for 'in a row below the count, a bit set beyond its unknowns'.
 unfoldable pub cause : List ℕ → List ℤ → ℕ → List ℕ → ℕ → List ℕ → ℕ
 cause kinds literals claim rows count work =
-    let later : ℕ = cond (not (table-fits rows)) 4
+    let formula : ℕ = Causes.number (Causes.checked kinds literals) in
+    let later : ℕ =
+    cond (not (table-fits rows)) 4
     (cond (not (eqb (length work) work-size)) 5
     (cond (other-claim claim || ltb (room rows) count) 7
     (cond (stray-rows (width kinds claim) count rows) 8 0))) in
-    let formula : ℕ = Causes.number (Causes.checked kinds literals) in
     cond (eqb formula 0) later formula
 
 -- 'Accepted exactly if no model over those rows exists' ..

@@ -35,9 +35,13 @@ same-length c = search needs
 returns : tie.Need-returns
 returns c =
     let given = c .before .before .before .before .before .before .before .before .before .before .before .before .before .before .before .args in
-    let kept : length (c .before .before .before .before .before .before .before .before .first-model .last .1 .1 .1 .1 .1 .1 .0) ≡ length (given .work .now) = c .before .before .before .before .before .before .before .before .first-model .kept .1 .1 .1 .1 .1 .1 .0 in
-    promised-if-found (given .kinds .now) (given .literals .now) (given .claim) (given .rows .now) (given .count) (given .work .now) (c .before .before .before .before .before .before .before .before .before .before .before .counted .result) (c .before .before .before .before .before .before .before .before .before .before .before .counted .ensures)
-    Search.Found (c .before .before .before .before .enum-told .given .1) (c .before .before .before .before .before .before .before .before .first-model .ensures .0) refl (c .before .before .clear .last .0) (c .before .before .clear .ensures ∙ ap (λ (n : ℕ). replicate n 0) kept)
+    let kept : length (c .before .before .before .before .before .before .before .before .first-model .last .1 .1 .1 .1 .1 .1 .0) ≡ length (given .work .now) =
+    c .before .before .before .before .before .before .before .before .first-model .kept .1 .1 .1 .1 .1 .1 .0 in
+    promised-if-found (given .kinds .now) (given .literals .now) (given .claim) (given .rows .now) (given .count) (given .work .now)
+    (c .before .before .before .before .before .before .before .before .before .before .before .counted .result) (c .before .before .before .before .before .before .before .before .before .before .before .counted .ensures)
+    Search.Found (c .before .before .before .before .enum-told .given .1)
+    (c .before .before .before .before .before .before .before .before .first-model .ensures .0) refl
+    (c .before .before .clear .last .0) (c .before .before .clear .ensures ∙ ap (λ (n : ℕ). replicate n 0) kept)
 
 same-length-2 : tie.Need-same-length-2
 same-length-2 c = search needs
@@ -45,8 +49,10 @@ same-length-2 c = search needs
 returns-2 : tie.Need-returns-2
 returns-2 c =
     let given = c .before .before .before .before .before .before .before .before .before .before .before .args in
-    promised-unless-found (given .kinds .now) (given .literals .now) (given .claim) (given .rows .now) (given .count) (given .work .now) (c .before .before .before .before .before .before .before .counted .result) (c .before .before .before .before .before .before .before .counted .ensures)
-    Search.NoModel (c .enum-told2 .given .1) (c .before .before .before .before .first-model .ensures .0) refl (c .before .before .before .before .first-model .last .1 .1 .1 .1 .1 .1 .0) (c .before .before .before .before .first-model .ensures .1)
+    promised-unless-found (given .kinds .now) (given .literals .now) (given .claim) (given .rows .now) (given .count) (given .work .now)
+    (c .before .before .before .before .before .before .before .counted .result) (c .before .before .before .before .before .before .before .counted .ensures)
+    Search.NoModel (c .enum-told2 .given .1) (c .before .before .before .before .first-model .ensures .0) refl
+    (c .before .before .before .before .first-model .last .1 .1 .1 .1 .1 .1 .0) (c .before .before .before .before .first-model .ensures .1)
 
 same-length-3 : tie.Need-same-length-3
 same-length-3 c = search needs
@@ -54,8 +60,10 @@ same-length-3 c = search needs
 returns-3 : tie.Need-returns-3
 returns-3 c =
     let given = c .before .before .before .before .before .before .before .before .before .before .before .before .args in
-    promised-unless-found (given .kinds .now) (given .literals .now) (given .claim) (given .rows .now) (given .count) (given .work .now) (c .before .before .before .before .before .before .before .before .counted .result) (c .before .before .before .before .before .before .before .before .counted .ensures)
-    (Search.Refused (c .before .cause .given .0 .0)) (c .before .cause .given .1) (c .before .before .before .before .before .first-model .ensures .0) refl (c .before .before .before .before .before .first-model .last .1 .1 .1 .1 .1 .1 .0) (c .before .before .before .before .before .first-model .ensures .1)
+    promised-unless-found (given .kinds .now) (given .literals .now) (given .claim) (given .rows .now) (given .count) (given .work .now)
+    (c .before .before .before .before .before .before .before .before .counted .result) (c .before .before .before .before .before .before .before .before .counted .ensures)
+    (Search.Refused (c .before .cause .given .0 .0)) (c .before .cause .given .1) (c .before .before .before .before .before .first-model .ensures .0) refl
+    (c .before .before .before .before .before .first-model .last .1 .1 .1 .1 .1 .1 .0) (c .before .before .before .before .before .first-model .ensures .1)
 
 pub judge-spec : {M : Type 1} → statement M
 judge-spec =
