@@ -1,0 +1,197 @@
+-- What each function of the search returns, over every problem, from what its calls return. Assumes nothing.
+use Prim.Native.Nat.{ℕ, _+_, _≤_, _<_}
+use mathlib.Core.Path.{_≡_, refl, sym, _∙_, ap, subst}
+use mathlib.Core.Bool.{Bool, true, false, not}
+use mathlib.Core.List.{List}
+use mathlib.Core.Logic.{_⊎_, inl, inr, ⊎-elim}
+use native.Mathlib.Omega.{arith}
+use native.Mathlib.Decide.{decLt}
+use lib.ListN.{length, getD}
+use Rattle.expansion.proofs.Cuts.{Problem, Mask}
+use Rattle.expansion.proofs.Booleans.{true-or-false, never-both}
+use Rattle.expansion.proofs.Node.{Node, Won}
+use Rattle.search.specs.Cells.{cells, wants, CellsSet, CellsOpened}
+use Rattle.search.specs.Masks.{set-at, words, masks, cut, SetGrown, WordsUnited, Trimmed}
+use Rattle.search.specs.Steps.{Fits, Settled, Settles, Searched, Searches, with-value, Tried, Tries, Chooses, Splits, Steps, Excused, Parting, PartedAt, Stands, Reached, FromStart}
+use Rattle.search.proofs.StepLaws.{masks-grown}
+use Rattle.search.proofs.SolveLaws.{tried-node, tried-refuted, tried-searched, chosen-first, failed-without, second-node, second-wants, second-open, chosen-second, failed-both, failed-second, high-node, split-first, low-node, split-second, searched-leaf, stood-node, at-fits, stood-open, parted-other, stood-searched, stood-won}
+
+unknown : (P : Problem) (kinds splits codes : List ℕ) (side k : ℕ) → Fits P kinds splits codes side → k < length kinds → k < P .n
+unknown P kinds splits codes side k F h = let e : P .n ≡ length kinds = F .unknowns in omega arith
+
+module _ (kinds splits codes : List ℕ) (side k lo hi : ℕ) (kk : k < length kinds) (short : length kinds ≤ 128) where
+
+  below : k < 128
+  below = omega arith
+
+  -- ---- a trial
+
+  module _ (y : Bool) (w w1 w2 s s1 s2 : List ℕ) (r1 : Bool) (added : SetGrown k s s1) (named : set-at s1 k k ≡ true) (stored : CellsSet k lo hi (k + 2) y w w1) (followed : Settles side splits codes lo hi (k + 2) w1 w2 s1 s2 r1) where
+
+    pub tries-refuted : r1 ≡ false → Tries kinds splits codes side k lo hi y w w2 s s2 false
+    tries-refuted e P v F W A o z =
+        let kn : k < P .n = unknown P kinds splits codes side k F kk in
+        tried-refuted kinds splits codes side k lo hi below y w w1 w2 s s1 s2 added named stored P v F W A kn o z
+        (subst (λ (b : Bool). Settled P (k + 1) lo hi (with-value k y v) (k + 2) w1 w2 s1 s2 b) e
+        (followed P kinds (k + 1) (with-value k y v) F (tried-node kinds splits codes side k lo hi below y w w1 w2 s s1 s2 added named stored P v F W A kn o z) (omega arith) (omega arith)))
+
+    pub tries-searched : (w3 s3 : List ℕ) (r : Bool) → r1 ≡ true → Searches kinds splits codes side (k + 1) lo hi w2 w3 s2 s3 r → Tries kinds splits codes side k lo hi y w w3 s s3 r
+    tries-searched w3 s3 r e searches P v F W A o z =
+        let kn : k < P .n = unknown P kinds splits codes side k F kk in
+        let settled : Settled P (k + 1) lo hi (with-value k y v) (k + 2) w1 w2 s1 s2 true =
+                subst (λ (b : Bool). Settled P (k + 1) lo hi (with-value k y v) (k + 2) w1 w2 s1 s2 b) e
+                (followed P kinds (k + 1) (with-value k y v) F (tried-node kinds splits codes side k lo hi below y w w1 w2 s s1 s2 added named stored P v F W A kn o z) (omega arith) (omega arith)) in
+        tried-searched kinds splits codes side k lo hi below y w w1 w2 s s1 s2 added named stored P v F W A kn o z w3 s3 r settled
+        (searches P (with-value k y v) F (λ i j a b own. settled .wanted i j ∙ stored .wanted i j ∙ W i j a b own) (settled .kept refl))
+
+  -- ---- a choice
+
+  module _ (y : Bool) (w w1 s s1 : List ℕ) (r1 : Bool) (wanted : wants w lo k ≡ y) (first : Tries kinds splits codes side k lo hi y w w1 s s1 r1) where
+
+    pub chooses-first : r1 ≡ true → Chooses kinds splits codes side k lo hi w w1 s s1 true
+    chooses-first e P v F W A o z =
+        chosen-first kinds splits codes side k lo hi below P v F w s W A (unknown P kinds splits codes side k F kk) o y wanted w1 s1
+        (subst (λ (b : Bool). Tried P k lo hi v y w w1 s s1 b) e (first P v F W A o z))
+
+    pub chooses-without : r1 ≡ false → cut s1 k ≡ false → Chooses kinds splits codes side k lo hi w w1 s s1 false
+    chooses-without e lacks P v F W A o z =
+        let t : Tried P k lo hi v y w w1 s s1 r1 = first P v F W A o z in
+        failed-without kinds splits codes side k lo hi below P v F w s W A (unknown P kinds splits codes side k F kk) o y wanted y w1 s1 (t .grown) (t .wanted) (t .masked) (t .failed e) lacks
+
+    module _ (w2 w3 s2 s3 : List ℕ) (r : Bool) (e1 : r1 ≡ false) (opened : CellsOpened lo hi (k + 1) w1 w2) (trimmed : Trimmed k s1 s2) (second : Tries kinds splits codes side k lo hi (not y) w2 w3 s2 s3 r) where
+
+      module _ (P : Problem) (v : ℕ → Bool) (F : Fits P kinds splits codes side) (W : (i j : ℕ) → i < P .count → j < P .n → P .own j ≡ true → wants w i j ≡ P .wanted i j) (A : Node P k lo hi v (cells w) (masks s)) (o : P .own k ≡ true) (z : cells w .level lo k ≡ 0) where
+
+        kn : k < P .n
+        kn = unknown P kinds splits codes side k F kk
+
+        once : Tried P k lo hi v y w w1 s s1 false
+        once = subst (λ (b : Bool). Tried P k lo hi v y w w1 s s1 b) e1 (first P v F W A o z)
+
+        twice : Tried P k lo hi v (not y) w2 w3 s2 s3 r
+        twice =
+            second P v F
+            (λ i j a b own. second-wants kinds splits codes side k lo hi below P v F w s W A kn o y wanted w1 w2 s1 s2 once opened trimmed i j ∙ W i j a b own)
+            (second-node kinds splits codes side k lo hi below P v F w s W A kn o y wanted w1 w2 s1 s2 once opened trimmed)
+            o
+            (second-open kinds splits codes side k lo hi below P v F w s W A kn o y wanted w1 w2 s1 s2 once opened trimmed z)
+
+      pub chooses-second : r ≡ true → Chooses kinds splits codes side k lo hi w w3 s s3 true
+      chooses-second e P v F W A o z =
+          chosen-second kinds splits codes side k lo hi below P v F w s W A (kn P v F W A o z) o y wanted w1 w2 s1 s2 (once P v F W A o z) opened trimmed w3 s3 r (twice P v F W A o z) e
+
+      pub chooses-last : r ≡ false → cut s3 k ≡ false → Chooses kinds splits codes side k lo hi w w3 s s3 false
+      chooses-last e lacks P v F W A o z =
+          failed-second kinds splits codes side k lo hi below P v F w s W A (kn P v F W A o z) o y wanted w1 w2 s1 s2 (once P v F W A o z) opened trimmed w3 s3 r (twice P v F W A o z) e lacks
+
+      pub chooses-neither : (s4 : List ℕ) → r ≡ false → WordsUnited 128 (getD s2 256 0) (getD s2 257 0) s3 s4 → Chooses kinds splits codes side k lo hi w w3 s s4 false
+      unfolding cut
+      chooses-neither s4 e united P v F W A o z =
+          failed-both kinds splits codes side k lo hi below P v F w s W A (kn P v F W A o z) o y wanted w1 w2 s1 s2 (once P v F W A o z) opened trimmed w3 s3 r (twice P v F W A o z) s4 e
+          (λ l lk d. united .takes l (trimmed .behind 128 l (omega arith) ∙ d))
+          (λ l lk d. united .grown .keeps l d)
+          (masks-grown k 128 s3 s4 (united .grown))
+
+-- ---- a split
+
+module _ (kinds splits codes : List ℕ) (side k lo mid hi : ℕ) (kk : k < length kinds) (lm : lo < mid) (w w1 s s1 : List ℕ) (r1 : Bool) (first : Searches kinds splits codes side (k + 1) mid hi w w1 s s1 r1) where
+
+  pub splits-first : r1 ≡ false → Splits kinds splits codes side k lo mid hi w w1 s s1 false
+  splits-first e P v F W A o parting at-k =
+      let kn : k < P .n = unknown P kinds splits codes side k F kk in
+      split-first P kinds splits codes side F k lo mid hi v w s A kn o parting lm at-k w1 s1 r1
+      (first P (with-value k (P .given mid k) v) F W (high-node P kinds splits codes side F k lo mid hi v w s A kn o parting lm at-k)) e
+
+  pub splits-second : (s2 w3 s3 : List ℕ) (r : Bool) → r1 ≡ true → Trimmed k s1 s2 → Searches kinds splits codes side (k + 1) lo mid w1 w3 s2 s3 r → Splits kinds splits codes side k lo mid hi w w3 s s3 r
+  splits-second s2 w3 s3 r e trimmed second P v F W A o parting at-k =
+      let kn : k < P .n = unknown P kinds splits codes side k F kk in
+      let one : Searched P (k + 1) mid hi (with-value k (P .given mid k) v) w w1 s s1 r1 =
+              first P (with-value k (P .given mid k) v) F W (high-node P kinds splits codes side F k lo mid hi v w s A kn o parting lm at-k) in
+      split-second P kinds splits codes side F k lo mid hi v w s A kn o parting lm at-k w1 s1 r1 one s2 trimmed w3 s3 r e
+      (second P (with-value k (P .given lo k) v) F (λ i j a b own. one .wanted i j ∙ W i j a b own) (low-node P kinds splits codes side F k lo mid hi v w s A kn o parting lm at-k w1 s1 r1 one s2 trimmed))
+
+-- ---- the position behind those that stand
+
+module _ (kinds splits codes : List ℕ) (side at until lo mid hi : ℕ) (short : length kinds ≤ 128) (w u s t : List ℕ) (r : Bool) where
+
+  pub steps-reached : at ≡ length kinds → Reached codes side w lo s t r → Steps kinds splits codes side at until lo mid hi w w s t r
+  unfolding cut
+  steps-reached e reached P v F W A parting parted most opens others =
+      let n : at ≡ P .n = e ∙ sym (F .unknowns) in
+      subst (λ (x : ℕ). Searched P x lo hi v w w s t r) (sym n)
+      (searched-leaf P kinds splits codes side F lo hi v w s t r (subst (λ (x : ℕ). Node P x lo hi v (cells w) (masks s)) n A) reached
+      (λ f l lt. reached .full f l (let m : P .n ≡ length kinds = F .unknowns in omega arith)))
+
+  pub steps-split : at ≡ until → at < length kinds → Splits kinds splits codes side at lo mid hi w u s t r → Steps kinds splits codes side at until lo mid hi w u s t r
+  steps-split e lt split P v F W A parting parted most opens others =
+      split P v F W A (subst (λ (x : ℕ). P .own x ≡ false) (sym e) (others (omega arith))) parting (parted .there (omega arith) .1 ∙ sym e)
+
+  pub steps-choose : (at ≡ until → ⊥) → Chooses kinds splits codes side at lo hi w u s t r → Steps kinds splits codes side at until lo mid hi w u s t r
+  steps-choose ne choose P v F W A parting parted most opens others = choose P v F W A (opens (omega arith) .0) (opens (omega arith) .1)
+
+-- ---- the whole
+
+module _ (kinds splits codes : List ℕ) (side k at until lo mid hi : ℕ) (short : length kinds ≤ 128) (w u s t : List ℕ) (r : Bool) (parting : Parting splits lo hi mid) (parted : PartedAt splits lo mid (length kinds) until)
+    (stood : Stands kinds w side k lo until at) (stepped : Steps kinds splits codes side at until lo mid hi w u s t r) where
+
+  taken : (P : Problem) (v : ℕ → Bool) (F : Fits P kinds splits codes side) (W : (i j : ℕ) → i < P .count → j < P .n → P .own j ≡ true → wants w i j ≡ P .wanted i j) (A : Node P k lo hi v (cells w) (masks s)) → Searched P at lo hi (cells w .value lo) w u s t r
+  taken P v F W A =
+      stepped P (cells w .value lo) F W (stood-node P kinds splits codes side F k at until lo mid hi v w s short A parting parted stood) parting parted
+      (at-fits P kinds splits codes side F k at until lo mid hi v w s short A parting parted stood)
+      (stood-open P kinds splits codes side F k at until lo mid hi v w s short A parting parted stood)
+      (parted-other P kinds splits codes side F k at until lo mid hi v w s short A parting parted stood)
+
+  pub searches-won : r ≡ true → Searches kinds splits codes side k lo hi w u s t true
+  searches-won e P v F W A =
+      stood-won P kinds splits codes side F k at until lo mid hi v w s short A parting parted stood u t
+      (subst (λ (b : Bool). Searched P at lo hi (cells w .value lo) w u s t b) e (taken P v F W A))
+
+  pub searches-failed : (t′ : List ℕ) → r ≡ false → Excused k at t t′ → Searches kinds splits codes side k lo hi w u s t′ false
+  searches-failed t′ e excused P v F W A =
+      stood-searched P kinds splits codes side F k at until lo mid hi v w s short A parting parted stood u t t′ false
+      (subst (λ (b : Bool). Searched P at lo hi (cells w .value lo) w u s t b) e (taken P v F W A)) excused
+
+-- ---- the start
+
+module _ (P : Problem) (kinds splits codes : List ℕ) (side : ℕ) (F : Fits P kinds splits codes side) (some : 0 < length splits) (w : List ℕ)
+    (filled : (i j : ℕ) → i < P .count → j < P .n → P .own j ≡ false → (cells w .level i j ≡ 1) × (cells w .value i j ≡ P .given i j))
+    (opened : (i j : ℕ) → ((i < P .count) × (j < P .n) × (P .own j ≡ false) → ⊥) → cells w .level i j ≡ 0) where
+
+  rows-known : P .count ≡ length splits
+  rows-known = F .rows
+
+  -- a cell is a row's, at level 0, or open
+  cell-cases : (i j : ℕ) → ((i < P .count) × (j < P .n) × (P .own j ≡ false)) ⊎ (cells w .level i j ≡ 0)
+  cell-cases i j = go (decLt i (P .count)) (decLt j (P .n)) (true-or-false (P .own j))
+    where
+      go : Dec (i < P .count) → Dec (j < P .n) → (P .own j ≡ true) ⊎ (P .own j ≡ false) → ((i < P .count) × (j < P .n) × (P .own j ≡ false)) ⊎ (cells w .level i j ≡ 0)
+      go (yes a) (yes b) (inr o) = inl (a, b, o)
+      go (yes a) (yes b) (inl o) = inr (opened i j (λ t. never-both o (t .2)))
+      go (yes a) (no b) o = inr (opened i j (λ t. b (t .1)))
+      go (no a) b o = inr (opened i j (λ t. a (t .0)))
+
+  root-node : (v : ℕ → Bool) (s : List ℕ) → Node P 0 0 (length splits) v (cells w) (masks s)
+  root-node v s = record {
+    some = some;
+    rows = let e : P .count ≡ length splits = rows-known in omega arith;
+    depth = omega arith;
+    agree = λ i h p q r t l lt o. absurd (omega arith);
+    past = λ i j p q lt. absurd (omega arith);
+    given = λ i j p q jn o. let f : (cells w .level i j ≡ 1) × (cells w .value i j ≡ P .given i j) = filled i j (let e : P .count ≡ length splits = rows-known in omega arith) jn o in (let z : cells w .level i j ≡ 1 = f .0 in omega arith, f .1);
+    alike = λ i h j p q r t jn o ag z. absurd (⊎-elim (λ c. never-both o (c .2)) (λ e. omega arith) (cell-cases i j));
+    implied = λ i j p q jn z m M heeds. ⊎-elim (λ c. M .follows i j (c .0) jn (c .2) ∙ sym (filled i j (c .0) jn (c .2) .1)) (λ e. absurd (omega arith)) (cell-cases i j);
+    levels = λ i j p q. ⊎-elim (λ c. let z : cells w .level i j ≡ 1 = filled i j (c .0) (c .1) (c .2) .0 in omega arith) (λ e. omega arith) (cell-cases i j);
+  }
+
+module _ (kinds splits codes : List ℕ) (side : ℕ) (some : 0 < length splits) (w w1 s s1 : List ℕ) (r1 : Bool) (looked : Settles side splits codes 0 (length splits) 1 w w1 s s1 r1) where
+
+  pub start-refuted : r1 ≡ false → FromStart kinds splits codes side w w1 false
+  start-refuted e P F W filled opened = (λ f. absurd (never-both f refl), λ f v. (cut s1, looked P kinds 0 v F (root-node P kinds splits codes side F some w filled opened v s) (omega arith) (omega arith) .failed e))
+
+  pub start-searched : (u t : List ℕ) (r : Bool) → r1 ≡ true → Searches kinds splits codes side 0 0 (length splits) w1 u s1 t r → FromStart kinds splits codes side w u r
+  start-searched u t r e searches P F W filled opened = (λ f. subst (λ (x : ℕ). Won P 0 0 x (cells u)) (sym (F .rows)) (searched (λ j. false) .won f), λ f v. (cut t, searched v .failed f))
+    where
+      searched : (v : ℕ → Bool) → Searched P 0 0 (length splits) v w1 u s1 t r
+      searched v =
+          let settled : Settled P 0 0 (length splits) v 1 w w1 s s1 r1 = looked P kinds 0 v F (root-node P kinds splits codes side F some w filled opened v s) (omega arith) (omega arith) in
+          searches P v F (λ i j a b own. settled .wanted i j ∙ W i j a b own) (settled .kept e)

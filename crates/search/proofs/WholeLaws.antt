@@ -1,0 +1,201 @@
+-- What the search as a whole returns and leaves. Assumes nothing.
+use Prim.Native.Nat.{ℕ, zero, suc, _+_, _-_, _*_, _≤_, _<_}
+use mathlib.Core.Path.{_≡_, refl, sym, _∙_, ap, subst}
+use mathlib.Core.Logic.{_⊎_, inl, inr, ⊎-elim}
+use mathlib.Core.Bool.{Bool, true, false, not, cond, true≢false}
+use mathlib.Core.List.{List, [], _∷_, _++_, append-nil}
+use mathlib.Core.Option.{Option, none, some}
+use native.Mathlib.Omega.{arith}
+use native.Mathlib.Decide.{decLt}
+use lib.Dec.{eqb, ltb}
+use lib.IntN.{ℤ, pos, negsuc, natAbs}
+use lib.ListN.{length, getD, take, drop, replicate, length-append, length-map}
+use lib.Seq.{getD-take, length-take-le, drop-length}
+use Rattle.formula.specs.Formula.{Kind, existential, universal, kind-of, prefix, clauses}
+use Rattle.formula.specs.Meaning.{matrix}
+use Rattle.formula.specs.Causes.{count, ended, is-zero}
+use Rattle.formula.proofs.Accepted.{Accepted}
+use Rattle.preference.specs.Preference.{prefer}
+use Rattle.rows.specs.Row.{bytes-of}
+use Rattle.rows.specs.Table.{rows-of, table-of}
+use Rattle.rows.proofs.RowLaws.{length-bytes-of}
+use Rattle.expansion.specs.Side.{other, flags, goal}
+use Rattle.expansion.specs.Play.{Row, part}
+use Rattle.expansion.specs.Model.{search, first-model, yielded}
+use Rattle.expansion.proofs.Booleans.{true-or-false, never-both}
+use Rattle.expansion.proofs.Verdict.{search-none}
+use Rattle.expansion.proofs.Leading.{others-before}
+use Rattle.expansion.proofs.Engine.{tabulate, length-tabulate}
+use Rattle.search.specs.Cells.{cells, owned, spot, Filled}
+use Rattle.search.specs.Order.{Sorted, FirstDifference}
+use Rattle.search.specs.Search.{left}
+use Rattle.search.specs.Steps.{FromStart}
+use Rattle.search.specs.Whole.{side-kind, Ready, Decided, FoundIs}
+use Rattle.search.proofs.OwnedLaws.{length-owned}
+use Rattle.search.proofs.TopLaws.{searched-none, searched-some}
+
+-- ---- literals that end in 0
+
+pub accepted-ended : (kinds : List ℕ) (literals : List ℤ) → Accepted kinds literals → ended literals ≡ true
+accepted-ended kinds literals a = ap is-zero (a .last-is-zero)
+
+-- ---- the other side's unknowns
+
+others-below : (ts : List Bool) (k : ℕ) → k < length ts → getD ts k false ≡ false → others-before ts k < others-before ts (length ts)
+others-below [] k lt o = absurd (omega arith)
+others-below (true ∷ ts) zero lt o = absurd (true≢false o)
+others-below (true ∷ ts) (suc k) lt o = others-below ts k (omega arith) o
+others-below (false ∷ ts) zero lt o = omega arith
+others-below (false ∷ ts) (suc k) lt o = let r : others-before ts k < others-before ts (length ts) = others-below ts k (omega arith) o in omega arith
+
+others-all : (kinds : List ℕ) (side : ℕ) → side ≤ 1 → ((k : ℕ) → getD kinds k 0 ≤ 1) → others-before (owned kinds side) (length (owned kinds side)) ≡ count (other (side-kind side)) (prefix kinds)
+others-all [] zero a h = refl
+others-all [] (suc s) a h = refl
+others-all (k ∷ kinds) side a h = go k side (h 0) a (others-all kinds side a (λ i. h (suc i)))
+  where
+    go : (k side : ℕ) → k ≤ 1 → side ≤ 1 → others-before (owned kinds side) (length (owned kinds side)) ≡ count (other (side-kind side)) (prefix kinds)
+        → others-before (owned (k ∷ kinds) side) (length (owned (k ∷ kinds) side)) ≡ count (other (side-kind side)) (prefix (k ∷ kinds))
+    go zero zero b c e = e
+    go zero (suc zero) b c e = ap suc e
+    go zero (suc (suc s)) b c e = absurd (omega arith)
+    go (suc zero) zero b c e = ap suc e
+    go (suc zero) (suc zero) b c e = e
+    go (suc zero) (suc (suc s)) b c e = absurd (omega arith)
+    go (suc (suc k)) side b c e = absurd (omega arith)
+
+-- ---- places cut to the count
+
+sorted-take : (rows : List ℕ) (lent m : ℕ) (place : List ℕ) → Sorted rows lent m place → Sorted rows lent m (take lent place)
+sorted-take rows lent m place s = record {
+  row = s .row;
+  row-below = s .row-below;
+  place-below = λ r lt. subst (λ (x : ℕ). x < lent) (sym (getD-take lent place r 0 lt)) (s .place-below r lt);
+  row-of-place = λ r lt. ap (s .row) (getD-take lent place r 0 lt) ∙ s .row-of-place r lt;
+  place-of-row = λ i lt. getD-take lent place (s .row i) 0 (s .row-below i lt) ∙ s .place-of-row i lt;
+  in-order = s .in-order;
+}
+
+module _ (rows : List ℕ) (lent m : ℕ) (place : List ℕ) (long : lent ≤ length place) (sorted : Sorted rows lent m place) where
+
+  cut-length : length (take lent place) ≡ lent
+  cut-length = length-take-le lent place long
+
+  cut-sorted : Sorted rows lent m (take lent place)
+  cut-sorted = sorted-take rows lent m place sorted
+
+  pub places-differ : (r q : ℕ) → r < length (take lent place) → q < length (take lent place) → getD (take lent place) r 0 ≡ getD (take lent place) q 0 → r ≡ q
+  places-differ r q lr lq e =
+      sym (cut-sorted .row-of-place r (omega (arith, cut-length))) ∙ ap (cut-sorted .row) e ∙ cut-sorted .row-of-place q (omega (arith, cut-length))
+
+  pub place-met : (i : ℕ) → i < length (take lent place) → (r : ℕ) × (r < length (take lent place)) × (getD (take lent place) r 0 ≡ i)
+  place-met i lt =
+      (cut-sorted .row i,
+      subst (λ (x : ℕ). cut-sorted .row i < x) (sym cut-length) (cut-sorted .row-below i (omega (arith, cut-length))),
+      cut-sorted .place-of-row i (omega (arith, cut-length)))
+
+  pub place-inside : (r : ℕ) → r < length (take lent place) → getD (take lent place) r 0 < length (take lent place)
+  place-inside r lt = subst (λ (x : ℕ). getD (take lent place) r 0 < x) (sym cut-length) (cut-sorted .place-below r (omega (arith, cut-length)))
+
+count-most : (k : Kind) (ks : List Kind) → count k ks ≤ length ks
+count-most k [] = omega arith
+count-most existential (existential ∷ ks) = let r : count existential ks ≤ length ks = count-most existential ks in omega arith
+count-most existential (universal ∷ ks) = let r : count existential ks ≤ length ks = count-most existential ks in omega arith
+count-most universal (existential ∷ ks) = let r : count universal ks ≤ length ks = count-most universal ks in omega arith
+count-most universal (universal ∷ ks) = let r : count universal ks ≤ length ks = count-most universal ks in omega arith
+
+pub others-few : (kinds : List ℕ) (literals : List ℤ) (rows : List ℕ) (lent others side : ℕ) (work : List ℕ) → Ready kinds literals rows lent others side work → others ≤ 128
+others-few kinds literals rows lent others side work ready =
+    let a : count (other (side-kind side)) (prefix kinds) ≤ length (prefix kinds) = count-most (other (side-kind side)) (prefix kinds) in
+    let b : length (prefix kinds) ≡ length kinds = length-map kinds kind-of in
+    let c : length kinds ≤ 128 = ready .accepted .few-unknowns in
+    let d : others ≡ count (other (side-kind side)) (prefix kinds) = ready .others-known in
+    omega arith
+
+-- ---- cleared areas
+
+zero-at : (n x : ℕ) → _≡_ {A = ℕ} (getD (replicate n 0) x 0) 0
+zero-at zero x = refl
+zero-at (suc n) zero = refl
+zero-at (suc n) (suc x) = zero-at n x
+
+pub cleared-whole : (w u : List ℕ) (end : ℕ) → end ≡ length w → u ≡ take 0 w ++ (replicate (end - 0) 0 ++ drop end w) → u ≡ replicate (length w) 0
+cleared-whole w u end e h =
+    h ∙ ap (λ (x : ℕ). replicate (x - 0) 0 ++ drop x w) e ∙ ap (λ (l : List ℕ). replicate (length w - 0) 0 ++ l) (drop-length w) ∙ append-nil (replicate (length w - 0) 0) ∙ ap (λ (x : ℕ). replicate x 0) (let q : length w - 0 ≡ length w = omega arith in q)
+
+pub cleared-levels : (w z : List ℕ) → z ≡ replicate (length w) 0 → (i j : ℕ) → cells z .level i j ≡ 0
+unfolding cells
+cleared-levels w z e i j = ap (λ (l : List ℕ). getD l (spot i j) 0) e ∙ zero-at (length w) (spot i j)
+
+pub length-table-of : (ys : List Row) → length (table-of ys) ≡ 16 * length ys
+length-table-of [] = refl
+length-table-of (y ∷ ys) =
+    let a : length (bytes-of y ++ table-of ys) ≡ length (bytes-of y) + length (table-of ys) = length-append (bytes-of y) (table-of ys) in
+    let b : length (bytes-of y) ≡ 16 = length-bytes-of y in
+    let c : length (table-of ys) ≡ 16 * length ys = length-table-of ys in
+    omega arith
+
+yielded-empty : (ts : List Bool) (o : Option (List Bool)) (zs : List Row) → yielded ts [] o ≡ some zs → zs ≡ []
+yielded-empty ts none zs p = absurd (let w : _≡_ {A = ℕ} 0 1 = cc in omega arith)
+yielded-empty ts (some vs) zs p = cc
+
+-- ---- what is found
+
+module _ (kinds : List ℕ) (literals : List ℤ) (preferences rows : List ℕ) (lent others side : ℕ) where
+
+  abbrev result : Option (List Row)
+  result = search (prefer preferences) (side-kind side) (prefix kinds) (matrix (clauses literals)) (rows-of others lent rows)
+
+  module _ (w₀ place z w u : List ℕ) (ready : Ready kinds literals rows lent others side w₀) (some-row : 0 < lent) (long : lent ≤ length place) (sorted : Sorted rows lent others place)
+      (cleared : z ≡ replicate (length w₀) 0) (filled : Filled kinds rows (take lent place) side z w) (r : Bool) (decided : Decided kinds literals preferences (take lent place) side w u r) where
+
+    placed : length (take lent place) ≡ lent
+    placed = length-take-le lent place long
+
+    others-fit : (k : ℕ) → k < length kinds → getD (owned kinds side) k false ≡ false → others-before (owned kinds side) k < others
+    others-fit k lt o =
+        let a : others-before (owned kinds side) k < others-before (owned kinds side) (length (owned kinds side)) = others-below (owned kinds side) k (let q : length (owned kinds side) ≡ length kinds = length-owned kinds side in omega arith) o in
+        let b : others-before (owned kinds side) (length (owned kinds side)) ≡ count (other (side-kind side)) (prefix kinds) = others-all kinds side (ready .side-fits) (ready .accepted .kinds-known) in
+        let c : others ≡ count (other (side-kind side)) (prefix kinds) = ready .others-known in
+        omega arith
+
+    same-splits : (i : ℕ) → i < lent → getD (decided .all) i 0 ≡ getD (take (length (take lent place)) (decided .all)) i 0
+    same-splits i lt = sym (getD-take (length (take lent place)) (decided .all) i 0 (let q : length (take lent place) ≡ lent = placed in omega arith))
+
+    differences : (i : ℕ) → i + 1 < lent → FirstDifference kinds side w i (getD (take (length (take lent place)) (decided .all)) (i + 1) 0)
+    differences i lt =
+        subst (λ (x : ℕ). FirstDifference kinds side w i x) (same-splits (i + 1) lt)
+        (decided .differences i (let q : length (take lent place) ≡ lent = placed in omega arith))
+
+    split-length : length (take (length (take lent place)) (decided .all)) ≡ lent
+    split-length = length-take-le (length (take lent place)) (decided .all) (decided .long) ∙ placed
+
+    pub found-none : r ≡ false → (x : List ℕ) → x ≡ replicate (length w₀) 0 → FoundIs result false x
+    found-none e x h =
+        subst (λ (o : Option (List Row)). FoundIs o false x)
+        (sym (searched-none kinds literals preferences rows (take lent place) (decided .all) (take (length (take lent place)) (decided .all)) (decided .codes) side lent others (ready .side-fits) (ready .accepted) (ready .inside) some-row (sorted-take rows lent others place sorted) others-fit (decided .encoded) placed split-length z w (decided .wanting-area) filled (cleared-levels w₀ z cleared) differences (decided .wanting) same-splits u
+        (subst (λ (b : Bool). FromStart kinds (take (length (take lent place)) (decided .all)) (decided .codes) side (decided .wanting-area) u b) e (decided .from))))
+        (refl, h ∙ ap (λ (n : ℕ). replicate n 0) (ready .area))
+
+    pub found-some : r ≡ true → (x : List ℕ) → x ≡ table-of (tabulate (length (take lent place)) (λ q. part (owned kinds side) (tabulate (length kinds) (cells u .value (getD (take lent place) q 0))))) ++ replicate (65536 - 16 * length (take lent place)) 0 → FoundIs result true x
+    found-some e x h =
+        subst (λ (o : Option (List Row)). FoundIs o true x)
+        (sym (searched-some kinds literals preferences rows (take lent place) (decided .all) (take (length (take lent place)) (decided .all)) (decided .codes) side lent others (ready .side-fits) (ready .accepted) (ready .inside) some-row (sorted-take rows lent others place sorted) others-fit (decided .encoded) placed split-length z w (decided .wanting-area) filled (cleared-levels w₀ z cleared) differences (decided .wanting) same-splits u
+        (subst (λ (b : Bool). FromStart kinds (take (length (take lent place)) (decided .all)) (decided .codes) side (decided .wanting-area) u b) e (decided .from))))
+        (refl, h ∙ ap (λ (n : ℕ). table-of (yields n) ++ replicate (65536 - 16 * n) 0) placed ∙ ap (λ (n : ℕ). table-of (yields lent) ++ replicate (65536 - n) 0) (sym (length-table-of (yields lent) ∙ ap (λ (n : ℕ). 16 * n) (length-tabulate lent one))))
+      where
+        one : ℕ → Row
+        one q = part (owned kinds side) (tabulate (length kinds) (cells u .value (getD (take lent place) q 0)))
+        yields : ℕ → List Row
+        yields n = tabulate n one
+
+  -- over no rows there is a model, which yields none
+  pub found-empty : (w₀ x : List ℕ) → length w₀ ≡ 65536 → lent ≡ 0 → x ≡ replicate (length w₀) 0 → FoundIs result true x
+  unfolding search
+  found-empty w₀ x area e h = subst (λ (n : ℕ). FoundIs (search (prefer preferences) (side-kind side) (prefix kinds) (matrix (clauses literals)) (rows-of others n rows)) true x) (sym e) (go (search (prefer preferences) (side-kind side) (prefix kinds) (matrix (clauses literals)) []) refl)
+    where
+      go : (o : Option (List Row)) → search (prefer preferences) (side-kind side) (prefix kinds) (matrix (clauses literals)) [] ≡ o → FoundIs o true x
+      go none q = absurd (true≢false (search-none (prefer preferences) (side-kind side) (prefix kinds) (matrix (clauses literals)) [] .0 q (λ k s. false)))
+      go (some ys) q = (refl, h ∙ ap (λ (n : ℕ). replicate n 0) area ∙ ap (λ (l : List Row). table-of l ++ replicate (65536 - length (table-of l)) 0) (sym (empty-yield ys q)))
+        where
+          empty-yield : (zs : List Row) → search (prefer preferences) (side-kind side) (prefix kinds) (matrix (clauses literals)) [] ≡ some zs → zs ≡ []
+          empty-yield zs p = yielded-empty (flags (side-kind side) (prefix kinds)) (first-model (prefer preferences) (flags (side-kind side) (prefix kinds)) (goal (side-kind side) (matrix (clauses literals))) []) zs p

@@ -1,0 +1,67 @@
+-- The table of cells in the work area: a cell for each row and position. The cell (i, k) is the byte 128·i + k, 0 if it is open, else its
+-- level plus 1, and the byte 32,768 + 128·i + k, whose lowest bit is its value and whose next bit is the value that it wants.
+-- Assumes nothing.
+use Prim.Native.Nat.{ℕ, _+_, _*_, _/_, _≤_, _<_}
+use mathlib.Core.Path.{_≡_}
+use mathlib.Core.Bool.{Bool, true, false, _&&_, cond}
+use mathlib.Core.List.{List, map}
+use lib.Dec.{ltb, eqb}
+use lib.ListN.{length, getD}
+use Rattle.preference.specs.Preference.{odd}
+use Rattle.rows.specs.Row.{bit-of}
+use Rattle.rows.specs.Table.{row-at}
+use Rattle.expansion.proofs.Cuts.{Values}
+use Rattle.expansion.proofs.Leading.{others-before}
+use Rattle.expansion.proofs.Node.{Cells, Stored, Cleared}
+
+-- The byte of a cell's level. What is no cell of the table has no byte in the area, so no two cells share one.
+abbrev pub spot : ℕ → ℕ → ℕ
+spot i k = cond (ltb i 256 && ltb k 128) (128 * i + k) 65536
+
+unfoldable pub cells : List ℕ → Cells
+cells w = record { level = λ i k. getD w (spot i k) 0; value = λ i k. odd (getD w (32768 + spot i k) 0) }
+
+unfoldable pub wants : List ℕ → Values
+wants w i k = odd (getD w (32768 + spot i k) 0 / 2)
+
+-- What every cell wants stays as it is.
+abbrev pub SameWants : List ℕ → List ℕ → Type 0
+SameWants w u = (i k : ℕ) → wants u i k ≡ wants w i k
+
+-- The cells of the rows lo to hi at position k get a level and a value.
+pub record CellsSet (k lo hi mark : ℕ) (value : Bool) (w u : List ℕ) : Type 0 where
+  pub stored : Stored lo hi k mark value (cells w) (cells u)
+  pub wanted : SameWants w u
+
+-- The cells of the rows lo to hi with a mark over the bound are opened.
+pub record CellsOpened (lo hi bound : ℕ) (w u : List ℕ) : Type 0 where
+  pub cleared : Cleared (bound + 1) lo hi (cells w) (cells u)
+  pub wanted : SameWants w u
+
+-- An open cell gets what it wants; its value means nothing.
+pub record WantSet (i k : ℕ) (wanted : Bool) (w u : List ℕ) : Type 0 where
+  pub there : wants u i k ≡ wanted
+  pub elsewhere : (h j : ℕ) → ((h ≡ i) × (j ≡ k) → ⊥) → (wants u h j ≡ wants w h j) × (cells u .value h j ≡ cells w .value h j)
+  pub levels : (h j : ℕ) → cells u .level h j ≡ cells w .level h j
+
+-- Which unknowns are the side's own.
+abbrev pub owned : List ℕ → ℕ → List Bool
+owned kinds side = map (λ kind. eqb kind side) kinds
+
+-- Row `row` of the lent rows stands at place i: the cells of the other side's unknowns are set to its values, at level 0; the other cells
+-- of the table stay.
+pub record RowFilled (kinds rows : List ℕ) (row i side : ℕ) (w u : List ℕ) : Type 0 where
+  pub there : (k : ℕ) → k < length kinds → getD (owned kinds side) k false ≡ false
+      → (cells u .level i k ≡ 1) × (cells u .value i k ≡ bit-of (row-at rows row) (others-before (owned kinds side) k))
+  pub elsewhere : (h k : ℕ) → ((h ≡ i) × (k < length kinds) × (getD (owned kinds side) k false ≡ false) → ⊥)
+      → (cells u .level h k ≡ cells w .level h k) × (cells u .value h k ≡ cells w .value h k)
+
+-- Every lent row stands at its place, and nothing else changes.
+pub record Filled (kinds rows place : List ℕ) (side : ℕ) (w u : List ℕ) : Type 0 where
+  pub there : (row k : ℕ) → row < length place → k < length kinds → getD (owned kinds side) k false ≡ false
+      → (cells u .level (getD place row 0) k ≡ 1)
+      × (cells u .value (getD place row 0) k ≡ bit-of (row-at rows row) (others-before (owned kinds side) k))
+  pub elsewhere : (h k : ℕ) → ((k < length kinds) × (getD (owned kinds side) k false ≡ false) → ⊥)
+      → (cells u .level h k ≡ cells w .level h k) × (cells u .value h k ≡ cells w .value h k)
+  pub unplaced : (h k : ℕ) → ((row : ℕ) → row < length place → h ≡ getD place row 0 → ⊥)
+      → (cells u .level h k ≡ cells w .level h k) × (cells u .value h k ≡ cells w .value h k)

@@ -1,0 +1,66 @@
+-- Literals as codes: 0 ends a clause, 2v stands for the literal v and 2v + 1 for -v.
+-- Assumes nothing.
+use Prim.Native.Nat.{ℕ, zero, suc, _-_, _/_, _%_, _≤_, _<_}
+use mathlib.Core.Path.{_≡_}
+use mathlib.Core.Logic.{_⊎_}
+use mathlib.Core.Bool.{Bool, true, false, not, cond}
+use mathlib.Core.List.{List, [], _∷_}
+use lib.Dec.{eqb}
+use lib.IntN.{ℤ, pos, natAbs}
+use lib.ListN.{length, getD}
+use Rattle.formula.specs.Formula.{clauses}
+use Rattle.expansion.proofs.ClauseCuts.{matrix-at}
+use Rattle.expansion.proofs.Engine.{literal-at}
+
+-- The position of a code's unknown, and the value of its literal under values by position.
+abbrev pub position : ℕ → ℕ
+position c = c / 2 - 1
+
+unfoldable pub code-true : (ℕ → Bool) → ℕ → Bool
+code-true f c = cond (eqb (c % 2) 0) (f (position c)) (not (f (position c)))
+
+abbrev pub code-onto : ℕ → List (List ℕ) → List (List ℕ)
+code-onto c [] = (c ∷ []) ∷ []
+code-onto c (x ∷ xs) = (c ∷ x) ∷ xs
+
+-- The clauses, cut at zeros.
+abbrev pub code-clauses : List ℕ → List (List ℕ)
+code-clauses [] = []
+code-clauses (zero ∷ cs) = [] ∷ code-clauses cs
+code-clauses (suc c ∷ cs) = code-onto (suc c) (code-clauses cs)
+
+-- The codes up to the first zero: the clause that begins here.
+abbrev pub clause-of : List ℕ → List ℕ
+clause-of [] = []
+clause-of (zero ∷ cs) = []
+clause-of (suc c ∷ cs) = suc c ∷ clause-of cs
+
+-- A zero follows: the clause that begins here has its end.
+abbrev pub HasEnd : List ℕ → Type 0
+HasEnd [] = ⊥
+HasEnd (zero ∷ cs) = Unit {0}
+HasEnd (suc c ∷ cs) = HasEnd cs
+
+-- Every clause has its end.
+abbrev pub Ended : List ℕ → Type 0
+Ended [] = Unit {0}
+Ended (c ∷ cs) = HasEnd (c ∷ cs) × Ended cs
+
+-- The side's goal over values by position: side 0 is the existential one, 1 the universal one.
+unfoldable pub code-goal : ℕ → List ℕ → (ℕ → Bool) → Bool
+code-goal zero codes f = matrix-at code-true (code-clauses codes) f
+code-goal (suc side) codes f = not (matrix-at code-true (code-clauses codes) f)
+
+-- A clause begins at `start`.
+abbrev pub Begins : List ℕ → ℕ → Type 0
+Begins codes start = (start ≡ 0) ⊎ (getD codes (start - 1) 0 ≡ 0)
+
+-- Each code is a zero or a literal of one of n unknowns.
+abbrev pub Coded : ℕ → List ℕ → Type 0
+Coded n codes = (e : ℕ) → e < length codes → 0 < getD codes e 0 → (2 ≤ getD codes e 0) × (position (getD codes e 0) < n)
+
+-- The codes stand for the literals: the matrix has the same value under all values of the unknowns.
+pub record Encoded (literals : List ℤ) (codes : List ℕ) : Type 0 where
+  pub same : (f : ℕ → Bool) → matrix-at literal-at (clauses literals) f ≡ matrix-at code-true (code-clauses codes) f
+  pub ended : Ended codes
+  pub coded : (n : ℕ) → ((i : ℕ) → i < length literals → natAbs (getD literals i (pos 0)) ≤ n) → Coded n codes

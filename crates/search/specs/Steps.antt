@@ -1,0 +1,193 @@
+-- What the steps of the search promise, over every problem that the lent tables fit.
+-- Assumes nothing.
+use Prim.Native.Nat.{ℕ, zero, suc, _+_, _-_, _/_, _≤_, _<_}
+use mathlib.Core.Path.{_≡_}
+use mathlib.Core.Logic.{_⊎_, _↔_, _≢_}
+use mathlib.Core.Bool.{Bool, true, false, cond}
+use mathlib.Core.List.{List}
+use lib.Dec.{eqb}
+use lib.ListN.{length, getD, drop}
+use Rattle.expansion.proofs.Cuts.{Values, Mask, Problem, Agree, Sound, Refuted}
+use Rattle.expansion.proofs.Node.{Cells, Node, Won, Grown, MasksWithin}
+use Rattle.expansion.proofs.ClauseCuts.{Every, Some}
+use Rattle.search.specs.Cells.{cells, wants, SameWants}
+use Rattle.search.specs.Masks.{set-at, masks, cut, SetGrown}
+use Rattle.search.specs.Codes.{position, code-true, code-clauses, clause-of, HasEnd, Ended, code-goal, Coded}
+
+-- The sorted rows: entry i of `splits` is the first position where row i and the row before it have different values, or past the last.
+-- The codes are the clauses; the side is 0 or 1.
+pub record Fits (P : Problem) (kinds splits codes : List ℕ) (side : ℕ) : Type 0 where
+  pub unknowns : P .n ≡ length kinds
+  pub rows : P .count ≡ length splits
+  pub own : (j : ℕ) → j < length kinds → P .own j ≡ eqb (getD kinds j 0) side
+  pub goal : (f : ℕ → Bool) → P .goal f ≡ code-goal side codes f
+  pub sound : Sound P
+  pub differ : (i k : ℕ) → i + 1 < length splits → k ≤ length kinds → (k ≤ getD splits (i + 1) 0) ↔ Agree P i (i + 1) k
+  pub together : (i h g k : ℕ) → i ≤ h → h ≤ g → g < length splits → k ≤ length kinds → Agree P i g k → Agree P i h k
+  pub ended : Ended codes
+  pub coded : Coded (P .n) codes
+
+-- From the work area w and the sets s to u and t: open cells of the group were set, the sets grew, and the group is still a node or is refuted.
+pub record Settled (P : Problem) (k lo hi : ℕ) (v : ℕ → Bool) (mark : ℕ) (w u s t : List ℕ) (r : Bool) : Type 0 where
+  pub grown : Grown mark lo hi (cells w) (cells u)
+  pub wanted : SameWants w u
+  pub masked : MasksWithin k (masks s) (masks t)
+  pub kept : r ≡ true → Node P k lo hi v (cells u) (masks t)
+  pub failed : r ≡ false → Refuted P k v (cut t) lo
+
+abbrev pub Settles : ℕ → List ℕ → List ℕ → ℕ → ℕ → ℕ → List ℕ → List ℕ → List ℕ → List ℕ → Bool → Type 0
+Settles side splits codes lo hi mark w u s t r =
+    (P : Problem) (kinds : List ℕ) (k : ℕ) (v : ℕ → Bool)
+    → Fits P kinds splits codes side → Node P k lo hi v (cells w) (masks s) → 0 < mark → mark ≤ k + 1
+    → Settled P k lo hi v mark w u s t r
+
+-- A search of the group lo to hi from position k on: it succeeds, or is refuted.
+pub record Searched (P : Problem) (k lo hi : ℕ) (v : ℕ → Bool) (w u s t : List ℕ) (r : Bool) : Type 0 where
+  pub grown : Grown (k + 2) lo hi (cells w) (cells u)
+  pub wanted : SameWants w u
+  pub masked : MasksWithin k (masks s) (masks t)
+  pub won : r ≡ true → Won P k lo hi (cells u)
+  pub failed : r ≡ false → Refuted P k v (cut t) lo
+
+abbrev pub Searches : List ℕ → List ℕ → List ℕ → ℕ → ℕ → ℕ → ℕ → List ℕ → List ℕ → List ℕ → List ℕ → Bool → Type 0
+Searches kinds splits codes side k lo hi w u s t r =
+    (P : Problem) (v : ℕ → Bool)
+    → Fits P kinds splits codes side → ((i j : ℕ) → i < P .count → j < P .n → P .own j ≡ true → wants w i j ≡ P .wanted i j) → Node P k lo hi v (cells w) (masks s)
+    → Searched P k lo hi v w u s t r
+
+-- The values v with y at position k.
+unfoldable pub with-value : ℕ → Bool → (ℕ → Bool) → ℕ → Bool
+with-value k y v j = cond (eqb j k) y (v j)
+
+-- A trial of the value y at the own position k, open in the group.
+pub record Tried (P : Problem) (k lo hi : ℕ) (v : ℕ → Bool) (y : Bool) (w u s t : List ℕ) (r : Bool) : Type 0 where
+  pub grown : Grown (k + 2) lo hi (cells w) (cells u)
+  pub wanted : SameWants w u
+  pub masked : MasksWithin k (masks s) (masks t)
+  pub valued : r ≡ true → (i : ℕ) → lo ≤ i → i < hi → cells u .value i k ≡ y
+  pub won : r ≡ true → Won P (k + 1) lo hi (cells u)
+  pub failed : r ≡ false → Refuted P (k + 1) (with-value k y v) (cut t) lo
+
+abbrev pub Tries : List ℕ → List ℕ → List ℕ → ℕ → ℕ → ℕ → ℕ → Bool → List ℕ → List ℕ → List ℕ → List ℕ → Bool → Type 0
+Tries kinds splits codes side k lo hi y w u s t r =
+    (P : Problem) (v : ℕ → Bool)
+    → Fits P kinds splits codes side → ((i j : ℕ) → i < P .count → j < P .n → P .own j ≡ true → wants w i j ≡ P .wanted i j) → Node P k lo hi v (cells w) (masks s)
+    → P .own k ≡ true → cells w .level lo k ≡ 0
+    → Tried P k lo hi v y w u s t r
+
+-- A choice at the own position k, open in the group.
+abbrev pub Chooses : List ℕ → List ℕ → List ℕ → ℕ → ℕ → ℕ → ℕ → List ℕ → List ℕ → List ℕ → List ℕ → Bool → Type 0
+Chooses kinds splits codes side k lo hi w u s t r =
+    (P : Problem) (v : ℕ → Bool)
+    → Fits P kinds splits codes side → ((i j : ℕ) → i < P .count → j < P .n → P .own j ≡ true → wants w i j ≡ P .wanted i j) → Node P k lo hi v (cells w) (masks s)
+    → P .own k ≡ true → cells w .level lo k ≡ 0
+    → Searched P k lo hi v w u s t r
+
+-- For each position from k to `at` that the failure's set has, it takes in the set of that position.
+pub record Excused (k at : ℕ) (s t : List ℕ) : Type 0 where
+  pub grown : SetGrown 128 s t
+  pub takes : (p : ℕ) → k ≤ p → p < at → set-at s 128 p ≡ true → (l : ℕ) → set-at s p l ≡ true → set-at t 128 l ≡ true
+
+-- The rows from lo to hi part first at row mid; at lo if none parts from the one before it.
+pub record Parting (splits : List ℕ) (lo hi mid : ℕ) : Type 0 where
+  pub low : lo ≤ mid
+  pub high : mid < hi
+  pub before : (h : ℕ) → lo < h → h < mid → getD splits mid 0 < getD splits h 0
+  pub behind : lo < mid → (h : ℕ) → mid < h → h < hi → getD splits mid 0 ≤ getD splits h 0
+  pub alone : mid ≡ lo → (h : ℕ) → lo < h → h < hi → 255 ≤ getD splits h 0
+
+-- A split of the group at the other side's position k, at which the rows from mid on part from those before.
+abbrev pub Splits : List ℕ → List ℕ → List ℕ → ℕ → ℕ → ℕ → ℕ → ℕ → List ℕ → List ℕ → List ℕ → List ℕ → Bool → Type 0
+Splits kinds splits codes side k lo mid hi w u s t r =
+    (P : Problem) (v : ℕ → Bool)
+    → Fits P kinds splits codes side → ((i j : ℕ) → i < P .count → j < P .n → P .own j ≡ true → wants w i j ≡ P .wanted i j) → Node P k lo hi v (cells w) (masks s)
+    → P .own k ≡ false → Parting splits lo hi mid → getD splits mid 0 ≡ k
+    → Searched P k lo hi v w u s t r
+
+-- The positions from k to `at` are the other side's, or set in row lo; `at` is `until`, or is an own position that is open there.
+pub record Stands (kinds w : List ℕ) (side k lo until at : ℕ) : Type 0 where
+  pub low : k ≤ at
+  pub most : at ≤ length kinds
+  pub high : k ≤ until → at ≤ until
+  pub passed : (j : ℕ) → k ≤ j → j < at → (eqb (getD kinds j 0) side ≡ false) ⊎ (0 < cells w .level lo j)
+  pub stops : at < until → (eqb (getD kinds at 0) side ≡ true) × (cells w .level lo at ≡ 0)
+
+-- The position at which the rows part at mid; n if they do not part before that.
+pub record PartedAt (splits : List ℕ) (lo mid n at : ℕ) : Type 0 where
+  pub most : at ≤ n
+  pub first : lo < mid → at ≤ getD splits mid 0
+  pub there : at < n → (lo < mid) × (getD splits mid 0 ≡ at)
+
+-- The search at the position behind those that stand.
+abbrev pub Steps : List ℕ → List ℕ → List ℕ → ℕ → ℕ → ℕ → ℕ → ℕ → ℕ → List ℕ → List ℕ → List ℕ → List ℕ → Bool → Type 0
+Steps kinds splits codes side at until lo mid hi w u s t r =
+    (P : Problem) (v : ℕ → Bool)
+    → Fits P kinds splits codes side → ((i j : ℕ) → i < P .count → j < P .n → P .own j ≡ true → wants w i j ≡ P .wanted i j) → Node P at lo hi v (cells w) (masks s)
+    → Parting splits lo hi mid → PartedAt splits lo mid (length kinds) until → at ≤ until
+    → (at < until → (P .own at ≡ true) × (cells w .level lo at ≡ 0))
+    → (until < length kinds → P .own until ≡ false)
+    → Searched P at lo hi v w u s t r
+
+-- Past the last position: the values of row i reach the goal, or every position is to blame.
+pub record Reached (codes : List ℕ) (side : ℕ) (w : List ℕ) (i : ℕ) (s t : List ℕ) (r : Bool) : Type 0 where
+  pub others : (p : ℕ) → p ≢ 128 → (l : ℕ) → set-at t p l ≡ set-at s p l
+  pub goal : Ended codes → r ≡ code-goal side codes (cells w .value i)
+  pub full : r ≡ false → (l : ℕ) → l < 128 → set-at t 128 l ≡ true
+
+-- The search of all rows: what it leaves, over every problem that the tables fit, whose rows' cells are set at level 0 and whose other cells are open.
+abbrev pub FromStart : List ℕ → List ℕ → List ℕ → ℕ → List ℕ → List ℕ → Bool → Type 0
+FromStart kinds splits codes side w u r =
+    (P : Problem)
+    → Fits P kinds splits codes side → ((i j : ℕ) → i < P .count → j < P .n → P .own j ≡ true → wants w i j ≡ P .wanted i j)
+    → ((i j : ℕ) → i < P .count → j < P .n → P .own j ≡ false → (cells w .level i j ≡ 1) × (cells w .value i j ≡ P .given i j))
+    → ((i j : ℕ) → ((i < P .count) × (j < P .n) × (P .own j ≡ false) → ⊥) → cells w .level i j ≡ 0)
+    → (r ≡ true → Won P 0 0 (P .count) (cells u)) × (r ≡ false → (v : ℕ → Bool) → (D : Mask) × Refuted P 0 v D 0)
+
+-- ---- what is lent, and looking at one clause in one row
+
+-- The sizes of what the steps are lent.
+pub record Lent (splits codes work sets hints : List ℕ) : Type 0 where
+  pub rows : length splits ≤ 256
+  pub entries : length codes ≤ 8192
+  pub coded : Coded 128 codes
+  pub area : length work ≡ 65536
+  pub sets-lent : length sets ≡ 260
+  pub hints-lent : length hints ≡ 8707
+
+
+-- The code's cell is set in row i, and its literal is y there.
+pub record IsAt (w : List ℕ) (i : ℕ) (y : Bool) (c : ℕ) : Type 0 where
+  pub set : 0 < cells w .level i (position c)
+  pub is : code-true (cells w .value i) c ≡ y
+
+-- What a look at the clause that begins at `start` finds: 1 for nothing; else each of its literals is false or is the one found, which is open.
+pub record Looked (codes w : List ℕ) (i start found : ℕ) : Type 0 where
+  pub ends : (found ≡ 1 → ⊥) → HasEnd (drop start codes)
+  pub rest : (found ≡ 1 → ⊥) → Every (λ c. (c ≡ found) ⊎ IsAt w i false c) (clause-of (drop start codes))
+  pub named : 2 ≤ found → Some (λ c. c ≡ found) (clause-of (drop start codes))
+  pub unset : 2 ≤ found → cells w .level i (position found) ≡ 0
+  pub fits : 2 ≤ found → position found < 128
+
+-- The sets of a clause's positions are united at `to`.
+pub record Blamed (clause : List ℕ) (to : ℕ) (s t : List ℕ) : Type 0 where
+  pub grown : SetGrown to s t
+  pub takes : Every (λ c. (position c ≡ to) ⊎ ((l : ℕ) → set-at s (position c) l ≡ true → set-at t to l ≡ true)) clause
+
+-- In row i every clause has a true literal, whose position's set is taken in at 128.
+pub record RowBlamed (codes w : List ℕ) (i : ℕ) (s t : List ℕ) (r : Bool) : Type 0 where
+  pub grown : SetGrown 128 s t
+  pub dead : r ≡ true → Ended codes → Every (Some (λ c. IsAt w i true c × ((l : ℕ) → set-at s (position c) l ≡ true → set-at t 128 l ≡ true))) (code-clauses codes)
+
+-- The rows from `from` up to i have one copy at position k, and the row before does not, unless it is before lo.
+pub record CopyFrom (splits : List ℕ) (k lo i from : ℕ) : Type 0 where
+  pub low : lo ≤ from
+  pub high : from ≤ i
+  pub shared : (h : ℕ) → from < h → h ≤ i → k ≤ getD splits h 0
+  pub first : lo < from → getD splits from 0 < k
+
+-- The rows from i to `to` have one copy at position k, and the next one does not, unless it is hi.
+pub record CopyTo (splits : List ℕ) (k i hi to : ℕ) : Type 0 where
+  pub low : i < to
+  pub high : to ≤ hi
+  pub shared : (h : ℕ) → i < h → h < to → k ≤ getD splits h 0
+  pub last : to < hi → getD splits to 0 < k

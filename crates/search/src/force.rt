@@ -1,0 +1,397 @@
+// The existential side's consequences of a value: a clause whose literals are all false but one open one forces that one (unit
+// propagation), and a clause whose literals are all false ends the branch. What is looked at, and when, is a hint: the index of the clauses,
+// the changed positions and their rows may hold anything.
+ghost use mathlib.Core.Path.{_≡_};
+ghost use Prim.Native.Nat.{ℕ, _+_, _*_, _≤_, _<_};
+ghost use lib.ListN.{length, getD, drop};
+ghost use Rattle.search.specs.Codes.{position, clause-of, Begins, Coded};
+ghost use mathlib.Core.Bool.{true};
+ghost use Rattle.search.specs.Masks.{SetReplaced};
+ghost use Rattle.search.specs.Steps.{Settles, Looked, Blamed, CopyFrom, CopyTo, Lent};
+use super::clauses::begins;
+use super::clauses::position;
+use super::index::BOUNDS;
+use super::sets;
+use super::sets::CHANGED;
+use super::sets::CUT;
+use super::table;
+use super::width::wide8;
+use super::width::wide16;
+
+// Looks at every clause in every row, and at what follows. False: there is no model, and CUT says by which decisions.
+pub(crate) fn survey(
+    splits: &[u8],
+    codes: &[u16],
+    work: &mut [u8],
+    sets: &mut [u64],
+    hints: &mut [u16],
+) -> bool
+    requires { ⌜ Lent (now splits) (now codes) (now work) (now sets) (now hints) ⌝ }
+    ensures { λ r. ⌜ Settles 0 (now (splits .entry)) (now (codes .entry)) 0 (length (now (splits .entry))) 1 (now (work .entry)) (now (work .exit)) (now (sets .entry)) (now (sets .exit)) r ⌝ }
+{
+    sets::empty(sets, CHANGED);
+    let mut i = 0;
+    while i < splits.len() {
+        if survey_row(splits, codes, work, sets, hints, i) {} else {
+            return false;
+        }
+        i += 1;
+    }
+    settle(splits, codes, work, sets, hints, 1, 0, splits.len())
+}
+
+fn survey_row(
+    splits: &[u8],
+    codes: &[u16],
+    work: &mut [u8],
+    sets: &mut [u64],
+    hints: &mut [u16],
+    i: usize,
+) -> bool
+    requires { ⌜ Lent (now splits) (now codes) (now work) (now sets) (now hints) ⌝ }
+    requires { ⌜ i < length (now splits) ⌝ }
+    ensures { λ r. ⌜ Settles 0 (now (splits .entry)) (now (codes .entry)) 0 (length (now (splits .entry))) 1 (now (work .entry)) (now (work .exit)) (now (sets .entry)) (now (sets .exit)) r ⌝ }
+{
+    let mut start = 0;
+    while start < codes.len() {
+        if repeats(splits, codes, 0, i, start) {} else {
+            if touch(
+                splits,
+                codes,
+                work,
+                sets,
+                hints,
+                1,
+                0,
+                splits.len(),
+                i,
+                start,
+            ) {} else {
+                return false;
+            }
+        }
+        start = past_clause(codes, start);
+    }
+    true
+}
+
+// Whether row i, of the rows from `from` on, has the same copies of the clause's unknowns as the row before it.
+fn repeats(splits: &[u8], codes: &[u16], from: usize, i: usize, start: usize) -> bool
+    requires { ⌜ i < length (now splits) ⌝ }
+{
+    if i == from {
+        return false;
+    }
+    if start < codes.len() {
+        wide16(codes[start]) / 2 <= wide8(splits[i])
+    } else {
+        true
+    }
+}
+
+// The entry behind the clause that begins at `start`.
+fn past_clause(codes: &[u16], start: usize) -> usize
+    requires { ⌜ start < length (now codes) ⌝ }
+    ensures { λ r. ⌜ start < r ⌝ }
+{
+    let mut e = start + 1;
+    while e < codes.len() {
+        if codes[e - 1] == 0 {
+            return e;
+        }
+        e += 1;
+    }
+    e
+}
+
+// What follows in the rows from lo to hi from the value that they just got at position k.
+pub(crate) fn propagate(
+    splits: &[u8],
+    codes: &[u16],
+    work: &mut [u8],
+    sets: &mut [u64],
+    hints: &mut [u16],
+    k: usize,
+    lo: usize,
+    hi: usize,
+) -> bool
+    requires { ⌜ Lent (now splits) (now codes) (now work) (now sets) (now hints) ⌝ }
+    requires { ⌜ (k < 128) × (lo < hi) × (hi ≤ length (now splits)) ⌝ }
+    ensures { λ r. ⌜ Settles 0 (now (splits .entry)) (now (codes .entry)) lo hi (k + 2) (now (work .entry)) (now (work .exit)) (now (sets .entry)) (now (sets .exit)) r ⌝ }
+{
+    sets::empty(sets, CHANGED);
+    note(sets, hints, k, lo, hi);
+    settle(splits, codes, work, sets, hints, k as u8 + 2, lo, hi)
+}
+
+// Visits the positions with changes until there is none.
+fn settle(
+    splits: &[u8],
+    codes: &[u16],
+    work: &mut [u8],
+    sets: &mut [u64],
+    hints: &mut [u16],
+    mark: u8,
+    lo: usize,
+    hi: usize,
+) -> bool
+    requires { ⌜ Lent (now splits) (now codes) (now work) (now sets) (now hints) ⌝ }
+    requires { ⌜ hi ≤ length (now splits) ⌝ }
+    ensures { λ r. ⌜ Settles 0 (now (splits .entry)) (now (codes .entry)) lo hi mark (now (work .entry)) (now (work .exit)) (now (sets .entry)) (now (sets .exit)) r ⌝ }
+{
+    let mut left = 32_768usize;
+    while left > 0 {
+        let k = sets::take_lowest(sets, CHANGED);
+        if k < CUT {} else {
+            return true;
+        }
+        let from = higher(wide16(hints[2 * k]), lo);
+        let to = lower(wide16(hints[2 * k + 1]), hi);
+        if visit(splits, codes, work, sets, hints, mark, lo, hi, k, from, to) {} else {
+            return false;
+        }
+        left -= 1;
+    }
+    true
+}
+
+// Looks at the clauses that the values at position k make shorter, in the rows from `from` to `to`.
+fn visit(
+    splits: &[u8],
+    codes: &[u16],
+    work: &mut [u8],
+    sets: &mut [u64],
+    hints: &mut [u16],
+    mark: u8,
+    lo: usize,
+    hi: usize,
+    k: usize,
+    from: usize,
+    to: usize,
+) -> bool
+    requires { ⌜ Lent (now splits) (now codes) (now work) (now sets) (now hints) ⌝ }
+    requires { ⌜ (hi ≤ length (now splits)) × (k < 128) × (lo ≤ from) × (to ≤ hi) ⌝ }
+    ensures { λ r. ⌜ Settles 0 (now (splits .entry)) (now (codes .entry)) lo hi mark (now (work .entry)) (now (work .exit)) (now (sets .entry)) (now (sets .exit)) r ⌝ }
+{
+    let mut i = from;
+    while i < to {
+        let c = shortened(table::value(work, i, k), k);
+        if visit_row(splits, codes, work, sets, hints, mark, lo, hi, c, from, i) {} else {
+            return false;
+        }
+        i += 1;
+    }
+    true
+}
+
+// The code of the literal that is false by the value at position k.
+fn shortened(value: bool, k: usize) -> usize
+    requires { ⌜ k < 128 ⌝ }
+    ensures { λ r. ⌜ (2 ≤ r) × (r ≤ 257) ⌝ }
+{
+    if value { 2 * k + 3 } else { 2 * k + 2 }
+}
+
+// Looks at the clauses with the code c in row i, but for those that repeat the row before it.
+fn visit_row(
+    splits: &[u8],
+    codes: &[u16],
+    work: &mut [u8],
+    sets: &mut [u64],
+    hints: &mut [u16],
+    mark: u8,
+    lo: usize,
+    hi: usize,
+    c: usize,
+    from: usize,
+    i: usize,
+) -> bool
+    requires { ⌜ Lent (now splits) (now codes) (now work) (now sets) (now hints) ⌝ }
+    requires { ⌜ (lo ≤ i) × (i < hi) × (hi ≤ length (now splits)) × (2 ≤ c) × (c ≤ 257) ⌝ }
+    ensures { λ r. ⌜ Settles 0 (now (splits .entry)) (now (codes .entry)) lo hi mark (now (work .entry)) (now (work .exit)) (now (sets .entry)) (now (sets .exit)) r ⌝ }
+{
+    let end = lower(wide16(hints[BOUNDS + c]), hints.len());
+    let mut at = wide16(hints[BOUNDS + c - 1]);
+    while at < end {
+        let start = wide16(hints[at]);
+        if repeats(splits, codes, from, i, start) {} else {
+            if touch(splits, codes, work, sets, hints, mark, lo, hi, i, start) {} else {
+                return false;
+            }
+        }
+        at += 1;
+    }
+    true
+}
+
+fn lower(a: usize, b: usize) -> usize
+    ensures { λ r. ⌜ (r ≤ a) × (r ≤ b) ⌝ }
+{
+    if a < b { a } else { b }
+}
+
+fn higher(a: usize, b: usize) -> usize
+    ensures { λ r. ⌜ (a ≤ r) × (b ≤ r) ⌝ }
+{
+    if a < b { b } else { a }
+}
+
+// Looks at the clause at `start` in row i. False: it is false there, and CUT says by which decisions.
+fn touch(
+    splits: &[u8],
+    codes: &[u16],
+    work: &mut [u8],
+    sets: &mut [u64],
+    hints: &mut [u16],
+    mark: u8,
+    lo: usize,
+    hi: usize,
+    i: usize,
+    start: usize,
+) -> bool
+    requires { ⌜ Lent (now splits) (now codes) (now work) (now sets) (now hints) ⌝ }
+    requires { ⌜ (lo ≤ i) × (i < hi) × (hi ≤ length (now splits)) ⌝ }
+    ensures { λ r. ⌜ Settles 0 (now (splits .entry)) (now (codes .entry)) lo hi mark (now (work .entry)) (now (work .exit)) (now (sets .entry)) (now (sets .exit)) r ⌝ }
+{
+    if begins(codes, start) {} else {
+        return true;
+    }
+    let c = look(codes, work, i, start);
+    if c == 1 {
+        return true;
+    }
+    if c == 0 {
+        sets::empty(sets, CUT);
+        blame(codes, sets, start, CUT);
+        return false;
+    }
+    force(splits, codes, work, sets, hints, mark, lo, hi, i, start, c);
+    true
+}
+
+// Sets the one open literal, of code c, of the clause at `start` in all rows of the group that have row i's copy.
+fn force(
+    splits: &[u8],
+    codes: &[u16],
+    work: &mut [u8],
+    sets: &mut [u64],
+    hints: &mut [u16],
+    mark: u8,
+    lo: usize,
+    hi: usize,
+    i: usize,
+    start: usize,
+    c: usize,
+)
+    requires { ⌜ Lent (now splits) (now codes) (now work) (now sets) (now hints) ⌝ }
+    requires { ⌜ (lo ≤ i) × (i < hi) × (hi ≤ length (now splits)) × (2 ≤ c) × (position c < 128) ⌝ }
+    ensures { λ _. ⌜ (Begins (now (codes .entry)) start → Looked (now (codes .entry)) (now (work .entry)) i start c → Settles 0 (now (splits .entry)) (now (codes .entry)) lo hi mark (now (work .entry)) (now (work .exit)) (now (sets .entry)) (now (sets .exit)) true) ⌝ }
+{
+    let k = position(c);
+    blame(codes, sets, start, k);
+    let from = copy_start(splits, k, lo, i);
+    let to = copy_end(splits, k, i, hi);
+    table::set_rows(work, k, from, to, mark, c % 2 == 0);
+    note(sets, hints, k, from, to);
+}
+
+// The clause at `start` in row i: 0 if all its literals are false, the code of its one open literal if all others are false, else 1.
+fn look(codes: &[u16], work: &[u8], i: usize, start: usize) -> usize
+    requires { ⌜ (length (now work) ≡ 65536) × (i < 256) × Coded 128 (now codes) ⌝ }
+    ensures { λ r. ⌜ Looked (now (codes .entry)) (now (work .entry)) i start r ⌝ }
+{
+    let mut unit = 0;
+    let mut e = start;
+    while e < codes.len() {
+        let c = wide16(codes[e]);
+        if c == 0 {
+            return unit;
+        }
+        if table::is_set(work, i, position(c)) {
+            if table::is_true(work, i, c) {
+                return 1;
+            }
+        } else {
+            if unit != 0 {
+                return 1;
+            }
+            unit = c;
+        }
+        e += 1;
+    }
+    1
+}
+
+// Unites, at `to`, the sets of the clause's positions other than `to`.
+fn blame(codes: &[u16], sets: &mut [u64], start: usize, to: usize)
+    requires { ⌜ (length (now sets) ≡ 260) × (to < 130) × Coded 128 (now codes) ⌝ }
+    ensures { λ _. ⌜ Blamed (clause-of (drop start (now (codes .entry)))) to (now (sets .entry)) (now (sets .exit)) ⌝ }
+{
+    let mut e = start;
+    while e < codes.len() {
+        let c = wide16(codes[e]);
+        if c == 0 {
+            return;
+        }
+        let k = position(c);
+        if k != to {
+            sets::unite(sets, to, k);
+        }
+        e += 1;
+    }
+}
+
+// The first row from lo on, up to i, that has row i's copy at position k.
+fn copy_start(splits: &[u8], k: usize, lo: usize, i: usize) -> usize
+    requires { ⌜ (lo ≤ i) × (i < length (now splits)) ⌝ }
+    ensures { λ r. ⌜ CopyFrom (now (splits .entry)) k lo i r ⌝ }
+{
+    let mut from = i;
+    while from > lo {
+        if wide8(splits[from]) < k {
+            return from;
+        }
+        from -= 1;
+    }
+    from
+}
+
+// The row behind the last one before hi that has row i's copy at position k.
+fn copy_end(splits: &[u8], k: usize, i: usize, hi: usize) -> usize
+    requires { ⌜ (i < hi) × (hi ≤ length (now splits)) ⌝ }
+    ensures { λ r. ⌜ CopyTo (now (splits .entry)) k i hi r ⌝ }
+{
+    let mut to = i + 1;
+    while to < hi {
+        if wide8(splits[to]) < k {
+            return to;
+        }
+        to += 1;
+    }
+    to
+}
+
+// Position k has changes in the rows from lo to hi.
+fn note(sets: &mut [u64], hints: &mut [u16], k: usize, lo: usize, hi: usize)
+    requires { ⌜ (length (now sets) ≡ 260) × (length (now hints) ≡ 8707) × (k < 128) × (lo ≤ 256) × (hi ≤ 256) ⌝ }
+    ensures { λ _. ⌜ SetReplaced 129 (now (sets .entry)) (now (sets .exit)) ⌝ }
+{
+    if sets::has(sets, CHANGED, k) {
+        widen(hints, k, lo, hi);
+        return;
+    }
+    sets::add(sets, CHANGED, k);
+    hints[2 * k] = lo as u16;
+    hints[2 * k + 1] = hi as u16;
+}
+
+fn widen(hints: &mut [u16], k: usize, lo: usize, hi: usize)
+    requires { ⌜ (length (now hints) ≡ 8707) × (k < 128) × (lo ≤ 256) × (hi ≤ 256) ⌝ }
+{
+    if lo < wide16(hints[2 * k]) {
+        hints[2 * k] = lo as u16;
+    }
+    if hi > wide16(hints[2 * k + 1]) {
+        hints[2 * k + 1] = hi as u16;
+    }
+}

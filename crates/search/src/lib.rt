@@ -1,0 +1,154 @@
+// The first model of one side over lent rows of the other (01, 'Copies and models'). Promised, for all that is lent: found, none or
+// the number of the first cause that applies; found leaves in the work area the rows that the model yields, none leaves zeros, and a
+// refusal leaves it as it was.
+// Below: clauses (literals as codes), order (rows sorted), table (cells in the work area), wants (what each copy prefers), sets (of
+// positions), index (where each code stands), force and live (each side's consequences of a value), solve (the search), yields (its rows).
+ghost use mathlib.Core.Path.{_≡_};
+ghost use Prim.Native.Nat.{ℕ, _≤_, _<_};
+ghost use mathlib.Core.Bool.{true};
+ghost use lib.IntN.{pos, natAbs};
+ghost use lib.ListN.{length, getD};
+ghost use Rattle.formula.specs.Formula.{prefix, clauses};
+ghost use Rattle.formula.specs.Meaning.{matrix};
+ghost use Rattle.formula.specs.Causes.{ended};
+ghost use Rattle.preference.specs.Preference.{prefer};
+ghost use Rattle.rows.specs.Table.{rows-of};
+ghost use Rattle.expansion.specs.Model.{search};
+ghost use Rattle.search.specs.Search.{outcome, work-after};
+ghost use Rattle.search.specs.Whole.{side-kind, Ready, Accepting, Decided, FoundIs, Answered};
+use formula::Check;
+use formula::Formula;
+
+mod clauses;
+mod force;
+mod index;
+mod live;
+mod order;
+mod sets;
+mod solve;
+mod table;
+mod wants;
+mod width;
+mod yields;
+
+pub enum Search {
+    Found,
+    NoModel,
+    Refused(u32),
+}
+
+// `universal`: the universal side looks for a model over existential rows, else the existential side over universal rows.
+pub fn first_model(
+    kinds: &[u8],
+    literals: &[i32],
+    preferences: &[u8],
+    rows: &[u8],
+    count: usize,
+    universal: bool,
+    work: &mut [u8],
+) -> Search
+    ensures { λ r. ⌜ r ≡ outcome (now (kinds .entry)) (now (literals .entry)) (now (preferences .entry)) (now (rows .entry)) count universal (now (work .entry)) ⌝ }
+    ensures { λ _. ⌜ now (work .exit) ≡ work-after (now (kinds .entry)) (now (literals .entry)) (now (preferences .entry)) (now (rows .entry)) count universal (now (work .entry)) ⌝ }
+{
+    match Formula::check(kinds, literals) {
+        Check::Refused(cause) => Search::Refused(cause),
+        Check::Accepted(formula) => {
+            let universals = formula.universals;
+            if universal {
+                let others = kinds.len() - universals;
+                over_rows(kinds, literals, preferences, rows, count, others, 1, work)
+            } else {
+                over_rows(kinds, literals, preferences, rows, count, universals, 0, work)
+            }
+        }
+    }
+}
+
+// The search for an accepted formula. The side is 1 if universal, 0 if existential; the other side has `others` unknowns.
+fn over_rows(
+    kinds: &[u8],
+    literals: &[i32],
+    preferences: &[u8],
+    rows: &[u8],
+    count: usize,
+    others: usize,
+    side: u8,
+    work: &mut [u8],
+) -> Search
+    requires { ⌜ Accepting (now kinds) (now literals) others side ⌝ }
+    ensures { λ r. ⌜ Answered (now (kinds .entry)) (now (literals .entry)) (now (preferences .entry)) (now (rows .entry)) count others side (now (work .entry)) (now (work .exit)) r ⌝ }
+{
+    if rows::table_fits(rows) {
+    } else {
+        return Search::Refused(4);
+    }
+    if work.len() != 65_536 {
+        return Search::Refused(5);
+    }
+    if rows.len() / 16 < count {
+        return Search::Refused(7);
+    }
+    if rows::stray_bit(rows, count, others) {
+        return Search::Refused(8);
+    }
+    if find(kinds, literals, preferences, rows, count, others, side, work) {
+        Search::Found
+    } else {
+        Search::NoModel
+    }
+}
+
+// The search over rows that fit. At the end the work area holds the yielded rows, or zeros.
+fn find(
+    kinds: &[u8],
+    literals: &[i32],
+    preferences: &[u8],
+    rows: &[u8],
+    count: usize,
+    others: usize,
+    side: u8,
+    work: &mut [u8],
+) -> bool
+    requires { ⌜ Ready (now kinds) (now literals) (now rows) count others side (now work) ⌝ }
+    ensures { λ r. ⌜ FoundIs (search (prefer (now (preferences .entry))) (side-kind side) (prefix (now (kinds .entry))) (matrix (clauses (now (literals .entry)))) (rows-of others count (now (rows .entry)))) r (now (work .exit)) ⌝ }
+{
+    let end = work.len();
+    table::clear(work, 0, end);
+    if count == 0 {
+        return true;
+    }
+    let mut place = [0u8; Formula::ROWS];
+    order::sort(rows, count, others, &mut place);
+    table::fill(kinds, rows, &place[..count], side, work);
+    if decide(kinds, literals, preferences, &place[..count], side, work) {
+        yields::pack(kinds, &place[..count], side, work);
+        true
+    } else {
+        table::clear(work, 0, end);
+        false
+    }
+}
+
+// The search over a filled table.
+fn decide(
+    kinds: &[u8],
+    literals: &[i32],
+    preferences: &[u8],
+    place: &[u8],
+    side: u8,
+    work: &mut [u8],
+) -> bool
+    requires { ⌜ (length (now kinds) ≤ 128) × (length (now literals) ≤ 8192) × (ended (now literals) ≡ true) × (side ≤ 1) × (0 < length (now place)) × (length (now place) ≤ 256) × (length (now work) ≡ 65536) ⌝ }
+    requires { ⌜ ((i : ℕ) → i < length (now literals) → natAbs (getD (now literals) i (pos 0)) ≤ length (now kinds)) ⌝ }
+    requires { ⌜ ((r : ℕ) → r < length (now place) → getD (now place) r 0 < length (now place)) ⌝ }
+    requires { ⌜ ((i : ℕ) → i < length (now place) → (r : ℕ) × (r < length (now place)) × (getD (now place) r 0 ≡ i)) ⌝ }
+    ensures { λ r. ⌜ Decided (now (kinds .entry)) (now (literals .entry)) (now (preferences .entry)) (now (place .entry)) side (now (work .entry)) (now (work .exit)) r ⌝ }
+{
+    let count = place.len();
+    let mut splits = [0u8; Formula::ROWS];
+    order::compare(kinds, work, count, side, &mut splits);
+    wants::fill(kinds, preferences, place, &splits, side, work);
+    let mut codes = [0u16; Formula::ENTRIES];
+    let used = clauses::encode(literals, &mut codes);
+    solve::from_start(kinds, &splits[..count], &codes[..used], side, work)
+}

@@ -1,0 +1,160 @@
+// The universal side's consequences of a value: a row in which every clause has a true literal ends the branch. For each row a clause
+// without one is remembered, as a hint.
+ghost use mathlib.Core.Path.{_≡_};
+ghost use Prim.Native.Nat.{ℕ, _≤_, _<_};
+ghost use mathlib.Core.List.{List};
+ghost use mathlib.Core.Logic.{_⊎_};
+ghost use mathlib.Core.Bool.{true, _&&_};
+ghost use lib.ListN.{length};
+ghost use lib.Dec.{ltb};
+ghost use Rattle.search.specs.Cells.{cells};
+ghost use Rattle.search.specs.Codes.{position, code-true, Coded};
+ghost use Rattle.search.specs.Steps.{Settles, IsAt, RowBlamed};
+ghost use Rattle.search.specs.Live.{RowDead};
+use super::clauses::position;
+use super::sets;
+use super::sets::CUT;
+use super::table;
+use super::width::wide16;
+
+// Whether each row from lo to hi has a live clause. False: CUT says by which decisions one has none.
+pub(crate) fn check(
+    codes: &[u16],
+    work: &[u8],
+    sets: &mut [u64],
+    hints: &mut [u16],
+    lo: usize,
+    hi: usize,
+) -> bool
+    requires { ⌜ (length (now work) ≡ 65536) × (length (now sets) ≡ 260) × (length (now hints) ≡ 8707) × (lo ≤ hi) × (hi ≤ 256) × (length (now codes) ≤ 8192) × Coded 128 (now codes) ⌝ }
+    ensures { λ r. ⌜ ((splits : List ℕ) (mark : ℕ) → Settles 1 splits (now (codes .entry)) lo hi mark (now (work .entry)) (now (work .entry)) (now (sets .entry)) (now (sets .exit)) r) ⌝ }
+{
+    let mut i = lo;
+    while i < hi {
+        if dead(codes, work, sets, hints, i) {
+            return false;
+        }
+        i += 1;
+    }
+    true
+}
+
+// Whether every clause has a true literal in row i. True: CUT says by which decisions.
+fn dead(codes: &[u16], work: &[u8], sets: &mut [u64], hints: &mut [u16], i: usize) -> bool
+    requires { ⌜ (length (now work) ≡ 65536) × (length (now sets) ≡ 260) × (length (now hints) ≡ 8707) × (i < 256) × (length (now codes) ≤ 8192) × Coded 128 (now codes) ⌝ }
+    ensures { λ r. ⌜ RowDead (now (codes .entry)) (now (work .entry)) i (now (sets .entry)) (now (sets .exit)) r ⌝ }
+{
+    if lives(codes, work, i, wide16(hints[i])) {
+        return false;
+    }
+    let start = first_live(codes, work, i);
+    if start < codes.len() {
+        hints[i] = start as u16;
+        return false;
+    }
+    sets::empty(sets, CUT);
+    blame(codes, work, sets, i)
+}
+
+// Whether the entries from `start` to the end of a clause have no true literal in row i.
+fn lives(codes: &[u16], work: &[u8], i: usize, start: usize) -> bool
+    requires { ⌜ (length (now work) ≡ 65536) × (i < 256) × Coded 128 (now codes) ⌝ }
+{
+    let mut e = start;
+    while e < codes.len() {
+        let c = wide16(codes[e]);
+        if c == 0 {
+            return true;
+        }
+        if holds(work, i, c) {
+            return false;
+        }
+        e += 1;
+    }
+    false
+}
+
+// Whether the literal of code c is set and true in row i.
+fn holds(work: &[u8], i: usize, c: usize) -> bool
+    requires { ⌜ (length (now work) ≡ 65536) × (i < 256) × (2 ≤ c) × (position c < 128) ⌝ }
+    ensures { λ r. ⌜ r ≡ (ltb 0 (cells (now (work .entry)) .level i (position c)) && code-true (cells (now (work .entry)) .value i) c) ⌝ }
+{
+    if table::is_set(work, i, position(c)) {
+        table::is_true(work, i, c)
+    } else {
+        false
+    }
+}
+
+// The start of the first clause without a true literal in row i; the number of entries if there is none.
+fn first_live(codes: &[u16], work: &[u8], i: usize) -> usize
+    requires { ⌜ (length (now work) ≡ 65536) × (i < 256) × Coded 128 (now codes) ⌝ }
+{
+    let mut start = 0;
+    let mut dead = false;
+    let mut e = 0;
+    while e < codes.len() {
+        let c = wide16(codes[e]);
+        e += 1;
+        if c == 0 {
+            if dead {
+                start = e;
+                dead = false;
+            } else {
+                return start;
+            }
+        } else if holds(work, i, c) {
+            dead = true;
+        }
+    }
+    e
+}
+
+// Unites, at CUT, for each clause the set of its earliest true literal in row i. False: a clause has none.
+fn blame(codes: &[u16], work: &[u8], sets: &mut [u64], i: usize) -> bool
+    requires { ⌜ (length (now work) ≡ 65536) × (length (now sets) ≡ 260) × (i < 256) × Coded 128 (now codes) ⌝ }
+    ensures { λ r. ⌜ RowBlamed (now (codes .entry)) (now (work .entry)) i (now (sets .entry)) (now (sets .exit)) r ⌝ }
+{
+    let mut best = CUT;
+    let mut e = 0;
+    while e < codes.len() {
+        let c = wide16(codes[e]);
+        e += 1;
+        if c == 0 {
+            if best == CUT {
+                return false;
+            }
+            sets::unite(sets, CUT, best);
+            best = CUT;
+        } else {
+            best = better(work, i, best, c);
+        }
+    }
+    true
+}
+
+// The best position so far, or that of the literal of code c if it is true in row i and was set at a lower level.
+fn better(work: &[u8], i: usize, best: usize, c: usize) -> usize
+    requires { ⌜ (length (now work) ≡ 65536) × (i < 256) × (best ≤ 128) × (2 ≤ c) × (position c < 128) ⌝ }
+    ensures { λ r. ⌜ (r ≡ best) ⊎ ((r ≡ position c) × IsAt (now (work .entry)) i true c) ⌝ }
+{
+    if holds(work, i, c) {
+        earlier(work, i, best, position(c))
+    } else {
+        best
+    }
+}
+
+// Of two positions the one that was set at the lower level; CUT is none.
+fn earlier(work: &[u8], i: usize, k: usize, l: usize) -> usize
+    requires { ⌜ (length (now work) ≡ 65536) × (i < 256) × (k ≤ 128) × (l < 128) ⌝ }
+    ensures { λ r. ⌜ (r ≡ l) ⊎ ((r ≡ k) × (k < 128)) ⌝ }
+{
+    if k == CUT {
+        return l;
+    }
+    if table::level(work, i, k) <= table::level(work, i, l) {
+        return k;
+    }
+    l
+}

@@ -1,0 +1,340 @@
+// The search: positions in prefix order, with the group of rows whose other values agree before the position. Rows are parted where their
+// values differ, an own position gets the wanted value first, and a failure goes back to the last decision that it was reached by.
+ghost use mathlib.Core.Path.{_≡_};
+ghost use Prim.Native.Nat.{ℕ, _+_, _*_, _≤_, _<_};
+ghost use mathlib.Core.Bool.{true, false};
+ghost use lib.ListN.{length, getD};
+ghost use Rattle.expansion.proofs.ClauseCuts.{matrix-at};
+ghost use Rattle.search.specs.Cells.{cells};
+ghost use Rattle.search.specs.Codes.{code-true, code-clauses, code-goal, Coded, Ended};
+ghost use Rattle.search.specs.Masks.{set-at, SetReplaced};
+ghost use Rattle.search.specs.Steps.{Lent, Settles, Searches, Tries, Chooses, Splits, Steps, Excused, Reached, Parting, PartedAt, Stands, FromStart};
+use super::force;
+use super::index;
+use super::live;
+use super::sets;
+use super::sets::CUT;
+use super::table;
+use super::width::wide16;
+use super::width::wide8;
+
+// The search over a filled table of at least one row. False: there is no model.
+pub(crate) fn from_start(
+    kinds: &[u8],
+    splits: &[u8],
+    codes: &[u16],
+    side: u8,
+    work: &mut [u8],
+) -> bool
+    requires { ⌜ (length (now kinds) ≤ 128) × (0 < length (now splits)) × (length (now splits) ≤ 256) × (length (now codes) ≤ 8192) × Coded 128 (now codes) × (side ≤ 1) × (length (now work) ≡ 65536) ⌝ }
+    ensures { λ r. ⌜ FromStart (now (kinds .entry)) (now (splits .entry)) (now (codes .entry)) side (now (work .entry)) (now (work .exit)) r ⌝ }
+{
+    let mut sets = [0u64; 260];
+    let mut hints = [0u16; 8_707];
+    if look_around(splits, codes, work, &mut sets, &mut hints, side) {
+        let hi = splits.len();
+        solve(kinds, splits, codes, work, &mut sets, &mut hints, side, 0, 0, hi)
+    } else {
+        false
+    }
+}
+
+// The consequences of the rows' values alone.
+fn look_around(
+    splits: &[u8],
+    codes: &[u16],
+    work: &mut [u8],
+    sets: &mut [u64],
+    hints: &mut [u16],
+    side: u8,
+) -> bool
+    requires { ⌜ Lent (now splits) (now codes) (now work) (now sets) (now hints) ⌝ }
+    requires { ⌜ side ≤ 1 ⌝ }
+    ensures { λ r. ⌜ Settles side (now (splits .entry)) (now (codes .entry)) 0 (length (now (splits .entry))) 1 (now (work .entry)) (now (work .exit)) (now (sets .entry)) (now (sets .exit)) r ⌝ }
+{
+    if side == 1 {
+        live::check(codes, work, sets, hints, 0, splits.len())
+    } else {
+        index::fill(codes, hints);
+        force::survey(splits, codes, work, sets, hints)
+    }
+}
+
+// Finds the values at the positions from k on in the rows from lo to hi. False: there are none, and CUT says by which decisions.
+fn solve(
+    kinds: &[u8],
+    splits: &[u8],
+    codes: &[u16],
+    work: &mut [u8],
+    sets: &mut [u64],
+    hints: &mut [u16],
+    side: u8,
+    k: usize,
+    lo: usize,
+    hi: usize,
+) -> bool
+    requires { ⌜ Lent (now splits) (now codes) (now work) (now sets) (now hints) ⌝ }
+    requires { ⌜ (length (now kinds) ≤ 128) × (side ≤ 1) × (k ≤ length (now kinds)) × (lo < hi) × (hi ≤ length (now splits)) ⌝ }
+    ensures { λ r. ⌜ Searches (now (kinds .entry)) (now (splits .entry)) (now (codes .entry)) side k lo hi (now (work .entry)) (now (work .exit)) (now (sets .entry)) (now (sets .exit)) r ⌝ }
+{
+    let mid = parting(splits, lo, hi);
+    let until = parted_at(splits, lo, mid, kinds.len());
+    let at = stand(kinds, work, side, k, lo, until);
+    if step(kinds, splits, codes, work, sets, hints, side, at, until, lo, mid, hi) {
+        return true;
+    }
+    excuse(sets, k, at);
+    false
+}
+
+// The search at the position `at` behind those that stand: past the last one, at a split, or at a choice.
+fn step(
+    kinds: &[u8],
+    splits: &[u8],
+    codes: &[u16],
+    work: &mut [u8],
+    sets: &mut [u64],
+    hints: &mut [u16],
+    side: u8,
+    at: usize,
+    until: usize,
+    lo: usize,
+    mid: usize,
+    hi: usize,
+) -> bool
+    requires { ⌜ Lent (now splits) (now codes) (now work) (now sets) (now hints) ⌝ }
+    requires { ⌜ (length (now kinds) ≤ 128) × (side ≤ 1) × (at ≤ length (now kinds)) × (until ≤ length (now kinds)) × (lo < hi) × (hi ≤ length (now splits)) ⌝ }
+    requires { ⌜ (lo ≤ mid) × (mid < hi) × (until < length (now kinds) → lo < mid) ⌝ }
+    ensures { λ r. ⌜ Steps (now (kinds .entry)) (now (splits .entry)) (now (codes .entry)) side at until lo mid hi (now (work .entry)) (now (work .exit)) (now (sets .entry)) (now (sets .exit)) r ⌝ }
+{
+    if at == kinds.len() {
+        return reached(codes, work, sets, side, lo);
+    }
+    if at == until {
+        return split(kinds, splits, codes, work, sets, hints, side, at, lo, mid, hi);
+    }
+    choose(kinds, splits, codes, work, sets, hints, side, at, lo, hi)
+}
+
+// Searches the rows from mid on and those before, which have different values at position k.
+fn split(
+    kinds: &[u8],
+    splits: &[u8],
+    codes: &[u16],
+    work: &mut [u8],
+    sets: &mut [u64],
+    hints: &mut [u16],
+    side: u8,
+    k: usize,
+    lo: usize,
+    mid: usize,
+    hi: usize,
+) -> bool
+    requires { ⌜ Lent (now splits) (now codes) (now work) (now sets) (now hints) ⌝ }
+    requires { ⌜ (length (now kinds) ≤ 128) × (side ≤ 1) × (k < length (now kinds)) × (lo < mid) × (mid < hi) × (hi ≤ length (now splits)) ⌝ }
+    ensures { λ r. ⌜ Splits (now (kinds .entry)) (now (splits .entry)) (now (codes .entry)) side k lo mid hi (now (work .entry)) (now (work .exit)) (now (sets .entry)) (now (sets .exit)) r ⌝ }
+{
+    if solve(kinds, splits, codes, work, sets, hints, side, k + 1, mid, hi) {
+    } else {
+        return false;
+    }
+    sets::trim(sets, k, kinds.len());
+    solve(kinds, splits, codes, work, sets, hints, side, k + 1, lo, mid)
+}
+
+// Where a failure was reached by values that stand from k to `at`, it was reached by what they were reached by.
+fn excuse(sets: &mut [u64], k: usize, at: usize)
+    requires { ⌜ (length (now sets) ≡ 260) × (at ≤ 128) ⌝ }
+    ensures { λ _. ⌜ Excused k at (now (sets .entry)) (now (sets .exit)) ⌝ }
+{
+    let mut p = k;
+    while p < at {
+        let q = p;
+        p += 1;
+        if sets::has(sets, CUT, q) {
+            sets::unite(sets, CUT, q);
+        }
+    }
+}
+
+// Tries the wanted value at the open own position k, and the other one if a failure was reached by that.
+fn choose(
+    kinds: &[u8],
+    splits: &[u8],
+    codes: &[u16],
+    work: &mut [u8],
+    sets: &mut [u64],
+    hints: &mut [u16],
+    side: u8,
+    k: usize,
+    lo: usize,
+    hi: usize,
+) -> bool
+    requires { ⌜ Lent (now splits) (now codes) (now work) (now sets) (now hints) ⌝ }
+    requires { ⌜ (length (now kinds) ≤ 128) × (side ≤ 1) × (k < length (now kinds)) × (lo < hi) × (hi ≤ length (now splits)) ⌝ }
+    ensures { λ r. ⌜ Chooses (now (kinds .entry)) (now (splits .entry)) (now (codes .entry)) side k lo hi (now (work .entry)) (now (work .exit)) (now (sets .entry)) (now (sets .exit)) r ⌝ }
+{
+    let wanted = table::wanted(work, lo, k);
+    if attempt(kinds, splits, codes, work, sets, hints, side, k, lo, hi, wanted) {
+        return true;
+    }
+    if sets::has(sets, CUT, k) {
+    } else {
+        return false;
+    }
+    table::undo(work, lo, hi, k as u8 + 1);
+    sets::trim(sets, k, kinds.len());
+    let low = sets[256];
+    let high = sets[257];
+    if attempt(kinds, splits, codes, work, sets, hints, side, k, lo, hi, !wanted) {
+        return true;
+    }
+    if sets::has(sets, CUT, k) {
+        sets::unite_words(sets, CUT, low, high);
+    }
+    false
+}
+
+// Tries one value at the own position k of the rows from lo to hi.
+fn attempt(
+    kinds: &[u8],
+    splits: &[u8],
+    codes: &[u16],
+    work: &mut [u8],
+    sets: &mut [u64],
+    hints: &mut [u16],
+    side: u8,
+    k: usize,
+    lo: usize,
+    hi: usize,
+    value: bool,
+) -> bool
+    requires { ⌜ Lent (now splits) (now codes) (now work) (now sets) (now hints) ⌝ }
+    requires { ⌜ (length (now kinds) ≤ 128) × (side ≤ 1) × (k < length (now kinds)) × (lo < hi) × (hi ≤ length (now splits)) ⌝ }
+    ensures { λ r. ⌜ Tries (now (kinds .entry)) (now (splits .entry)) (now (codes .entry)) side k lo hi value (now (work .entry)) (now (work .exit)) (now (sets .entry)) (now (sets .exit)) r ⌝ }
+{
+    sets::add(sets, k, k);
+    table::set_rows(work, k, lo, hi, k as u8 + 2, value);
+    if follow(splits, codes, work, sets, hints, side, k, lo, hi) {
+        solve(kinds, splits, codes, work, sets, hints, side, k + 1, lo, hi)
+    } else {
+        false
+    }
+}
+
+// The consequences of the value just set at position k.
+fn follow(
+    splits: &[u8],
+    codes: &[u16],
+    work: &mut [u8],
+    sets: &mut [u64],
+    hints: &mut [u16],
+    side: u8,
+    k: usize,
+    lo: usize,
+    hi: usize,
+) -> bool
+    requires { ⌜ Lent (now splits) (now codes) (now work) (now sets) (now hints) ⌝ }
+    requires { ⌜ (side ≤ 1) × (k < 128) × (lo < hi) × (hi ≤ length (now splits)) ⌝ }
+    ensures { λ r. ⌜ Settles side (now (splits .entry)) (now (codes .entry)) lo hi (k + 2) (now (work .entry)) (now (work .exit)) (now (sets .entry)) (now (sets .exit)) r ⌝ }
+{
+    if side == 1 {
+        live::check(codes, work, sets, hints, lo, hi)
+    } else {
+        force::propagate(splits, codes, work, sets, hints, k, lo, hi)
+    }
+}
+
+// The row behind lo at which the rows from lo to hi part first; lo if none parts from the one before it.
+fn parting(splits: &[u8], lo: usize, hi: usize) -> usize
+    requires { ⌜ (lo < hi) × (hi ≤ length (now splits)) ⌝ }
+    ensures { λ r. ⌜ Parting (now (splits .entry)) lo hi r ⌝ }
+{
+    let mut mid = lo;
+    let mut least = 255;
+    let mut i = lo + 1;
+    while i < hi {
+        let h = i;
+        let at = splits[h];
+        i += 1;
+        if at < least {
+            least = at;
+            mid = h;
+        }
+    }
+    mid
+}
+
+// The position at which they part there; n if they do not part before that.
+fn parted_at(splits: &[u8], lo: usize, mid: usize, n: usize) -> usize
+    requires { ⌜ mid < length (now splits) ⌝ }
+    ensures { λ r. ⌜ PartedAt (now (splits .entry)) lo mid n r ⌝ }
+{
+    if lo < mid {
+        let at = wide8(splits[mid]);
+        if at < n {
+            return at;
+        }
+    }
+    n
+}
+
+// The first position from k on, up to `until`, that is an own one and open in row lo; `until` if there is none.
+fn stand(kinds: &[u8], work: &[u8], side: u8, k: usize, lo: usize, until: usize) -> usize
+    requires { ⌜ (length (now work) ≡ 65536) × (length (now kinds) ≤ 128) × (until ≤ length (now kinds)) × (k ≤ length (now kinds)) × (lo < 256) ⌝ }
+    ensures { λ r. ⌜ Stands (now (kinds .entry)) (now (work .entry)) side k lo until r ⌝ }
+{
+    let mut at = k;
+    while at < until {
+        let j = at;
+        at += 1;
+        if kinds[j] == side {
+            if table::is_set(work, lo, j) {} else {
+                return j;
+            }
+        }
+    }
+    at
+}
+
+// Whether the values of row i reach the side's goal. Where they do not, every position is to blame.
+fn reached(codes: &[u16], work: &[u8], sets: &mut [u64], side: u8, i: usize) -> bool
+    requires { ⌜ (length (now work) ≡ 65536) × (length (now sets) ≡ 260) × (i < 256) × (side ≤ 1) × Coded 128 (now codes) ⌝ }
+    ensures { λ r. ⌜ Reached (now (codes .entry)) side (now (work .entry)) i (now (sets .entry)) (now (sets .exit)) r ⌝ }
+{
+    let all = matrix(codes, work, i);
+    if side == 0 {
+        if all {
+            return true;
+        }
+    } else {
+        if all {
+        } else {
+            return true;
+        }
+    }
+    sets::fill(sets, CUT);
+    false
+}
+
+// Whether every clause has a true literal in row i.
+fn matrix(codes: &[u16], work: &[u8], i: usize) -> bool
+    requires { ⌜ (length (now work) ≡ 65536) × (i < 256) × Coded 128 (now codes) ⌝ }
+    ensures { λ r. ⌜ (Ended (now (codes .entry)) → r ≡ matrix-at code-true (code-clauses (now (codes .entry))) (cells (now (work .entry)) .value i)) ⌝ }
+{
+    let mut clause = false;
+    let mut e = 0;
+    while e < codes.len() {
+        let c = wide16(codes[e]);
+        e += 1;
+        if c == 0 {
+            if clause {} else {
+                return false;
+            }
+            clause = false;
+        } else if table::is_true(work, i, c) {
+            clause = true;
+        }
+    }
+    true
+}
