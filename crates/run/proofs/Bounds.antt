@@ -4,9 +4,10 @@ use native.Mathlib.Omega.{arith}
 use mathlib.Core.Path.{_≡_}
 use lib.ListN.{length}
 use Rattle.formula.specs.Formula.{Kind, universal}
+use Rattle.formula.specs.Causes.{count}
 use Rattle.expansion.specs.Play.{Row}
 use Rattle.expansion.proofs.Membership.{In}
-use Rattle.run.specs.Run.{rows, spent, Lent, count, run}
+use Rattle.run.specs.Run.{rows, spent, Lent, run}
 use Rattle.run.specs.Claim.{table}
 use Rattle.run.proofs.GrowthLaws.{room, length-at-most}
 use Rattle.run.proofs.RunLaws.{run-reached}

@@ -5,8 +5,9 @@ use native.Mathlib.Decide.{decLe}
 use mathlib.Core.Path.{_≡_, refl, sym, ap, subst, _∙_}
 use mathlib.Core.Logic.{_↔_, by-cases}
 use Rattle.formula.specs.Formula.{Kind, existential, universal}
+use Rattle.formula.specs.Causes.{count}
 use Rattle.formula.specs.Meaning.{meaning}
-use Rattle.run.specs.Run.{Answer, is-false, is-true, spent, no-room-universal, no-room-existential, Outcome, Lent, count, round-of, run}
+use Rattle.run.specs.Run.{Answer, is-false, is-true, spent, no-room-universal, no-room-existential, Outcome, Lent, round-of, run}
 use Rattle.run.specs.Claim.{table, no-room, Finished, NewRow, most-rounds, answer-of, Claim}
 use Rattle.run.proofs.TableLaws.{all-different}
 use Rattle.run.proofs.RoundLaws.{Right, Made}

@@ -9,6 +9,7 @@ use mathlib.Core.Option.{Option, none, some}
 use lib.Dec.{T, leb, leb→le, nleb→lt}
 use lib.ListN.{length, length-map}
 use Rattle.formula.specs.Formula.{Kind, existential, universal}
+use Rattle.formula.specs.Causes.{count}
 use Rattle.expansion.specs.Side.{flags, other}
 use Rattle.expansion.specs.Play.{Row, Strategy, part, later-values}
 use Rattle.expansion.specs.Copies.{fresh}
@@ -16,7 +17,7 @@ use Rattle.expansion.specs.Model.{search}
 use Rattle.expansion.proofs.Membership.{In, Distinct, in-append-cases, in-append-left, in-append-right, in-map-cases, in-or-not, in-fresh, fresh-in, distinct-append-fresh}
 use Rattle.expansion.proofs.Progress.{Answers, search-answers, yields-fresh}
 use Rattle.expansion.proofs.Counting.{Sized, at-most-all-rows}
-use Rattle.run.specs.Run.{Entry, Table, rows, count, grown, if-fits, Lent}
+use Rattle.run.specs.Run.{Entry, Table, rows, grown, if-fits, Lent}
 use Rattle.run.specs.Claim.{NewRow}
 use Rattle.run.proofs.TableLaws.{rows-grown, Extends, extends-grown, grown-new, length-grown}
 
@@ -42,6 +43,14 @@ length-part existential (existential ∷ ks) vs = ap suc (length-part existentia
 length-part existential (universal ∷ ks) vs = length-part existential ks (later-values vs)
 length-part universal (existential ∷ ks) vs = length-part universal ks (later-values vs)
 length-part universal (universal ∷ ks) vs = ap suc (length-part universal ks (later-values vs))
+
+-- So has each row that a search yields.
+pub sized-found : (prefer : ℕ → Bool) (side : Kind) (ks : List Kind) (phi : List Bool → Bool) (from new : List Row)
+    → search prefer side ks phi from ≡ some new → Sized (count side ks) new
+sized-found prefer side ks phi from new found x h =
+    let model = search-answers prefer side ks phi from new found in
+    let p = in-map-cases _ x from (subst (λ (n : List Row). In x n) (model .2) h) in
+    rw (p .1) (length-part side ks _)
 
 -- What is asked of a table by the room: `if-fits` by its outcomes.
 abbrev pub Fitted : ℕ → Table → Option Table → Type 0
@@ -71,10 +80,7 @@ module _ (l : Lent) (side : Kind) (r : ℕ) (from : List Row) (t : Table) (held 
   sized-grown x h = ⊎-elim (held .sized x) of-new (in-append-cases x (rows t) (fresh (rows t) new) (rw rows-grown at h))
     where
       of-new : In x (fresh (rows t) new) → length x ≡ count side (l .ks)
-      of-new f =
-          let model = search-answers (l .prefer) side (l .ks) (l .phi) from new found in
-          let p = in-map-cases _ x from (subst (λ (n : List Row). In x n) (model .2) (fresh-in x (rows t) new f)) in
-          rw (p .1) (length-part side (l .ks) _)
+      of-new f = sized-found (l .prefer) side (l .ks) (l .phi) from new found x (fresh-in x (rows t) new f)
 
   distinct-grown : Distinct (rows (grown r t new))
   distinct-grown = rw rows-grown (distinct-append-fresh (rows t) new (held .distinct))

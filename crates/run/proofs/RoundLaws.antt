@@ -8,6 +8,7 @@ use mathlib.Core.Logic.{_≢_, inl, inr}
 use mathlib.Core.Option.{Option, none, some}
 use lib.ListN.{length}
 use Rattle.formula.specs.Formula.{Kind, existential, universal}
+use Rattle.formula.specs.Causes.{count}
 use Rattle.formula.specs.Meaning.{meaning}
 use Rattle.expansion.specs.Play.{Row, Strategy}
 use Rattle.expansion.specs.Model.{search}
@@ -15,7 +16,7 @@ use Rattle.expansion.proofs.Membership.{In}
 use Rattle.expansion.proofs.Verdict.{none-is-verdict}
 use Rattle.expansion.proofs.Progress.{Answers}
 use Rattle.expansion.proofs.Counting.{Sized}
-use Rattle.run.specs.Run.{Table, rows, Answer, is-false, is-true, spent, no-room-universal, no-room-existential, number, Outcome, outcome, preferred, count, grown, if-fits, Lent, start, step-1, step-2, step-3, step-4, round-of}
+use Rattle.run.specs.Run.{Table, rows, Answer, is-false, is-true, spent, no-room-universal, no-room-existential, number, Outcome, outcome, preferred, grown, if-fits, Lent, start, step-1, step-2, step-3, step-4, round-of}
 use Rattle.run.specs.Claim.{table, no-room, NewRow}
 use Rattle.run.proofs.TableLaws.{Extends, extends-itself}
 use Rattle.run.proofs.GrowthLaws.{Held, Fitted, fitted, Growth, growth, room-below-all-rows}

@@ -5,7 +5,8 @@ use Rattle.run.specs.Run.{run, round-of}
 use Rattle.expansion.specs.Model.{search, first-model, is-model}
 use Rattle.expansion.specs.Copies.{copies}
 use Rattle.expansion.specs.Judge.{accepted}
+use Rattle.preference.specs.Preference.{prefer, parity}
 
 pub worked : Worked
-unfolding run round-of search first-model is-model copies accepted
+unfolding prefer parity run round-of search first-model is-model copies accepted
 worked = record { runs = refl; K1-A = refl; K1-S = refl; K11-both = refl; K11-one = refl }

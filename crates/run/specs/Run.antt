@@ -7,6 +7,7 @@ use mathlib.Core.Option.{Option, none, some}
 use lib.Dec.{leb}
 use lib.ListN.{length}
 use Rattle.formula.specs.Formula.{Kind, existential, universal}
+use Rattle.formula.specs.Causes.{count}
 use Rattle.expansion.specs.Play.{Row}
 use Rattle.expansion.specs.Copies.{fresh}
 use Rattle.expansion.specs.Model.{search}
@@ -51,14 +52,6 @@ outcome a r A S = record { answer = a; round = r; A = A; S = S }
 abbrev pub preferred : ℕ → (ℕ → Bool) → Row
 preferred zero prefer = []
 preferred (suc m) prefer = prefer zero ∷ preferred m (λ i. prefer (suc i))
-
--- The number of unknowns of a kind.
-abbrev pub count : Kind → List Kind → ℕ
-count k [] = zero
-count existential (existential ∷ ks) = suc (count existential ks)
-count existential (universal ∷ ks) = count existential ks
-count universal (existential ∷ ks) = count universal ks
-count universal (universal ∷ ks) = suc (count universal ks)
 
 -- 'Those not in the table are added in that order, each once, mark r. If they don't all fit, none is added.'
 abbrev pub grown : ℕ → Table → List Row → Table

@@ -1,31 +1,23 @@
 -- 01's 'Runs worked by hand', those with a star: one list, with what the definitions must give.
 -- Assumes nothing.
-use Prim.Native.Nat.{ℕ, zero, suc, _+_, _/_, _%_}
+use Prim.Native.Nat.{ℕ}
 use mathlib.Core.Path.{_≡_}
 use mathlib.Core.Bool.{Bool, true, false}
 use mathlib.Core.List.{List, [], _∷_, map}
-use lib.Dec.{eqb}
 use lib.IntN.{ℤ, pos, negsuc}
 use lib.ListN.{length}
 use Rattle.formula.specs.Formula.{prefix, clauses}
 use Rattle.formula.specs.Meaning.{matrix}
+use Rattle.preference.specs.Preference.{prefer}
 use Rattle.expansion.specs.Play.{Row}
 use Rattle.expansion.specs.Judge.{accepted}
 use Rattle.run.specs.Run.{under-mark, number, Outcome, run}
-
--- The house preferences: whether the binary form of i mod 256 has an odd number of ones.
-abbrev pub ones : ℕ → ℕ → ℕ
-ones zero n = 0
-ones (suc digits) n = n % 2 + ones digits (n / 2)
-
-abbrev pub house : ℕ → Bool
-house i = eqb (ones 8 (i % 256) % 2) 1
 
 -- A run worked by hand: what is lent, and what is returned: the answer's number, the round, the counts of A and S.
 pub record WorkedRun : Type 0 where
   pub kinds : List ℕ
   pub literals : List ℤ
-  pub prefer : ℕ → Bool
+  pub preferences : List ℕ
   pub room-A : ℕ
   pub room-S : ℕ
   pub limit : ℕ
@@ -37,7 +29,7 @@ played k =
     (record {
       ks = prefix (k .kinds);
       phi = matrix (clauses (k .literals));
-      prefer = k .prefer;
+      prefer = prefer (k .preferences);
       room-A = k .room-A;
       room-S = k .room-S;
     })
@@ -49,7 +41,7 @@ numbers o = number (o .answer) ∷ o .round ∷ length (o .A) ∷ length (o .S) 
 -- 'House preferences, ample rows, limit 9, unless said.'
 abbrev pub with-rows : ℕ → ℕ → ℕ → List ℕ → List ℤ → List ℕ → WorkedRun
 with-rows room-A room-S limit kinds literals returned =
-    record { kinds = kinds; literals = literals; prefer = house; room-A = room-A; room-S = room-S; limit = limit; returned = returned }
+    record { kinds = kinds; literals = literals; preferences = []; room-A = room-A; room-S = room-S; limit = limit; returned = returned }
 
 abbrev pub usual : List ℕ → List ℤ → List ℕ → WorkedRun
 usual = with-rows 256 256 9
@@ -87,7 +79,7 @@ K6 =
     record {
       kinds = K5 .kinds;
       literals = K5 .literals;
-      prefer = λ i. true;
+      preferences = 1 ∷ [];
       room-A = 256;
       room-S = 256;
       limit = 9;

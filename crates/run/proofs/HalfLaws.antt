@@ -1,0 +1,154 @@
+-- A round is its two sides' steps: what each of its five ends returns and leaves. Assumes nothing.
+use Prim.Native.Nat.{ℕ}
+use native.Mathlib.Omega.{arith}
+use mathlib.Core.Path.{_≡_, refl, sym, subst}
+use mathlib.Core.List.{List, []}
+use mathlib.Core.Option.{Option, none, some}
+use lib.IntN.{ℤ}
+use lib.ListN.{length}
+use Rattle.formula.specs.Formula.{existential, universal, prefix, clauses}
+use Rattle.formula.specs.Meaning.{matrix}
+use Rattle.preference.specs.Preference.{prefer}
+use Rattle.rows.specs.Table.{room}
+use Rattle.expansion.specs.Play.{Row}
+use Rattle.expansion.specs.Model.{search}
+use Rattle.run.specs.declared.Answer.{Answer}
+use Rattle.run.specs.declared.Answer.the-variants.{False, True, Spent, NoRoomUniversal, NoRoomExistential}
+use Rattle.run.specs.declared.Outcome.{Outcome}
+use Rattle.run.specs.declared.Step.{Step}
+use Rattle.run.specs.Run.{Table, rows, grown, if-fits, Lent, outcome, is-false, is-true, spent, no-room-universal, no-room-existential, step-1, step-2, step-3, step-4, round-of, Outcome as RunOutcome, Answer as RunAnswer}
+use Rattle.run.specs.Outcome.{given, lent, named}
+use Rattle.run.specs.Growing.{Holds, Half, no-model, no-room, grows, half, half-fit, half-table, half-of, Extended, Shows}
+
+-- The outcome of round r by its steps' ends.
+after-second : ℕ → Table → Table → Half → RunOutcome
+after-second r A S no-model = outcome is-true r A S
+after-second r A S no-room = outcome no-room-universal r A S
+after-second r A S (grows A′) = outcome spent r A′ S
+
+after-first : Lent → ℕ → Table → Table → Half → RunOutcome
+after-first l r A S no-model = outcome is-false r A S
+after-first l r A S no-room = outcome no-room-existential r A S
+after-first l r A S (grows S′) = after-second r A S′ (half (l .room-A) r A (search (l .prefer) universal (l .ks) (l .phi) (rows S′)))
+
+module _ (l : Lent) (r : ℕ) (A : Table) where
+  end-4 : (S : Table) (o : Option Table) → step-4 r A S o ≡ after-second r A S (half-fit o)
+  unfolding after-second
+  end-4 S none = refl
+  end-4 S (some u) = refl
+
+  end-3 : (S : Table) (s : Option (List Row)) → step-3 l r A S s ≡ after-second r A S (half (l .room-A) r A s)
+  unfolding after-second
+  end-3 S none = refl
+  end-3 S (some yielded) = end-4 S (if-fits (l .room-A) (grown r A yielded))
+
+  end-2 : (S : Table) (o : Option Table) → step-2 l r A S o ≡ after-first l r A S (half-fit o)
+  unfolding after-first
+  end-2 S none = refl
+  end-2 S (some S′) = end-3 S′ (search (l .prefer) universal (l .ks) (l .phi) (rows S′))
+
+  end-1 : (S : Table) (s : Option (List Row)) → step-1 l r A S s ≡ after-first l r A S (half (l .room-S) r S s)
+  unfolding after-first
+  end-1 S none = refl
+  end-1 S (some yielded) = end-2 S (if-fits (l .room-S) (grown r S yielded))
+
+module _ (kinds : List ℕ) (literals : List ℤ) (preferences A-found A-marks-found S-found S-marks-found : List ℕ) (A S : Table) (r u x : ℕ)
+    (counted-A : u ≡ length A) (counted-S : x ≡ length S) where
+  abbrev l : Lent
+  l = lent (given kinds literals preferences A-found A-marks-found S-found S-marks-found [] 0)
+
+  abbrev first : Half
+  first = half-of kinds literals preferences existential (room S-found) r A S
+
+  abbrev second : Table → Half
+  second S′ = half-of kinds literals preferences universal (room A-found) r S′ A
+
+  abbrev Made : RunOutcome → Outcome → List ℕ → List ℕ → List ℕ → List ℕ → List ℕ → Type 0
+  Made o = Shows kinds A-found A-marks-found S-found S-marks-found o
+
+  ends : round-of l r A S ≡ after-first l r A S first
+  unfolding round-of
+  ends = end-1 l r A S (search (prefer preferences) existential (prefix kinds) (matrix (clauses literals)) (rows A))
+
+  abbrev said : Answer → ℕ → ℕ → Outcome
+  said a n k = record { answer = a; round = r; universal = n; existential = k }
+
+  shown : (o : RunOutcome) (a : RunAnswer) (A′ S′ : Table) (n k : ℕ) (AR AM SR SM W : List ℕ) → o ≡ outcome a r A′ S′ → n ≡ length A′ → k ≡ length S′
+      → Holds kinds universal A′ A-found A-marks-found AR AM → Holds kinds existential S′ S-found S-marks-found SR SM → length W ≡ 65536
+      → Made o (said (named a) n k) AR AM SR SM W
+  shown o a A′ S′ n k AR AM SR SM W is en ek hA hS long =
+      subst (λ (q : RunOutcome). Made q (said (named a) n k) AR AM SR SM W) (sym is)
+      (record { as-returned = λ d. said (named a) (en d) (ek d); both = record { holds-A = hA; holds-S = hS }; work-long = long })
+
+  module _ (AR AM SR SM W : List ℕ) (step : Step) (held-A : Holds kinds universal A A-found A-marks-found AR AM)
+      (made : Extended kinds existential S first S-found S-marks-found step SR SM W) where
+    pub false-shown : step .end ≡ 0 → Made (round-of l r A S) (said False u x) AR AM SR SM W
+    unfolding after-first
+    false-shown e = go first ends made
+      where
+        go : (h : Half) → round-of l r A S ≡ after-first l r A S h → Extended kinds existential S h S-found S-marks-found step SR SM W
+            → Made (round-of l r A S) (said False u x) AR AM SR SM W
+        go no-model is m = shown (round-of l r A S) is-false A S u x AR AM SR SM W is counted-A counted-S held-A (m .holds) (m .work-long)
+        go no-room is m = absurd (omega (arith, m .ended))
+        go (grows t) is m = absurd (omega (arith, m .ended))
+
+    pub no-room-existential-shown : step .end ≡ 1 → Made (round-of l r A S) (said NoRoomExistential u x) AR AM SR SM W
+    unfolding after-first
+    no-room-existential-shown e = go first ends made
+      where
+        go : (h : Half) → round-of l r A S ≡ after-first l r A S h → Extended kinds existential S h S-found S-marks-found step SR SM W
+            → Made (round-of l r A S) (said NoRoomExistential u x) AR AM SR SM W
+        go no-model is m = absurd (omega (arith, m .ended))
+        go no-room is m = shown (round-of l r A S) no-room-existential A S u x AR AM SR SM W is counted-A counted-S held-A (m .holds) (m .work-long)
+        go (grows t) is m = absurd (omega (arith, m .ended))
+
+    -- The first step has grown the existential table; what follows is the second one.
+    module _ (some-model : step .end ≡ 0 → ⊥) (some-room : step .end ≡ 1 → ⊥) (AR′ AM′ W′ : List ℕ) (back : Step)
+        (made-back : Extended kinds universal A (second (half-table S first)) A-found A-marks-found back AR′ AM′ W′) where
+      later : (result : Outcome)
+          → ((S′ : Table) → round-of l r A S ≡ after-second r A S′ (second S′) → step .count ≡ length S′
+          → Holds kinds existential S′ S-found S-marks-found SR SM
+          → Extended kinds universal A (second S′) A-found A-marks-found back AR′ AM′ W′ → Made (round-of l r A S) result AR′ AM′ SR SM W′)
+          → Made (round-of l r A S) result AR′ AM′ SR SM W′
+      unfolding after-first
+      later result each = go first ends made made-back
+        where
+          go : (h : Half) → round-of l r A S ≡ after-first l r A S h → Extended kinds existential S h S-found S-marks-found step SR SM W
+              → Extended kinds universal A (second (half-table S h)) A-found A-marks-found back AR′ AM′ W′ → Made (round-of l r A S) result AR′ AM′ SR SM W′
+          go no-model is m b = absurd (some-model (m .ended))
+          go no-room is m b = absurd (some-room (m .ended))
+          go (grows S′) is m b = each S′ is (m .counted) (m .holds) b
+
+      pub true-shown : back .end ≡ 0 → Made (round-of l r A S) (said True u (step .count)) AR′ AM′ SR SM W′
+      unfolding after-second
+      true-shown e = later (said True u (step .count)) (λ S′ is n hS b. go S′ n hS (second S′) is b)
+        where
+          go : (S′ : Table) → step .count ≡ length S′ → Holds kinds existential S′ S-found S-marks-found SR SM → (h : Half)
+              → round-of l r A S ≡ after-second r A S′ h → Extended kinds universal A h A-found A-marks-found back AR′ AM′ W′
+              → Made (round-of l r A S) (said True u (step .count)) AR′ AM′ SR SM W′
+          go S′ n hS no-model is b = shown (round-of l r A S) is-true A S′ u (step .count) AR′ AM′ SR SM W′ is counted-A n (b .holds) hS (b .work-long)
+          go S′ n hS no-room is b = absurd (omega (arith, b .ended))
+          go S′ n hS (grows t) is b = absurd (omega (arith, b .ended))
+
+      pub no-room-universal-shown : back .end ≡ 1 → Made (round-of l r A S) (said NoRoomUniversal u (step .count)) AR′ AM′ SR SM W′
+      unfolding after-second
+      no-room-universal-shown e = later (said NoRoomUniversal u (step .count)) (λ S′ is n hS b. go S′ n hS (second S′) is b)
+        where
+          go : (S′ : Table) → step .count ≡ length S′ → Holds kinds existential S′ S-found S-marks-found SR SM → (h : Half)
+              → round-of l r A S ≡ after-second r A S′ h → Extended kinds universal A h A-found A-marks-found back AR′ AM′ W′
+              → Made (round-of l r A S) (said NoRoomUniversal u (step .count)) AR′ AM′ SR SM W′
+          go S′ n hS no-model is b = absurd (omega (arith, b .ended))
+          go S′ n hS no-room is b = shown (round-of l r A S) no-room-universal A S′ u (step .count) AR′ AM′ SR SM W′ is counted-A n (b .holds) hS (b .work-long)
+          go S′ n hS (grows t) is b = absurd (omega (arith, b .ended))
+
+      pub spent-shown : (back .end ≡ 0 → ⊥) → (back .end ≡ 1 → ⊥) → Made (round-of l r A S) (said Spent (back .count) (step .count)) AR′ AM′ SR SM W′
+      unfolding after-second
+      spent-shown not-0 not-1 = later (said Spent (back .count) (step .count)) (λ S′ is n hS b. go S′ n hS (second S′) is b)
+        where
+          go : (S′ : Table) → step .count ≡ length S′ → Holds kinds existential S′ S-found S-marks-found SR SM → (h : Half)
+              → round-of l r A S ≡ after-second r A S′ h → Extended kinds universal A h A-found A-marks-found back AR′ AM′ W′
+              → Made (round-of l r A S) (said Spent (back .count) (step .count)) AR′ AM′ SR SM W′
+          go S′ n hS no-model is b = absurd (not-0 (b .ended))
+          go S′ n hS no-room is b = absurd (not-1 (b .ended))
+          go S′ n hS (grows A′) is b =
+              shown (round-of l r A S) spent A′ S′ (back .count) (step .count) AR′ AM′ SR SM W′ is (b .counted) n (b .holds) hS (b .work-long)

@@ -1,0 +1,140 @@
+-- The start: the first universal row as bytes, and the tables that hold it. Assumes nothing.
+use Prim.Native.Nat.{ℕ, zero, suc, _+_, _*_, _/_, _%_, _^_, _≤_, _<_}
+use native.Mathlib.Omega.{arith}
+use native.Mathlib.Decide.{decLt, ℕ-discrete}
+use native.Mathlib.Nat.{zero-div}
+use mathlib.Core.Path.{_≡_, refl, sym, ap, subst, _∙_}
+use mathlib.Core.Bool.{Bool, true, false, cond, _&&_, _||_, or-false}
+use mathlib.Core.List.{List, [], _∷_}
+use lib.Bits.{bitOr, or-lt}
+use lib.Dec.{eqb, ltb}
+use lib.Pow.{pow-lt}
+use lib.ListN.{length, getD, set, replicate, List·getD-eq-default}
+use lib.Seq.{ext-getD, take-all}
+use borrow.Author.Tests.{lt-ltb, le-ltb, eq-eqb, ne-eqb}
+use Rattle.rows.specs.Row.{bit-of, row-of, bytes-of}
+use Rattle.rows.specs.Table.{row-at, bit-set}
+use Rattle.rows.proofs.RowLaws.{IsRow, length-bytes-of, bytes-of-below, bit-bytes-of, getD-row-of, length-row-of, none-stray, equal-values-equal-bytes}
+use Rattle.rows.proofs.TableLaws.{row-at-inside}
+use Rattle.rows.proofs.WriteLaws.{bit-set-inside, bit-of-bit-set}
+use Rattle.run.specs.Run.{preferred}
+use Rattle.run.specs.Growing.{with-preferred}
+use Rattle.run.proofs.CountLaws.{length-bit-set}
+
+-- Value q of the preferred ones.
+getD-preferred : (k : ℕ) (f : ℕ → Bool) (q : ℕ) → q < k → getD (preferred k f) q false ≡ f q
+getD-preferred zero f q h = absurd (omega arith)
+getD-preferred (suc k) f zero h = refl
+getD-preferred (suc k) f (suc q) h = getD-preferred k (λ i. f (suc i)) q (omega arith)
+
+length-preferred : (k : ℕ) (f : ℕ → Bool) → length (preferred k f) ≡ k
+length-preferred zero f = refl
+length-preferred (suc k) f = ap suc (length-preferred k (λ i. f (suc i)))
+
+value-preferred : (k : ℕ) (f : ℕ → Bool) (q : ℕ) → Dec (q < k) → ltb q k && f q ≡ getD (preferred k f) q false
+value-preferred k f q (yes h) = ap (λ (v : Bool). v && f q) (lt-ltb q k h) ∙ sym (getD-preferred k f q h)
+value-preferred k f q (no h) =
+    ap (λ (v : Bool). v && f q) (le-ltb q k (omega arith))
+    ∙ sym (List·getD-eq-default (preferred k f) false (omega (arith, length-preferred k f)))
+
+pub row-whole : (row : List ℕ) → length row ≡ 16 → row-at row 0 ≡ row
+row-whole row h = row-at-inside row 0 (omega arith) ∙ take-all 16 row (omega arith)
+
+getD-zeros : (n p : ℕ) → _≡_ {A = ℕ} (getD (replicate n 0) p 0) 0
+getD-zeros zero p = refl
+getD-zeros (suc n) zero = refl
+getD-zeros (suc n) (suc p) = getD-zeros n p
+
+no-bits : (q : ℕ) → bit-of (replicate 16 0) q ≡ false
+unfolding bit-of
+no-bits q = ap (λ (x : ℕ). eqb (x / 2 ^ (q % 8) % 2) 1) (getD-zeros 16 (q / 8)) ∙ ap (λ (x : ℕ). eqb (x % 2) 1) (zero-div (2 ^ (q % 8)))
+
+-- A bit set or not: the bytes stay bytes, and bit k is set if it was to be.
+set-below : (l : List ℕ) (i v : ℕ) → v < 256 → ((q : ℕ) → getD l q 0 < 256) → (q : ℕ) → getD (set l i v) q 0 < 256
+set-below [] i v hv hl q = hl q
+set-below (y ∷ l) zero v hv hl zero = hv
+set-below (y ∷ l) zero v hv hl (suc q) = hl (suc q)
+set-below (y ∷ l) (suc i) v hv hl zero = hl zero
+set-below (y ∷ l) (suc i) v hv hl (suc q) = set-below l i v hv (λ p. hl (suc p)) q
+
+bit-set-below : (row : List ℕ) (k : ℕ) → 16 ≤ length row → k < 128 → ((q : ℕ) → getD row q 0 < 256) → (v : Bool) (p : ℕ)
+    → getD (cond v (bit-set row 0 k) row) p 0 < 256
+bit-set-below row k long h below true p =
+    let byte = bitOr (getD row (16 * 0 + k / 8) 0) (2 ^ (k % 8)) in
+    let small : byte < 256 = or-lt 8 (getD row (16 * 0 + k / 8) 0) (2 ^ (k % 8)) (below (16 * 0 + k / 8)) (pow-lt {i = k % 8} {j = 8} (omega arith)) in
+    subst (λ (l : List ℕ). getD l p 0 < 256) (sym (bit-set-inside row 0 k (omega arith) h)) (set-below row (16 * 0 + k / 8) byte small below p)
+bit-set-below row k long h below false p = below p
+
+bit-of-next : (row : List ℕ) (k q : ℕ) → length row ≡ 16 → k < 128 → q < 128 → (v : Bool) → bit-of (cond v (bit-set row 0 k) row) q ≡ bit-of row q || (v && eqb k q)
+bit-of-next row k q long h hq true =
+    let set-long : length (bit-set row 0 k) ≡ 16 = length-bit-set row 0 k ∙ long in
+    ap (λ (b : List ℕ). bit-of b q) (sym (row-whole (bit-set row 0 k) set-long))
+    ∙ bit-of-bit-set row 0 k (omega arith) h q hq
+    ∙ ap (λ (b : List ℕ). bit-of b q || eqb k q) (row-whole row long)
+bit-of-next row k q long h hq false = sym (or-false (bit-of row q))
+
+and-false : (v : Bool) → v && false ≡ false
+and-false true = refl
+and-false false = refl
+
+same-test : (q k : ℕ) → (q ≡ k → ⊥) → Dec (q < k) → ltb q k ≡ ltb q (suc k)
+same-test q k differ (yes b) = lt-ltb q k b ∙ sym (lt-ltb q (suc k) (omega arith))
+same-test q k differ (no b) = le-ltb q k (omega arith) ∙ sym (le-ltb q (suc k) (omega arith))
+
+passed : (f : ℕ → Bool) (k q : ℕ) → Dec (q ≡ k) → ((ltb q k && f q) || (f k && eqb k q)) ≡ ltb q (suc k) && f q
+passed f k q (yes same) =
+    ap (λ (v : Bool). (v && f q) || (f k && eqb k q)) (le-ltb q k (omega arith))
+    ∙ ap (λ (v : Bool). f k && v) (eq-eqb k q (sym same))
+    ∙ and-true (f k)
+    ∙ ap f (sym same)
+    ∙ sym (ap (λ (v : Bool). v && f q) (lt-ltb q (suc k) (omega arith)))
+  where
+    and-true : (v : Bool) → v && true ≡ v
+    and-true true = refl
+    and-true false = refl
+passed f k q (no differ) =
+    ap (λ (w : Bool). (ltb q k && f q) || (f k && w)) (ne-eqb k q (omega arith))
+    ∙ ap (λ (w : Bool). (ltb q k && f q) || w) (and-false (f k))
+    ∙ or-false (ltb q k && f q)
+    ∙ ap (λ (w : Bool). w && f q) (same-test q k differ (decLt q k))
+
+module _ (f : ℕ → Bool) where
+  length-with-preferred : (k : ℕ) (row : List ℕ) → length (with-preferred f k row) ≡ length row
+  length-with-preferred zero row = refl
+  length-with-preferred (suc k) row = go (f k) (length-with-preferred k row)
+    where
+      go : (v : Bool) → length (with-preferred f k row) ≡ length row
+          → length (cond v (bit-set (with-preferred f k row) 0 k) (with-preferred f k row)) ≡ length row
+      go true e = length-bit-set (with-preferred f k row) 0 k ∙ e
+      go false e = e
+
+  -- The bytes stay bytes.
+  below-256 : (k : ℕ) → k ≤ 128 → (p : ℕ) → getD (with-preferred f k (replicate 16 0)) p 0 < 256
+  below-256 zero h p = omega (arith, getD-zeros 16 p)
+  below-256 (suc k) h p = bit-set-below (with-preferred f k (replicate 16 0)) k (omega (arith, length-with-preferred k (replicate 16 0))) (omega arith) (below-256 k (omega arith)) (f k) p
+
+  -- Bit q is set if it is passed and preferred.
+  bit-preferred : (k : ℕ) → k ≤ 128 → (q : ℕ) → q < 128 → bit-of (with-preferred f k (replicate 16 0)) q ≡ ltb q k && f q
+  bit-preferred zero h q hq = no-bits q ∙ ap (λ (v : Bool). v && f q) (sym (le-ltb q 0 (omega arith)))
+  bit-preferred (suc k) h q hq =
+      bit-of-next (with-preferred f k (replicate 16 0)) k q (length-with-preferred k (replicate 16 0)) (omega arith) hq (f k)
+      ∙ ap (λ (v : Bool). v || (f k && eqb k q)) (bit-preferred k (omega arith) q hq)
+      ∙ passed f k q (ℕ-discrete q k)
+
+  is-row-128 : (b : List ℕ) → length b ≡ 16 → ((p : ℕ) → getD b p 0 < 256) → IsRow 128 b
+  is-row-128 b long below = record { width = long; below = below; clean = none-stray 128 b (λ k low high. absurd (omega arith)) }
+
+  pub preferred-bytes : (m : ℕ) → m ≤ 128 → with-preferred f m (replicate 16 0) ≡ bytes-of (preferred m f)
+  preferred-bytes m h =
+      let row = with-preferred f m (replicate 16 0) in
+      let goal = bytes-of (preferred m f) in
+      equal-values-equal-bytes 128 row goal
+      (is-row-128 row (length-with-preferred m (replicate 16 0)) (below-256 m h))
+      (is-row-128 goal (length-bytes-of (preferred m f)) (bytes-of-below (preferred m f)))
+      (ext-getD false (row-of 128 row) (row-of 128 goal) (length-row-of 128 row ∙ sym (length-row-of 128 goal)) (λ q below.
+      let hq : q < 128 = omega (arith, length-row-of 128 row) in
+      getD-row-of 128 row q hq
+      ∙ bit-preferred m h q hq
+      ∙ value-preferred m f q (decLt q m)
+      ∙ sym (bit-bytes-of (preferred m f) q hq)
+      ∙ sym (getD-row-of 128 goal q hq)))

@@ -1,0 +1,54 @@
+-- `run::clear` meets its contract. The loop's invariant: the first i bytes are 0, the others are as they were, and so is the length.
+-- Assumes nothing.
+use mathlib.Core.Path.{_≡_, refl, ap, _∙_}
+use mathlib.Core.List.{List, _++_, append-nil}
+use Prim.Native.Nat.{ℕ, _-_, _≤_}
+use native.Mathlib.Omega.{arith}
+use lib.ListN.{length, set, drop, replicate, length-set}
+use lib.Seq.{drop-length}
+use borrow.Author.Fill.{fill-more}
+use Rattle.run.proofs.clear.Statement.{statement}
+use Rattle.run.proofs.clear.Tie as tie
+
+abbrev Inv-loop : tie.InvT-loop
+Inv-loop work₀ i₀ i-end work i = (i ≤ i-end) × (work ≡ replicate i 0 ++ drop i work₀) × (length work ≡ length work₀)
+
+abbrev μ-loop : tie.MeasureT-loop
+μ-loop work₀ i₀ i-end work i = i-end - i
+
+loop-holds : tie.Need-loop-holds Inv-loop μ-loop
+loop-holds c = (omega arith, refl, refl)
+
+slice-write-work : tie.Need-slice-write-work Inv-loop μ-loop
+slice-write-work c = omega arith
+
+add-i : tie.Need-add-i Inv-loop μ-loop
+add-i c = omega arith
+
+loop-less : tie.Need-loop-less Inv-loop μ-loop
+loop-less c = omega arith
+
+loop-again : tie.Need-loop-again Inv-loop μ-loop
+loop-again c =
+    let i = c .before .loop .i in (
+      omega arith,
+      ap (λ (l : List ℕ). set l i 0) (c .before .loop .inv .1) ∙ fill-more i 0 (c .before .before .args .work .now) (c .loop-test .taken),
+      length-set (c .before .loop .work) i 0 ∙ c .before .loop .inv .2,
+    )
+
+same-length : tie.Need-same-length Inv-loop μ-loop
+same-length c = c .before .loop .inv .2
+
+-- All bytes are passed.
+all-zero : (work₀ work : List ℕ) (i : ℕ) → i ≡ length work₀ → work ≡ replicate i 0 ++ drop i work₀ → work ≡ replicate (length work₀) 0
+all-zero work₀ work i end filled =
+    filled
+    ∙ ap (λ (n : ℕ). replicate n 0 ++ drop n work₀) end
+    ∙ ap (λ (rest : List ℕ). replicate (length work₀) 0 ++ rest) (drop-length work₀)
+    ∙ append-nil (replicate (length work₀) 0)
+
+returns : tie.Need-returns Inv-loop μ-loop
+returns c = all-zero (c .before .before .args .work .now) (c .before .loop .work) (c .before .loop .i) (omega arith) (c .before .loop .inv .1)
+
+pub clear-spec : {M : Type 1} → statement M
+clear-spec = tie.close (tie.spec Inv-loop μ-loop loop-holds slice-write-work add-i loop-less loop-again same-length returns)
