@@ -24,10 +24,10 @@ use Rattle.expansion.proofs.Progress.{search-answers}
 use Rattle.expansion.proofs.Counting.{Sized}
 use Rattle.search.specs.Search.{work-size, side-of, lent-rows, cause, found as found-rows, answer, left, outcome, work-after}
 use Rattle.run.specs.declared.Step.{Step}
-use Rattle.run.specs.Run.{Entry, Table, rows, under-mark, grown, if-fits}
+use Rattle.rounds.specs.Run.{Entry, Table, rows, under-mark, grown, if-fits}
 use Rattle.run.specs.Outcome.{row-bytes}
 use Rattle.run.specs.Growing.{Passes, is-found, is-new, count-below, Bytes, bytes, with-new-rows, HoldsRows, Holds, Half, half, half-fit, half-of, Extended}
-use Rattle.run.proofs.GrowthLaws.{sized-found}
+use Rattle.rounds.proofs.GrowthLaws.{sized-found}
 use Rattle.run.proofs.ByteLaws.{Wide, length-table-of, rows-of-table, no-stray-rows}
 use Rattle.run.proofs.GrowingLaws.{wide-of-sized, sized-of-wide, length-row-bytes, image, counted-fresh, added-image, sized-grown}
 

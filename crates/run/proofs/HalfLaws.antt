@@ -16,7 +16,7 @@ use Rattle.run.specs.declared.Answer.{Answer}
 use Rattle.run.specs.declared.Answer.the-variants.{False, True, Spent, NoRoomUniversal, NoRoomExistential}
 use Rattle.run.specs.declared.Outcome.{Outcome}
 use Rattle.run.specs.declared.Step.{Step}
-use Rattle.run.specs.Run.{Table, rows, grown, if-fits, Lent, outcome, is-false, is-true, spent, no-room-universal, no-room-existential, step-1, step-2, step-3, step-4, round-of, Outcome as RunOutcome, Answer as RunAnswer}
+use Rattle.rounds.specs.Run.{Table, rows, grown, if-fits, Lent, outcome, is-false, is-true, spent, no-room-universal, no-room-existential, step-1, step-2, step-3, step-4, round-of, Outcome as RunOutcome, Answer as RunAnswer}
 use Rattle.run.specs.Outcome.{given, lent, named}
 use Rattle.run.specs.Growing.{Holds, Half, no-model, no-room, grows, half, half-fit, half-table, half-of, Extended, Shows}
 

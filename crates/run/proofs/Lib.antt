@@ -1,12 +1,4 @@
--- The theorems on the run: the runs worked by hand, the verdict, and the claim about the whole run; then the laws of the code.
-pub mod Worked
-pub mod TableLaws
-pub mod GrowthLaws
-pub mod RoundLaws
-pub mod RunLaws
-pub mod Bounds
-pub mod Verdict
-pub mod Claim
+-- The laws of the code. The theorems on the run are in `rounds`.
 pub mod CountLaws
 pub mod FreshLaws
 pub mod ByteLaws

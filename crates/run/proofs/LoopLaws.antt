@@ -22,12 +22,12 @@ use Rattle.rows.proofs.RowLaws.{length-bytes-of}
 use Rattle.search.specs.Search.{work-size}
 use Rattle.run.specs.declared.Answer.the-variants.{Spent}
 use Rattle.run.specs.declared.Outcome.{Outcome}
-use Rattle.run.specs.Run.{Table, rows, preferred, Lent, is-false, is-true, spent, no-room-universal, no-room-existential, round-of, run, Outcome as RunOutcome, Answer as RunAnswer}
+use Rattle.rounds.specs.Run.{Table, rows, preferred, Lent, is-false, is-true, spent, no-room-universal, no-room-existential, round-of, run, Outcome as RunOutcome, Answer as RunAnswer}
 use Rattle.run.specs.Outcome.{given, lent, named, side-fits, tables-fit, row-bytes, mark-numbers}
 use Rattle.run.specs.Growing.{goes-on, with-preferred, Holds, HoldsBoth, Shows, Ready}
-use Rattle.run.proofs.RoundLaws.{Over}
-use Rattle.run.proofs.RunLaws.{run-goes-on, run-reached, run-stays}
-use Rattle.run.proofs.Bounds.{row-length, next-round-in-room}
+use Rattle.rounds.proofs.RoundLaws.{Over}
+use Rattle.rounds.proofs.RunLaws.{run-goes-on, run-reached, run-stays}
+use Rattle.rounds.proofs.Bounds.{row-length, next-round-in-room}
 use Rattle.run.proofs.GrowingLaws.{wide-of-sized, length-row-bytes, length-mark-numbers}
 use Rattle.run.proofs.ExtendLaws.{few-unknowns, most-bytes}
 use Rattle.run.proofs.StartLaws.{row-whole, preferred-bytes}

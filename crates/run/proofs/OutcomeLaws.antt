@@ -14,11 +14,11 @@ use Rattle.formula.specs.declared.Check.{Check}
 use Rattle.formula.specs.declared.Check.the-variants.{Accepted, Refused}
 use Rattle.search.specs.Search.{work-size}
 use Rattle.run.specs.declared.Outcome.{Outcome}
-use Rattle.run.specs.Run.{is-false, is-true, spent, no-room-universal, no-room-existential, number, run, Answer as RunAnswer}
+use Rattle.rounds.specs.Run.{is-false, is-true, spent, no-room-universal, no-room-existential, number, run, Answer as RunAnswer}
 use Rattle.run.specs.Outcome.{Given, given, lent, tables-fit, cause, accepted, named, number-of, reported, refusal, returned, Returned, row-bytes, mark-numbers, Left, Proved}
 use Rattle.run.specs.Growing.{Shows}
-use Rattle.run.proofs.Claim.{claim}
-use Rattle.run.proofs.Verdict.{verdict-right}
+use Rattle.rounds.proofs.Claim.{claim}
+use Rattle.rounds.proofs.Verdict.{verdict-right}
 
 -- No refused formula has the number 0.
 refused-from-1 : (a b c : Bool) (f : Formula) (n : ℕ) → refused-if a 1 (refused-if b 2 (refused-if c 3 (Accepted f))) ≡ Refused n → 1 ≤ n

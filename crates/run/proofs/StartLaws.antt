@@ -17,7 +17,7 @@ use Rattle.rows.specs.Table.{row-at, bit-set}
 use Rattle.rows.proofs.RowLaws.{IsRow, length-bytes-of, bytes-of-below, bit-bytes-of, getD-row-of, length-row-of, none-stray, equal-values-equal-bytes}
 use Rattle.rows.proofs.TableLaws.{row-at-inside}
 use Rattle.rows.proofs.WriteLaws.{bit-set-inside, bit-of-bit-set}
-use Rattle.run.specs.Run.{preferred}
+use Rattle.rounds.specs.Run.{preferred}
 use Rattle.run.specs.Growing.{with-preferred}
 use Rattle.run.proofs.CountLaws.{length-bit-set}
 

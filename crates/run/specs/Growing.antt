@@ -26,7 +26,7 @@ use Rattle.run.specs.declared.Answer.{Answer}
 use Rattle.run.specs.declared.Answer.the-variants.{False, True, Spent, NoRoomUniversal, NoRoomExistential, Refused}
 use Rattle.run.specs.declared.Outcome.{Outcome}
 use Rattle.run.specs.declared.Step.{Step}
-use Rattle.run.specs.Run.{Table, rows, grown, if-fits, Outcome as RunOutcome}
+use Rattle.rounds.specs.Run.{Table, rows, grown, if-fits, Outcome as RunOutcome}
 use Rattle.run.specs.Outcome.{tables-fit, reported, row-bytes, mark-numbers}
 
 -- None of the causes 1 to 3 applies.

@@ -16,9 +16,9 @@ use Rattle.search.specs.Search.{work-size}
 use Rattle.run.specs.declared.Answer.{Answer}
 use Rattle.run.specs.declared.Answer.the-variants.{False, True, Spent, NoRoomUniversal, NoRoomExistential, Refused}
 use Rattle.run.specs.declared.Outcome.{Outcome}
-use Rattle.run.specs.Run.{Entry, Table, rows, Lent, run, number, is-false, is-true, spent, no-room-universal, no-room-existential, Answer as RunAnswer, Outcome as RunOutcome}
-use Rattle.run.specs.Verdict.{VerdictRight}
-use Rattle.run.specs.Claim.{Claim}
+use Rattle.rounds.specs.Run.{Entry, Table, rows, Lent, run, number, is-false, is-true, spent, no-room-universal, no-room-existential, Answer as RunAnswer, Outcome as RunOutcome}
+use Rattle.rounds.specs.Verdict.{VerdictRight}
+use Rattle.rounds.specs.Claim.{Claim}
 
 -- All that is lent: the formula, the preferences, the two tables of rows and of marks, the work area, and the limit.
 pub record Given : Type 0 where

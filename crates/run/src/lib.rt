@@ -16,7 +16,7 @@ ghost use Rattle.preference.specs.Preference.{prefer};
 ghost use Rattle.rows.specs.Table.{first-place, rows-written, marks-written, room};
 ghost use Rattle.expansion.specs.Side.{other};
 ghost use Rattle.search.specs.Search.{work-size, side-of, outcome as search-outcome, work-after};
-ghost use Rattle.run.specs.Run.{Table, spent, outcome, round-of, run as run-of};
+ghost use Rattle.rounds.specs.Run.{Table, spent, outcome, round-of, run as run-of};
 ghost use Rattle.run.specs.Outcome.{given, lent, accepted, refusal, side-fits, tables-fit, Returned, Left, Proved};
 ghost use Rattle.run.specs.Growing.{Passes, is-found, goes-on, is-absent, is-new, count-below, bytes, with-new-row, with-new-rows, with-preferred, half-of, HoldsRows, Holds, Extended, HoldsBoth, Shows, Ready};
 

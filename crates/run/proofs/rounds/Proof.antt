@@ -7,7 +7,7 @@ use native.Mathlib.Omega.{arith}
 use lib.ListN.{replicate}
 use Rattle.preference.specs.Preference.{prefer}
 use Rattle.rows.specs.Table.{rows-written, marks-written}
-use Rattle.run.specs.Run.{run}
+use Rattle.rounds.specs.Run.{run}
 use Rattle.run.specs.Outcome.{given, lent}
 use Rattle.run.specs.Growing.{with-preferred, Ready}
 use Rattle.run.proofs.LoopLaws.{Going, fresh-going, round-bounds, goes-further, round-more, run-ended, run-spent, held-rows-length, held-marks-length}

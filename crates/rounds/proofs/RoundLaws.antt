@@ -16,10 +16,10 @@ use Rattle.expansion.proofs.Membership.{In}
 use Rattle.expansion.proofs.Verdict.{none-is-verdict}
 use Rattle.expansion.proofs.Progress.{Answers}
 use Rattle.expansion.proofs.Counting.{Sized}
-use Rattle.run.specs.Run.{Table, rows, Answer, is-false, is-true, spent, no-room-universal, no-room-existential, number, Outcome, outcome, preferred, grown, if-fits, Lent, start, step-1, step-2, step-3, step-4, round-of}
-use Rattle.run.specs.Claim.{table, no-room, NewRow}
-use Rattle.run.proofs.TableLaws.{Extends, extends-itself}
-use Rattle.run.proofs.GrowthLaws.{Held, Fitted, fitted, Growth, growth, room-below-all-rows}
+use Rattle.rounds.specs.Run.{Table, rows, Answer, is-false, is-true, spent, no-room-universal, no-room-existential, number, Outcome, outcome, preferred, grown, if-fits, Lent, start, step-1, step-2, step-3, step-4, round-of}
+use Rattle.rounds.specs.Claim.{table, no-room, NewRow}
+use Rattle.rounds.proofs.TableLaws.{Extends, extends-itself}
+use Rattle.rounds.proofs.GrowthLaws.{Held, Fitted, fitted, Growth, growth, room-below-all-rows}
 
 -- What an answer says: the verdict, or that there are more rows than the table has room for.
 abbrev pub Right : Lent → Answer → Type 0

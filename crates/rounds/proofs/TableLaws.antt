@@ -9,8 +9,8 @@ use lib.ListN.{length, length-append}
 use Rattle.expansion.specs.Play.{Row}
 use Rattle.expansion.specs.Copies.{fresh}
 use Rattle.expansion.proofs.Membership.{In, Distinct, fresh-unseen}
-use Rattle.run.specs.Run.{Entry, Table, rows, under-mark, grown}
-use Rattle.run.specs.Claim.{Stands, AllDifferent, NewRow}
+use Rattle.rounds.specs.Run.{Entry, Table, rows, under-mark, grown}
+use Rattle.rounds.specs.Claim.{Stands, AllDifferent, NewRow}
 
 pub rows-append : (t u : Table) → rows (t ++ u) ≡ rows t ++ rows u
 rows-append [] u = refl

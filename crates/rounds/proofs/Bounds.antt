@@ -7,10 +7,10 @@ use Rattle.formula.specs.Formula.{Kind, universal}
 use Rattle.formula.specs.Causes.{count}
 use Rattle.expansion.specs.Play.{Row}
 use Rattle.expansion.proofs.Membership.{In}
-use Rattle.run.specs.Run.{rows, spent, Lent, run}
-use Rattle.run.specs.Claim.{table}
-use Rattle.run.proofs.GrowthLaws.{room, length-at-most}
-use Rattle.run.proofs.RunLaws.{run-reached}
+use Rattle.rounds.specs.Run.{rows, spent, Lent, run}
+use Rattle.rounds.specs.Claim.{table}
+use Rattle.rounds.proofs.GrowthLaws.{room, length-at-most}
+use Rattle.rounds.proofs.RunLaws.{run-reached}
 
 module _ (l : Lent) (limit : ℕ) where
   -- Each row has a value for each unknown of its side.

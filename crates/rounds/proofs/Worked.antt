@@ -1,7 +1,7 @@
 -- The runs worked by hand come out as 01 says, by computation. Assumes nothing.
 use mathlib.Core.Path.{refl}
-use Rattle.run.specs.Worked.{Worked}
-use Rattle.run.specs.Run.{run, round-of}
+use Rattle.rounds.specs.Worked.{Worked}
+use Rattle.rounds.specs.Run.{run, round-of}
 use Rattle.expansion.specs.Model.{search, first-model, is-model}
 use Rattle.expansion.specs.Copies.{copies}
 use Rattle.expansion.specs.Judge.{accepted}

@@ -7,12 +7,12 @@ use mathlib.Core.Logic.{_↔_, by-cases}
 use Rattle.formula.specs.Formula.{Kind, existential, universal}
 use Rattle.formula.specs.Causes.{count}
 use Rattle.formula.specs.Meaning.{meaning}
-use Rattle.run.specs.Run.{Answer, is-false, is-true, spent, no-room-universal, no-room-existential, Outcome, Lent, round-of, run}
-use Rattle.run.specs.Claim.{table, no-room, Finished, NewRow, most-rounds, answer-of, Claim}
-use Rattle.run.proofs.TableLaws.{all-different}
-use Rattle.run.proofs.RoundLaws.{Right, Made}
-use Rattle.run.proofs.Bounds.{count-most}
-use Rattle.run.proofs.RunLaws.{run-goes-on, run-reached, run-made, run-extends, spent-before, Last, last-round}
+use Rattle.rounds.specs.Run.{Answer, is-false, is-true, spent, no-room-universal, no-room-existential, Outcome, Lent, round-of, run}
+use Rattle.rounds.specs.Claim.{table, no-room, Finished, NewRow, most-rounds, answer-of, Claim}
+use Rattle.rounds.proofs.TableLaws.{all-different}
+use Rattle.rounds.proofs.RoundLaws.{Right, Made}
+use Rattle.rounds.proofs.Bounds.{count-most}
+use Rattle.rounds.proofs.RunLaws.{run-goes-on, run-reached, run-made, run-extends, spent-before, Last, last-round}
 
 finished-if-spent : (l : Lent) (limit r : ℕ) → 1 ≤ r → r ≤ limit → run l r .answer ≡ spent → Finished l limit r
 finished-if-spent l limit r from-one to-limit e =

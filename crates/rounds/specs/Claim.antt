@@ -10,7 +10,7 @@ use lib.ListN.{getElem?}
 use Rattle.formula.specs.Formula.{Kind, existential, universal}
 use Rattle.formula.specs.Causes.{count}
 use Rattle.formula.specs.Meaning.{meaning}
-use Rattle.run.specs.Run.{Entry, Table, Answer, is-true, is-false, spent, no-room-universal, no-room-existential, Outcome, Lent, round-of, run}
+use Rattle.rounds.specs.Run.{Entry, Table, Answer, is-true, is-false, spent, no-room-universal, no-room-existential, Outcome, Lent, round-of, run}
 
 -- The table of a side's rows: A holds universal rows, S existential ones.
 abbrev pub table : Kind → Outcome → Table

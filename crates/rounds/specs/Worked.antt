@@ -11,7 +11,7 @@ use Rattle.formula.specs.Meaning.{matrix}
 use Rattle.preference.specs.Preference.{prefer}
 use Rattle.expansion.specs.Play.{Row}
 use Rattle.expansion.specs.Judge.{accepted}
-use Rattle.run.specs.Run.{under-mark, number, Outcome, run}
+use Rattle.rounds.specs.Run.{under-mark, number, Outcome, run}
 
 -- A run worked by hand: what is lent, and what is returned: the answer's number, the round, the counts of A and S.
 pub record WorkedRun : Type 0 where

@@ -17,9 +17,9 @@ use Rattle.expansion.specs.Model.{search}
 use Rattle.expansion.proofs.Membership.{In, Distinct, in-append-cases, in-append-left, in-append-right, in-map-cases, in-or-not, in-fresh, fresh-in, distinct-append-fresh}
 use Rattle.expansion.proofs.Progress.{Answers, search-answers, yields-fresh}
 use Rattle.expansion.proofs.Counting.{Sized, at-most-all-rows}
-use Rattle.run.specs.Run.{Entry, Table, rows, grown, if-fits, Lent}
-use Rattle.run.specs.Claim.{NewRow}
-use Rattle.run.proofs.TableLaws.{rows-grown, Extends, extends-grown, grown-new, length-grown}
+use Rattle.rounds.specs.Run.{Entry, Table, rows, grown, if-fits, Lent}
+use Rattle.rounds.specs.Claim.{NewRow}
+use Rattle.rounds.proofs.TableLaws.{rows-grown, Extends, extends-grown, grown-new, length-grown}
 
 -- The rows that a side's table has room for.
 abbrev pub room : Kind → Lent → ℕ

@@ -5,10 +5,10 @@ use native.Mathlib.Decide.{le-ind}
 use mathlib.Core.Path.{_≡_, refl, sym, ap, subst, _∙_}
 use mathlib.Core.Logic.{_⊎_, inl, inr, ⊎-elim}
 use Rattle.formula.specs.Formula.{Kind}
-use Rattle.run.specs.Run.{Answer, is-false, is-true, spent, no-room-universal, no-room-existential, Outcome, Lent, round-of, next, run}
-use Rattle.run.specs.Claim.{table}
-use Rattle.run.proofs.TableLaws.{Extends, extends-itself, extends-further}
-use Rattle.run.proofs.RoundLaws.{Reached, Made, Over, over-not-spent, round-made, start-reached}
+use Rattle.rounds.specs.Run.{Answer, is-false, is-true, spent, no-room-universal, no-room-existential, Outcome, Lent, round-of, next, run}
+use Rattle.rounds.specs.Claim.{table}
+use Rattle.rounds.proofs.TableLaws.{Extends, extends-itself, extends-further}
+use Rattle.rounds.proofs.RoundLaws.{Reached, Made, Over, over-not-spent, round-made, start-reached}
 
 -- Where the run is spent, one round more is made; else it stays as it is.
 pub run-goes-on : (l : Lent) (r : ℕ) → run l r .answer ≡ spent → run l (suc r) ≡ round-of l (suc r) (run l r .A) (run l r .S)
