@@ -28,19 +28,19 @@ add-result : tie.Need-add-result
 add-result c = omega (arith, ap number-of (c .before .answer .given .1), c .before .before .before .pre)
 
 returns : tie.Need-returns
-returns c = search needs
+returns c = sym (ap number-of (c .enum-told .given .1))
 
 returns-2 : tie.Need-returns-2
-returns-2 c = search needs
+returns-2 c = sym (ap number-of (c .enum-told2 .given .1))
 
 returns-3 : tie.Need-returns-3
-returns-3 c = search needs
+returns-3 c = sym (ap number-of (c .enum-told3 .given .1))
 
 returns-4 : tie.Need-returns-4
-returns-4 c = search needs
+returns-4 c = sym (ap number-of (c .enum-told4 .given .1))
 
 returns-5 : tie.Need-returns-5
-returns-5 c = search needs
+returns-5 c = sym (ap number-of (c .enum-told5 .given .1))
 
 returns-6 : tie.Need-returns-6
 returns-6 c = sym (ap number-of (c .before .answer .given .1))
