@@ -1,0 +1,121 @@
+-- What the door's number says holds for every text, work area and limit. Assumes nothing.
+use Prim.Native.Nat.{ℕ, _+_, _≤_}
+use native.Mathlib.Omega.{arith}
+use mathlib.Core.Path.{_≡_, refl, sym, ap, subst, _∙_}
+use mathlib.Core.Bool.{Bool, true, false, not, cond}
+use mathlib.Core.List.{List}
+use lib.Dec.{eqb}
+use lib.ListN.{length, replicate}
+use Rattle.rows.specs.Table.{table-fits}
+use Rattle.search.specs.Search.{work-size}
+use Rattle.run.specs.Run.{number, run}
+use Rattle.run.specs.Outcome.{Given, lent, side-fits, tables-fit, cause, accepted}
+use Rattle.run.proofs.Verdict.{verdict-right}
+use Rattle.text.specs.Reading.{State, Result, taken, refused}
+use Rattle.door.specs.Door.{own-rows, own-marks, handed-on, run-number, run-work, number-back, work-back, text-read, answer, work-after}
+use Rattle.door.specs.Numbers.{Verdict, NumbersRight}
+use Rattle.door.proofs.ReadLaws.{Results, Passes, read-passes}
+use Rattle.door.proofs.NumberLaws.{number-small, number-1, number-0, run-numbered}
+use Rattle.door.proofs.DoorLaws.{refused-of-text, refused-back}
+
+own-rows-fit : tables-fit own-rows own-marks own-rows own-marks ≡ true
+unfolding tables-fit side-fits table-fits
+own-rows-fit = refl
+
+-- By what a run's number is: an answer with the work area zero, or a cause with the work area as found.
+module _ (g : Given) where
+  run-zero : run-number g ≤ 4 → run-work g ≡ replicate work-size 0
+  run-zero small = go (accepted g) refl
+    where
+      go : (b : Bool) → accepted g ≡ b → cond b (replicate work-size 0) (g .work) ≡ replicate work-size 0
+      go true e = refl
+      go false e = absurd (omega (arith, run-numbered g false e))
+
+  run-found : 100 ≤ run-number g → run-work g ≡ g .work
+  run-found large = go (accepted g) refl
+    where
+      go : (b : Bool) → accepted g ≡ b → cond b (replicate work-size 0) (g .work) ≡ g .work
+      go true e = absurd (omega (arith, run-numbered g true e, number-small (run (lent g) (g .limit) .answer)))
+      go false e = refl
+
+  run-answered : run-number g ≤ 4 → number (run (lent g) (g .limit) .answer) ≡ run-number g
+  run-answered small = go (accepted g) refl
+    where
+      go : (b : Bool) → accepted g ≡ b → number (run (lent g) (g .limit) .answer) ≡ run-number g
+      go true e = sym (run-numbered g true e)
+      go false e = absurd (omega (arith, run-numbered g false e))
+
+  run-refused-or-answered : (a b : Bool) → cause g ≡ cond a 5 (cond b 6 0) → run-number g ≡ cond a 105 (cond b 106 (number (run (lent g) (g .limit) .answer)))
+  run-refused-or-answered true b e = run-numbered g false (ap (λ (n : ℕ). eqb n 0) e) ∙ ap (λ (n : ℕ). 100 + n) e
+  run-refused-or-answered false true e = run-numbered g false (ap (λ (n : ℕ). eqb n 0) e) ∙ ap (λ (n : ℕ). 100 + n) e
+  run-refused-or-answered false false e = run-numbered g true (ap (λ (n : ℕ). eqb n 0) e)
+
+module _ (text work : List ℕ) (limit : ℕ) where
+  abbrev handed : State → Given
+  handed s = handed-on (s .kinds) (s .literals) work limit
+
+  module _ (s : State) (e : text-read text ≡ taken s) where
+    answer-taken : answer text work limit ≡ run-number (handed s)
+    unfolding answer
+    answer-taken = ap (λ (r : Result). number-back r work limit) e
+
+    work-taken : work-after text work limit ≡ run-work (handed s)
+    unfolding work-after
+    work-taken = ap (λ (r : Result). work-back r work limit) e
+
+    cause-taken : cause (handed s) ≡ cond (not (eqb (length work) work-size)) 5 (cond (eqb limit 0) 6 0)
+    unfolding cause
+    cause-taken = let passes = subst (Results Passes) e (read-passes text 128 8192 128) in rw (passes, own-rows-fit) refl
+
+    taken-number : answer text work limit ≡ cond (not (eqb (length work) work-size)) 105 (cond (eqb limit 0) 106 (number (run (lent (handed s)) limit .answer)))
+    taken-number = answer-taken ∙ run-refused-or-answered (handed s) (not (eqb (length work) work-size)) (eqb limit 0) cause-taken
+
+    taken-true : answer text work limit ≡ 1 → Verdict text true
+    taken-true one =
+        let back : run-number (handed s) ≡ 1 = sym answer-taken ∙ one in
+        record {
+          state = s;
+          read-so = e;
+          right =
+              verdict-right (lent (handed s)) limit .only-true
+              (number-1 (run (lent (handed s)) limit .answer) (run-answered (handed s) (omega arith) ∙ back));
+        }
+
+    taken-false : answer text work limit ≡ 0 → Verdict text false
+    taken-false none =
+        let back : run-number (handed s) ≡ 0 = sym answer-taken ∙ none in
+        record {
+          state = s;
+          read-so = e;
+          right =
+              verdict-right (lent (handed s)) limit .only-false
+              (number-0 (run (lent (handed s)) limit .answer) (run-answered (handed s) (omega arith) ∙ back));
+        }
+
+  -- A text that is refused has no answer.
+  refused-large : (n line : ℕ) → text-read text ≡ refused n line → 100 ≤ answer text work limit
+  refused-large n line e = omega (arith, refused-back text work limit n line e .0)
+
+  by-reading : {P : Type 0} → ((s : State) → text-read text ≡ taken s → P) → ((n line : ℕ) → text-read text ≡ refused n line → P) → P
+  by-reading {P} when-taken when-refused = go (text-read text) refl
+    where
+      go : (r : Result) → text-read text ≡ r → P
+      go (taken s) e = when-taken s e
+      go (refused n line) e = when-refused n line e
+
+  pub numbers-right : NumbersRight text work limit
+  numbers-right =
+      record {
+        of-text = λ n line e. (sym (refused-back text work limit n line e .0), refused-of-text text n line e .from-9, refused-of-text text n line e .to-14);
+        of-run = taken-number;
+        zero-after =
+            λ small.
+            by-reading (λ s e. work-taken s e ∙ run-zero (handed s) (omega (arith, answer-taken s e)))
+            (λ n line e. absurd (omega (arith, refused-large n line e)));
+        as-found =
+            λ large.
+            by-reading (λ s e. work-taken s e ∙ run-found (handed s) (omega (arith, answer-taken s e)))
+            (λ n line e. sym (refused-back text work limit n line e .1));
+        only-true = λ one. by-reading (λ s e. taken-true s e one) (λ n line e. absurd (omega (arith, refused-large n line e)));
+        only-false = λ none. by-reading (λ s e. taken-false s e none) (λ n line e. absurd (omega (arith, refused-large n line e)));
+      }

@@ -1,0 +1,36 @@
+-- What the door's number says: 01's causes, the work area and demand 2, as the bid tool sees them.
+-- Assumes nothing.
+use Prim.Native.Nat.{ℕ, _+_, _≤_}
+use mathlib.Core.Path.{_≡_}
+use mathlib.Core.Bool.{Bool, true, false, not, cond}
+use mathlib.Core.List.{List}
+use lib.Dec.{eqb}
+use lib.ListN.{length, replicate}
+use Rattle.formula.specs.Formula.{prefix, clauses}
+use Rattle.formula.specs.Meaning.{meaning, matrix}
+use Rattle.search.specs.Search.{work-size}
+use Rattle.run.specs.Run.{number, run}
+use Rattle.run.specs.Outcome.{lent}
+use Rattle.text.specs.Reading.{State, taken, refused}
+use Rattle.door.specs.Door.{handed-on, text-read, answer, work-after}
+
+-- The text was taken, and its formula has this value.
+pub record Verdict (text : List ℕ) (value : Bool) : Type 0 where
+  pub state : State
+  pub read-so : text-read text ≡ taken state
+  pub right : meaning (prefix (state .kinds)) (matrix (clauses (state .literals))) ≡ value
+
+pub record NumbersRight (text work : List ℕ) (limit : ℕ) : Type 0 where
+  -- '100 plus the refusal number .. the text's faults come before 5 and 6': a text that is refused has one of the numbers 109 to 114.
+  pub of-text : (n line : ℕ) → text-read text ≡ refused n line → (answer text work limit ≡ 100 + n) × (9 ≤ n) × (n ≤ 14)
+  -- A text that is taken is refused for 5 and 6 alone, in that order: none of causes 1 to 4 applies to what the reader and the door make.
+  pub of-run : (s : State) → text-read text ≡ taken s
+      → answer text work limit
+      ≡ cond (not (eqb (length work) work-size)) 105
+      (cond (eqb limit 0) 106 (number (run (lent (handed-on (s .kinds) (s .literals) work limit)) limit .answer)))
+  -- 'Zero after an answer'; a refusal leaves it as found.
+  pub zero-after : answer text work limit ≤ 4 → work-after text work limit ≡ replicate work-size 0
+  pub as-found : 100 ≤ answer text work limit → work-after text work limit ≡ work
+  -- 'The verdict is this value of the whole formula, 1 for true and 0 for false.'
+  pub only-true : answer text work limit ≡ 1 → Verdict text true
+  pub only-false : answer text work limit ≡ 0 → Verdict text false
