@@ -9,7 +9,7 @@ use Rattle.formula.specs.Causes.{cause-1, cause-2, cause-3, refused-if, checked
 use Rattle.formula.specs.declared.Formula.{Formula}
 use Rattle.formula.specs.declared.Check.the-variants.{Accepted}
 use Rattle.search.specs.Search.{work-size}
-use Rattle.run.specs.Run.{Answer, is-false, is-true, spent, no-room-universal, no-room-existential, number, run}
+use Rattle.rounds.specs.Run.{Answer, is-false, is-true, spent, no-room-universal, no-room-existential, number, run}
 use Rattle.run.specs.Outcome.{Given, lent, tables-fit, cause, accepted, named, number-of, returned}
 use Rattle.door.specs.Door.{run-number}
 

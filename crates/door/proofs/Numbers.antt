@@ -8,9 +8,9 @@ use lib.Dec.{eqb}
 use lib.ListN.{length, replicate}
 use Rattle.rows.specs.Table.{table-fits}
 use Rattle.search.specs.Search.{work-size}
-use Rattle.run.specs.Run.{number, run}
+use Rattle.rounds.specs.Run.{number, run}
 use Rattle.run.specs.Outcome.{Given, lent, side-fits, tables-fit, cause, accepted}
-use Rattle.run.proofs.Verdict.{verdict-right}
+use Rattle.rounds.proofs.Verdict.{verdict-right}
 use Rattle.text.specs.Reading.{State, Result, taken, refused}
 use Rattle.door.specs.Door.{own-rows, own-marks, handed-on, run-number, run-work, number-back, work-back, text-read, answer, work-after}
 use Rattle.door.specs.Numbers.{Verdict, NumbersRight}

@@ -9,7 +9,7 @@ use lib.ListN.{length, replicate}
 use Rattle.formula.specs.Formula.{prefix, clauses}
 use Rattle.formula.specs.Meaning.{meaning, matrix}
 use Rattle.search.specs.Search.{work-size}
-use Rattle.run.specs.Run.{number, run}
+use Rattle.rounds.specs.Run.{number, run}
 use Rattle.run.specs.Outcome.{lent}
 use Rattle.text.specs.Reading.{State, taken, refused}
 use Rattle.door.specs.Door.{handed-on, text-read, answer, work-after}
