@@ -194,8 +194,8 @@ fn split(
         hints,
         side,
         k + 1,
-        lo,
-        mid,
+        lo, // the other part: from lo
+        mid, // to mid
     )
 }
 
