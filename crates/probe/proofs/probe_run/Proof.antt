@@ -1,8 +1,6 @@
 -- `probe::probe_run` meets its contract. Assumes nothing.
-use mathlib.Core.Path.{ap, _∙_}
-use Rattle.run.specs.declared.Outcome.{Outcome}
-use Rattle.run.specs.Outcome.{number-of}
 use borrow.Author.Needs.{needs}
+use Rattle.probe.proofs.Reports.{reported}
 use Rattle.probe.proofs.probe_run.Statement.{statement}
 use Rattle.probe.proofs.probe_run.Tie as tie
 
@@ -29,15 +27,8 @@ same-length-5 c = search needs
 
 returns : tie.Need-returns
 returns c =
-    let run = c .before .before .before .before .before .before .before .before .before .before .before .run .ensures in (
-      record {
-        numbered = c .answer-number .ensures ∙ ap (λ (o : Outcome). number-of (o .answer)) (run .0 .value);
-        round-reached = ap (λ (o : Outcome). o .round) (run .0 .value);
-        universals = ap (λ (o : Outcome). o .universal) (run .0 .value);
-        existentials = ap (λ (o : Outcome). o .existential) (run .0 .value);
-      },
-      run .1 .0,
-    )
+    let run = c .before .before .before .before .before .before .before .before .before .before .before .run .ensures in
+    (reported (c .answer-number .ensures) (run .0), run .1 .0)
 
 pub probe-run-spec : {M : Type 1} → statement M
 probe-run-spec =
