@@ -23,12 +23,7 @@ impl Faults {
     fn table<T: Entry>(&mut self, name: &str, lent: &Lent<T>, wanted: &[T]) {
         if !lent.holds(wanted) {
             let end = wanted.len().min(64);
-            self.0.push(format!(
-                "{}: got {:?}.., wanted {:?}..",
-                name,
-                &lent.content()[..end],
-                &wanted[..end]
-            ));
+            self.0.push(format!("{}: got {:?}.., wanted {:?}..", name, &lent.content()[..end], &wanted[..end]));
         }
     }
 

@@ -32,13 +32,8 @@ fn main() {
     let times = words.next().unwrap_or(1) as usize;
     let seed = words.next().unwrap_or(SEED);
     println!("seed {}, {} times the gate's cases", seed, times);
-    let topics: [fn(&mut Random, usize, &mut Tally); 5] = [
-        parts::compare_all,
-        refused::compare_all,
-        searches::compare_all,
-        known::compare_all,
-        runs::compare_all,
-    ];
+    let topics: [fn(&mut Random, usize, &mut Tally); 5] =
+        [parts::compare_all, refused::compare_all, searches::compare_all, known::compare_all, runs::compare_all];
     let mut tally = Tally::new();
     for (i, topic) in topics.iter().enumerate() {
         let start = Instant::now();

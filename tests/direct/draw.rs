@@ -53,11 +53,7 @@ pub fn literals(random: &mut Random, n: usize, clauses: usize, window: usize) ->
 
 /// None lent in a third of the cases, else mostly one to nine bytes, of which only the lowest bits count.
 pub fn preferences(random: &mut Random) -> Vec<u8> {
-    let length = if random.chance(1, 3) {
-        0
-    } else {
-        random.pick(&[1, 2, 3, 4, 5, 6, 7, 8, 9, 9, 255, 256, 300])
-    };
+    let length = if random.chance(1, 3) { 0 } else { random.pick(&[1, 2, 3, 4, 5, 6, 7, 8, 9, 9, 255, 256, 300]) };
     random.bytes(length)
 }
 
@@ -66,11 +62,7 @@ pub fn preferences(random: &mut Random) -> Vec<u8> {
 pub fn table(random: &mut Random, width: usize, room: usize, count: usize) -> Vec<u8> {
     let mut table = random.bytes(16 * room);
     for i in 0..count {
-        let like = if i > 0 && random.chance(2, 3) {
-            Some(random.below(i))
-        } else {
-            None
-        };
+        let like = if i > 0 && random.chance(2, 3) { Some(random.below(i)) } else { None };
         let changed = if random.chance(1, 2) { random.below(128) } else { 128 };
         for k in 0..128 {
             let value = match like {
@@ -110,26 +102,13 @@ pub fn lending(random: &mut Random, sizes: &Sizes, side: Side) -> Lending {
         let clauses = random.below(most + 1);
         literals(random, n, clauses, sizes.window)
     };
-    Lending {
-        kinds,
-        literals,
-        preferences: preferences(random),
-        rows,
-        work: random.bytes(WORK),
-        count,
-    }
+    Lending { kinds, literals, preferences: preferences(random), rows, work: random.bytes(WORK), count }
 }
 
 /// As many clauses as there can be with a model drawn beforehand; in a third of the cases a clause more or less, so that it may be none.
 fn around_a_model(random: &mut Random, sizes: &Sizes, kinds: &[u8], table: &[u8], count: usize, side: Side) -> Vec<i32> {
     let n = kinds.len();
-    let problem = Problem {
-        kinds,
-        clauses: &[],
-        preferences: &[],
-        rows: &rows_of(table, count, count_of(kinds, side.other())),
-        side,
-    };
+    let problem = Problem { kinds, clauses: &[], preferences: &[], rows: &rows_of(table, count, count_of(kinds, side.other())), side };
     let chosen = random.bytes(copies(&problem).total);
     let plays = plays(&problem, &|copy| chosen[copy] & 1 == 1);
     let lengths = random.pick(&LENGTHS);

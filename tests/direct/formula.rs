@@ -50,17 +50,13 @@ fn value(literal: i32, play: &[Option<bool>]) -> Option<bool> {
 
 /// Every clause has a true literal.
 pub fn matrix(clauses: &[Vec<i32>], play: &[Option<bool>]) -> bool {
-    clauses
-        .iter()
-        .all(|clause| clause.iter().any(|&literal| value(literal, play) == Some(true)))
+    clauses.iter().all(|clause| clause.iter().any(|&literal| value(literal, play) == Some(true)))
 }
 
 /// Whether the values given so far settle the matrix against the side.
 pub fn is_lost(clauses: &[Vec<i32>], play: &[Option<bool>], side: Side) -> bool {
     match side {
-        Side::Existential => clauses
-            .iter()
-            .any(|clause| clause.iter().all(|&literal| value(literal, play) == Some(false))),
+        Side::Existential => clauses.iter().any(|clause| clause.iter().all(|&literal| value(literal, play) == Some(false))),
         Side::Universal => matrix(clauses, play),
     }
 }

@@ -17,14 +17,7 @@ const LOOKS: usize = 4_000_000;
 /// A lending of `room` rows for the side, all of them counted.
 fn lending(random: &mut Random, kinds: Vec<u8>, literals: Vec<i32>, room: usize, side: Side) -> Lending {
     let rows = draw::table(random, count_of(&kinds, side.other()), room, room);
-    Lending {
-        kinds,
-        literals,
-        preferences: draw::preferences(random),
-        rows,
-        work: random.bytes(WORK),
-        count: room,
-    }
+    Lending { kinds, literals, preferences: draw::preferences(random), rows, work: random.bytes(WORK), count: room }
 }
 
 /// Pairs of existential unknowns with a clause each, one unknown early and one late; then some of the four clauses over two more that are false
@@ -134,10 +127,7 @@ fn runs(random: &mut Random) -> Vec<Given> {
         (vec![0; 62], [pairs(1, 60), false_together(61, 62)].concat()),
         (vec![0; 128], [pairs(1, 126), false_together(127, 128)].concat()),
         ([vec![1; 8], vec![0; 62]].concat(), [pairs(9, 68), false_together(69, 70)].concat()),
-        (
-            [vec![1; 8], vec![0; 62], vec![1; 58]].concat(),
-            [pairs(9, 68), false_together(69, 70)].concat(),
-        ),
+        ([vec![1; 8], vec![0; 62], vec![1; 58]].concat(), [pairs(9, 68), false_together(69, 70)].concat()),
         (vec![1; 128], vec![127, -127, 0, 128, -128, 0]),
         ([vec![0; 64], vec![1; 64]].concat(), vec![127, -127, 0, 128, -128, 0]),
     ];
@@ -176,9 +166,5 @@ pub fn compare_all(random: &mut Random, times: usize, tally: &mut Tally) {
             tally.case(compare::run(&given, LOOKS).unwrap());
         }
     }
-    println!(
-        "known by construction: {} compared, {} first models",
-        tally.passed + tally.failed - before,
-        found
-    );
+    println!("known by construction: {} compared, {} first models", tally.passed + tally.failed - before, found);
 }

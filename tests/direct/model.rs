@@ -32,9 +32,7 @@ impl Problem<'_> {
     /// The row's values at the other side's unknowns, the own ones open.
     fn opening(&self, row: &[bool]) -> Play {
         let mut values = row.iter();
-        (0..self.kinds.len())
-            .map(|k| if self.is_own(k) { None } else { Some(*values.next().unwrap()) })
-            .collect()
+        (0..self.kinds.len()).map(|k| if self.is_own(k) { None } else { Some(*values.next().unwrap()) }).collect()
     }
 
     fn openings(&self) -> Vec<Play> {
@@ -43,12 +41,7 @@ impl Problem<'_> {
 
     /// Each play's own values: the rows that it yields.
     pub fn yielded(&self, plays: &[Play]) -> Vec<Row> {
-        let own = |play: &Play| {
-            (0..self.kinds.len())
-                .filter(|&k| self.is_own(k))
-                .map(|k| play[k].unwrap())
-                .collect()
-        };
+        let own = |play: &Play| (0..self.kinds.len()).filter(|&k| self.is_own(k)).map(|k| play[k].unwrap()).collect();
         plays.iter().map(own).collect()
     }
 }
@@ -132,10 +125,7 @@ pub fn by_parts(problem: &Problem, looks: usize) -> Result<Option<Vec<Row>>, Too
     let mut whole = Groups::new(&Problem { clauses: &[], ..*problem }, looks);
     whole.solve_all()?;
     for clauses in parts(problem) {
-        let part = Problem {
-            clauses: &clauses,
-            ..*problem
-        };
+        let part = Problem { clauses: &clauses, ..*problem };
         let mut groups = Groups::new(&part, looks);
         if !groups.solve_all()? {
             return Ok(None);
@@ -154,11 +144,7 @@ fn parts(problem: &Problem) -> Vec<Vec<Vec<i32>>> {
     let mut parts: Vec<Vec<Vec<i32>>> = Vec::new();
     for clause in problem.clauses {
         let shares = |part: &Vec<Vec<i32>>| {
-            part.iter().flatten().any(|a| {
-                clause
-                    .iter()
-                    .any(|b| a.abs() == b.abs() && problem.is_own(a.unsigned_abs() as usize - 1))
-            })
+            part.iter().flatten().any(|a| clause.iter().any(|b| a.abs() == b.abs() && problem.is_own(a.unsigned_abs() as usize - 1)))
         };
         let (met, mut rest): (Vec<_>, Vec<_>) = parts.into_iter().partition(shares);
         let mut joined: Vec<Vec<i32>> = met.into_iter().flatten().collect();
@@ -183,13 +169,7 @@ impl<'a> Groups<'a> {
         for literal in problem.clauses.iter().flatten() {
             in_clause[literal.unsigned_abs() as usize - 1] = true;
         }
-        Groups {
-            problem: *problem,
-            copies: copies(problem),
-            in_clause,
-            plays: problem.openings(),
-            left: looks,
-        }
+        Groups { problem: *problem, copies: copies(problem), in_clause, plays: problem.openings(), left: looks }
     }
 
     fn solve_all(&mut self) -> Result<bool, TooLong> {

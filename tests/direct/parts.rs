@@ -9,17 +9,7 @@ use crate::tally::Tally;
 
 /// Tables of any length; places and counts around their ends, and so large that 16 times the place would wrap.
 fn compare_rows(random: &mut Random, times: usize, tally: &mut Tally) {
-    let far = [
-        1 << 28,
-        1 << 32,
-        1 << 59,
-        1 << 60,
-        (1 << 60) + 1,
-        usize::MAX / 16,
-        usize::MAX - 15,
-        usize::MAX - 1,
-        usize::MAX,
-    ];
+    let far = [1 << 28, 1 << 32, 1 << 59, 1 << 60, (1 << 60) + 1, usize::MAX / 16, usize::MAX - 15, usize::MAX - 1, usize::MAX];
     for _ in 0..2_000 * times {
         let length = random.pick(&[0, 1, 15, 16, 17, 32, 47, 48, 100, 4080, 4096, 4112, 10_000]);
         let table = random.bytes(length);
@@ -38,10 +28,7 @@ fn compare_rows(random: &mut Random, times: usize, tally: &mut Tally) {
         tally.case(if row == wanted && lent.holds(&table) {
             None
         } else {
-            Some(format!(
-                "row {} of {} bytes, count {}: got {:?}, wanted {:?}",
-                place, length, count, row, wanted
-            ))
+            Some(format!("row {} of {} bytes, count {}: got {:?}, wanted {:?}", place, length, count, row, wanted))
         });
     }
 }

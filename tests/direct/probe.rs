@@ -152,9 +152,7 @@ pub fn run(tables: &mut Tables, limit: u32) -> u64 {
 pub fn row(rows: &Lent<u8>, count: usize, place: usize) -> Vec<u8> {
     unsafe {
         let length = probe_row_length(rows.address(), rows.length(), count, place);
-        (0..length)
-            .map(|j| probe_row_byte(rows.address(), rows.length(), count, place, j))
-            .collect()
+        (0..length).map(|j| probe_row_byte(rows.address(), rows.length(), count, place, j)).collect()
     }
 }
 

@@ -11,13 +11,7 @@ use crate::wanted::Lending;
 
 const LOOKS: usize = 2_000_000;
 
-const SIZES: Sizes = Sizes {
-    unknowns: (0, 8),
-    room: (1, 5),
-    density: 2,
-    window: 8,
-    around_a_model: false,
-};
+const SIZES: Sizes = Sizes { unknowns: (0, 8), room: (1, 5), density: 2, window: 8, around_a_model: false };
 
 fn spoil_kinds(random: &mut Random, kinds: &mut Vec<u8>) {
     if kinds.is_empty() || random.chance(1, 2) {

@@ -48,22 +48,13 @@ fn rounds(
     looks: usize,
 ) -> Result<Outcome, TooLong> {
     let start = (0..count_of(kinds, Side::Universal)).map(|k| preference(preferences, k)).collect();
-    let mut universal = Table {
-        rows: vec![start],
-        marks: vec![0],
-    };
+    let mut universal = Table { rows: vec![start], marks: vec![0] };
     let mut existential = Table::default();
     let mut round = 0;
     let answer = loop {
         round += 1;
         let mark = round as u16;
-        let problem = Problem {
-            kinds,
-            clauses,
-            preferences,
-            rows: &universal.rows,
-            side: Side::Existential,
-        };
+        let problem = Problem { kinds, clauses, preferences, rows: &universal.rows, side: Side::Existential };
         match first_model(&problem, looks)? {
             None => break 0,
             Some(yielded) => {
@@ -72,13 +63,7 @@ fn rounds(
                 }
             }
         }
-        let problem = Problem {
-            kinds,
-            clauses,
-            preferences,
-            rows: &existential.rows,
-            side: Side::Universal,
-        };
+        let problem = Problem { kinds, clauses, preferences, rows: &existential.rows, side: Side::Universal };
         match first_model(&problem, looks)? {
             None => break 1,
             Some(yielded) => {
@@ -91,12 +76,7 @@ fn rounds(
             break 2;
         }
     };
-    Ok(Outcome {
-        answer,
-        round,
-        universal,
-        existential,
-    })
+    Ok(Outcome { answer, round, universal, existential })
 }
 
 /// What a run is lent.

@@ -38,9 +38,7 @@ fn literals(random: &mut Random, n: usize) -> Vec<i32> {
         _ => {
             let clauses = random.between(n, 4 * n);
             let length = random.between(3, 5);
-            (0..clauses)
-                .flat_map(|_| draw::clause(random, n, length, n).into_iter().chain([0]))
-                .collect()
+            (0..clauses).flat_map(|_| draw::clause(random, n, length, n).into_iter().chain([0])).collect()
         }
     }
 }
@@ -66,11 +64,7 @@ pub fn given(random: &mut Random, n: usize, rooms: usize) -> Given {
 }
 
 pub fn compare_all(random: &mut Random, times: usize, tally: &mut Tally) {
-    for (name, cases, n, rooms) in [
-        ("few unknowns", 30_000, 7, 8),
-        ("few rows", 10_000, 9, 3),
-        ("more unknowns", 5_000, 14, 256),
-    ] {
+    for (name, cases, n, rooms) in [("few unknowns", 30_000, 7, 8), ("few rows", 10_000, 9, 3), ("more unknowns", 5_000, 14, 256)] {
         let (mut compared, mut left_out) = (0, 0);
         let mut answers = [0; 5];
         let mut most = 0;
@@ -86,9 +80,6 @@ pub fn compare_all(random: &mut Random, times: usize, tally: &mut Tally) {
                 Err(_) => left_out += 1,
             }
         }
-        println!(
-            "runs, {}: {} compared, {} left out; answers 0 to 4: {:?}, at most {} rounds",
-            name, compared, left_out, answers, most
-        );
+        println!("runs, {}: {} compared, {} left out; answers 0 to 4: {:?}, at most {} rounds", name, compared, left_out, answers, most);
     }
 }

@@ -18,79 +18,37 @@ const GROUPS: [Group; 7] = [
     Group {
         name: "few unknowns",
         cases: 40_000,
-        sizes: Sizes {
-            unknowns: (0, 8),
-            room: (1, 6),
-            density: 4,
-            window: 8,
-            around_a_model: false,
-        },
+        sizes: Sizes { unknowns: (0, 8), room: (1, 6), density: 4, window: 8, around_a_model: false },
     },
     Group {
         name: "few unknowns around a model",
         cases: 40_000,
-        sizes: Sizes {
-            unknowns: (2, 8),
-            room: (1, 8),
-            density: 6,
-            window: 8,
-            around_a_model: true,
-        },
+        sizes: Sizes { unknowns: (2, 8), room: (1, 8), density: 6, window: 8, around_a_model: true },
     },
     Group {
         name: "middle sizes",
         cases: 6_000,
-        sizes: Sizes {
-            unknowns: (6, 24),
-            room: (2, 40),
-            density: 3,
-            window: 8,
-            around_a_model: false,
-        },
+        sizes: Sizes { unknowns: (6, 24), room: (2, 40), density: 3, window: 8, around_a_model: false },
     },
     Group {
         name: "middle sizes around a model",
         cases: 20_000,
-        sizes: Sizes {
-            unknowns: (9, 24),
-            room: (1, 12),
-            density: 6,
-            window: 24,
-            around_a_model: true,
-        },
+        sizes: Sizes { unknowns: (9, 24), room: (1, 12), density: 6, window: 24, around_a_model: true },
     },
     Group {
         name: "many unknowns around a model",
         cases: 1_000,
-        sizes: Sizes {
-            unknowns: (40, 128),
-            room: (1, 16),
-            density: 6,
-            window: 9,
-            around_a_model: true,
-        },
+        sizes: Sizes { unknowns: (40, 128), room: (1, 16), density: 6, window: 9, around_a_model: true },
     },
     Group {
         name: "many rows",
         cases: 150,
-        sizes: Sizes {
-            unknowns: (8, 60),
-            room: (100, 256),
-            density: 2,
-            window: 6,
-            around_a_model: false,
-        },
+        sizes: Sizes { unknowns: (8, 60), room: (100, 256), density: 2, window: 6, around_a_model: false },
     },
     Group {
         name: "128 unknowns",
         cases: 150,
-        sizes: Sizes {
-            unknowns: (128, 128),
-            room: (1, 256),
-            density: 2,
-            window: 5,
-            around_a_model: false,
-        },
+        sizes: Sizes { unknowns: (128, 128), room: (1, 256), density: 2, window: 5, around_a_model: false },
     },
 ];
 
@@ -118,9 +76,6 @@ pub fn compare_all(random: &mut Random, times: usize, tally: &mut Tally) {
                 compared += 1;
             }
         }
-        println!(
-            "{}: {} compared, {} left out; {} first models, {} claims accepted",
-            group.name, compared, left_out, found, accepted
-        );
+        println!("{}: {} compared, {} left out; {} first models, {} claims accepted", group.name, compared, left_out, found, accepted);
     }
 }

@@ -56,13 +56,7 @@ impl Lending {
 
     fn model(&self, side: Side, looks: usize) -> Result<Option<Vec<Row>>, TooLong> {
         let rows = rows_of(&self.rows, self.count, count_of(&self.kinds, side.other()));
-        let problem = Problem {
-            kinds: &self.kinds,
-            clauses: &clauses(&self.literals),
-            preferences: &self.preferences,
-            rows: &rows,
-            side,
-        };
+        let problem = Problem { kinds: &self.kinds, clauses: &clauses(&self.literals), preferences: &self.preferences, rows: &rows, side };
         first_model(&problem, looks)
     }
 
