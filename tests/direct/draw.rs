@@ -18,7 +18,7 @@ pub fn kinds(random: &mut Random, n: usize) -> Vec<u8> {
     kinds
 }
 
-/// What the clauses of a formula are as long as.
+/// The lengths of a formula's clauses.
 const LENGTHS: [&[usize]; 6] = [&[1, 2, 2, 2, 3, 3, 3, 3, 4, 5], &[2], &[2, 2, 3], &[2, 3, 3, 3], &[3], &[3, 4, 5]];
 
 /// A clause of this length over n unknowns whose names lie within a window; it may hold a name twice.

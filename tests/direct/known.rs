@@ -60,8 +60,9 @@ fn pairs(random: &mut Random) -> (Lending, Side) {
 /// true in every row, or a name with both signs. The one left is to be false, unless there is none.
 fn one_clause(random: &mut Random) -> (Lending, (u64, Vec<u8>)) {
     let mut kinds = draw::kinds(random, 128);
-    kinds[random.below(128)] = 0;
-    kinds[random.below(128)] = 1;
+    let place = random.below(128);
+    kinds[place] = 0;
+    kinds[(place + random.between(1, 127)) % 128] = 1;
     let always = kinds.iter().position(|&kind| kind == 0).unwrap();
     let mut literals = Vec::new();
     for _ in 0..random.between(1, 300) {
@@ -118,8 +119,8 @@ fn one_clause(random: &mut Random) -> (Lending, (u64, Vec<u8>)) {
     (lending, (u64::from(with_clause), work))
 }
 
-/// Whole runs at up to 128 unknowns that one or two rounds settle: satisfiable pairs in front of two unknowns that the last clauses leave no value,
-/// the same behind universal unknowns, and universal unknowns that settle nothing.
+/// Whole runs at up to 128 unknowns that few rounds settle: satisfiable pairs in front of two unknowns to which the last clauses leave no
+/// value, the same behind universal unknowns, and universal unknowns that settle nothing.
 fn runs(random: &mut Random) -> Vec<Given> {
     let pairs = |first: i32, last: i32| (first..last).step_by(2).flat_map(|k| [k, k + 1, 0]).collect::<Vec<i32>>();
     let false_together = |x: i32, y: i32| vec![x, y, 0, x, -y, 0, -x, y, 0, -x, -y, 0];

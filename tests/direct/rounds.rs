@@ -38,7 +38,7 @@ pub struct Outcome {
     pub existential: Table,
 }
 
-/// The run of an accepted formula. `None` where the reference gives up.
+/// The run of an accepted formula.
 fn rounds(
     kinds: &[u8],
     clauses: &[Vec<i32>],
