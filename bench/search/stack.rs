@@ -30,7 +30,7 @@ struct Task<'a> {
 extern "C" fn start(argument: *mut c_void) -> *mut c_void {
     let task = unsafe { &mut *(argument as *mut Task) };
     let mark = 0u8;
-    task.top = std::hint::black_box(&mark) as *const u8 as usize;
+    task.top = &mark as *const u8 as usize;
     (task.call)();
     std::ptr::null_mut()
 }
