@@ -1,0 +1,2 @@
+-- What a run reports, from what it returned.
+pub mod Reports

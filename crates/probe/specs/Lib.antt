@@ -1,0 +1,2 @@
+-- What the exported functions return, as numbers.
+pub mod Numbers

@@ -1,0 +1,154 @@
+// The public functions of the engine below the program, exported with numbers for their answers, so that tests can lend tables of any size
+// and content. Each promises what the function that it calls promises. Of a row that is handed back the length and each byte are told, since
+// an exported function returns no reference.
+use judge::Judgement;
+use run::Answer;
+use search::Search;
+ghost use mathlib.Core.Path.{_≡_};
+ghost use Prim.Native.Nat.{_+_};
+ghost use lib.ListN.{length, getD};
+ghost use Rattle.preference.specs.Preference.{prefer};
+ghost use Rattle.rows.specs.Table.{handed-back};
+ghost use Rattle.search.specs.Search.{outcome, work-after};
+ghost use Rattle.judge.specs.Judge.{outcome as judge-outcome, work-after as judge-work-after};
+ghost use Rattle.run.specs.Outcome.{given, number-of, Left};
+ghost use Rattle.probe.specs.Numbers.{search-number, judge-number, value-number, Reported};
+
+// The first model of one side over rows of the other.
+#[no_mangle]
+pub extern "C" fn probe_first_model(
+    kinds: &[u8],
+    literals: &[i32],
+    preferences: &[u8],
+    rows: &[u8],
+    work: &mut [u8],
+    count: usize,
+    universal: bool,
+) -> u64
+    ensures { λ r. ⌜ r ≡ search-number (outcome (now (kinds .entry)) (now (literals .entry)) (now (preferences .entry)) (now (rows .entry)) count universal (now (work .entry))) ⌝ }
+    ensures { λ _. ⌜ now (work .exit) ≡ work-after (now (kinds .entry)) (now (literals .entry)) (now (preferences .entry)) (now (rows .entry)) count universal (now (work .entry)) ⌝ }
+{
+    search_number(search::first_model(kinds, literals, preferences, rows, count, universal, work))
+}
+
+fn search_number(answer: Search) -> u64
+    ensures { λ r. ⌜ r ≡ search-number answer ⌝ }
+{
+    match answer {
+        Search::NoModel => 0,
+        Search::Found => 1,
+        Search::Refused(cause) => refusal_number(cause),
+    }
+}
+
+fn refusal_number(cause: u32) -> u64
+    ensures { λ r. ⌜ r ≡ 100 + cause ⌝ }
+{
+    100 + cause as u64
+}
+
+// Whether rows bear out a claim.
+#[no_mangle]
+pub extern "C" fn probe_judge(
+    kinds: &[u8],
+    literals: &[i32],
+    rows: &[u8],
+    work: &mut [u8],
+    count: usize,
+    claim: u8,
+) -> u64
+    ensures { λ r. ⌜ r ≡ judge-number (judge-outcome (now (kinds .entry)) (now (literals .entry)) claim (now (rows .entry)) count (now (work .entry))) ⌝ }
+    ensures { λ _. ⌜ now (work .exit) ≡ judge-work-after (now (kinds .entry)) (now (literals .entry)) claim (now (rows .entry)) count (now (work .entry)) ⌝ }
+{
+    judge_number(judge::judge(kinds, literals, claim, rows, count, work))
+}
+
+fn judge_number(answer: Judgement) -> u64
+    ensures { λ r. ⌜ r ≡ judge-number answer ⌝ }
+{
+    match answer {
+        Judgement::NotBorneOut => 0,
+        Judgement::Accepted => 1,
+        Judgement::Refused(cause) => refusal_number(cause),
+    }
+}
+
+// A whole run; the round and the counts are written behind the last three references.
+#[no_mangle]
+pub extern "C" fn probe_run(
+    kinds: &[u8],
+    literals: &[i32],
+    preferences: &[u8],
+    universal_rows: &mut [u8],
+    universal_marks: &mut [u16],
+    existential_rows: &mut [u8],
+    existential_marks: &mut [u16],
+    work: &mut [u8],
+    limit: u32,
+    round: &mut u32,
+    universal: &mut usize,
+    existential: &mut usize,
+) -> u64
+    ensures reported { λ r. ⌜ Reported (given (now (kinds .entry)) (now (literals .entry)) (now (preferences .entry)) (now («universal_rows» .entry)) (now («universal_marks» .entry)) (now («existential_rows» .entry)) (now («existential_marks» .entry)) (now (work .entry)) limit) r (now (round .exit)) (now (universal .exit)) (now (existential .exit)) ⌝ }
+    ensures left { λ _. ⌜ Left (given (now (kinds .entry)) (now (literals .entry)) (now (preferences .entry)) (now («universal_rows» .entry)) (now («universal_marks» .entry)) (now («existential_rows» .entry)) (now («existential_marks» .entry)) (now (work .entry)) limit) (now («universal_rows» .exit)) (now («universal_marks» .exit)) (now («existential_rows» .exit)) (now («existential_marks» .exit)) (now (work .exit)) ⌝ }
+{
+    let end = run::run(
+        kinds,
+        literals,
+        preferences,
+        universal_rows,
+        universal_marks,
+        existential_rows,
+        existential_marks,
+        work,
+        limit,
+    );
+    *round = end.round;
+    *universal = end.universal;
+    *existential = end.existential;
+    let answer = end.answer;
+    answer_number(answer)
+}
+
+fn answer_number(answer: Answer) -> u64
+    ensures { λ r. ⌜ r ≡ number-of answer ⌝ }
+{
+    match answer {
+        Answer::False => 0,
+        Answer::True => 1,
+        Answer::Spent => 2,
+        Answer::NoRoomUniversal => 3,
+        Answer::NoRoomExistential => 4,
+        Answer::Refused(cause) => refusal_number(cause),
+    }
+}
+
+// The length of the row that is handed back.
+#[no_mangle]
+pub extern "C" fn probe_row_length(rows: &[u8], count: usize, place: usize) -> usize
+    ensures { λ r. ⌜ r ≡ length (handed-back (now (rows .entry)) count place) ⌝ }
+{
+    let row = rows::row(rows, count, place);
+    row.len()
+}
+
+// Byte j of the row that is handed back, or 0 past its end.
+#[no_mangle]
+pub extern "C" fn probe_row_byte(rows: &[u8], count: usize, place: usize, j: usize) -> u8
+    ensures { λ r. ⌜ r ≡ getD (handed-back (now (rows .entry)) count place) j 0 ⌝ }
+{
+    let row = rows::row(rows, count, place);
+    if j < row.len() { row[j] } else { 0 }
+}
+
+// Preference i.
+#[no_mangle]
+pub extern "C" fn probe_preference(lent: &[u8], i: usize) -> u8
+    ensures { λ r. ⌜ r ≡ value-number (prefer (now (lent .entry)) i) ⌝ }
+{
+    if preference::preference(lent, i) {
+        1
+    } else {
+        0
+    }
+}

@@ -1,0 +1,141 @@
+//! One call of the engine on lent tables, held against what is wanted: the number and every lent entry. What differs is returned in words.
+
+use crate::formula::Side;
+use crate::lent::{Entry, Lent};
+use crate::model::TooLong;
+use crate::probe;
+use crate::rounds::{Given, Left};
+use crate::wanted::Lending;
+
+/// The wrong case in words, or `None` if all is as wanted.
+pub type Wrong = Option<String>;
+
+/// The names of the things that are not as wanted.
+struct Faults(Vec<String>);
+
+impl Faults {
+    fn number<T: PartialEq + std::fmt::Debug>(&mut self, name: &str, got: T, wanted: T) {
+        if got != wanted {
+            self.0.push(format!("{}: got {:?}, wanted {:?}", name, got, wanted));
+        }
+    }
+
+    fn table<T: Entry>(&mut self, name: &str, lent: &Lent<T>, wanted: &[T]) {
+        if !lent.holds(wanted) {
+            let end = wanted.len().min(64);
+            self.0.push(format!("{}: got {:?}.., wanted {:?}..", name, &lent.content()[..end], &wanted[..end]));
+        }
+    }
+
+    fn words(self, call: String) -> Wrong {
+        if self.0.is_empty() {
+            None
+        } else {
+            Some(format!("{}\n  {}", call, self.0.join("\n  ")))
+        }
+    }
+}
+
+fn shown(lending: &Lending) -> String {
+    format!(
+        "kinds {:?} literals {:?} preferences {:?} count {} rows {:?} work of {} bytes",
+        lending.kinds,
+        lending.literals,
+        lending.preferences,
+        lending.count,
+        lending.rows.chunks(16).collect::<Vec<_>>(),
+        lending.work.len()
+    )
+}
+
+pub fn search(lending: &Lending, side: Side, looks: usize) -> Result<Wrong, TooLong> {
+    let wanted = lending.searched(side, looks)?;
+    Ok(search_with(lending, side, wanted))
+}
+
+/// The same where the wanted number and work area are known.
+pub fn search_with(lending: &Lending, side: Side, wanted: (u64, Vec<u8>)) -> Wrong {
+    let kinds = Lent::new(&lending.kinds);
+    let literals = Lent::new(&lending.literals);
+    let preferences = Lent::new(&lending.preferences);
+    let rows = Lent::new(&lending.rows);
+    let mut work = Lent::new(&lending.work);
+    let number = probe::first_model(&kinds, &literals, &preferences, &rows, &mut work, lending.count, side);
+    let mut faults = Faults(Vec::new());
+    faults.number("number", number, wanted.0);
+    faults.table("kinds", &kinds, &lending.kinds);
+    faults.table("literals", &literals, &lending.literals);
+    faults.table("preferences", &preferences, &lending.preferences);
+    faults.table("rows", &rows, &lending.rows);
+    faults.table("work", &work, &wanted.1);
+    faults.words(format!("first model, side {:?}, {}", side, shown(lending)))
+}
+
+pub fn judge(lending: &Lending, claim: u8, looks: usize) -> Result<Wrong, TooLong> {
+    let wanted = lending.judged(claim, looks)?;
+    Ok(judge_with(lending, claim, wanted))
+}
+
+/// The same where the wanted number and work area are known.
+pub fn judge_with(lending: &Lending, claim: u8, wanted: (u64, Vec<u8>)) -> Wrong {
+    let kinds = Lent::new(&lending.kinds);
+    let literals = Lent::new(&lending.literals);
+    let rows = Lent::new(&lending.rows);
+    let mut work = Lent::new(&lending.work);
+    let number = probe::judge(&kinds, &literals, &rows, &mut work, lending.count, claim);
+    let mut faults = Faults(Vec::new());
+    faults.number("number", number, wanted.0);
+    faults.table("kinds", &kinds, &lending.kinds);
+    faults.table("literals", &literals, &lending.literals);
+    faults.table("rows", &rows, &lending.rows);
+    faults.table("work", &work, &wanted.1);
+    faults.words(format!("judge, claim {}, {}", claim, shown(lending)))
+}
+
+pub fn run(given: &Given, looks: usize) -> Result<Wrong, TooLong> {
+    let wanted = given.left(looks)?;
+    Ok(run_with(given, wanted))
+}
+
+/// The same where what it is to leave is known.
+pub fn run_with(given: &Given, wanted: Left) -> Wrong {
+    let mut tables = probe::Tables {
+        kinds: Lent::new(&given.kinds),
+        literals: Lent::new(&given.literals),
+        preferences: Lent::new(&given.preferences),
+        universal_rows: Lent::new(&given.universal_rows),
+        universal_marks: Lent::new(&given.universal_marks),
+        existential_rows: Lent::new(&given.existential_rows),
+        existential_marks: Lent::new(&given.existential_marks),
+        work: Lent::new(&given.work),
+        round: Lent::new(&[7]),
+        universal: Lent::new(&[7]),
+        existential: Lent::new(&[7]),
+    };
+    let number = probe::run(&mut tables, given.limit);
+    let mut faults = Faults(Vec::new());
+    faults.number("number", number, wanted.number);
+    faults.table("round", &tables.round, &[wanted.round]);
+    faults.table("universal count", &tables.universal, &[wanted.universal]);
+    faults.table("existential count", &tables.existential, &[wanted.existential]);
+    faults.table("kinds", &tables.kinds, &given.kinds);
+    faults.table("literals", &tables.literals, &given.literals);
+    faults.table("preferences", &tables.preferences, &given.preferences);
+    faults.table("universal rows", &tables.universal_rows, &wanted.universal_rows);
+    faults.table("universal marks", &tables.universal_marks, &wanted.universal_marks);
+    faults.table("existential rows", &tables.existential_rows, &wanted.existential_rows);
+    faults.table("existential marks", &tables.existential_marks, &wanted.existential_marks);
+    faults.table("work", &tables.work, &wanted.work);
+    faults.words(format!(
+        "run, kinds {:?} literals {:?} preferences {:?} tables of {} ({} marks) and {} ({} marks) bytes, work of {}, limit {}",
+        given.kinds,
+        given.literals,
+        given.preferences,
+        given.universal_rows.len(),
+        given.universal_marks.len(),
+        given.existential_rows.len(),
+        given.existential_marks.len(),
+        given.work.len(),
+        given.limit
+    ))
+}

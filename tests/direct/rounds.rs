@@ -1,0 +1,162 @@
+//! The run, as the paper words it.
+
+use crate::formula::{clauses, count_of, formula_cause, rows_fit, Side, WORK};
+use crate::model::{Problem, Row, TooLong};
+use crate::preference::preference;
+use crate::rows::encoded;
+use crate::wanted::first_model;
+
+/// The rows of a table and the round that each came in.
+#[derive(Clone, Debug, Default)]
+pub struct Table {
+    pub rows: Vec<Row>,
+    pub marks: Vec<u16>,
+}
+
+impl Table {
+    /// Adds the rows that are not there, in order, each once; or none of them if they don't all fit.
+    fn add(&mut self, yielded: Vec<Row>, mark: u16, room: usize) -> bool {
+        let mut grown = self.clone();
+        for row in yielded {
+            if !grown.rows.contains(&row) {
+                grown.rows.push(row);
+                grown.marks.push(mark);
+            }
+        }
+        let fits = grown.rows.len() <= room;
+        if fits {
+            *self = grown;
+        }
+        fits
+    }
+}
+
+pub struct Outcome {
+    pub answer: u64,
+    pub round: u32,
+    pub universal: Table,
+    pub existential: Table,
+}
+
+/// The run of an accepted formula.
+fn rounds(
+    kinds: &[u8],
+    clauses: &[Vec<i32>],
+    preferences: &[u8],
+    room: (usize, usize),
+    limit: u32,
+    looks: usize,
+) -> Result<Outcome, TooLong> {
+    let start = (0..count_of(kinds, Side::Universal)).map(|k| preference(preferences, k)).collect();
+    let mut universal = Table { rows: vec![start], marks: vec![0] };
+    let mut existential = Table::default();
+    let mut round = 0;
+    let answer = loop {
+        round += 1;
+        let mark = round as u16;
+        let problem = Problem { kinds, clauses, preferences, rows: &universal.rows, side: Side::Existential };
+        match first_model(&problem, looks)? {
+            None => break 0,
+            Some(yielded) => {
+                if !existential.add(yielded, mark, room.1) {
+                    break 4;
+                }
+            }
+        }
+        let problem = Problem { kinds, clauses, preferences, rows: &existential.rows, side: Side::Universal };
+        match first_model(&problem, looks)? {
+            None => break 1,
+            Some(yielded) => {
+                if !universal.add(yielded, mark, room.0) {
+                    break 3;
+                }
+            }
+        }
+        if round == limit {
+            break 2;
+        }
+    };
+    Ok(Outcome { answer, round, universal, existential })
+}
+
+/// What a run is lent.
+#[derive(Clone, Debug)]
+pub struct Given {
+    pub kinds: Vec<u8>,
+    pub literals: Vec<i32>,
+    pub preferences: Vec<u8>,
+    pub universal_rows: Vec<u8>,
+    pub universal_marks: Vec<u16>,
+    pub existential_rows: Vec<u8>,
+    pub existential_marks: Vec<u16>,
+    pub work: Vec<u8>,
+    pub limit: u32,
+}
+
+/// What a run returns and leaves.
+pub struct Left {
+    pub number: u64,
+    pub round: u32,
+    pub universal: usize,
+    pub existential: usize,
+    pub universal_rows: Vec<u8>,
+    pub universal_marks: Vec<u16>,
+    pub existential_rows: Vec<u8>,
+    pub existential_marks: Vec<u16>,
+    pub work: Vec<u8>,
+}
+
+impl Given {
+    fn cause(&self) -> Option<u32> {
+        if let Some(cause) = formula_cause(&self.kinds, &self.literals) {
+            return Some(cause);
+        }
+        let side_fits = |rows: &[u8], marks: &[u16]| rows_fit(rows.len()) && marks.len() == rows.len() / 16;
+        if !side_fits(&self.universal_rows, &self.universal_marks) || !side_fits(&self.existential_rows, &self.existential_marks) {
+            return Some(4);
+        }
+        if self.work.len() != WORK {
+            return Some(5);
+        }
+        if self.limit == 0 {
+            return Some(6);
+        }
+        None
+    }
+
+    pub fn left(&self, looks: usize) -> Result<Left, TooLong> {
+        let mut left = Left {
+            number: 0,
+            round: 0,
+            universal: 0,
+            existential: 0,
+            universal_rows: self.universal_rows.clone(),
+            universal_marks: self.universal_marks.clone(),
+            existential_rows: self.existential_rows.clone(),
+            existential_marks: self.existential_marks.clone(),
+            work: self.work.clone(),
+        };
+        if let Some(cause) = self.cause() {
+            left.number = 100 + u64::from(cause);
+            return Ok(left);
+        }
+        let room = (self.universal_marks.len(), self.existential_marks.len());
+        let outcome = rounds(&self.kinds, &clauses(&self.literals), &self.preferences, room, self.limit, looks)?;
+        left.number = outcome.answer;
+        left.round = outcome.round;
+        left.universal = outcome.universal.rows.len();
+        left.existential = outcome.existential.rows.len();
+        write(&outcome.universal, &mut left.universal_rows, &mut left.universal_marks);
+        write(&outcome.existential, &mut left.existential_rows, &mut left.existential_marks);
+        left.work = vec![0; WORK];
+        Ok(left)
+    }
+}
+
+/// The table's rows and marks; what stands behind them stays.
+fn write(table: &Table, rows: &mut [u8], marks: &mut [u16]) {
+    for (i, row) in table.rows.iter().enumerate() {
+        rows[16 * i..16 * i + 16].copy_from_slice(&encoded(row));
+        marks[i] = table.marks[i];
+    }
+}
