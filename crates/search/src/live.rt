@@ -47,7 +47,7 @@ fn dead(codes: &[u16], work: &[u8], sets: &mut [u64], hints: &mut [u16], i: usiz
     if lives(codes, work, i, wide16(hints[i])) {
         return false;
     }
-    let start = first_live(codes, work, i);
+    let start = other_live(codes, work, hints, i);
     if start < codes.len() {
         hints[i] = start as u16;
         return false;
@@ -86,13 +86,31 @@ fn holds(work: &[u8], i: usize, c: usize) -> bool
     }
 }
 
-// The start of the first clause without a true literal in row i; the number of entries if there is none.
-fn first_live(codes: &[u16], work: &[u8], i: usize) -> usize
+// The start of another clause without a true literal in row i: that of the row before, the next one behind row i's, or the first one. At
+// least the number of entries if there is none.
+fn other_live(codes: &[u16], work: &[u8], hints: &[u16], i: usize) -> usize
+    requires { ⌜ (length (now work) ≡ 65536) × (length (now hints) ≡ 8707) × (i < 256) × Coded 128 (now codes) ⌝ }
+{
+    if i > 0 {
+        let near = wide16(hints[i - 1]);
+        if lives(codes, work, i, near) {
+            return near;
+        }
+    }
+    let next = next_live(codes, work, i, wide16(hints[i]));
+    if next < codes.len() {
+        return next;
+    }
+    next_live(codes, work, i, 0)
+}
+
+// The start of the first clause from `from` on without a true literal in row i; at least the number of entries if there is none.
+fn next_live(codes: &[u16], work: &[u8], i: usize, from: usize) -> usize
     requires { ⌜ (length (now work) ≡ 65536) × (i < 256) × Coded 128 (now codes) ⌝ }
 {
-    let mut start = 0;
+    let mut start = from;
     let mut dead = false;
-    let mut e = 0;
+    let mut e = from;
     while e < codes.len() {
         let c = wide16(codes[e]);
         e += 1;
@@ -103,7 +121,7 @@ fn first_live(codes: &[u16], work: &[u8], i: usize) -> usize
             } else {
                 return start;
             }
-        } else if holds(work, i, c) {
+        } else if dead {} else if holds(work, i, c) {
             dead = true;
         }
     }

@@ -20,8 +20,8 @@ lives-requires c κs = search needs
 returns : tie.Need-returns
 returns c = row-lives (c .before .before .before .before .before .before .before .before .args .codes .now) (c .before .before .before .before .before .before .before .before .args .work .now) (c .before .before .before .before .before .before .before .before .args .i) (c .before .before .before .before .before .before .before .before .args .sets .now)
 
-first-live-requires : tie.Need-first-live-requires
-first-live-requires c κs = search needs
+other-live-requires : tie.Need-other-live-requires
+other-live-requires c κs = search needs
 
 cast-hints : tie.Need-cast-hints
 cast-hints c = omega arith
@@ -36,7 +36,7 @@ same-length : tie.Need-same-length
 same-length c = search needs
 
 returns-2 : tie.Need-returns-2
-returns-2 c = row-lives (c .before .before .before .before .before .before .before .before .before .before .args .codes .now) (c .before .before .before .before .before .before .before .before .before .before .args .work .now) (c .before .before .before .before .before .before .before .before .before .before .args .i) (c .before .before .before .before .before .before .before .before .before .before .args .sets .now)
+returns-2 c = row-lives (c .before .before .before .before .before .before .before .before .before .before .before .args .codes .now) (c .before .before .before .before .before .before .before .before .before .before .before .args .work .now) (c .before .before .before .before .before .before .before .before .before .before .before .args .i) (c .before .before .before .before .before .before .before .before .before .before .before .args .sets .now)
 
 empty-requires : tie.Need-empty-requires
 empty-requires c κs = search needs
@@ -47,8 +47,11 @@ blame-requires c κs = search needs
 same-length-2 : tie.Need-same-length-2
 same-length-2 c = search needs
 
+same-length-3 : tie.Need-same-length-3
+same-length-3 c = search needs
+
 returns-3 : tie.Need-returns-3
-returns-3 c = row-dead (c .before .before .before .before .before .before .before .before .before .before .before .before .before .before .before .before .before .before .args .codes .now) (c .before .before .before .before .before .before .before .before .before .before .before .before .before .before .before .before .before .before .args .work .now) (c .before .before .before .before .before .before .before .before .before .before .before .before .before .before .before .before .before .before .args .i) (c .before .before .before .before .before .before .before .before .before .before .before .before .before .before .before .before .before .before .args .sets .now) _ _ _ (c .before .before .before .before .before .before .empty .ensures) (c .before .before .blame .ensures)
+returns-3 c = row-dead (c .before .before .before .before .before .before .before .before .before .before .before .before .before .before .before .before .before .before .before .args .codes .now) (c .before .before .before .before .before .before .before .before .before .before .before .before .before .before .before .before .before .before .before .args .work .now) (c .before .before .before .before .before .before .before .before .before .before .before .before .before .before .before .before .before .before .before .args .i) (c .before .before .before .before .before .before .before .before .before .before .before .before .before .before .before .before .before .before .before .args .sets .now) _ _ _ (c .before .before .before .before .before .before .empty .ensures) (c .before .before .blame .ensures)
 
 pub dead-spec : {M : Type 1} → statement M
 dead-spec =
@@ -59,7 +62,7 @@ dead-spec =
     wide16-requires
     lives-requires
     returns
-    first-live-requires
+    other-live-requires
     cast-hints
     mul-hints
     slice-write-hints
@@ -68,4 +71,5 @@ dead-spec =
     empty-requires
     blame-requires
     same-length-2
+    same-length-3
     returns-3)
