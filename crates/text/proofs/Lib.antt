@@ -3,6 +3,7 @@ pub mod Spans
 pub mod Pieces
 pub mod Words
 pub mod Tables
+pub mod Places
 pub mod Negation
 pub mod LineLaws
 pub mod ShapeLaws

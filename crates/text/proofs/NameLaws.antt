@@ -5,7 +5,7 @@ use mathlib.Core.Bool.{Bool, true, false, cond, not}
 use mathlib.Core.List.{List, _∷_}
 use native.Mathlib.Numerals.{add-one}
 use native.Mathlib.Omega.{arith}
-use borrow.Author.Tests.{eq-eqb, ne-eqb, ltb-true, ltb-false}
+use borrow.Author.Tests.{eq-eqb, ne-eqb, eqb-true, ltb-true, ltb-false}
 use lib.Dec.{eqb, ltb}
 use lib.IntN.{ℤ}
 use lib.ListN.{length, take, set}
@@ -13,34 +13,41 @@ use lib.Seq.{take-suc-set, length-take-le}
 use Rattle.formula.specs.Formula.{max-unknowns, max-entries}
 use Rattle.text.specs.Lines.{Bytes}
 use Rattle.text.specs.Numbers.{number, unsigned, is-zero}
-use Rattle.text.specs.Reading.{State, Step, went, unless, position, name-cause, with-prefix, bind, bind-all, literal-cause, entry, with-literals, add-entry, add-entries}
+use Rattle.text.specs.Reading.{State, Step, went, unless, position, name-cause, with-prefix, bind, bind-all, room-cause, literal-cause, entry, with-literals, add-entry, add-entries}
 
 pub refused-alike : (cause : ℕ) → (cause ≡ 0 → ⊥) → (t u : Step) → unless cause t ≡ unless cause u
 refused-alike zero h t u = absurd (h refl)
 refused-alike (suc c) h t u = refl
 
--- A name with no cause is at most V, and there is room for it.
-pub name-cause-zero : (variables : ℕ) (names : List ℕ) (v : ℕ) → name-cause variables names v ≡ 0 → (v ≤ variables) × (length names < max-unknowns)
+-- A name with no cause is at most V and not bound, and there is room for it.
+pub name-cause-zero : (variables : ℕ) (names : List ℕ) (v : ℕ) → name-cause variables names v ≡ 0 → (v ≤ variables) × (length names < max-unknowns) × (position v names ≡ 0)
 unfolding name-cause
-name-cause-zero variables names v h = go (ltb variables v) (not (eqb (position v names) 0)) (ltb (length names) max-unknowns) refl refl h
+name-cause-zero variables names v h = go (ltb variables v) (eqb (position v names) 0) (ltb (length names) max-unknowns) refl refl refl h
   where
-    go : (a b c : Bool) → ltb variables v ≡ a → ltb (length names) max-unknowns ≡ c → _≡_ {A = ℕ} (cond a 11 (cond b 12 (cond c 0 14))) 0 → (v ≤ variables) × (length names < max-unknowns)
-    go true b c p q h = absurd (omega arith)
-    go false true c p q h = absurd (omega arith)
-    go false false true p q h = (ltb-false variables v p, ltb-true (length names) max-unknowns q)
-    go false false false p q h = absurd (omega arith)
+    go : (a b c : Bool) → ltb variables v ≡ a → eqb (position v names) 0 ≡ b → ltb (length names) max-unknowns ≡ c → _≡_ {A = ℕ} (cond a 11 (cond (not b) 12 (cond c 0 14))) 0
+        → (v ≤ variables) × (length names < max-unknowns) × (position v names ≡ 0)
+    go true b c p e q h = absurd (omega arith)
+    go false false c p e q h = absurd (omega arith)
+    go false true true p e q h = (ltb-false variables v p, ltb-true (length names) max-unknowns q, eqb-true (position v names) 0 e)
+    go false true false p e q h = absurd (omega arith)
+
+pub room-cause-zero : (used : ℕ) → room-cause used ≡ 0 → used < max-entries
+room-cause-zero used h = go (ltb used max-entries) refl h
+  where
+    go : (t : Bool) → ltb used max-entries ≡ t → _≡_ {A = ℕ} (cond t 0 14) 0 → used < max-entries
+    go true q h = ltb-true used max-entries q
+    go false q h = absurd (omega arith)
 
 pub literal-cause-zero : (variables : ℕ) (names : List ℕ) (used : ℕ) (w : Bytes) → literal-cause variables names used w ≡ 0 → used < max-entries
 unfolding literal-cause
 literal-cause-zero variables names used w h =
-    go (is-zero w) (ltb variables (number (unsigned w))) (eqb (position (number (unsigned w)) names) 0) (ltb used max-entries) refl h
+    go (is-zero w) (ltb variables (number (unsigned w))) (eqb (position (number (unsigned w)) names) 0) h
   where
-    go : (a b c d : Bool) → ltb used max-entries ≡ d → _≡_ {A = ℕ} (cond a (cond d 0 14) (cond b 11 (cond c 13 (cond d 0 14)))) 0 → used < max-entries
-    go a b c true q h = ltb-true used max-entries q
-    go true b c false q h = absurd (omega arith)
-    go false true c false q h = absurd (omega arith)
-    go false false true false q h = absurd (omega arith)
-    go false false false false q h = absurd (omega arith)
+    go : (a b c : Bool) → _≡_ {A = ℕ} (cond a (room-cause used) (cond b 11 (cond c 13 (room-cause used)))) 0 → used < max-entries
+    go true b c h = room-cause-zero used h
+    go false true c h = absurd (omega arith)
+    go false false true h = absurd (omega arith)
+    go false false false h = room-cause-zero used h
 
 module _ (kind count v : ℕ) (K N : List ℕ) (w : Bytes) (ws : List Bytes) (value : v ≡ number w) (s : State) where
   pub bind-ended : v ≡ 0 → bind-all kind (with-prefix s (take count K) (take count N)) (w ∷ ws) ≡ went (with-prefix s (take count K) (take count N))
@@ -59,15 +66,15 @@ module _ (kind count v : ℕ) (K N : List ℕ) (w : Bytes) (ws : List Bytes) (va
         ≡ bind-all kind (with-prefix s (take (count + 1) (set K count kind)) (take (count + 1) (set N count v))) ws
     bind-taken h k n = bind-step ∙ rw (h, add-one, take-suc-set K count kind k, take-suc-set N count v n) refl
 
-module _ (variables cause count : ℕ) (names : List ℕ) (L : List ℤ) (w : Bytes) (ws : List Bytes) (s : State)
-    (same : s .variables ≡ variables) (alike : s .names ≡ names) (fits : count ≤ length L) (found : cause ≡ literal-cause variables names count w) where
+module _ (variables cause count : ℕ) (L : List ℤ) (w : Bytes) (ws : List Bytes) (s : State)
+    (same : s .variables ≡ variables) (fits : count ≤ length L) (found : cause ≡ literal-cause variables (s .names) count w) where
   add-step : add-entries (with-literals s (take count L)) (w ∷ ws)
-      ≡ unless cause (add-entries (add-entry (with-literals s (take count L)) (entry names w)) ws)
-  add-step = rw (length-take-le count L fits, found, ← same, ← alike) refl
+      ≡ unless cause (add-entries (add-entry (with-literals s (take count L)) (entry (s .names) w)) ws)
+  add-step = rw (length-take-le count L fits, found, ← same) refl
 
   pub add-refused : (cause ≡ 0 → ⊥) → (t : Step) → add-entries (with-literals s (take count L)) (w ∷ ws) ≡ unless cause t
-  add-refused h t = add-step ∙ refused-alike cause h (add-entries (add-entry (with-literals s (take count L)) (entry names w)) ws) t
+  add-refused h t = add-step ∙ refused-alike cause h (add-entries (add-entry (with-literals s (take count L)) (entry (s .names) w)) ws) t
 
-  pub add-taken : cause ≡ 0 → count < length L → (z : ℤ) → z ≡ entry names w
+  pub add-taken : cause ≡ 0 → count < length L → (z : ℤ) → z ≡ entry (s .names) w
       → add-entries (with-literals s (take count L)) (w ∷ ws) ≡ add-entries (with-literals s (take (count + 1) (set L count z))) ws
   add-taken h k z e = add-step ∙ rw (h, add-one, take-suc-set L count z k, e) refl

@@ -9,7 +9,7 @@ use borrow.Author.Tests.{eq-eqb, ne-eqb, ltb-false}
 use lib.Dec.{eqb, ltb}
 use lib.ListN.{take, drop}
 use Rattle.text.specs.Lines.{Bytes, words, first, rest}
-use Rattle.text.specs.Numbers.{number, no-number}
+use Rattle.text.specs.Numbers.{no-number, is-zero}
 use Rattle.text.specs.Shapes.{is-empty, closed-by-zero}
 use Rattle.text.specs.Steps.{Next, range-cause}
 use Rattle.text.specs.Reading.{max-variables}
@@ -28,14 +28,14 @@ next-empty {line} {i} {start} {end} n = go (decLt start end)
     go (no h) = let e : start ≡ end = omega (arith, n .ordered) in rw (n .none e, eq-eqb start end e) refl
 
 module _ (good : Bytes → Bool) (w : Bytes) (ws : List Bytes) where
-  pub closed-zero : number w ≡ 0 → closed-by-zero good (w ∷ ws) ≡ is-empty ws
-  closed-zero h = rw (eq-eqb (number w) 0 h) refl
+  pub closed-zero : is-zero w ≡ true → closed-by-zero good (w ∷ ws) ≡ is-empty ws
+  closed-zero h = rw h refl
 
-  pub closed-bad : (number w ≡ 0 → ⊥) → good w ≡ false → closed-by-zero good (w ∷ ws) ≡ false
-  closed-bad h k = rw (ne-eqb (number w) 0 h, k) refl
+  pub closed-bad : is-zero w ≡ false → good w ≡ false → closed-by-zero good (w ∷ ws) ≡ false
+  closed-bad h k = rw (h, k) refl
 
-  pub closed-more : (number w ≡ 0 → ⊥) → good w ≡ true → closed-by-zero good (w ∷ ws) ≡ closed-by-zero good ws
-  closed-more h k = rw (ne-eqb (number w) 0 h, k) refl
+  pub closed-more : is-zero w ≡ false → good w ≡ true → closed-by-zero good (w ∷ ws) ≡ closed-by-zero good ws
+  closed-more h k = rw (h, k) refl
 
 pub range-small : (v c : ℕ) → range-cause v c ≡ 0 → v ≤ max-variables
 unfolding range-cause

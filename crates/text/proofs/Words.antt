@@ -1,17 +1,17 @@
 -- Words compared, and their decimal value, at a place in the word. Assumes nothing.
 use Prim.Native.Nat.{ℕ, suc, _+_, _-_, _*_, _^_, _≤_, _<_}
-use mathlib.Core.Path.{_≡_, refl, ap}
+use mathlib.Core.Path.{_≡_, refl, ap, sym, _∙_}
 use mathlib.Core.Bool.{Bool, true, false, cond, _&&_, false≢true}
 use mathlib.Core.List.{[], _∷_}
 use native.Mathlib.Nat.{pow-suc, pow-le-pow-right}
 use native.Mathlib.Numerals.{add-one}
 use native.Mathlib.Omega.{arith}
-use borrow.Author.Tests.{eq-eqb, ne-eqb, le-leb, lt-leb}
-use lib.Dec.{eqb}
+use borrow.Author.Tests.{eq-eqb, ne-eqb, eqb-true, eqb-false, leb-true, leb-false, le-leb, lt-leb}
+use lib.Dec.{leb, eqb}
 use lib.ListN.{length, getD, take, drop, length-drop, drop-of-length-le}
 use lib.Seq.{drop-cons, take-all}
 use Rattle.text.specs.Lines.{Bytes, same}
-use Rattle.text.specs.Numbers.{all-digits, value, no-number, number-shape, number, negative, unsigned}
+use Rattle.text.specs.Numbers.{is-digit, all-digits, is-zero, value, no-number, number-shape, number, negative, unsigned}
 
 and-false : (a : Bool) → (a && false) ≡ false
 and-false true = refl
@@ -78,6 +78,48 @@ module _ (w : Bytes) where
     pub number-decimal : (length w ≡ 1 → ⊥) → (getD w 0 0 ≡ 48 → ⊥) → number w ≡ decimal-from 0 w
     unfolding number number-shape
     number-decimal h k = rw (le-leb 1 (length w) one, le-leb (length w) 5 five, ne-eqb (length w) 1 h, ne-eqb (getD w 0 0) 48 k) refl
+
+-- A number is 0 only as the single digit 0.
+value-some : (v : ℕ) (w : Bytes) → 1 ≤ v → decimal-from v w ≡ 0 → ⊥
+value-some v [] h e = omega arith
+value-some v (d ∷ ds) h e = go (is-digit d) (value-some (v * 10 + (d - 48)) ds (omega arith)) e
+  where
+    go : (t : Bool) → (decimal-from (v * 10 + (d - 48)) ds ≡ 0 → ⊥) → _≡_ {A = ℕ} (cond (t && all-digits ds) (value (v * 10 + (d - 48)) ds) no-number) 0 → ⊥
+    go true ih e = ih e
+    go false ih e = omega arith
+
+first-some : (d : ℕ) (ds : Bytes) → (d ≡ 48 → ⊥) → decimal-from 0 (d ∷ ds) ≡ 0 → ⊥
+first-some d ds h e = go (leb 48 d) (leb d 57) refl e
+  where
+    go : (a b : Bool) → leb 48 d ≡ a → _≡_ {A = ℕ} (cond ((a && b) && all-digits ds) (value (0 * 10 + (d - 48)) ds) no-number) 0 → ⊥
+    go true true p e = value-some (0 * 10 + (d - 48)) ds (omega (arith, leb-true 48 d p)) e
+    go true false p e = omega arith
+    go false b p e = omega arith
+
+longer-some : (w : Bytes) → (length w ≡ 1 → ⊥) → number w ≡ 0 → ⊥
+longer-some [] h e = omega (arith, number-short [] (omega arith))
+longer-some (d ∷ ds) h e = go (leb (length (d ∷ ds)) 5) (eqb d 48) refl refl
+  where
+    go : (a b : Bool) → leb (length (d ∷ ds)) 5 ≡ a → eqb d 48 ≡ b → ⊥
+    go false b p q = omega (arith, number-long (d ∷ ds) (leb-false (length (d ∷ ds)) 5 p))
+    go true true p q = omega (arith, number-leading (d ∷ ds) (omega arith) (leb-true (length (d ∷ ds)) 5 p) h (eqb-true d 48 q))
+    go true false p q =
+        first-some d ds (eqb-false d 48 q) (sym (number-decimal (d ∷ ds) (omega arith) (leb-true (length (d ∷ ds)) 5 p) h (eqb-false d 48 q)) ∙ e)
+
+pub zero-longer : (w : Bytes) → (length w ≡ 1 → ⊥) → is-zero w ≡ false
+zero-longer w h = ne-eqb (number w) 0 (longer-some w h)
+
+pub zero-single : (w : Bytes) → length w ≡ 1 → is-zero w ≡ eqb (getD w 0 0) 48
+zero-single [] h = absurd (omega arith)
+zero-single (d ∷ y ∷ ys) h = absurd (omega arith)
+zero-single (d ∷ []) h = go (eqb d 48) refl
+  where
+    one : number (d ∷ []) ≡ decimal-from 0 (d ∷ [])
+    one = number-single (d ∷ []) (omega arith) (omega arith) h
+
+    go : (t : Bool) → eqb d 48 ≡ t → is-zero (d ∷ []) ≡ t
+    go true q = eq-eqb (number (d ∷ [])) 0 (one ∙ rw (eqb-true d 48 q) refl)
+    go false q = ne-eqb (number (d ∷ [])) 0 (λ e. first-some d [] (eqb-false d 48 q) (sym one ∙ e))
 
 pub minus-inside : (w : Bytes) → negative w ≡ true → 1 ≤ length w
 minus-inside [] h = absurd (false≢true h)

@@ -5,13 +5,13 @@ use mathlib.Core.Bool.{Bool, true, false, cond, _&&_}
 use mathlib.Core.List.{List, [], _∷_}
 use lib.Dec.{eqb, ltb}
 use lib.IntN.{ℤ}
-use lib.ListN.{length, take, drop}
+use lib.ListN.{length, getD, take, drop}
 use Rattle.formula.specs.Formula.{max-unknowns, max-clauses, max-entries}
 use Rattle.text.specs.declared.body.Counts.{Counts}
 use Rattle.text.specs.Lines.{Bytes, lines, words, first, rest, second, third, fourth, same}
 use Rattle.text.specs.Numbers.{number, no-number, is-name, is-literal}
 use Rattle.text.specs.Shapes.{is-trimmed, p-word, cnf-word}
-use Rattle.text.specs.Reading.{max-variables, State, Step, went, unless, with-prefix, with-literals, bind-all, add-entries, literal-cause, entry, problem-cause, problem, after-comments, Result, taken, refused}
+use Rattle.text.specs.Reading.{max-variables, position, State, Step, went, unless, with-prefix, with-literals, bind-all, add-entries, literal-cause, entry, problem-cause, problem, after-comments, Result, taken, refused}
 
 -- The number of bytes before the first b.
 abbrev pub more-if-not : Bool → ℕ → ℕ
@@ -61,21 +61,32 @@ pub record Problem-read (line : Bytes) (cause variables clauses : ℕ) : Type 0 
   pub c : clauses ≡ number (fourth (words line))
   pub small : cause ≡ 0 → variables ≤ max-variables
 
+-- The table of places has an entry for each name, and one for 0.
+abbrev pub max-places : ℕ
+max-places = 32768
+
+-- Each entry of the places is that name's position among the names bound.
+pub record Indexed (names P : List ℕ) : Type 0 where
+  pub size : length P ≡ max-places
+  pub right : (v : ℕ) → v ≤ max-variables → getD P v 0 ≡ position v names
+
 -- The names of a prefix line from i on are bound: of the tables n entries were used and `count` are.
-pub record Bound-all (line : Bytes) (i kind variables n : ℕ) (K N : List ℕ) (cause count : ℕ) (K′ N′ : List ℕ) : Type 0 where
+pub record Bound-all (line : Bytes) (i kind variables n : ℕ) (K N : List ℕ) (cause count : ℕ) (K′ N′ P′ : List ℕ) : Type 0 where
   pub room : count ≤ max-unknowns
+  pub indexed : Indexed (take count N′) P′
   pub right : (s : State) → s .variables ≡ variables
       → unless cause (went (with-prefix s (take count K′) (take count N′))) ≡ bind-all kind (with-prefix s (take n K) (take n N)) (words (drop i line))
 
 -- A word of a clause line, with its literal by position.
-pub record Placed (variables : ℕ) (names : List ℕ) (used : ℕ) (w : Bytes) (cause : ℕ) (literal : ℤ) : Type 0 where
-  pub right : cause ≡ literal-cause variables names used w
-  pub written : cause ≡ 0 → literal ≡ entry names w
+pub record Placed (variables : ℕ) (P : List ℕ) (used : ℕ) (w : Bytes) (cause : ℕ) (literal : ℤ) : Type 0 where
+  pub room : cause ≡ 0 → used < max-entries
+  pub right : (names : List ℕ) → Indexed names P → cause ≡ literal-cause variables names used w
+  pub written : (names : List ℕ) → Indexed names P → cause ≡ 0 → literal ≡ entry names w
 
 -- The entries of a clause line are added: of the literals m entries were used and `count` are.
-pub record Added-all (line : Bytes) (variables m : ℕ) (names : List ℕ) (L : List ℤ) (cause count : ℕ) (L′ : List ℤ) : Type 0 where
+pub record Added-all (line : Bytes) (variables m : ℕ) (P : List ℕ) (L : List ℤ) (cause count : ℕ) (L′ : List ℤ) : Type 0 where
   pub room : count ≤ max-entries
-  pub right : (s : State) → s .variables ≡ variables → s .names ≡ names
+  pub right : (s : State) → s .variables ≡ variables → Indexed (s .names) P
       → unless cause (went (with-literals s (take count L′))) ≡ add-entries (with-literals s (take m L)) (words line)
 
 -- The tables are as long as a formula may be, and what is used of them is within.
@@ -101,8 +112,9 @@ unfoldable pub outcome : Counts → List ℕ → List ℕ → List ℤ → Resul
 outcome c K N L = settled (c .cause) (c .line) (held c K N L)
 
 -- A line is read: what is held afterwards is what was to be expected of it.
-pub record Line-read (expected : Step) (c r : Counts) (K′ N′ : List ℕ) (L′ : List ℤ) : Type 0 where
+pub record Line-read (expected : Step) (c r : Counts) (K′ N′ P′ : List ℕ) (L′ : List ℤ) : Type 0 where
   pub sized : Sized r K′ N′ L′
+  pub indexed : Indexed (take (r .unknowns) N′) P′
   pub line : r .line ≡ c .line
   pub right : unless (r .cause) (went (held r K′ N′ L′)) ≡ expected
 

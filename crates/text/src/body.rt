@@ -5,12 +5,12 @@ ghost use mathlib.Core.Bool.{_&&_};
 ghost use lib.Dec.{eqb};
 ghost use lib.IntN.{ℤ};
 ghost use Prim.Native.Nat.{ℕ, _+_, _≤_};
-ghost use lib.ListN.{length, drop};
+ghost use lib.ListN.{length, take, drop};
 ghost use Rattle.formula.specs.Formula.{max-unknowns, max-entries};
 ghost use Rattle.text.specs.Lines.{lines, words};
 ghost use Rattle.text.specs.Shapes.{is-prefix};
 ghost use Rattle.text.specs.Reading.{max-variables, body as lines-read, body-line as line-read, prefix-line as prefix-read, clause-line as clause-read, kind-of-word};
-ghost use Rattle.text.specs.Steps.{Sized, held, Line-read, All-read};
+ghost use Rattle.text.specs.Steps.{max-places, Indexed, Sized, held, Line-read, All-read};
 use crate::lines;
 use crate::names;
 use crate::numbers;
@@ -42,7 +42,7 @@ pub(crate) fn refused(cause: u32, line: usize) -> Counts
     }
 }
 
-// Reads the lines from `start` on.
+// Reads the lines from `start` on, before which nothing is bound.
 pub(crate) fn read_body(
     text: &[u8],
     start: usize,
@@ -52,6 +52,24 @@ pub(crate) fn read_body(
     names: &mut [u16],
 ) -> Counts
     requires { ⌜ Sized c (now kinds) (now names) (now literals) ⌝ }
+    requires { ⌜ (start ≤ length (now text)) × (c .line ≤ start + 1) × (c .cause ≡ 0) × (c .unknowns ≡ 0) ⌝ }
+    ensures { λ r. ⌜ All-read (lines-read (held c (now (kinds .entry)) (now (names .entry)) (now (literals .entry))) (c .line) (lines (drop start (now (text .entry))))) r (now (kinds .exit)) (now (names .exit)) (now (literals .exit)) ⌝ }
+{
+    let mut places = [0u8; names::PLACES];
+    read_lines(text, start, c, kinds, literals, names, &mut places)
+}
+
+// Reads the lines from `start` on.
+fn read_lines(
+    text: &[u8],
+    start: usize,
+    c: Counts,
+    kinds: &mut [u8],
+    literals: &mut [i32],
+    names: &mut [u16],
+    places: &mut [u8],
+) -> Counts
+    requires { ⌜ Sized c (now kinds) (now names) (now literals) × Indexed (take (c .unknowns) (now names)) (now places) ⌝ }
     requires { ⌜ (start ≤ length (now text)) × (c .line ≤ start + 1) × (c .cause ≡ 0) ⌝ }
     ensures { λ r. ⌜ All-read (lines-read (held c (now (kinds .entry)) (now (names .entry)) (now (literals .entry))) (c .line) (lines (drop start (now (text .entry))))) r (now (kinds .exit)) (now (names .exit)) (now (literals .exit)) ⌝ }
 {
@@ -63,7 +81,7 @@ pub(crate) fn read_body(
             s.cause = 10;
             return s;
         }
-        s = body_line(&text[at..end], s, kinds, literals, names);
+        s = body_line(&text[at..end], s, kinds, literals, names, places);
         if s.cause != 0 {
             return s;
         }
@@ -83,15 +101,16 @@ fn body_line(
     kinds: &mut [u8],
     literals: &mut [i32],
     names: &mut [u16],
+    places: &mut [u8],
 ) -> Counts
-    requires { ⌜ Sized c (now kinds) (now names) (now literals) ⌝ }
-    ensures { λ r. ⌜ Line-read (line-read (held c (now (kinds .entry)) (now (names .entry)) (now (literals .entry))) (now (line .entry))) c r (now (kinds .exit)) (now (names .exit)) (now (literals .exit)) ⌝ }
+    requires { ⌜ Sized c (now kinds) (now names) (now literals) × Indexed (take (c .unknowns) (now names)) (now places) ⌝ }
+    ensures { λ r. ⌜ Line-read (line-read (held c (now (kinds .entry)) (now (names .entry)) (now (literals .entry))) (now (line .entry))) c r (now (kinds .exit)) (now (names .exit)) (now (places .exit)) (now (literals .exit)) ⌝ }
 {
     if binds(line, c.clauses_read) {
-        return prefix_line(line, c, kinds, names);
+        return prefix_line(line, c, kinds, names, places);
     }
     if shapes::is_clause(line) {
-        return clause_line(line, c, literals, names);
+        return clause_line(line, c, literals, places);
     }
     let mut s = c;
     s.cause = 10;
@@ -110,15 +129,30 @@ fn binds(line: &[u8], done: usize) -> bool
 }
 
 // Reads a prefix line.
-fn prefix_line(line: &[u8], c: Counts, kinds: &mut [u8], names: &mut [u16]) -> Counts
-    requires { ⌜ (length (now kinds) ≡ max-unknowns) × (length (now names) ≡ max-unknowns) × (c .unknowns ≤ max-unknowns) × (c .variables ≤ max-variables) ⌝ }
-    ensures { λ r. ⌜ ((L : List ℤ) → Sized c (now (kinds .entry)) (now (names .entry)) L → Line-read (prefix-read (held c (now (kinds .entry)) (now (names .entry)) L) (words (now (line .entry)))) c r (now (kinds .exit)) (now (names .exit)) L) ⌝ }
+fn prefix_line(
+    line: &[u8],
+    c: Counts,
+    kinds: &mut [u8],
+    names: &mut [u16],
+    places: &mut [u8],
+) -> Counts
+    requires { ⌜ (length (now kinds) ≡ max-unknowns) × (length (now names) ≡ max-unknowns) × (c .unknowns ≤ max-unknowns) × (c .variables ≤ max-variables) × Indexed (take (c .unknowns) (now names)) (now places) ⌝ }
+    ensures { λ r. ⌜ ((L : List ℤ) → Sized c (now (kinds .entry)) (now (names .entry)) L → Line-read (prefix-read (held c (now (kinds .entry)) (now (names .entry)) L) (words (now (line .entry)))) c r (now (kinds .exit)) (now (names .exit)) (now (places .exit)) L) ⌝ }
 {
     let w = lines::next(line, 0);
     let start = w.start;
     let end = w.end;
     let kind = kind_of(&line[start..end]);
-    let used = names::bind_all(line, end, kind, c.variables, c.unknowns, kinds, names);
+    let used = names::bind_all(
+        line,
+        end,
+        kind,
+        c.variables,
+        c.unknowns,
+        kinds,
+        names,
+        places,
+    );
     let mut s = c;
     s.unknowns = used.count;
     s.cause = used.cause;
@@ -132,16 +166,16 @@ fn kind_of(word: &[u8]) -> u8
 }
 
 // Reads a clause line.
-fn clause_line(line: &[u8], c: Counts, literals: &mut [i32], names: &[u16]) -> Counts
-    requires { ⌜ (length (now names) ≡ max-unknowns) × (length (now literals) ≡ max-entries) × (c .unknowns ≤ max-unknowns) × (c .entries ≤ max-entries) ⌝ }
-    ensures { λ r. ⌜ ((K : List ℕ) → Sized c K (now (names .entry)) (now (literals .entry)) → Line-read (clause-read (held c K (now (names .entry)) (now (literals .entry))) (words (now (line .entry)))) c r K (now (names .entry)) (now (literals .exit))) ⌝ }
+fn clause_line(line: &[u8], c: Counts, literals: &mut [i32], places: &[u8]) -> Counts
+    requires { ⌜ (length (now places) ≡ max-places) × (length (now literals) ≡ max-entries) × (c .variables ≤ max-variables) × (c .entries ≤ max-entries) ⌝ }
+    ensures { λ r. ⌜ ((K N : List ℕ) → Sized c K N (now (literals .entry)) → Indexed (take (c .unknowns) N) (now (places .entry)) → Line-read (clause-read (held c K N (now (literals .entry))) (words (now (line .entry)))) c r K N (now (places .entry)) (now (literals .exit))) ⌝ }
 {
     let mut s = c;
     if c.clauses <= c.clauses_read {
         s.cause = 14;
         return s;
     }
-    let used = names::add_entries(line, c.variables, c.unknowns, names, c.entries, literals);
+    let used = names::add_entries(line, c.variables, places, c.entries, literals);
     s.entries = used.count;
     s.cause = used.cause;
     s.clauses_read += 1;

@@ -1,13 +1,17 @@
 // Names bound, and the words of prefix and clause lines taken one by one.
 ghost use mathlib.Core.Path.{_≡_};
-ghost use Prim.Native.Nat.{_≤_};
+ghost use mathlib.Core.List.{List};
+ghost use Prim.Native.Nat.{ℕ, _≤_};
 ghost use lib.ListN.{length, take};
 ghost use Rattle.formula.specs.Formula.{max-unknowns, max-entries};
-ghost use Rattle.text.specs.Reading.{max-variables, position as place, name-cause as cause-of-name, room-cause as cause-of-room, signed as with-sign};
-ghost use Rattle.text.specs.Steps.{Bound-all, Placed, Added-all};
+ghost use Rattle.text.specs.Reading.{max-variables, name-cause as cause-of-name, room-cause as cause-of-room, signed as with-sign};
+ghost use Rattle.text.specs.Steps.{max-places, Indexed, Bound-all, Placed, Added-all};
 use crate::lines;
 use crate::numbers;
 use formula::Formula;
+
+// The table of places has an entry for each name, and one for 0: the name's position, 0 if it is not bound.
+pub(crate) const PLACES: usize = 32_768;
 
 // How far a line was taken: the entries used of its table, and a cause, 0 for none.
 pub(crate) struct Used {
@@ -24,9 +28,11 @@ pub(crate) fn bind_all(
     n: usize,
     kinds: &mut [u8],
     names: &mut [u16],
+    places: &mut [u8],
 ) -> Used
     requires { ⌜ (i ≤ length (now line)) × (n ≤ max-unknowns) × (variables ≤ max-variables) × (length (now kinds) ≡ max-unknowns) × (length (now names) ≡ max-unknowns) ⌝ }
-    ensures { λ r. ⌜ Bound-all (now (line .entry)) i kind variables n (now (kinds .entry)) (now (names .entry)) (r .cause) (r .count) (now (kinds .exit)) (now (names .exit)) ⌝ }
+    requires { ⌜ Indexed (take n (now names)) (now places) ⌝ }
+    ensures { λ r. ⌜ Bound-all (now (line .entry)) i kind variables n (now (kinds .entry)) (now (names .entry)) (r .cause) (r .count) (now (kinds .exit)) (now (names .exit)) (now (places .exit)) ⌝ }
 {
     let mut count = n;
     let mut at = i;
@@ -41,27 +47,28 @@ pub(crate) fn bind_all(
         if v == 0 {
             return Used { count, cause: 0 };
         }
-        let cause = name_cause(v, variables, count, names);
+        let cause = name_cause(v, variables, count, places);
         if cause != 0 {
             return Used { count, cause };
         }
         kinds[count] = kind;
         names[count] = v as u16;
         count += 1;
+        places[v] = count as u8;
         at = end;
     }
     Used { count, cause: 0 }
 }
 
-// The cause of a name in a prefix line.
-fn name_cause(v: usize, variables: usize, n: usize, names: &[u16]) -> u32
-    requires { ⌜ n ≤ length (now names) ⌝ }
-    ensures { λ r. ⌜ r ≡ cause-of-name variables (take n (now (names .entry))) v ⌝ }
+// The cause of a name in a prefix line, n names being bound.
+fn name_cause(v: usize, variables: usize, n: usize, places: &[u8]) -> u32
+    requires { ⌜ (variables ≤ max-variables) × (length (now places) ≡ max-places) ⌝ }
+    ensures { λ r. ⌜ ((names : List ℕ) → length names ≡ n → Indexed names (now (places .entry)) → r ≡ cause-of-name variables names v) ⌝ }
 {
     if variables < v {
         return 11;
     }
-    if position(v, n, names) != 0 {
+    if places[v] != 0 {
         return 12;
     }
     if n < Formula::UNKNOWNS {
@@ -70,17 +77,16 @@ fn name_cause(v: usize, variables: usize, n: usize, names: &[u16]) -> u32
     14
 }
 
-// Adds the entries of a clause line. Of the literals, m entries are used; of the names, n.
+// Adds the entries of a clause line. Of the literals, m entries are used.
 pub(crate) fn add_entries(
     line: &[u8],
     variables: usize,
-    n: usize,
-    names: &[u16],
+    places: &[u8],
     m: usize,
     literals: &mut [i32],
 ) -> Used
-    requires { ⌜ (n ≤ max-unknowns) × (length (now names) ≡ max-unknowns) × (m ≤ max-entries) × (length (now literals) ≡ max-entries) ⌝ }
-    ensures { λ r. ⌜ Added-all (now (line .entry)) variables m (take n (now (names .entry))) (now (literals .entry)) (r .cause) (r .count) (now (literals .exit)) ⌝ }
+    requires { ⌜ (variables ≤ max-variables) × (length (now places) ≡ max-places) × (m ≤ max-entries) × (length (now literals) ≡ max-entries) ⌝ }
+    ensures { λ r. ⌜ Added-all (now (line .entry)) variables m (now (places .entry)) (now (literals .entry)) (r .cause) (r .count) (now (literals .exit)) ⌝ }
 {
     let mut count = m;
     let mut at = 0;
@@ -92,7 +98,7 @@ pub(crate) fn add_entries(
             return Used { count, cause: 0 };
         }
         let word = &line[start..end];
-        let e = entry(word, variables, n, names, count);
+        let e = entry(word, variables, places, count);
         if e.cause != 0 {
             return Used {
                 count,
@@ -113,11 +119,11 @@ struct Written {
     literal: i32,
 }
 
-fn entry(word: &[u8], variables: usize, n: usize, names: &[u16], m: usize) -> Written
-    requires { ⌜ (n ≤ max-unknowns) × (length (now names) ≡ max-unknowns) ⌝ }
-    ensures { λ r. ⌜ Placed variables (take n (now (names .entry))) m (now (word .entry)) (r .cause) (r .literal) ⌝ }
+fn entry(word: &[u8], variables: usize, places: &[u8], m: usize) -> Written
+    requires { ⌜ (variables ≤ max-variables) × (length (now places) ≡ max-places) ⌝ }
+    ensures { λ r. ⌜ Placed variables (now (places .entry)) m (now (word .entry)) (r .cause) (r .literal) ⌝ }
 {
-    if numbers::number(word) == 0 {
+    if numbers::is_zero(word) {
         return Written {
             cause: room_cause(m),
             literal: 0,
@@ -130,7 +136,7 @@ fn entry(word: &[u8], variables: usize, n: usize, names: &[u16], m: usize) -> Wr
             literal: 0,
         };
     }
-    let p = position(v, n, names);
+    let p = places[v] as usize;
     if p == 0 {
         return Written {
             cause: 13,
@@ -152,26 +158,11 @@ fn room_cause(m: usize) -> u32
     14
 }
 
-// The literal of position p.
+// The literal of position p, which a byte holds.
 fn signed(negative: bool, p: usize) -> i32
-    requires { ⌜ p ≤ max-unknowns ⌝ }
+    requires { ⌜ p ≤ 255 ⌝ }
     ensures { λ r. ⌜ r ≡ with-sign negative p ⌝ }
 {
     let z = p as i32;
     if negative { -z } else { z }
-}
-
-// The position of a name among the first n, 0 if it is not there.
-fn position(v: usize, n: usize, names: &[u16]) -> usize
-    requires { ⌜ n ≤ length (now names) ⌝ }
-    ensures { λ r. ⌜ (r ≡ place v (take n (now (names .entry)))) × (r ≤ n) ⌝ }
-{
-    let mut i = 0;
-    while i < n {
-        if names[i] as usize == v {
-            return i + 1;
-        }
-        i += 1;
-    }
-    0
 }

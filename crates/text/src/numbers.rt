@@ -4,7 +4,7 @@ ghost use mathlib.Core.Bool.{cond};
 ghost use Prim.Native.Nat.{_≤_};
 ghost use lib.ListN.{length};
 ghost use Rattle.text.specs.Lines.{same as same-bytes};
-ghost use Rattle.text.specs.Numbers.{number as number-of, all-digits, value, no-number, is-name as name-shape, is-literal as literal-shape, negative as has-minus, unsigned};
+ghost use Rattle.text.specs.Numbers.{number as number-of, all-digits, value, no-number, is-zero as zero-shape, is-name as name-shape, is-literal as literal-shape, negative as has-minus, unsigned};
 
 // What stands for the value of a word that is no number.
 pub(crate) const NO_NUMBER: usize = 100_000;
@@ -65,6 +65,16 @@ fn decimal(word: &[u8]) -> usize
         i += 1;
     }
     v
+}
+
+// Whether a word is the number 0.
+pub(crate) fn is_zero(word: &[u8]) -> bool
+    ensures { λ r. ⌜ r ≡ zero-shape (now (word .entry)) ⌝ }
+{
+    if word.len() != 1 {
+        return false;
+    }
+    word[0] == b'0'
 }
 
 pub(crate) fn is_name(word: &[u8]) -> bool

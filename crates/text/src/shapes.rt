@@ -161,7 +161,7 @@ fn closed(line: &[u8], i: usize, signed: bool) -> bool
             return false;
         }
         let word = &line[start..end];
-        if numbers::number(word) == 0 {
+        if numbers::is_zero(word) {
             let after = lines::next(line, end);
             return after.start == after.end;
         }

@@ -65,7 +65,7 @@ add-read-body-2 c =
 read-body-requires : tie.Need-read-body-requires
 read-body-requires c κs =
     let inside : c .before .before .before .before .before .before .before .before .find .result < length (c .before .before .before .before .before .before .before .before .before .before .before .before .before .before .args .text .now) = omega (arith, before-le 10 (drop (c .before .before .before .before .before .before .before .before .before .before .comments .result .at) (c .before .before .before .before .before .before .before .before .before .before .before .before .before .before .args .text .now)), length-drop (c .before .before .before .before .before .before .before .before .before .before .comments .result .at) (c .before .before .before .before .before .before .before .before .before .before .before .before .before .before .args .text .now)) in
-    (record { kinds = c .before .before .before .before .before .before .before .before .before .before .before .before .before .before .pre .0; names = c .before .before .before .before .before .before .before .before .before .before .before .before .before .before .pre .1; literals = c .before .before .before .before .before .before .before .before .before .before .before .before .before .before .pre .2; unknowns = omega arith; entries = omega arith; variables = c .before .before .before .before .before .read-problem .ensures .small (c .before .before .before .if3 .left) }, (omega arith, omega (arith, c .before .before .before .before .before .before .before .before .before .before .comments .ensures .small), refl))
+    (record { kinds = c .before .before .before .before .before .before .before .before .before .before .before .before .before .before .pre .0; names = c .before .before .before .before .before .before .before .before .before .before .before .before .before .before .pre .1; literals = c .before .before .before .before .before .before .before .before .before .before .before .before .before .before .pre .2; unknowns = omega arith; entries = omega arith; variables = c .before .before .before .before .before .read-problem .ensures .small (c .before .before .before .if3 .left) }, (omega arith, omega (arith, c .before .before .before .before .before .before .before .before .before .before .comments .ensures .small), refl, refl))
 
 same-length : tie.Need-same-length
 same-length c = search needs

@@ -13,7 +13,7 @@ use Rattle.text.proofs.body.clause_line.Tie as tie
 
 returns : tie.Need-returns
 unfolding clause-line held
-returns c = λ K z. record { sized = resized refl refl refl z; line = refl; right = rw (le-ltb ((c .before .before .before .before .args .c) .«clauses_read») ((c .before .before .before .before .args .c) .clauses) (omega arith)) refl }
+returns c = λ K N z x. record { sized = resized refl refl refl z; indexed = x; line = refl; right = rw (le-ltb ((c .before .before .before .before .args .c) .«clauses_read») ((c .before .before .before .before .args .c) .clauses) (omega arith)) refl }
 
 add-entries-requires : tie.Need-add-entries-requires
 add-entries-requires c κs = search needs
@@ -26,13 +26,14 @@ same-length c = search needs
 
 returns-2 : tie.Need-returns-2
 unfolding clause-line held
-returns-2 c = λ K z.
-    let added = c .before .before .add-entries .ensures .right (held (c .before .before .before .before .before .before .before .before .args .c) K (c .before .before .before .before .before .before .before .before .args .names .now) (c .before .before .before .before .before .before .before .before .args .literals .now)) refl refl in
+returns-2 c = λ K N z x.
+    let added = c .before .before .add-entries .ensures .right (held (c .before .before .before .before .before .before .before .before .args .c) K N (c .before .before .before .before .before .before .before .before .args .literals .now)) refl x in
     record {
-      sized = record { kinds = z .kinds; names = z .names; literals = c .before .before .add-entries .kept .1 .1 .1 .1 .1 .0 ∙ z .literals; unknowns = z .unknowns; entries = c .before .before .add-entries .ensures .room; variables = z .variables };
+      sized = record { kinds = z .kinds; names = z .names; literals = c .before .before .add-entries .kept .1 .1 .1 .1 .0 ∙ z .literals; unknowns = z .unknowns; entries = c .before .before .add-entries .ensures .room; variables = z .variables };
+      indexed = x;
       line = refl;
       right = rw (lt-ltb ((c .before .before .before .before .before .before .before .before .args .c) .«clauses_read») ((c .before .before .before .before .before .before .before .before .args .c) .clauses) (omega arith), ← added)
-          (sym (clause-read-unless (c .before .before .add-entries .result .cause) (with-literals (held (c .before .before .before .before .before .before .before .before .args .c) K (c .before .before .before .before .before .before .before .before .args .names .now) (c .before .before .before .before .before .before .before .before .args .literals .now)) (take (c .before .before .add-entries .result .count) (c .before .before .add-entries .last .1 .1 .1 .1 .1 .0))) ∙ rw (← add-one ((c .before .before .before .before .before .before .before .before .args .c) .«clauses_read»)) refl));
+          (sym (clause-read-unless (c .before .before .add-entries .result .cause) (with-literals (held (c .before .before .before .before .before .before .before .before .args .c) K N (c .before .before .before .before .before .before .before .before .args .literals .now)) (take (c .before .before .add-entries .result .count) (c .before .before .add-entries .last .1 .1 .1 .1 .0))) ∙ rw (← add-one ((c .before .before .before .before .before .before .before .before .args .c) .«clauses_read»)) refl));
     }
 
 pub clause-line-spec : {M : Type 1} → statement M

@@ -30,14 +30,18 @@ same-length c = search needs
 same-length-2 : tie.Need-same-length-2
 same-length-2 c = search needs
 
+same-length-3 : tie.Need-same-length-3
+same-length-3 c = search needs
+
 returns : tie.Need-returns
 unfolding prefix-line held
 returns c = λ M z.
-    let bound = c .before .before .before .before .bind-all .ensures .right (held (c .before .before .before .before .before .before .before .before .before .before .before .before .before .args .c) (c .before .before .before .before .before .before .before .before .before .before .before .before .before .args .kinds .now) (c .before .before .before .before .before .before .before .before .before .before .before .before .before .args .names .now) M) refl in
+    let bound = c .before .before .before .before .before .before .bind-all .ensures .right (held (c .before .before .before .before .before .before .before .before .before .before .before .before .before .before .before .before .before .args .c) (c .before .before .before .before .before .before .before .before .before .before .before .before .before .before .before .before .before .args .kinds .now) (c .before .before .before .before .before .before .before .before .before .before .before .before .before .before .before .before .before .args .names .now) M) refl in
     record {
-      sized = record { kinds = c .before .before .before .before .bind-all .kept .1 .1 .1 .1 .1 .0 ∙ z .kinds; names = c .before .before .before .before .bind-all .kept .1 .1 .1 .1 .1 .1 .0 ∙ z .names; literals = z .literals; unknowns = c .before .before .before .before .bind-all .ensures .room; entries = z .entries; variables = z .variables };
+      sized = record { kinds = c .before .before .before .before .before .before .bind-all .kept .1 .1 .1 .1 .1 .0 ∙ z .kinds; names = c .before .before .before .before .before .before .bind-all .kept .1 .1 .1 .1 .1 .1 .0 ∙ z .names; literals = z .literals; unknowns = c .before .before .before .before .before .before .bind-all .ensures .room; entries = z .entries; variables = z .variables };
+      indexed = c .before .before .before .before .before .before .bind-all .ensures .indexed;
       line = refl;
-      right = bound ∙ ap₂ (λ k ws. bind-all k (held (c .before .before .before .before .before .before .before .before .before .before .before .before .before .args .c) (c .before .before .before .before .before .before .before .before .before .before .before .before .before .args .kinds .now) (c .before .before .before .before .before .before .before .before .before .before .before .before .before .args .names .now) M) ws) (c .before .before .before .before .before .before .before .kind-of .ensures ∙ ap kind-of-word (c .before .before .before .before .before .before .before .before .before .next .ensures .word)) (c .before .before .before .before .before .before .before .before .before .next .ensures .others);
+      right = bound ∙ ap₂ (λ k ws. bind-all k (held (c .before .before .before .before .before .before .before .before .before .before .before .before .before .before .before .before .before .args .c) (c .before .before .before .before .before .before .before .before .before .before .before .before .before .before .before .before .before .args .kinds .now) (c .before .before .before .before .before .before .before .before .before .before .before .before .before .before .before .before .before .args .names .now) M) ws) (c .before .before .before .before .before .before .before .before .before .before .kind-of .ensures ∙ ap kind-of-word (c .before .before .before .before .before .before .before .before .before .before .before .before .next .ensures .word)) (c .before .before .before .before .before .before .before .before .before .before .before .before .next .ensures .others);
     }
 
 pub prefix-line-spec : {M : Type 1} → statement M
@@ -52,4 +56,5 @@ prefix-line-spec =
     bind-all-requires
     same-length
     same-length-2
+    same-length-3
     returns)

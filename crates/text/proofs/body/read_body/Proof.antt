@@ -1,148 +1,27 @@
--- The lines from `at` on, read after what is held, give what those from `start` on give. Assumes nothing.
-use Prim.Native.Nat.{_+_, _-_, _^_, _≤_, _<_}
-use mathlib.Core.Path.{_≡_, refl, sym, _∙_}
-use native.Mathlib.Omega.{arith}
-use native.Mathlib.Numerals.{add-one}
-use borrow.Author.Tests.{eq-eqb, ne-eqb}
-use lib.ListN.{length, drop, length-drop}
-use Rattle.text.specs.Lines.{lines}
-use Rattle.text.specs.Reading.{body}
-use Rattle.text.specs.Steps.{Sized, held, outcome}
-use Rattle.text.proofs.Spans.{before-le}
-use Rattle.text.proofs.LineLaws.{lines-line, lines-rest, lines-none}
-use Rattle.text.proofs.BodyLaws.{resized, settled-refused}
+-- The places start with nothing bound. Assumes nothing.
+use mathlib.Core.Path.{refl}
+use borrow.Author.Needs.{needs}
+use Rattle.text.proofs.Places.{indexed-none}
 use Rattle.text.proofs.body.read_body.Statement.{statement}
 use Rattle.text.proofs.body.read_body.Tie as tie
 
-abbrev Inv-loop : tie.InvT-loop
-Inv-loop text start kinds₀ literals₀ names₀ s₀ at₀ kinds literals names s at = (at ≤ length text) × (s .line ≤ at + 1) × (s .cause ≡ 0) × Sized s kinds names literals × (body (held s₀ kinds₀ names₀ literals₀) (s₀ .line) (lines (drop start text)) ≡ body (held s kinds names literals) (s .line) (lines (drop at text)))
+slice-aggregate-read-lines : tie.Need-slice-aggregate-read-lines
+slice-aggregate-read-lines c = search needs
 
-abbrev μ-loop : tie.MeasureT-loop
-μ-loop text start kinds₀ literals₀ names₀ s₀ at₀ kinds literals names s at = length text - at
+read-lines-requires : tie.Need-read-lines-requires
+read-lines-requires c κs = ((c .before .before .before .before .before .before .before .pre .0, rw (c .before .before .before .before .before .before .before .pre .1 .3) (indexed-none 32768 refl)), (c .before .before .before .before .before .before .before .pre .1 .0, c .before .before .before .before .before .before .before .pre .1 .1, c .before .before .before .before .before .before .before .pre .1 .2))
 
-loop-holds : tie.Need-loop-holds Inv-loop μ-loop
-loop-holds c = (c .before .before .before .pre .1 .0, c .before .before .before .pre .1 .1, c .before .before .before .pre .1 .2, c .before .before .before .pre .0, refl)
+same-length : tie.Need-same-length
+same-length c = search needs
 
-find-requires : tie.Need-find-requires Inv-loop μ-loop
-find-requires c κs = omega arith
+same-length-2 : tie.Need-same-length-2
+same-length-2 c = search needs
 
-same-length : tie.Need-same-length Inv-loop μ-loop
-same-length c = c .before .before .before .loop .inv .3 .kinds ∙ sym (c .before .before .before .before .before .before .before .pre .0 .kinds)
+same-length-3 : tie.Need-same-length-3
+same-length-3 c = search needs
 
-same-length-2 : tie.Need-same-length-2 Inv-loop μ-loop
-same-length-2 c = c .before .before .before .loop .inv .3 .literals ∙ sym (c .before .before .before .before .before .before .before .pre .0 .literals)
-
-same-length-3 : tie.Need-same-length-3 Inv-loop μ-loop
-same-length-3 c = c .before .before .before .loop .inv .3 .names ∙ sym (c .before .before .before .before .before .before .before .pre .0 .names)
-
-returns : tie.Need-returns Inv-loop μ-loop
-unfolding outcome held
-returns c = record { sized = resized refl refl refl (c .before .before .before .loop .inv .3); right = sym (c .before .before .before .loop .inv .4 ∙ rw (lines-rest (c .before .before .before .before .before .before .before .args .text .now) (c .before .before .before .loop .at) (c .before .find .result) (c .before .find .ensures) (c .before .before .loop-test .taken) (c .if1 .taken)) refl) }
-
-sub-body-line : tie.Need-sub-body-line Inv-loop μ-loop
-sub-body-line c = omega arith
-
-part-body-line-start : tie.Need-part-body-line-start Inv-loop μ-loop
-part-body-line-start c = omega arith
-
-part-body-line-end : tie.Need-part-body-line-end Inv-loop μ-loop
-part-body-line-end c = omega (arith, before-le 10 (drop (c .before .before .before .loop .at) (c .before .before .before .before .before .before .before .args .text .now)), length-drop (c .before .before .before .loop .at) (c .before .before .before .before .before .before .before .args .text .now))
-
-body-line-requires : tie.Need-body-line-requires Inv-loop μ-loop
-body-line-requires c κs = c .before .before .before .before .before .before .before .loop .inv .3
-
-same-length-4 : tie.Need-same-length-4 Inv-loop μ-loop
-same-length-4 c = c .before .before .before .before .before .before .before .body-line .ensures .sized .kinds ∙ sym (c .before .before .before .before .before .before .before .before .before .before .before .before .before .before .before .before .before .before .before .pre .0 .kinds)
-
-same-length-5 : tie.Need-same-length-5 Inv-loop μ-loop
-same-length-5 c = c .before .before .before .before .before .before .before .body-line .ensures .sized .literals ∙ sym (c .before .before .before .before .before .before .before .before .before .before .before .before .before .before .before .before .before .before .before .pre .0 .literals)
-
-same-length-6 : tie.Need-same-length-6 Inv-loop μ-loop
-same-length-6 c = c .before .before .before .before .before .before .before .body-line .ensures .sized .names ∙ sym (c .before .before .before .before .before .before .before .before .before .before .before .before .before .before .before .before .before .before .before .pre .0 .names)
-
-returns-2 : tie.Need-returns-2 Inv-loop μ-loop
-unfolding outcome held
-returns-2 c =
-    let inside : c .before .before .before .before .before .before .before .before .before .before .before .before .before .find .result < length (c .before .before .before .before .before .before .before .before .before .before .before .before .before .before .before .before .before .before .before .args .text .now) = omega (arith, before-le 10 (drop (c .before .before .before .before .before .before .before .before .before .before .before .before .before .before .before .loop .at) (c .before .before .before .before .before .before .before .before .before .before .before .before .before .before .before .before .before .before .before .args .text .now)), length-drop (c .before .before .before .before .before .before .before .before .before .before .before .before .before .before .before .loop .at) (c .before .before .before .before .before .before .before .before .before .before .before .before .before .before .before .before .before .before .before .args .text .now)) in
-    record {
-      sized = c .before .before .before .before .before .before .before .body-line .ensures .sized;
-      right = sym (c .before .before .before .before .before .before .before .before .before .before .before .before .before .before .before .loop .inv .4 ∙ rw (lines-line (c .before .before .before .before .before .before .before .before .before .before .before .before .before .before .before .before .before .before .before .args .text .now) (c .before .before .before .before .before .before .before .before .before .before .before .before .before .before .before .loop .at) (c .before .before .before .before .before .before .before .before .before .before .before .before .before .find .result) (c .before .before .before .before .before .before .before .before .before .before .before .before .before .find .ensures) inside, ← c .before .before .before .before .before .before .before .body-line .ensures .right, c .before .before .before .before .before .before .before .body-line .ensures .line) (settled-refused (c .before .before .before .before .before .before .before .body-line .result .cause) (c .if2 .taken) _ _ _ _));
-    }
-
-add-at : tie.Need-add-at Inv-loop μ-loop
-add-at c = omega (arith, before-le 10 (drop (c .before .before .before .before .before .before .before .before .before .before .before .before .before .before .before .loop .at) (c .before .before .before .before .before .before .before .before .before .before .before .before .before .before .before .before .before .before .before .args .text .now)), length-drop (c .before .before .before .before .before .before .before .before .before .before .before .before .before .before .before .loop .at) (c .before .before .before .before .before .before .before .before .before .before .before .before .before .before .before .before .before .before .before .args .text .now))
-
-add-s : tie.Need-add-s Inv-loop μ-loop
-add-s c =
-    let f : c .before .before .before .before .before .before .before .before .body-line .result .line + 1 < 2 ^ 64 = omega (arith, c .before .before .before .before .before .before .before .before .body-line .ensures .line, c .before .before .before .before .before .before .before .before .before .before .before .before .before .before .before .before .loop .inv .1, c .before .before .before .before .before .before .before .before .before .before .before .before .before .before .before .loop-test .taken, c .before .before .before .before .before .before .before .before .before .before .before .before .before .before .before .before .before .before .before .before .good .0) in
-    record { fits = f }
-
-loop-less : tie.Need-loop-less Inv-loop μ-loop
-loop-less c =
-    let inside : c .before .before .before .before .before .before .before .before .before .before .before .before .before .before .find .result < length (c .before .before .before .before .before .before .before .before .before .before .before .before .before .before .before .before .before .before .before .before .args .text .now) = omega (arith, before-le 10 (drop (c .before .before .before .before .before .before .before .before .before .before .before .before .before .before .before .before .loop .at) (c .before .before .before .before .before .before .before .before .before .before .before .before .before .before .before .before .before .before .before .before .args .text .now)), length-drop (c .before .before .before .before .before .before .before .before .before .before .before .before .before .before .before .before .loop .at) (c .before .before .before .before .before .before .before .before .before .before .before .before .before .before .before .before .before .before .before .before .args .text .now)) in
-    omega arith
-
-loop-again : tie.Need-loop-again Inv-loop μ-loop
-unfolding held
-loop-again c =
-    let inside : c .before .before .before .before .before .before .before .before .before .before .before .before .before .before .find .result < length (c .before .before .before .before .before .before .before .before .before .before .before .before .before .before .before .before .before .before .before .before .args .text .now) = omega (arith, before-le 10 (drop (c .before .before .before .before .before .before .before .before .before .before .before .before .before .before .before .before .loop .at) (c .before .before .before .before .before .before .before .before .before .before .before .before .before .before .before .before .before .before .before .before .args .text .now)), length-drop (c .before .before .before .before .before .before .before .before .before .before .before .before .before .before .before .before .loop .at) (c .before .before .before .before .before .before .before .before .before .before .before .before .before .before .before .before .before .before .before .before .args .text .now)) in
-    (omega arith, omega (arith, c .before .before .before .before .before .before .before .before .body-line .ensures .line), c .before .if2 .left, resized refl refl refl (c .before .before .before .before .before .before .before .before .body-line .ensures .sized), c .before .before .before .before .before .before .before .before .before .before .before .before .before .before .before .before .loop .inv .4 ∙ rw (lines-line (c .before .before .before .before .before .before .before .before .before .before .before .before .before .before .before .before .before .before .before .before .args .text .now) (c .before .before .before .before .before .before .before .before .before .before .before .before .before .before .before .before .loop .at) (c .before .before .before .before .before .before .before .before .before .before .before .before .before .before .find .result) (c .before .before .before .before .before .before .before .before .before .before .before .before .before .before .find .ensures) inside, ← c .before .before .before .before .before .before .before .before .body-line .ensures .right, c .before .if2 .left, c .before .before .before .before .before .before .before .before .body-line .ensures .line, add-one (c .before .before .before .before .before .before .before .before .before .before .before .before .before .before .before .before .loop .s .line)) refl)
-
-same-length-7 : tie.Need-same-length-7 Inv-loop μ-loop
-same-length-7 c = c .before .before .before .loop .inv .3 .kinds ∙ sym (c .before .before .before .before .before .before .before .pre .0 .kinds)
-
-same-length-8 : tie.Need-same-length-8 Inv-loop μ-loop
-same-length-8 c = c .before .before .before .loop .inv .3 .literals ∙ sym (c .before .before .before .before .before .before .before .pre .0 .literals)
-
-same-length-9 : tie.Need-same-length-9 Inv-loop μ-loop
-same-length-9 c = c .before .before .before .loop .inv .3 .names ∙ sym (c .before .before .before .before .before .before .before .pre .0 .names)
-
-returns-3 : tie.Need-returns-3 Inv-loop μ-loop
-unfolding outcome held
-returns-3 c = record { sized = resized refl refl refl (c .before .before .before .loop .inv .3); right = sym (c .before .before .before .loop .inv .4 ∙ rw (lines-none (c .before .before .before .before .before .before .before .args .text .now) (c .before .before .before .loop .at) (c .before .before .loop-test .left), ne-eqb (c .before .before .before .loop .s .«clauses_read») (c .before .before .before .loop .s .clauses) (c .if3 .taken)) refl) }
-
-same-length-10 : tie.Need-same-length-10 Inv-loop μ-loop
-same-length-10 c = c .before .before .before .loop .inv .3 .kinds ∙ sym (c .before .before .before .before .before .before .before .pre .0 .kinds)
-
-same-length-11 : tie.Need-same-length-11 Inv-loop μ-loop
-same-length-11 c = c .before .before .before .loop .inv .3 .literals ∙ sym (c .before .before .before .before .before .before .before .pre .0 .literals)
-
-same-length-12 : tie.Need-same-length-12 Inv-loop μ-loop
-same-length-12 c = c .before .before .before .loop .inv .3 .names ∙ sym (c .before .before .before .before .before .before .before .pre .0 .names)
-
-returns-4 : tie.Need-returns-4 Inv-loop μ-loop
-unfolding outcome held
-returns-4 c = record { sized = c .before .before .before .loop .inv .3; right = sym (c .before .before .before .loop .inv .4 ∙ rw (lines-none (c .before .before .before .before .before .before .before .args .text .now) (c .before .before .before .loop .at) (c .before .before .loop-test .left), eq-eqb (c .before .before .before .loop .s .«clauses_read») (c .before .before .before .loop .s .clauses) (c .if3 .left), c .before .before .before .loop .inv .2) refl) }
+returns : tie.Need-returns
+returns c = c .before .before .before .before .before .before .read-lines .ensures
 
 pub read-body-spec : {M : Type 1} → statement M
-read-body-spec =
-    tie.close
-    (tie.spec
-    Inv-loop
-    μ-loop
-    loop-holds
-    find-requires
-    same-length
-    same-length-2
-    same-length-3
-    returns
-    sub-body-line
-    part-body-line-start
-    part-body-line-end
-    body-line-requires
-    same-length-4
-    same-length-5
-    same-length-6
-    returns-2
-    add-at
-    add-s
-    loop-less
-    loop-again
-    same-length-7
-    same-length-8
-    same-length-9
-    returns-3
-    same-length-10
-    same-length-11
-    same-length-12
-    returns-4)
+read-body-spec = tie.close (tie.spec slice-aggregate-read-lines read-lines-requires same-length same-length-2 same-length-3 returns)

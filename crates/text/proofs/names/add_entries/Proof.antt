@@ -7,16 +7,17 @@ use mir.Syntax.{w32}
 use mir.ValLaws.{toZ-ofZ}
 use Rattle.text.specs.Lines.{words}
 use Rattle.text.specs.Reading.{State, went, with-literals, add-entries}
+use Rattle.text.specs.Steps.{Indexed}
 use Rattle.text.proofs.Pieces.{words-none}
-use Rattle.text.proofs.NameLaws.{literal-cause-zero, add-refused, add-taken}
+use Rattle.text.proofs.NameLaws.{add-refused, add-taken}
 use Rattle.text.proofs.names.add_entries.Statement.{statement}
 use Rattle.text.proofs.names.add_entries.Tie as tie
 
 abbrev Inv-loop : tie.InvT-loop
-Inv-loop line variables n names m literals₀ count₀ at₀ literals count at = (at ≤ length line) × (count ≤ 8192) × (length literals ≡ length literals₀) × ((s : State) → s .variables ≡ variables → s .names ≡ take n names → add-entries (with-literals s (take m literals₀)) (words line) ≡ add-entries (with-literals s (take count literals)) (words (drop at line)))
+Inv-loop line variables places m literals₀ count₀ at₀ literals count at = (at ≤ length line) × (count ≤ 8192) × (length literals ≡ length literals₀) × ((s : State) → s .variables ≡ variables → Indexed (s .names) places → add-entries (with-literals s (take m literals₀)) (words line) ≡ add-entries (with-literals s (take count literals)) (words (drop at line)))
 
 abbrev μ-loop : tie.MeasureT-loop
-μ-loop line variables n names m literals₀ count₀ at₀ literals count at = length line - at
+μ-loop line variables places m literals₀ count₀ at₀ literals count at = length line - at
 
 loop-holds : tie.Need-loop-holds Inv-loop μ-loop
 loop-holds c = (omega arith, c .before .before .pre .2, refl, λ s e f. refl)
@@ -48,14 +49,14 @@ same-length-2 c = c .before .before .before .before .before .before .before .loo
 returns-2 : tie.Need-returns-2 Inv-loop μ-loop
 returns-2 c =
     let h : c .before .before .before .before .before .next .result .start < c .before .before .before .before .before .next .result .end = omega (arith, c .before .before .before .before .before .next .ensures .ordered) in
-    record { room = c .before .before .before .before .before .before .before .loop .inv .1; right = λ s e f. sym (c .before .before .before .before .before .before .before .loop .inv .3 s e f ∙ ap (add-entries (with-literals s (take (c .before .before .before .before .before .before .before .loop .count) (c .before .before .before .before .before .before .before .loop .literals)))) (c .before .before .before .before .before .next .ensures .some h) ∙ add-refused (c .before .before .before .before .before .before .before .before .before .before .args .variables) (c .before .before .entry .result .cause) (c .before .before .before .before .before .before .before .loop .count) (take (c .before .before .before .before .before .before .before .before .before .before .args .n) (c .before .before .before .before .before .before .before .before .before .before .args .names .now)) (c .before .before .before .before .before .before .before .loop .literals) (take (c .before .before .before .before .before .next .result .end - c .before .before .before .before .before .next .result .start) (drop (c .before .before .before .before .before .next .result .start) (c .before .before .before .before .before .before .before .before .before .before .args .line .now))) (words (drop (c .before .before .before .before .before .next .result .end) (c .before .before .before .before .before .before .before .before .before .before .args .line .now))) s e f (omega arith) (c .before .before .entry .ensures .right) (c .if2 .taken) (went (with-literals s (take (c .before .before .before .before .before .before .before .loop .count) (c .before .before .before .before .before .before .before .loop .literals))))) }
+    record { room = c .before .before .before .before .before .before .before .loop .inv .1; right = λ s e f. sym (c .before .before .before .before .before .before .before .loop .inv .3 s e f ∙ ap (add-entries (with-literals s (take (c .before .before .before .before .before .before .before .loop .count) (c .before .before .before .before .before .before .before .loop .literals)))) (c .before .before .before .before .before .next .ensures .some h) ∙ add-refused (c .before .before .before .before .before .before .before .before .before .before .args .variables) (c .before .before .entry .result .cause) (c .before .before .before .before .before .before .before .loop .count) (c .before .before .before .before .before .before .before .loop .literals) (take (c .before .before .before .before .before .next .result .end - c .before .before .before .before .before .next .result .start) (drop (c .before .before .before .before .before .next .result .start) (c .before .before .before .before .before .before .before .before .before .before .args .line .now))) (words (drop (c .before .before .before .before .before .next .result .end) (c .before .before .before .before .before .before .before .before .before .before .args .line .now))) s e (omega arith) (c .before .before .entry .ensures .right (s .names) f) (c .if2 .taken) (went (with-literals s (take (c .before .before .before .before .before .before .before .loop .count) (c .before .before .before .before .before .before .before .loop .literals))))) }
 
 mul-literal : tie.Need-mul-literal Inv-loop μ-loop
 mul-literal c = omega arith
 
 slice-set-from-literal : tie.Need-slice-set-from-literal Inv-loop μ-loop
 slice-set-from-literal c =
-    let z = literal-cause-zero (c .before .before .before .before .before .before .before .before .before .before .before .args .variables) (take (c .before .before .before .before .before .before .before .before .before .before .before .args .n) (c .before .before .before .before .before .before .before .before .before .before .before .args .names .now)) (c .before .before .before .before .before .before .before .before .loop .count) (take (c .before .before .before .before .before .before .next .result .end - c .before .before .before .before .before .before .next .result .start) (drop (c .before .before .before .before .before .before .next .result .start) (c .before .before .before .before .before .before .before .before .before .before .before .args .line .now))) (sym (c .before .before .before .entry .ensures .right) ∙ c .before .if2 .left) in
+    let z = c .before .before .before .entry .ensures .room (c .before .if2 .left) in
     omega arith
 
 add-count : tie.Need-add-count Inv-loop μ-loop
@@ -69,8 +70,8 @@ loop-less c =
 loop-again : tie.Need-loop-again Inv-loop μ-loop
 loop-again c =
     let h : c .before .before .before .before .before .before .next .result .start < c .before .before .before .before .before .before .next .result .end = omega (arith, c .before .before .before .before .before .before .next .ensures .ordered) in
-    let z = literal-cause-zero (c .before .before .before .before .before .before .before .before .before .before .before .args .variables) (take (c .before .before .before .before .before .before .before .before .before .before .before .args .n) (c .before .before .before .before .before .before .before .before .before .before .before .args .names .now)) (c .before .before .before .before .before .before .before .before .loop .count) (take (c .before .before .before .before .before .before .next .result .end - c .before .before .before .before .before .before .next .result .start) (drop (c .before .before .before .before .before .before .next .result .start) (c .before .before .before .before .before .before .before .before .before .before .before .args .line .now))) (sym (c .before .before .before .entry .ensures .right) ∙ c .before .if2 .left) in
-    (c .before .before .before .before .before .before .next .ensures .within, omega arith, simp length-set (c .before .before .before .before .before .before .before .before .loop .inv .2), λ s e f. c .before .before .before .before .before .before .before .before .loop .inv .3 s e f ∙ ap (add-entries (with-literals s (take (c .before .before .before .before .before .before .before .before .loop .count) (c .before .before .before .before .before .before .before .before .loop .literals)))) (c .before .before .before .before .before .before .next .ensures .some h) ∙ add-taken (c .before .before .before .before .before .before .before .before .before .before .before .args .variables) (c .before .before .before .entry .result .cause) (c .before .before .before .before .before .before .before .before .loop .count) (take (c .before .before .before .before .before .before .before .before .before .before .before .args .n) (c .before .before .before .before .before .before .before .before .before .before .before .args .names .now)) (c .before .before .before .before .before .before .before .before .loop .literals) (take (c .before .before .before .before .before .before .next .result .end - c .before .before .before .before .before .before .next .result .start) (drop (c .before .before .before .before .before .before .next .result .start) (c .before .before .before .before .before .before .before .before .before .before .before .args .line .now))) (words (drop (c .before .before .before .before .before .before .next .result .end) (c .before .before .before .before .before .before .before .before .before .before .before .args .line .now))) s e f (omega arith) (c .before .before .before .entry .ensures .right) (c .before .if2 .left) (omega arith) (c .before .before .before .entry .result .literal) (c .before .before .before .entry .ensures .written (c .before .if2 .left)) ∙ rw (toZ-ofZ w32 (c .before .before .before .entry .result .literal) (record { sfits = c .struct-told .given .1 .0 .1 })) refl)
+    let z = c .before .before .before .entry .ensures .room (c .before .if2 .left) in
+    (c .before .before .before .before .before .before .next .ensures .within, omega arith, simp length-set (c .before .before .before .before .before .before .before .before .loop .inv .2), λ s e f. c .before .before .before .before .before .before .before .before .loop .inv .3 s e f ∙ ap (add-entries (with-literals s (take (c .before .before .before .before .before .before .before .before .loop .count) (c .before .before .before .before .before .before .before .before .loop .literals)))) (c .before .before .before .before .before .before .next .ensures .some h) ∙ add-taken (c .before .before .before .before .before .before .before .before .before .before .before .args .variables) (c .before .before .before .entry .result .cause) (c .before .before .before .before .before .before .before .before .loop .count) (c .before .before .before .before .before .before .before .before .loop .literals) (take (c .before .before .before .before .before .before .next .result .end - c .before .before .before .before .before .before .next .result .start) (drop (c .before .before .before .before .before .before .next .result .start) (c .before .before .before .before .before .before .before .before .before .before .before .args .line .now))) (words (drop (c .before .before .before .before .before .before .next .result .end) (c .before .before .before .before .before .before .before .before .before .before .before .args .line .now))) s e (omega arith) (c .before .before .before .entry .ensures .right (s .names) f) (c .before .if2 .left) (omega arith) (c .before .before .before .entry .result .literal) (c .before .before .before .entry .ensures .written (s .names) f (c .before .if2 .left)) ∙ rw (toZ-ofZ w32 (c .before .before .before .entry .result .literal) (record { sfits = c .struct-told .given .1 .0 .1 })) refl)
 
 same-length-3 : tie.Need-same-length-3 Inv-loop μ-loop
 same-length-3 c = c .before .loop .inv .2

@@ -36,26 +36,26 @@ part-word-start c = omega (arith, c .before .next .ensures .ordered)
 part-word-end : tie.Need-part-word-end Inv-loop μ-loop
 part-word-end c = omega (arith, c .before .next .ensures .within)
 
-number-requires : tie.Need-number-requires Inv-loop μ-loop
-number-requires c κs = search needs
+is-zero-requires : tie.Need-is-zero-requires Inv-loop μ-loop
+is-zero-requires c κs = search needs
 
 next-requires-2 : tie.Need-next-requires-2 Inv-loop μ-loop
 next-requires-2 c κs = omega (arith, c .before .before .before .before .next .ensures .within)
 
 returns-2 : tie.Need-returns-2 Inv-loop μ-loop
-returns-2 c = let h : c .before .before .before .before .before .before .next .result .start < c .before .before .before .before .before .before .next .result .end = omega (arith, c .before .before .before .before .before .before .next .ensures .ordered) in sym (c .before .before .before .before .before .before .before .before .loop .inv .1 ∙ ap (closed-by-zero (good (c .before .before .before .before .before .before .before .before .before .before .args .signed))) (c .before .before .before .before .before .before .next .ensures .some h) ∙ closed-zero (good (c .before .before .before .before .before .before .before .before .before .before .args .signed)) (take (c .before .before .before .before .before .before .next .result .end - c .before .before .before .before .before .before .next .result .start) (drop (c .before .before .before .before .before .before .next .result .start) (c .before .before .before .before .before .before .before .before .before .before .args .line .now))) (words (drop (c .before .before .before .before .before .before .next .result .end) (c .before .before .before .before .before .before .before .before .before .before .args .line .now))) (sym (c .before .before .before .number .ensures) ∙ c .before .before .if2 .taken) ∙ sym (next-empty (c .before .next2 .ensures)))
+returns-2 c = let h : c .before .before .before .before .before .before .next .result .start < c .before .before .before .before .before .before .next .result .end = omega (arith, c .before .before .before .before .before .before .next .ensures .ordered) in sym (c .before .before .before .before .before .before .before .before .loop .inv .1 ∙ ap (closed-by-zero (good (c .before .before .before .before .before .before .before .before .before .before .args .signed))) (c .before .before .before .before .before .before .next .ensures .some h) ∙ closed-zero (good (c .before .before .before .before .before .before .before .before .before .before .args .signed)) (take (c .before .before .before .before .before .before .next .result .end - c .before .before .before .before .before .before .next .result .start) (drop (c .before .before .before .before .before .before .next .result .start) (c .before .before .before .before .before .before .before .before .before .before .args .line .now))) (words (drop (c .before .before .before .before .before .before .next .result .end) (c .before .before .before .before .before .before .before .before .before .before .args .line .now))) (sym (c .before .before .before .is-zero .ensures) ∙ c .before .before .if2 .taken) ∙ sym (next-empty (c .before .next2 .ensures)))
 
 fits-requires : tie.Need-fits-requires Inv-loop μ-loop
 fits-requires c κs = search needs
 
 returns-3 : tie.Need-returns-3 Inv-loop μ-loop
-returns-3 c = let h : c .before .before .before .before .before .before .next .result .start < c .before .before .before .before .before .before .next .result .end = omega (arith, c .before .before .before .before .before .before .next .ensures .ordered) in sym (c .before .before .before .before .before .before .before .before .loop .inv .1 ∙ ap (closed-by-zero (good (c .before .before .before .before .before .before .before .before .before .before .args .signed))) (c .before .before .before .before .before .before .next .ensures .some h) ∙ closed-bad (good (c .before .before .before .before .before .before .before .before .before .before .args .signed)) (take (c .before .before .before .before .before .before .next .result .end - c .before .before .before .before .before .before .next .result .start) (drop (c .before .before .before .before .before .before .next .result .start) (c .before .before .before .before .before .before .before .before .before .before .args .line .now))) (words (drop (c .before .before .before .before .before .before .next .result .end) (c .before .before .before .before .before .before .before .before .before .before .args .line .now))) (λ e. c .before .before .if2 .left (c .before .before .before .number .ensures ∙ e)) (sym (c .before .fits2 .ensures) ∙ c .if3 .left))
+returns-3 c = let h : c .before .before .before .before .before .before .next .result .start < c .before .before .before .before .before .before .next .result .end = omega (arith, c .before .before .before .before .before .before .next .ensures .ordered) in sym (c .before .before .before .before .before .before .before .before .loop .inv .1 ∙ ap (closed-by-zero (good (c .before .before .before .before .before .before .before .before .before .before .args .signed))) (c .before .before .before .before .before .before .next .ensures .some h) ∙ closed-bad (good (c .before .before .before .before .before .before .before .before .before .before .args .signed)) (take (c .before .before .before .before .before .before .next .result .end - c .before .before .before .before .before .before .next .result .start) (drop (c .before .before .before .before .before .before .next .result .start) (c .before .before .before .before .before .before .before .before .before .before .args .line .now))) (words (drop (c .before .before .before .before .before .before .next .result .end) (c .before .before .before .before .before .before .before .before .before .before .args .line .now))) (sym (c .before .before .before .is-zero .ensures) ∙ c .before .before .if2 .left) (sym (c .before .fits2 .ensures) ∙ c .if3 .left))
 
 loop-less : tie.Need-loop-less Inv-loop μ-loop
 loop-less c = let h : c .before .before .before .before .before .before .next .result .start < c .before .before .before .before .before .before .next .result .end = omega (arith, c .before .before .before .before .before .before .next .ensures .ordered) in omega (arith, c .before .before .before .before .before .before .next .ensures .onward h, c .before .before .before .before .before .before .next .ensures .within)
 
 loop-again : tie.Need-loop-again Inv-loop μ-loop
-loop-again c = let h : c .before .before .before .before .before .before .next .result .start < c .before .before .before .before .before .before .next .result .end = omega (arith, c .before .before .before .before .before .before .next .ensures .ordered) in (c .before .before .before .before .before .before .next .ensures .within, c .before .before .before .before .before .before .before .before .loop .inv .1 ∙ ap (closed-by-zero (good (c .before .before .before .before .before .before .before .before .before .before .args .signed))) (c .before .before .before .before .before .before .next .ensures .some h) ∙ closed-more (good (c .before .before .before .before .before .before .before .before .before .before .args .signed)) (take (c .before .before .before .before .before .before .next .result .end - c .before .before .before .before .before .before .next .result .start) (drop (c .before .before .before .before .before .before .next .result .start) (c .before .before .before .before .before .before .before .before .before .before .args .line .now))) (words (drop (c .before .before .before .before .before .before .next .result .end) (c .before .before .before .before .before .before .before .before .before .before .args .line .now))) (λ e. c .before .before .if2 .left (c .before .before .before .number .ensures ∙ e)) (sym (c .before .fits2 .ensures) ∙ c .if3 .taken))
+loop-again c = let h : c .before .before .before .before .before .before .next .result .start < c .before .before .before .before .before .before .next .result .end = omega (arith, c .before .before .before .before .before .before .next .ensures .ordered) in (c .before .before .before .before .before .before .next .ensures .within, c .before .before .before .before .before .before .before .before .loop .inv .1 ∙ ap (closed-by-zero (good (c .before .before .before .before .before .before .before .before .before .before .args .signed))) (c .before .before .before .before .before .before .next .ensures .some h) ∙ closed-more (good (c .before .before .before .before .before .before .before .before .before .before .args .signed)) (take (c .before .before .before .before .before .before .next .result .end - c .before .before .before .before .before .before .next .result .start) (drop (c .before .before .before .before .before .before .next .result .start) (c .before .before .before .before .before .before .before .before .before .before .args .line .now))) (words (drop (c .before .before .before .before .before .before .next .result .end) (c .before .before .before .before .before .before .before .before .before .before .args .line .now))) (sym (c .before .before .before .is-zero .ensures) ∙ c .before .before .if2 .left) (sym (c .before .fits2 .ensures) ∙ c .if3 .taken))
 
 returns-4 : tie.Need-returns-4 Inv-loop μ-loop
 returns-4 c = sym (c .before .loop .inv .1 ∙ rw (words-none (c .before .before .before .args .line .now) (c .before .loop .at) (c .loop-test .left)) refl)
@@ -72,7 +72,7 @@ closed-spec =
     sub-word
     part-word-start
     part-word-end
-    number-requires
+    is-zero-requires
     next-requires-2
     returns-2
     fits-requires
