@@ -158,9 +158,10 @@ private:
 static bool gain(std::unordered_set<Row> &table, const std::vector<Row> &yielded, Side &side) {
     std::vector<Row> fresh;
     for (const Row &row : yielded)
-        if (table.insert(row).second) fresh.push_back(row);
-    if (table.size() > ROWS) return false;
+        if (!table.count(row) && std::find(fresh.begin(), fresh.end(), row) == fresh.end()) fresh.push_back(row);
+    if (table.size() + fresh.size() > ROWS) return false;
     for (const Row &row : fresh) side.give(row);
+    table.insert(fresh.begin(), fresh.end());
     return true;
 }
 
