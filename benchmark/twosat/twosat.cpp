@@ -1,5 +1,7 @@
 // The two-set expansion over two incremental SAT solvers (CaDiCaL), as a stand-in for solvers of that kind: a narrowed QDIMACS on standard
 // input, which is taken to be well formed; at most 256 rows a side. Any model will do, so rounds and rows differ from the program's.
+// With the argument `first` it starts from the house preferences and takes the first model each time, one call of the solver for each copy
+// that has not the preferred value: then both printed lines are the program's.
 #include <algorithm>
 #include <bitset>
 #include <cadical.hpp>
@@ -74,6 +76,9 @@ static Formula read() {
     return f;
 }
 
+// The house preferences.
+static bool preference(size_t i) { return __builtin_parity(i % 256); }
+
 // One side: its solver over the copies of its own unknowns, and the other side's rows that it has been given.
 class Side {
 public:
@@ -126,19 +131,50 @@ public:
     }
 
     // Whether there is a model, and the rows that it yields, one for each row given.
-    bool solve(std::vector<Row> &yielded) {
+    bool solve(std::vector<Row> &yielded, bool first) {
         if (solver.solve() != 10) return false;
+        value.assign(last + 1, false);
+        take();
+        if (first) prefer();
         yielded.clear();
         for (const auto &copy : given) {
             Row row;
             for (size_t b = 0; b < f.blocks.size(); b++)
-                for (int i = 0; copy[b] && i < f.blocks[b].size; i++) row[f.blocks[b].first + i] = solver.val(copy[b] + i) > 0;
+                for (int i = 0; copy[b] && i < f.blocks[b].size; i++) row[f.blocks[b].first + i] = value[copy[b] + i];
             yielded.push_back(row);
         }
         return true;
     }
 
 private:
+    void take() {
+        for (int name = 1; name <= last; name++) value[name] = solver.val(name) > 0;
+    }
+
+    // Copies by position, then by the first row that has them: each keeps the preferred value if some model with the values before it has it.
+    void prefer() {
+        std::vector<int> fixed;
+        std::unordered_set<int> seen;
+        for (size_t position = 0; position < f.block.size(); position++) {
+            int b = f.block[position];
+            if (f.blocks[b].universal != universal) continue;
+            for (const auto &copy : given) {
+                int name = copy[b] + int(position) - f.blocks[b].first;
+                if (!seen.insert(name).second) continue;
+                int wanted = preference(fixed.size()) ? name : -name;
+                if (value[name] != (wanted > 0)) {
+                    for (int literal : fixed) solver.assume(literal);
+                    solver.assume(wanted);
+                    if (solver.solve() == 10)
+                        take();
+                    else
+                        wanted = -wanted;
+                }
+                fixed.push_back(wanted);
+            }
+        }
+    }
+
     void add(const Clause &clause) {
         for (int literal : clause) solver.add(literal);
         solver.add(0);
@@ -152,6 +188,7 @@ private:
     std::vector<std::unordered_map<Row, int>> copies;  // by block: restriction to its first copy
     std::unordered_map<Clause, int, Hash> known;  // a clause over copies; universal side: the unknown that says it is false
     std::vector<std::vector<int>> given;
+    std::vector<bool> value;  // of the last model
 };
 
 // Gives a side the rows that are new to the table; if they don't fit, none of them.
@@ -165,20 +202,23 @@ static bool gain(std::unordered_set<Row> &table, const std::vector<Row> &yielded
     return true;
 }
 
-int main() {
+int main(int count, char **arguments) {
+    bool first = count > 1 && std::string(arguments[1]) == "first";
     Formula f = read();
     Side existential(f, false), universal(f, true);
     std::unordered_set<Row> a, s;
     std::vector<Row> yielded(1);
+    for (size_t position = 0, k = 0; first && position < f.block.size(); position++)
+        if (f.blocks[f.block[position]].universal) yielded[0][position] = preference(k++);
     gain(a, yielded, existential);
     int answer = -1, round = 1;
     for (;; round++) {
-        if (!existential.solve(yielded)) {
+        if (!existential.solve(yielded, first)) {
             answer = 0;
             break;
         }
         if (!gain(s, yielded, universal)) break;
-        if (!universal.solve(yielded)) {
+        if (!universal.solve(yielded, first)) {
             answer = 1;
             break;
         }
