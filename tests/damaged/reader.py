@@ -89,12 +89,12 @@ def damaged(rng):
     return given
 
 
-def fault(given):
-    """What is wrong with the program's output, or None."""
+def fault(given, verdicts="0|1"):
+    """What is wrong with the program's output, or None. A text that is read must get one of the verdicts."""
     printed = subprocess.run(["target/bin/vulzhenn"], input=given, capture_output=True, timeout=60).stdout.decode()
     wanted = read(given)
     if wanted[0]:
         right = printed == "c refused {} {}\n".format(*wanted)
     else:
-        right = re.fullmatch(r"s cnf (?:0|1) {} {}\nc rounds \d+ universal \d+ existential \d+\n".format(*wanted[1:]), printed)
+        right = re.fullmatch(r"s cnf (?:{}) {} {}\nc rounds \d+ universal \d+ existential \d+\n".format(verdicts, *wanted[1:]), printed)
     return None if right else f"{given!r}: wanted {wanted}, got {printed!r}"
