@@ -1,30 +1,17 @@
 //! Times and stack of single calls of the static library: the first model over lent rows, and whole runs with 256 rows a side.
 
-#[path = "../../tests/direct/draw.rs"]
-mod draw;
-#[path = "../../tests/direct/formula.rs"]
-mod formula;
 mod formulas;
-#[path = "../../tests/direct/lent.rs"]
-mod lent;
-#[path = "../../tests/direct/model.rs"]
-mod model;
-#[path = "../../tests/direct/preference.rs"]
-mod preference;
+#[path = "../../tests/independent/mod.rs"]
+mod independent;
 #[path = "../../tests/direct/probe.rs"]
 mod probe;
-#[path = "../../tests/direct/random.rs"]
-mod random;
-#[path = "../../tests/direct/rows.rs"]
-mod rows;
 mod stack;
 mod time;
-#[path = "../../tests/direct/wanted.rs"]
-mod wanted;
 
 use draw::Sizes;
 use formula::{Side, WORK};
 use formulas::Case;
+use independent::{draw, formula, lent, preference, random};
 use lent::Lent;
 use random::Random;
 

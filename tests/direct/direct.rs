@@ -4,42 +4,56 @@
 //! usage: direct [TIMES [SEED]]
 
 mod compare;
-mod draw;
-mod formula;
+#[path = "../independent/mod.rs"]
+mod independent;
 mod known;
-mod lent;
-mod model;
 mod parts;
-mod preference;
 mod probe;
-mod random;
 mod refused;
-mod rounds;
-mod rows;
 mod runs;
 mod searches;
-mod tally;
-mod wanted;
 
-use random::Random;
+use independent::jobs::{self, Job};
+use independent::random::Random;
+use independent::tally::Tally;
+use independent::{draw, formula, lent, model, preference, random, rounds, rows, tally, wanted};
 use std::time::Instant;
-use tally::Tally;
 
 const SEED: u64 = 1;
+
+/// A part of the cases.
+type Topic = Box<dyn Fn(&mut Random, usize, &mut Tally) + Send>;
+
+/// All topics, the searches of each size first, since they take longest.
+fn topics() -> Vec<Topic> {
+    let mut topics: Vec<Topic> = Vec::new();
+    for i in 0..searches::COUNT {
+        topics.push(Box::new(move |random, times, tally| searches::compare_group(i, random, times, tally)));
+    }
+    topics.push(Box::new(runs::compare_all));
+    topics.push(Box::new(refused::compare_all));
+    topics.push(Box::new(known::compare_all));
+    topics.push(Box::new(parts::compare_all));
+    topics
+}
+
+fn job(topic: Topic, times: usize, seed: u64) -> Job<Tally> {
+    Box::new(move || {
+        let mut tally = Tally::new();
+        topic(&mut Random::new(seed), times, &mut tally);
+        tally
+    })
+}
 
 fn main() {
     let mut words = std::env::args().skip(1).map(|word| word.parse::<u64>().expect("a number"));
     let times = words.next().unwrap_or(1) as usize;
     let seed = words.next().unwrap_or(SEED);
     println!("seed {}, {} times the gate's cases", seed, times);
-    let topics: [fn(&mut Random, usize, &mut Tally); 5] =
-        [parts::compare_all, refused::compare_all, searches::compare_all, known::compare_all, runs::compare_all];
-    let mut tally = Tally::new();
-    for (i, topic) in topics.iter().enumerate() {
-        let start = Instant::now();
-        topic(&mut Random::new(seed.wrapping_mul(1000).wrapping_add(i as u64)), times, &mut tally);
-        println!("  {:.1} s", start.elapsed().as_secs_f64());
-    }
+    let start = Instant::now();
+    let jobs = topics().into_iter().enumerate().map(|(i, topic)| job(topic, times, seed.wrapping_mul(1000).wrapping_add(i as u64)));
+    let tally = Tally::sum(jobs::run_all(jobs.collect()));
+    println!("{:.1} s", start.elapsed().as_secs_f64());
     println!("{} passed, {} failed", tally.passed, tally.failed);
     std::process::exit(i32::from(tally.failed > 0 || tally.passed == 0));
 }

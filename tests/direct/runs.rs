@@ -10,43 +10,10 @@ use crate::tally::Tally;
 /// So many looks at a row the reference may take in one search; a longer run is left out.
 const LOOKS: usize = 200_000;
 
-/// Clauses that make two unknowns equal or different: such a formula takes several rounds.
-fn tied(random: &mut Random, n: usize) -> Vec<i32> {
-    let (a, b) = (random.between(1, n) as i32, random.between(1, n) as i32);
-    if random.chance(1, 2) {
-        vec![a, b, 0, -a, -b, 0]
-    } else {
-        vec![a, -b, 0, -a, b, 0]
-    }
-}
-
-/// Clauses at random, or few of them and some ties, or long ones as many as leave the verdict open.
-fn literals(random: &mut Random, n: usize) -> Vec<i32> {
-    match random.below(if n > 0 { 3 } else { 1 }) {
-        0 => {
-            let clauses = random.below(2 * n + 2);
-            draw::literals(random, n, clauses, 8)
-        }
-        1 => {
-            let clauses = random.below(n / 2 + 1);
-            let mut literals = draw::literals(random, n, clauses, 8);
-            for _ in 0..random.between(1, n) {
-                literals.extend(tied(random, n));
-            }
-            literals
-        }
-        _ => {
-            let clauses = random.between(n, 4 * n);
-            let length = random.between(3, 5);
-            (0..clauses).flat_map(|_| draw::clause(random, n, length, n).into_iter().chain([0])).collect()
-        }
-    }
-}
-
 /// A run of up to `n` unknowns in tables of up to `rooms` rows, which hold anything when they are lent.
 pub fn given(random: &mut Random, n: usize, rooms: usize) -> Given {
     let n = random.between(0, n);
-    let literals = literals(random, n);
+    let literals = draw::mixed(random, n);
     let (a, s) = (random.between(1, rooms), random.between(1, rooms));
     let mut marks = |room: usize| (0..room).map(|_| random.next() as u16).collect::<Vec<u16>>();
     let (universal_marks, existential_marks) = (marks(a), marks(s));

@@ -52,30 +52,32 @@ const GROUPS: [Group; 7] = [
     },
 ];
 
-/// Each case is a search; two in five are put to the judge too.
-pub fn compare_all(random: &mut Random, times: usize, tally: &mut Tally) {
-    for group in &GROUPS {
-        let (mut compared, mut left_out, mut found, mut accepted) = (0, 0, 0, 0);
-        for case in 0..group.cases * times {
-            let side = draw::side(random);
-            let lending = draw::lending(random, &group.sizes, side);
-            let wanted = match lending.searched(side, LOOKS) {
-                Ok(wanted) => wanted,
-                Err(_) => {
-                    left_out += 1;
-                    continue;
-                }
-            };
-            found += usize::from(wanted.0 == 1);
-            tally.case(compare::search_with(&lending, side, wanted.clone()));
-            compared += 1;
-            if case % 5 < 2 {
-                let judged = (u64::from(wanted.0 == 0), vec![0; wanted.1.len()]);
-                accepted += judged.0;
-                tally.case(compare::judge_with(&lending, side.kind(), judged));
-                compared += 1;
+/// As many as there are groups.
+pub const COUNT: usize = GROUPS.len();
+
+/// Each case of a group is a search; two in five are put to the judge too.
+pub fn compare_group(i: usize, random: &mut Random, times: usize, tally: &mut Tally) {
+    let group = &GROUPS[i];
+    let (mut compared, mut left_out, mut found, mut accepted) = (0, 0, 0, 0);
+    for case in 0..group.cases * times {
+        let side = draw::side(random);
+        let lending = draw::lending(random, &group.sizes, side);
+        let wanted = match lending.searched(side, LOOKS) {
+            Ok(wanted) => wanted,
+            Err(_) => {
+                left_out += 1;
+                continue;
             }
+        };
+        found += usize::from(wanted.0 == 1);
+        tally.case(compare::search_with(&lending, side, wanted.clone()));
+        compared += 1;
+        if case % 5 < 2 {
+            let judged = (u64::from(wanted.0 == 0), vec![0; wanted.1.len()]);
+            accepted += judged.0;
+            tally.case(compare::judge_with(&lending, side.kind(), judged));
+            compared += 1;
         }
-        println!("{}: {} compared, {} left out; {} first models, {} claims accepted", group.name, compared, left_out, found, accepted);
     }
+    println!("{}: {} compared, {} left out; {} first models, {} claims accepted", group.name, compared, left_out, found, accepted);
 }

@@ -1,10 +1,10 @@
 //! The run, as the paper words it.
 
-use crate::formula::{clauses, count_of, formula_cause, rows_fit, Side, WORK};
-use crate::model::{Problem, Row, TooLong};
-use crate::preference::preference;
-use crate::rows::encoded;
-use crate::wanted::first_model;
+use super::formula::{clauses, count_of, formula_cause, rows_fit, Side, WORK};
+use super::model::{Problem, Row, TooLong};
+use super::preference::preference;
+use super::rows::encoded;
+use super::wanted::first_model;
 
 /// The rows of a table and the round that each came in.
 #[derive(Clone, Debug, Default)]
@@ -39,7 +39,7 @@ pub struct Outcome {
 }
 
 /// The run of an accepted formula.
-fn rounds(
+pub fn rounds(
     kinds: &[u8],
     clauses: &[Vec<i32>],
     preferences: &[u8],

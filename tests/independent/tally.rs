@@ -24,4 +24,8 @@ impl Tally {
             }
         }
     }
+
+    pub fn sum(all: Vec<Tally>) -> Tally {
+        Tally { passed: all.iter().map(|tally| tally.passed).sum(), failed: all.iter().map(|tally| tally.failed).sum() }
+    }
 }

@@ -1,10 +1,10 @@
 //! Random formulas, preferences and row tables.
 
-use crate::formula::{count_of, matrix, Side, WORK};
-use crate::model::{copies, plays, Problem};
-use crate::random::Random;
-use crate::rows::rows_of;
-use crate::wanted::Lending;
+use super::formula::{count_of, matrix, Side, WORK};
+use super::model::{copies, plays, Problem};
+use super::random::Random;
+use super::rows::rows_of;
+use super::wanted::Lending;
 
 /// Each unknown's kind by itself, or in blocks, or all of one kind.
 pub fn kinds(random: &mut Random, n: usize) -> Vec<u8> {
@@ -49,6 +49,39 @@ pub fn literals(random: &mut Random, n: usize, clauses: usize, window: usize) ->
         literals.push(0);
     }
     literals
+}
+
+/// Clauses that make two unknowns equal or different: such a formula takes several rounds.
+fn tied(random: &mut Random, n: usize) -> Vec<i32> {
+    let (a, b) = (random.between(1, n) as i32, random.between(1, n) as i32);
+    if random.chance(1, 2) {
+        vec![a, b, 0, -a, -b, 0]
+    } else {
+        vec![a, -b, 0, -a, b, 0]
+    }
+}
+
+/// Clauses at random, or few of them and some ties, or long ones as many as leave the verdict open.
+pub fn mixed(random: &mut Random, n: usize) -> Vec<i32> {
+    match random.below(if n > 0 { 3 } else { 1 }) {
+        0 => {
+            let clauses = random.below(2 * n + 2);
+            literals(random, n, clauses, 8)
+        }
+        1 => {
+            let clauses = random.below(n / 2 + 1);
+            let mut drawn = literals(random, n, clauses, 8);
+            for _ in 0..random.between(1, n) {
+                drawn.extend(tied(random, n));
+            }
+            drawn
+        }
+        _ => {
+            let clauses = random.between(n, 4 * n);
+            let length = random.between(3, 5);
+            (0..clauses).flat_map(|_| clause(random, n, length, n).into_iter().chain([0])).collect()
+        }
+    }
 }
 
 /// None lent in a third of the cases, else mostly one to nine bytes, of which only the lowest bits count.

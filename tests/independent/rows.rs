@@ -1,6 +1,6 @@
 //! Rows as bytes: bit k is byte k div 8, weight 2^(k mod 8).
 
-use crate::model::Row;
+use super::model::Row;
 
 pub fn encoded(row: &[bool]) -> [u8; 16] {
     let mut bytes = [0; 16];

@@ -1,8 +1,8 @@
 //! What each function is to return and leave, by the paper's rules: the first cause that applies, or the answer.
 
-use crate::formula::{clauses, count_of, formula_cause, rows_fit, Side, WORK};
-use crate::model::{by_groups, by_order, by_parts, copies, Problem, Row, TooLong};
-use crate::rows::{has_stray, rows_of, table_of};
+use super::formula::{clauses, count_of, formula_cause, rows_fit, Side, WORK};
+use super::model::{by_groups, by_order, by_parts, copies, Problem, Row, TooLong};
+use super::rows::{has_stray, rows_of, table_of};
 
 /// Up to this many copies all assignments are gone through as well.
 const ALL_ASSIGNMENTS: usize = 13;

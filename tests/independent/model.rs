@@ -4,8 +4,8 @@
 //! the positions with the rows that still agree. `by_parts` does so for each part of the clauses that shares no own unknown with the others.
 //! The last two serve larger cases, and are compared with the first on all small ones.
 
-use crate::formula::{is_lost, wins, Side};
-use crate::preference::preference;
+use super::formula::{is_lost, wins, Side};
+use super::preference::preference;
 use std::collections::HashMap;
 
 /// A row's values, one for each unknown of its kind.

@@ -1,0 +1,21 @@
+//! The paper's rules, written from its words apart from the engine: the formula, its meaning by brute force, preferences, rows, copies and the
+//! first model, the run, the judge, the reader, and what the program prints and the C function returns. With them what the tests share: random
+//! cases, lent tables with guards, the count of cases, jobs on several threads.
+
+// No test uses all of it.
+#![allow(dead_code)]
+
+pub mod answers;
+pub mod draw;
+pub mod formula;
+pub mod jobs;
+pub mod lent;
+pub mod meaning;
+pub mod model;
+pub mod preference;
+pub mod random;
+pub mod reader;
+pub mod rounds;
+pub mod rows;
+pub mod tally;
+pub mod wanted;

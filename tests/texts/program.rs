@@ -1,0 +1,55 @@
+//! The built program on standard input, held against all that it is to print.
+
+use crate::answers;
+use crate::model::TooLong;
+use crate::random::Random;
+use crate::reader::{Read, Refusal};
+use std::io::{self, Write};
+use std::process::{Command, Output, Stdio};
+
+const PROGRAM: &str = "target/bin/vulzhenn";
+const SCRIPT: &str = "./vulzhenn";
+
+/// Runs it and says what is not as wanted, if anything. Returned with the wanted lines.
+pub fn compare(random: &mut Random, text: &[u8], read: &Result<Read, Refusal>, looks: usize) -> Result<(String, Option<String>), TooLong> {
+    let wanted = answers::printed(read, looks)?;
+    let wrong = match run(random, text) {
+        Ok(printed) if printed == wanted => None,
+        Ok(printed) => Some(format!("printed {:?}, wanted {:?}", printed, wanted)),
+        Err(words) => Some(words),
+    };
+    Ok((wanted, wrong))
+}
+
+/// What the program prints. The text comes from a pipe; once in a hundred times from a file that is named to the script of the repository.
+fn run(random: &mut Random, text: &[u8]) -> Result<String, String> {
+    let output = if random.chance(1, 100) { from_a_file(random, text) } else { from_a_pipe(random, text) };
+    let output = output.map_err(|error| error.to_string())?;
+    if !output.stderr.is_empty() || !output.status.success() {
+        return Err(format!("ended with {}, {:?}", output.status, String::from_utf8_lossy(&output.stderr)));
+    }
+    String::from_utf8(output.stdout).map_err(|error| error.to_string())
+}
+
+fn from_a_file(random: &mut Random, text: &[u8]) -> io::Result<Output> {
+    let path = format!("target/texts-{:x}.qdimacs", random.next());
+    std::fs::write(&path, text)?;
+    let output = Command::new(SCRIPT).arg(&path).output();
+    std::fs::remove_file(&path)?;
+    output
+}
+
+/// The text is written in pieces.
+fn from_a_pipe(random: &mut Random, text: &[u8]) -> io::Result<Output> {
+    let mut child = Command::new(PROGRAM).stdin(Stdio::piped()).stdout(Stdio::piped()).stderr(Stdio::piped()).spawn()?;
+    let mut input = child.stdin.take().unwrap();
+    let size = random.pick(&[7, 100, 4_096, 65_536, 1 << 20]).max(text.len() / 50);
+    for piece in text.chunks(size) {
+        // A program that has read enough may have ended.
+        if input.write_all(piece).is_err() {
+            break;
+        }
+    }
+    drop(input);
+    child.wait_with_output()
+}

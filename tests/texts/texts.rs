@@ -1,0 +1,185 @@
+//! Texts through the C function, linked from its static library, and through the built program: numbers, printed lines and lent bytes are
+//! compared with the paper's rules written apart. Cases are drawn from a seed.
+//!
+//! usage: texts [TIMES [SEED]]
+
+mod damage;
+mod door;
+mod formulas;
+#[path = "../independent/mod.rs"]
+mod independent;
+mod limits;
+mod play;
+mod program;
+mod write;
+
+use formulas::Formula;
+use independent::jobs::{self, Job};
+use independent::{answers, draw, formula, lent, model, random, reader, tally};
+use play::{Player, Seen, Way};
+use random::Random;
+use std::collections::BTreeMap;
+use std::time::Instant;
+use tally::Tally;
+use write::write;
+
+const SEED: u64 = 1;
+
+/// How many texts of each sort are played.
+struct Sort {
+    name: &'static str,
+    door: usize,
+    program: usize,
+    play: fn(&mut Player, usize),
+}
+
+const SORTS: [Sort; 9] = [
+    Sort { name: "small formulas", door: 25_000, program: 5_000, play: small },
+    Sort { name: "small formulas with every limit", door: 300, program: 0, play: every_limit },
+    Sort { name: "middle formulas", door: 3_000, program: 500, play: middle },
+    Sort { name: "formulas that take many rows", door: 40, program: 20, play: many_rows },
+    Sort { name: "large formulas", door: 600, program: 300, play: large },
+    Sort { name: "published formulas", door: 0, program: 1, play: published },
+    Sort { name: "damaged texts", door: 50_000, program: 2_000, play: damaged },
+    Sort { name: "texts at the limits", door: 2, program: 1, play: at_the_limits },
+    Sort { name: "damaged texts at the limits", door: 5_000, program: 300, play: damaged_at_the_limits },
+];
+
+fn play_formulas(player: &mut Player, times: usize, draw: fn(&mut Random) -> Formula) {
+    let mut features = BTreeMap::new();
+    for _ in 0..times {
+        let formula = draw(&mut player.random);
+        for feature in formula.features() {
+            *features.entry(feature).or_insert(0) += 1;
+        }
+        let written = write(&mut player.random, &formula);
+        player.play_written(&written.text, written.read);
+    }
+    println!("{:?}, drawn with: {:?}", player.way, features);
+}
+
+fn small(player: &mut Player, times: usize) {
+    play_formulas(player, times, |random| formulas::small(random, 9));
+}
+
+fn middle(player: &mut Player, times: usize) {
+    play_formulas(player, times, |random| formulas::small(random, 24));
+}
+
+fn large(player: &mut Player, times: usize) {
+    play_formulas(player, times, formulas::large);
+}
+
+/// With the program's limit each way, since a lower one would seldom leave rows without room.
+fn many_rows(player: &mut Player, times: usize) {
+    for _ in 0..times {
+        let random = &mut player.random;
+        let formula = if random.chance(1, 2) { formulas::pairs(random) } else { formulas::layers(random) };
+        let written = write(random, &formula);
+        match player.way {
+            Way::Door => player.play_door(&written.text, &Ok(written.read), formula::WORK, 1_000),
+            Way::Program => player.play_written(&written.text, written.read),
+        }
+    }
+}
+
+fn every_limit(player: &mut Player, times: usize) {
+    for _ in 0..times {
+        let formula = formulas::small(&mut player.random, 8);
+        let written = write(&mut player.random, &formula);
+        for limit in door::limits() {
+            player.play_door(&written.text, &Ok(written.read.clone()), formula::WORK, limit);
+        }
+    }
+}
+
+fn published(player: &mut Player, times: usize) {
+    let folder = std::fs::read_dir("examples/published").expect("examples/published");
+    let mut paths: Vec<_> = folder.map(|entry| entry.unwrap().path()).filter(|path| path.extension() == Some("qdimacs".as_ref())).collect();
+    paths.sort();
+    for path in paths {
+        let text = std::fs::read(path).unwrap();
+        for _ in 0..times {
+            player.play(&text);
+        }
+    }
+}
+
+fn damaged(player: &mut Player, times: usize) {
+    for _ in 0..times {
+        let formula = formulas::small(&mut player.random, 7);
+        let written = write(&mut player.random, &formula);
+        let text = damage::damage(&mut player.random, &written.text);
+        player.play(&text);
+    }
+}
+
+fn at_the_limits(player: &mut Player, times: usize) {
+    for text in limits::texts() {
+        for _ in 0..times {
+            player.play(&text);
+        }
+    }
+}
+
+fn damaged_at_the_limits(player: &mut Player, times: usize) {
+    let texts = limits::texts();
+    for _ in 0..times {
+        let chosen = player.random.below(texts.len());
+        let text = damage::damage(&mut player.random, &texts[chosen]);
+        player.play(&text);
+    }
+}
+
+/// One sort, one way.
+fn job(way: Way, number: usize, times: usize, seed: u64) -> Job<Player> {
+    Box::new(move || {
+        let start = Instant::now();
+        let sort = &SORTS[number];
+        let mut player = Player::new(way, seed, sort.name, number as u64);
+        (sort.play)(&mut player, times * if way == Way::Door { sort.door } else { sort.program });
+        let compared = player.tally.passed + player.tally.failed;
+        println!("{:?}, {}: {} compared, {} left out, {:.1} s", way, sort.name, compared, player.left_out, start.elapsed().as_secs_f64());
+        player
+    })
+}
+
+/// What can come of a text, each way.
+const OF_THE_DOOR: [&str; 13] = ["0", "1", "2", "3", "4", "105", "106", "109", "110", "111", "112", "113", "114"];
+const OF_THE_PROGRAM: [&str; 9] =
+    ["s cnf 0", "s cnf 1", "s cnf -1", "c refused 9", "c refused 10", "c refused 11", "c refused 12", "c refused 13", "c refused 14"];
+
+/// Whatever can come of a text must have come.
+fn look_for_all(way: Way, players: &[Player], tally: &mut Tally) {
+    let mut seen = Seen::new();
+    for (came, count) in players.iter().filter(|player| player.way == way).flat_map(|player| &player.seen) {
+        *seen.entry(came.clone()).or_insert(0) += count;
+    }
+    println!("{:?}: {:?}", way, seen);
+    let wanted: &[&str] = if way == Way::Door { &OF_THE_DOOR } else { &OF_THE_PROGRAM };
+    for name in wanted {
+        let missing = format!("{:?}: no text came to '{}'", way, name);
+        tally.case(if seen.contains_key(*name) { None } else { Some(missing) });
+    }
+}
+
+fn main() {
+    let mut words = std::env::args().skip(1).map(|word| word.parse::<u64>().expect("a number"));
+    let times = words.next().unwrap_or(1) as usize;
+    let seed = words.next().unwrap_or(SEED);
+    println!("seed {}, {} times the gate's cases", seed, times);
+    let start = Instant::now();
+    let mut jobs = Vec::new();
+    for number in 0..SORTS.len() {
+        jobs.push(job(Way::Program, number, times, seed));
+        jobs.push(job(Way::Door, number, times, seed));
+    }
+    let players = jobs::run_all(jobs);
+    let mut found = Tally::new();
+    look_for_all(Way::Door, &players, &mut found);
+    look_for_all(Way::Program, &players, &mut found);
+    let tally = Tally::sum(players.into_iter().map(|player| player.tally).chain([found]).collect());
+    println!("{:.1} s", start.elapsed().as_secs_f64());
+    println!("{} passed, {} failed", tally.passed, tally.failed);
+    std::process::exit(i32::from(tally.failed > 0 || tally.passed == 0));
+}
