@@ -15,9 +15,9 @@ use Rattle.formula.specs.declared.Check.the-variants.{Accepted}
 use Rattle.formula.specs.Causes.{any, other-kind, zeros, ended, is-zero as is-end, beyond, checked, sizes, cause-3}
 use Rattle.formula.proofs.Any.{or-none}
 use Rattle.formula.proofs.Order.{no-cause-1, no-cause-2}
-use Rattle.text.specs.Lines.{Bytes, Line, ended as line-ended, unended, lines, words, fourth, third, first, rest, same}
-use Rattle.text.specs.Numbers.{number, unsigned, negative, is-zero, is-literal}
-use Rattle.text.specs.Shapes.{is-comment, is-problem, is-prefix, is-clause, is-trimmed, is-empty, closed-by-zero, a-word}
+use Rattle.lines.specs.Lines.{Bytes, Line, ended as line-ended, unended, lines, words, fourth, third, first, rest, same}
+use Rattle.lines.specs.Numbers.{number, unsigned, negative, is-zero, is-literal}
+use Rattle.lines.specs.Shapes.{is-comment, is-problem, is-prefix, is-clause, is-trimmed, is-empty, closed-by-zero, a-word}
 use Rattle.text.specs.Reading.{max-variables, State, Step, went, fault, unless, place-from, position, name-cause, bind, bind-all, kind-of-word, prefix-line, literal-cause, signed, entry, add-entry, add-entries, clause-read, clause-line, body-line, step, Result, taken, refused, go-on, body, problem-cause, opened, problem, after-comments, lent-well, read}
 use Rattle.text.proofs.NameLaws.{name-cause-zero, literal-cause-zero}
 

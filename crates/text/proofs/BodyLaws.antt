@@ -9,8 +9,8 @@ use lib.ListN.{length}
 use native.Mathlib.Omega.{arith}
 use Rattle.formula.specs.Formula.{max-unknowns, max-entries}
 use Rattle.text.specs.declared.body.Counts.{Counts}
-use Rattle.text.specs.Lines.{Bytes, words}
-use Rattle.text.specs.Shapes.{is-prefix, is-clause}
+use Rattle.lines.specs.Lines.{Bytes, words}
+use Rattle.lines.specs.Shapes.{is-prefix, is-clause}
 use Rattle.text.specs.Reading.{State, went, fault, unless, prefix-line, clause-line, clause-read, body-line, Result, go-on}
 use Rattle.text.specs.Steps.{Sized, settled}
 

@@ -11,8 +11,8 @@ use lib.IntN.{ℤ}
 use lib.ListN.{length, take, set}
 use lib.Seq.{take-suc-set, length-take-le}
 use Rattle.formula.specs.Formula.{max-unknowns, max-entries}
-use Rattle.text.specs.Lines.{Bytes}
-use Rattle.text.specs.Numbers.{number, unsigned, is-zero}
+use Rattle.lines.specs.Lines.{Bytes}
+use Rattle.lines.specs.Numbers.{number, unsigned, is-zero}
 use Rattle.text.specs.Reading.{State, Step, went, unless, position, name-cause, with-prefix, bind, bind-all, room-cause, literal-cause, entry, with-literals, add-entry, add-entries}
 
 pub refused-alike : (cause : ℕ) → (cause ≡ 0 → ⊥) → (t u : Step) → unless cause t ≡ unless cause u

@@ -9,9 +9,9 @@ use lib.ListN.{length, drop}
 use Rattle.formula.specs.Formula.{max-unknowns, max-clauses, max-entries}
 use Rattle.text.specs.declared.Reading.{Reading}
 use Rattle.text.specs.declared.Reading.the-variants.{Taken, Refused}
-use Rattle.text.specs.Lines.{Bytes, Line, ended, unended, lines, words, first, rest, third, fourth, same}
-use Rattle.text.specs.Numbers.{number, is-zero, negative, unsigned}
-use Rattle.text.specs.Shapes.{is-comment, is-problem, is-prefix, is-clause, a-word}
+use Rattle.lines.specs.Lines.{Bytes, Line, ended, unended, lines, words, first, rest, third, fourth, same}
+use Rattle.lines.specs.Numbers.{number, is-zero, negative, unsigned}
+use Rattle.lines.specs.Shapes.{is-comment, is-problem, is-prefix, is-clause, a-word}
 
 -- 'Text over 65,536 bytes'; 'V is at most 32,767'.
 abbrev pub max-bytes : ℕ

@@ -1,59 +1,20 @@
 -- What private functions promise; the contract of `read` rests on none of it. Assumes nothing.
-use Prim.Native.Nat.{ℕ, zero, suc, _+_, _-_, _≤_, _<_}
+use Prim.Native.Nat.{ℕ, zero, suc, _+_, _≤_, _<_}
 use mathlib.Core.Path.{_≡_}
-use mathlib.Core.Bool.{Bool, true, false, cond, _&&_}
-use mathlib.Core.List.{List, [], _∷_}
-use lib.Dec.{eqb, ltb}
+use mathlib.Core.Bool.{Bool, cond}
+use mathlib.Core.List.{List}
+use lib.Dec.{ltb}
 use lib.IntN.{ℤ}
 use lib.ListN.{length, getD, take, drop}
 use Rattle.formula.specs.Formula.{max-unknowns, max-clauses, max-entries}
 use Rattle.text.specs.declared.body.Counts.{Counts}
-use Rattle.text.specs.Lines.{Bytes, lines, words, first, rest, second, third, fourth, same}
-use Rattle.text.specs.Numbers.{number, no-number, is-name, is-literal}
-use Rattle.text.specs.Shapes.{is-trimmed, p-word, cnf-word}
+use Rattle.lines.specs.Lines.{Bytes, lines, words, third, fourth}
+use Rattle.lines.specs.Numbers.{number}
 use Rattle.text.specs.Reading.{max-variables, position, State, Step, went, unless, with-prefix, with-literals, bind-all, add-entries, literal-cause, entry, problem-cause, problem, after-comments, Result, taken, refused}
 
--- The number of bytes before the first b.
-abbrev pub more-if-not : Bool → ℕ → ℕ
-more-if-not true n = 0
-more-if-not false n = suc n
-
-abbrev pub before : ℕ → Bytes → ℕ
-before b [] = 0
-before b (x ∷ xs) = more-if-not (eqb x b) (before b xs)
-
--- The number of spaces at the front.
-abbrev pub more-if : Bool → ℕ → ℕ
-more-if true n = suc n
-more-if false n = 0
-
-abbrev pub spaces : Bytes → ℕ
-spaces [] = 0
-spaces (x ∷ xs) = more-if (eqb x 32) (spaces xs)
-
--- The first word at or after i stands from `start` to `end`; there is none if the two are equal.
-pub record Next (line : Bytes) (i start end : ℕ) : Type 0 where
-  pub ordered : start ≤ end
-  pub within : end ≤ length line
-  pub word : take (end - start) (drop start line) ≡ first (words (drop i line))
-  pub others : words (drop end line) ≡ rest (words (drop i line))
-  pub none : start ≡ end → words (drop i line) ≡ []
-  pub some : start < end → words (drop i line) ≡ take (end - start) (drop start line) ∷ words (drop end line)
-  pub onward : start < end → i < end
-
--- The words that a prefix line, or a signed clause line, holds before its 0.
-abbrev pub good : Bool → Bytes → Bool
-good false w = is-name w
-good true w = is-literal w
-
--- The cause of the p line's numbers.
-unfoldable pub range-cause : ℕ → ℕ → ℕ
-range-cause v c = cond (ltb v no-number && ltb c no-number) (cond (ltb max-variables v) 11 (cond (ltb max-clauses c) 11 0)) 10
-
-pub record Opening-read (line : Bytes) (good : Bool) (end : ℕ) : Type 0 where
-  pub right : good ≡ (is-trimmed line && same (first (words line)) p-word && same (second (words line)) cnf-word)
-  pub within : end ≤ length line
-  pub others : words (drop end line) ≡ rest (rest (words line))
+-- The cause of a p line, whose shape is good or not.
+unfoldable pub range-cause : Bool → ℕ → ℕ → ℕ
+range-cause good v c = cond good (cond (ltb max-variables v) 11 (cond (ltb max-clauses c) 11 0)) 10
 
 pub record Problem-read (line : Bytes) (cause variables clauses : ℕ) : Type 0 where
   pub right : cause ≡ problem-cause line

@@ -7,14 +7,13 @@ ghost use lib.IntN.{ℤ};
 ghost use Prim.Native.Nat.{ℕ, _+_, _≤_};
 ghost use lib.ListN.{length, take, drop};
 ghost use Rattle.formula.specs.Formula.{max-unknowns, max-entries};
-ghost use Rattle.text.specs.Lines.{lines, words};
-ghost use Rattle.text.specs.Shapes.{is-prefix};
+ghost use Rattle.lines.specs.Lines.{lines, words};
+ghost use Rattle.lines.specs.Shapes.{is-prefix};
 ghost use Rattle.text.specs.Reading.{max-variables, body as lines-read, body-line as line-read, prefix-line as prefix-read, clause-line as clause-read, kind-of-word};
 ghost use Rattle.text.specs.Steps.{max-places, Indexed, Sized, held, Line-read, All-read};
-use crate::lines;
 use crate::names;
-use crate::numbers;
-use crate::shapes;
+use lines::numbers;
+use lines::shapes;
 
 // How far a text was taken: V and C, what is used of the tables, the clause lines, a cause, 0 for none, and the line reached.
 pub(crate) struct Counts {

@@ -5,16 +5,14 @@ ghost use Prim.Native.Nat.{_≤_};
 ghost use mathlib.Core.List.{_++_};
 ghost use lib.ListN.{length, take, drop};
 ghost use Rattle.formula.specs.Formula.{max-unknowns, max-entries};
-ghost use Rattle.text.specs.Lines.{lines};
+ghost use Rattle.lines.specs.Lines.{lines};
 ghost use Rattle.text.specs.Reading.{read as definition, Read-so, after-comments};
 ghost use Rattle.text.specs.Steps.{All-read, Comments-read};
 use formula::Formula;
 
 mod body;
-mod lines;
 mod names;
-mod numbers;
-mod shapes;
+mod problem;
 
 // What a text gives: the unknowns bound, the entries of the literals, V and C; or the cause's number and its line.
 pub enum Reading {
@@ -84,7 +82,7 @@ fn scan(text: &[u8], kinds: &mut [u8], literals: &mut [i32], names: &mut [u16]) 
     if end == text.len() {
         return body::refused(10, line);
     }
-    let p = shapes::read_problem(&text[at..end]);
+    let p = problem::read_problem(&text[at..end]);
     if p.cause != 0 {
         return body::refused(p.cause, line);
     }

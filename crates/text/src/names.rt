@@ -6,9 +6,8 @@ ghost use lib.ListN.{length, take};
 ghost use Rattle.formula.specs.Formula.{max-unknowns, max-entries};
 ghost use Rattle.text.specs.Reading.{max-variables, name-cause as cause-of-name, room-cause as cause-of-room, signed as with-sign};
 ghost use Rattle.text.specs.Steps.{max-places, Indexed, Bound-all, Placed, Added-all};
-use crate::lines;
-use crate::numbers;
 use formula::Formula;
+use lines::numbers;
 
 // The table of places has an entry for each name, and one for 0: the name's position, 0 if it is not bound.
 pub(crate) const PLACES: usize = 32_768;

@@ -5,12 +5,13 @@ use native.Mathlib.Omega.{arith}
 use native.Mathlib.Numerals.{add-one}
 use borrow.Author.Tests.{eq-eqb, ne-eqb}
 use mathlib.Core.Bool.{true, false}
+use borrow.Author.Needs.{needs}
 use lib.ListN.{length, take, drop, getD, length-drop}
-use Rattle.text.specs.Lines.{lines}
-use Rattle.text.specs.Shapes.{is-comment}
+use Rattle.lines.specs.Lines.{lines}
+use Rattle.lines.specs.Shapes.{is-comment}
 use Rattle.text.specs.Reading.{after-comments}
-use Rattle.text.proofs.Spans.{before-le}
-use Rattle.text.proofs.LineLaws.{lines-line, lines-rest, lines-none, comment-first}
+use Rattle.lines.proofs.Spans.{before-le}
+use Rattle.lines.proofs.LineLaws.{lines-line, lines-rest, lines-none, comment-first}
 use Rattle.text.proofs.comments.Statement.{statement}
 use Rattle.text.proofs.comments.Tie as tie
 
@@ -24,7 +25,7 @@ loop-holds : tie.Need-loop-holds Inv-loop μ-loop
 loop-holds c = (omega arith, omega arith, refl)
 
 find-requires : tie.Need-find-requires Inv-loop μ-loop
-find-requires c κs = omega arith
+find-requires c κs = search needs
 
 returns : tie.Need-returns Inv-loop μ-loop
 returns c = record { within = omega arith; small = omega arith; right = rw (← c .before .before .before .loop .inv .2, lines-rest (c .before .before .before .before .before .args .text .now) (c .before .before .before .loop .at) (c .before .find .result) (c .before .find .ensures) (c .before .before .loop-test .taken) (c .if1 .taken)) refl }

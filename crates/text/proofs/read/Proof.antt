@@ -3,7 +3,7 @@ use mathlib.Core.Path.{_≡_, refl, sym, _∙_}
 use borrow.Author.Tests.{lt-leb, le-leb, eq-eqb, ne-eqb}
 use native.Mathlib.Omega.{arith}
 use lib.ListN.{length}
-use Rattle.text.specs.Lines.{lines}
+use Rattle.lines.specs.Lines.{lines}
 use Rattle.text.specs.Reading.{read, after-comments}
 use Rattle.text.proofs.ReadingLaws.{refused-whole, taken-whole, outcome-refused, outcome-taken}
 use borrow.Author.Needs.{needs}

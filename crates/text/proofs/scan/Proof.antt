@@ -6,8 +6,8 @@ use native.Mathlib.Numerals.{add-one}
 use lib.ListN.{length, drop, length-drop}
 use Rattle.text.specs.Reading.{opened}
 use Rattle.text.specs.Steps.{held, outcome}
-use Rattle.text.proofs.Spans.{before-le}
-use Rattle.text.proofs.LineLaws.{lines-line, lines-rest, lines-none}
+use Rattle.lines.proofs.Spans.{before-le}
+use Rattle.lines.proofs.LineLaws.{lines-line, lines-rest, lines-none}
 use Rattle.text.proofs.BodyLaws.{nothing-held, settled-refused}
 use borrow.Author.Needs.{needs}
 use Rattle.text.proofs.scan.Statement.{statement}

@@ -4,12 +4,13 @@ use mathlib.Core.Path.{_≡_, refl, sym, _∙_}
 use native.Mathlib.Omega.{arith}
 use native.Mathlib.Numerals.{add-one}
 use borrow.Author.Tests.{eq-eqb, ne-eqb}
+use borrow.Author.Needs.{needs}
 use lib.ListN.{length, take, drop, length-drop}
-use Rattle.text.specs.Lines.{lines}
+use Rattle.lines.specs.Lines.{lines}
 use Rattle.text.specs.Reading.{body}
 use Rattle.text.specs.Steps.{Indexed, Sized, held, outcome}
-use Rattle.text.proofs.Spans.{before-le}
-use Rattle.text.proofs.LineLaws.{lines-line, lines-rest, lines-none}
+use Rattle.lines.proofs.Spans.{before-le}
+use Rattle.lines.proofs.LineLaws.{lines-line, lines-rest, lines-none}
 use Rattle.text.proofs.BodyLaws.{resized, settled-refused}
 use Rattle.text.proofs.body.read_lines.Statement.{statement}
 use Rattle.text.proofs.body.read_lines.Tie as tie
@@ -24,7 +25,7 @@ loop-holds : tie.Need-loop-holds Inv-loop μ-loop
 loop-holds c = (c .before .before .before .before .pre .1 .0, c .before .before .before .before .pre .1 .1, c .before .before .before .before .pre .1 .2, c .before .before .before .before .pre .0 .0, refl, c .before .before .before .before .pre .0 .1)
 
 find-requires : tie.Need-find-requires Inv-loop μ-loop
-find-requires c κs = omega arith
+find-requires c κs = search needs
 
 same-length : tie.Need-same-length Inv-loop μ-loop
 same-length c = c .before .before .before .loop .inv .3 .kinds ∙ sym (c .before .before .before .before .before .before .before .before .pre .0 .0 .kinds)

@@ -2,13 +2,14 @@
 use Prim.Native.Nat.{_-_, _≤_, _<_}
 use mathlib.Core.Path.{_≡_, refl, ap, sym, _∙_}
 use native.Mathlib.Omega.{arith}
+use borrow.Author.Needs.{needs}
 use lib.ListN.{length, take, drop, length-set}
 use mir.Syntax.{w32}
 use mir.ValLaws.{toZ-ofZ}
-use Rattle.text.specs.Lines.{words}
+use Rattle.lines.specs.Lines.{words}
 use Rattle.text.specs.Reading.{State, went, with-literals, add-entries}
 use Rattle.text.specs.Steps.{Indexed}
-use Rattle.text.proofs.Pieces.{words-none}
+use Rattle.lines.proofs.Pieces.{words-none}
 use Rattle.text.proofs.NameLaws.{add-refused, add-taken}
 use Rattle.text.proofs.names.add_entries.Statement.{statement}
 use Rattle.text.proofs.names.add_entries.Tie as tie
@@ -23,7 +24,7 @@ loop-holds : tie.Need-loop-holds Inv-loop μ-loop
 loop-holds c = (omega arith, c .before .before .pre .2, refl, λ s e f. refl)
 
 next-requires : tie.Need-next-requires Inv-loop μ-loop
-next-requires c κs = omega arith
+next-requires c κs = search needs
 
 same-length : tie.Need-same-length Inv-loop μ-loop
 same-length c = c .before .before .before .loop .inv .2

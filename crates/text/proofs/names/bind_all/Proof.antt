@@ -5,10 +5,10 @@ use native.Mathlib.Omega.{arith}
 use borrow.Author.Needs.{needs}
 use lib.ListN.{length, take, drop, length-set}
 use lib.Seq.{length-take-le}
-use Rattle.text.specs.Lines.{words}
+use Rattle.lines.specs.Lines.{words}
 use Rattle.text.specs.Reading.{State, went, with-prefix, bind-all}
 use Rattle.text.specs.Steps.{Indexed}
-use Rattle.text.proofs.Pieces.{words-none}
+use Rattle.lines.proofs.Pieces.{words-none}
 use Rattle.text.proofs.NameLaws.{name-cause-zero, bind-ended, bind-refused, bind-taken}
 use Rattle.text.proofs.Places.{indexed-more}
 use Rattle.text.proofs.names.bind_all.Statement.{statement}
@@ -24,7 +24,7 @@ loop-holds : tie.Need-loop-holds Inv-loop μ-loop
 loop-holds c = (c .before .before .before .before .pre .0 .0, c .before .before .before .before .pre .0 .1, refl, refl, λ s e. refl, c .before .before .before .before .pre .1)
 
 next-requires : tie.Need-next-requires Inv-loop μ-loop
-next-requires c κs = omega arith
+next-requires c κs = search needs
 
 same-length : tie.Need-same-length Inv-loop μ-loop
 same-length c = c .before .before .before .loop .inv .2

@@ -1,0 +1,92 @@
+-- The first two words of the p line. Assumes nothing.
+use mathlib.Core.Path.{_≡_, refl, ap, sym, _∙_}
+use mathlib.Core.Bool.{true, false}
+use borrow.Author.Needs.{needs}
+use Rattle.lines.specs.Lines.{words, first, same}
+use Rattle.lines.specs.Shapes.{is-trimmed, p-word, cnf-word}
+use Rattle.lines.proofs.ShapeLaws.{taken-word}
+use Rattle.lines.proofs.shapes.opens.Statement.{statement}
+use Rattle.lines.proofs.shapes.opens.Tie as tie
+
+next-requires : tie.Need-next-requires
+next-requires c κs = search needs
+
+next-requires-2 : tie.Need-next-requires-2
+next-requires-2 c κs = search needs
+
+is-trimmed-requires : tie.Need-is-trimmed-requires
+is-trimmed-requires c κs = search needs
+
+returns : tie.Need-returns
+returns c =
+    let q0 = taken-word {ws = words (c .before .before .before .before .before .args .line .now)} (c .before .before .before .next .ensures) refl in
+    let q1 = taken-word (c .before .before .next2 .ensures) (q0 .1) in
+    let t : is-trimmed (c .before .before .before .before .before .args .line .now) ≡ false = sym (c .before .is-trimmed .ensures) ∙ c .if1 .left in
+    record { right = rw t refl; within = c .before .before .next2 .ensures .within; others = q1 .1 }
+
+sub-same : tie.Need-sub-same
+sub-same c = search needs
+
+part-same-start : tie.Need-part-same-start
+part-same-start c = search needs
+
+part-same-end : tie.Need-part-same-end
+part-same-end c = search needs
+
+slice-aggregate-same : tie.Need-slice-aggregate-same
+slice-aggregate-same c = search needs
+
+same-requires : tie.Need-same-requires
+same-requires c κs = search needs
+
+returns-2 : tie.Need-returns-2
+returns-2 c =
+    let q0 = taken-word {ws = words (c .before .before .before .before .before .before .before .before .before .args .line .now)} (c .before .before .before .before .before .before .before .next .ensures) refl in
+    let q1 = taken-word (c .before .before .before .before .before .before .next2 .ensures) (q0 .1) in
+    let t : is-trimmed (c .before .before .before .before .before .before .before .before .before .args .line .now) ≡ true = sym (c .before .before .before .before .before .is-trimmed .ensures) ∙ c .before .before .before .before .if1 .taken in
+    let s1 : same (first (words (c .before .before .before .before .before .before .before .before .before .args .line .now))) p-word ≡ false = sym (c .before .same .ensures ∙ ap (λ w. same w p-word) (q0 .0)) ∙ c .if2 .left in
+    record { right = rw (t, s1) refl; within = c .before .before .before .before .before .before .next2 .ensures .within; others = q1 .1 }
+
+sub-same-2 : tie.Need-sub-same-2
+sub-same-2 c = search needs
+
+part-same-start-2 : tie.Need-part-same-start-2
+part-same-start-2 c = search needs
+
+part-same-end-2 : tie.Need-part-same-end-2
+part-same-end-2 c = search needs
+
+slice-aggregate-same-2 : tie.Need-slice-aggregate-same-2
+slice-aggregate-same-2 c = search needs
+
+same-requires-2 : tie.Need-same-requires-2
+same-requires-2 c κs = search needs
+
+returns-3 : tie.Need-returns-3
+returns-3 c =
+    let q0 = taken-word {ws = words (c .before .before .before .before .before .before .before .before .before .before .before .before .args .line .now)} (c .before .before .before .before .before .before .before .before .before .before .next .ensures) refl in
+    let q1 = taken-word (c .before .before .before .before .before .before .before .before .before .next2 .ensures) (q0 .1) in
+    let t : is-trimmed (c .before .before .before .before .before .before .before .before .before .before .before .before .args .line .now) ≡ true = sym (c .before .before .before .before .before .before .before .before .is-trimmed .ensures) ∙ c .before .before .before .before .before .before .before .if1 .taken in
+    let s1 : same (first (words (c .before .before .before .before .before .before .before .before .before .before .before .before .args .line .now))) p-word ≡ true = sym (c .before .before .before .before .same .ensures ∙ ap (λ w. same w p-word) (q0 .0)) ∙ c .before .before .before .if2 .taken in
+    record { right = rw (t, s1) (c .same2 .ensures ∙ ap (λ w. same w cnf-word) (q1 .0)); within = c .before .before .before .before .before .before .before .before .before .next2 .ensures .within; others = q1 .1 }
+
+pub opens-spec : {M : Type 1} → statement M
+opens-spec =
+    tie.close
+    (tie.spec
+    next-requires
+    next-requires-2
+    is-trimmed-requires
+    returns
+    sub-same
+    part-same-start
+    part-same-end
+    slice-aggregate-same
+    same-requires
+    returns-2
+    sub-same-2
+    part-same-start-2
+    part-same-end-2
+    slice-aggregate-same-2
+    same-requires-2
+    returns-3)
