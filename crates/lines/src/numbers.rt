@@ -7,7 +7,7 @@ ghost use Rattle.lines.specs.Lines.{same as same-bytes};
 ghost use Rattle.lines.specs.Numbers.{number as number-of, all-digits, value, no-number, is-zero as zero-shape, is-name as name-shape, is-literal as literal-shape, negative as has-minus, unsigned};
 
 // What stands for the value of a word that is no number.
-pub const NO_NUMBER: usize = 100_000;
+pub(crate) const NO_NUMBER: usize = 100_000;
 
 // Whether two words are the same.
 pub fn same(a: &[u8], b: &[u8]) -> bool

@@ -5,9 +5,6 @@ use mathlib.Core.Bool.{true, false, _&&_}
 use mathlib.Core.List.{List}
 use lib.Dec.{eqb}
 use lib.IntN.{ℤ}
-use lib.ListN.{length}
-use native.Mathlib.Omega.{arith}
-use Rattle.formula.specs.Formula.{max-unknowns, max-entries}
 use Rattle.text.specs.declared.body.Counts.{Counts}
 use Rattle.lines.specs.Lines.{Bytes, words}
 use Rattle.lines.specs.Shapes.{is-prefix, is-clause}
@@ -25,12 +22,6 @@ resized u e v z =
       entries = subst (λ (n : ℕ). n ≤ 8192) e (z .entries);
       variables = subst (λ (n : ℕ). n ≤ 32767) v (z .variables);
     }
-
-pub nothing-held : {c : Counts} {cause line : ℕ} {K N : List ℕ} {L : List ℤ}
-    → (c .cause ≡ cause) × (c .line ≡ line) × (c .unknowns ≡ 0) × (c .entries ≡ 0) × (c .variables ≡ 0)
-    → (length K ≡ max-unknowns) × (length N ≡ max-unknowns) × (length L ≡ max-entries) → Sized c K N L
-nothing-held e z =
-    record { kinds = z .0; names = z .1; literals = z .2; unknowns = omega (arith, e .2); entries = omega (arith, e .3); variables = omega (arith, e .4) }
 
 pub clause-read-unless : (cause : ℕ) (s : State) → clause-read (unless cause (went s)) ≡ unless cause (clause-read (went s))
 clause-read-unless zero s = refl

@@ -2,15 +2,16 @@
 use Prim.Native.Nat.{ℕ, zero, suc, _+_, _≤_, _<_}
 use mathlib.Core.Path.{_≡_}
 use mathlib.Core.Bool.{Bool, cond}
-use mathlib.Core.List.{List}
+use mathlib.Core.List.{List, []}
 use lib.Dec.{ltb}
 use lib.IntN.{ℤ}
 use lib.ListN.{length, getD, take, drop}
 use Rattle.formula.specs.Formula.{max-unknowns, max-clauses, max-entries}
 use Rattle.text.specs.declared.body.Counts.{Counts}
+use Rattle.text.specs.declared.opening.Opened.{Opened}
 use Rattle.lines.specs.Lines.{Bytes, lines, words, third, fourth}
 use Rattle.lines.specs.Numbers.{number}
-use Rattle.text.specs.Reading.{max-variables, position, State, Step, went, unless, with-prefix, with-literals, bind-all, add-entries, literal-cause, entry, problem-cause, problem, after-comments, Result, taken, refused}
+use Rattle.text.specs.Reading.{max-variables, position, name-cause, State, Step, went, unless, with-prefix, with-literals, bind-all, add-entries, literal-cause, entry, problem-cause, problem, after-comments, body, read, Result, taken, refused}
 
 -- The cause of a p line, whose shape is good or not.
 unfoldable pub range-cause : Bool → ℕ → ℕ → ℕ
@@ -22,6 +23,19 @@ pub record Problem-read (line : Bytes) (cause variables clauses : ℕ) : Type 0 
   pub c : clauses ≡ number (fourth (words line))
   pub small : cause ≡ 0 → variables ≤ max-variables
 
+-- The state after the p line.
+unfoldable pub fresh : Opened → State
+fresh o = record { variables = o .variables; clauses = o .clauses; kinds = []; names = []; literals = []; clauses-read = 0 }
+
+-- A text is read up to its p line, tables of these lengths being lent.
+pub record Opened-read (text : Bytes) (kinds literals names : ℕ) (o : Opened) : Type 0 where
+  pub refusal : (o .cause ≡ 0 → ⊥) → read text kinds literals names ≡ refused (o .cause) (o .line)
+  pub right : o .cause ≡ 0 → read text kinds literals names ≡ body (fresh o) (o .line + 1) (lines (drop (o .at) text))
+  pub sizes : o .cause ≡ 0 → (kinds ≡ max-unknowns) × (literals ≡ max-entries) × (names ≡ max-unknowns)
+  pub within : o .cause ≡ 0 → o .at ≤ length text
+  pub line : o .cause ≡ 0 → o .line ≤ o .at
+  pub small : o .cause ≡ 0 → o .variables ≤ max-variables
+
 -- The table of places has an entry for each name, and one for 0.
 abbrev pub max-places : ℕ
 max-places = 32768
@@ -31,8 +45,15 @@ pub record Indexed (names P : List ℕ) : Type 0 where
   pub size : length P ≡ max-places
   pub right : (v : ℕ) → v ≤ max-variables → getD P v 0 ≡ position v names
 
+-- A name in a prefix line, n names being bound.
+pub record Named (variables v n : ℕ) (P : List ℕ) (cause : ℕ) : Type 0 where
+  pub room : cause ≡ 0 → (v ≤ variables) × (n < max-unknowns)
+  pub right : (names : List ℕ) → length names ≡ n → Indexed names P → cause ≡ name-cause variables names v
+
 -- The names of a prefix line from i on are bound: of the tables n entries were used and `count` are.
 pub record Bound-all (line : Bytes) (i kind variables n : ℕ) (K N : List ℕ) (cause count : ℕ) (K′ N′ P′ : List ℕ) : Type 0 where
+  pub kinds : length K′ ≡ max-unknowns
+  pub names : length N′ ≡ max-unknowns
   pub room : count ≤ max-unknowns
   pub indexed : Indexed (take count N′) P′
   pub right : (s : State) → s .variables ≡ variables
@@ -46,6 +67,7 @@ pub record Placed (variables : ℕ) (P : List ℕ) (used : ℕ) (w : Bytes) (cau
 
 -- The entries of a clause line are added: of the literals m entries were used and `count` are.
 pub record Added-all (line : Bytes) (variables m : ℕ) (P : List ℕ) (L : List ℤ) (cause count : ℕ) (L′ : List ℤ) : Type 0 where
+  pub literals : length L′ ≡ max-entries
   pub room : count ≤ max-entries
   pub right : (s : State) → s .variables ≡ variables → Indexed (s .names) P
       → unless cause (went (with-literals s (take count L′))) ≡ add-entries (with-literals s (take m L)) (words line)

@@ -10,8 +10,10 @@ ghost use Rattle.formula.specs.Formula.{max-unknowns, max-entries};
 ghost use Rattle.lines.specs.Lines.{lines, words};
 ghost use Rattle.lines.specs.Shapes.{is-prefix};
 ghost use Rattle.text.specs.Reading.{max-variables, body as lines-read, body-line as line-read, prefix-line as prefix-read, clause-line as clause-read, kind-of-word};
-ghost use Rattle.text.specs.Steps.{max-places, Indexed, Sized, held, Line-read, All-read};
+ghost use Rattle.text.specs.Steps.{Indexed, Sized, fresh, held, Line-read, All-read};
 use crate::names;
+use crate::opening::Opened;
+use formula::Formula;
 use lines::numbers;
 use lines::shapes;
 
@@ -26,61 +28,36 @@ pub(crate) struct Counts {
     pub(crate) line: usize,
 }
 
-// Nothing taken.
-pub(crate) fn refused(cause: u32, line: usize) -> Counts
-    ensures { λ r. ⌜ (r .cause ≡ cause) × (r .line ≡ line) × (r .unknowns ≡ 0) × (r .entries ≡ 0) × (r .variables ≡ 0) ⌝ }
+// Reads the lines after the p line.
+pub(crate) fn read_lines(
+    text: &[u8],
+    o: Opened,
+    kinds: &mut [u8; Formula::UNKNOWNS],
+    literals: &mut [i32; Formula::ENTRIES],
+    names: &mut [u16; Formula::UNKNOWNS],
+) -> Counts
+    requires { ⌜ (length (now kinds) ≡ max-unknowns) × (length (now names) ≡ max-unknowns) × (length (now literals) ≡ max-entries) ⌝ }
+    requires { ⌜ (o .at ≤ length (now text)) × (o .line ≤ o .at) × (o .variables ≤ max-variables) ⌝ }
+    ensures { λ r. ⌜ All-read (lines-read (fresh o) (o .line + 1) (lines (drop (o .at) (now (text .entry))))) r (now (kinds .exit)) (now (names .exit)) (now (literals .exit)) ⌝ }
 {
-    Counts {
-        variables: 0,
-        clauses: 0,
+    let mut places = [0u8; names::PLACES];
+    let mut s = Counts {
+        variables: o.variables,
+        clauses: o.clauses,
         unknowns: 0,
         entries: 0,
         clauses_read: 0,
-        cause,
-        line,
-    }
-}
-
-// Reads the lines from `start` on, before which nothing is bound.
-pub(crate) fn read_body(
-    text: &[u8],
-    start: usize,
-    c: Counts,
-    kinds: &mut [u8],
-    literals: &mut [i32],
-    names: &mut [u16],
-) -> Counts
-    requires { ⌜ Sized c (now kinds) (now names) (now literals) ⌝ }
-    requires { ⌜ (start ≤ length (now text)) × (c .line ≤ start + 1) × (c .cause ≡ 0) × (c .unknowns ≡ 0) ⌝ }
-    ensures { λ r. ⌜ All-read (lines-read (held c (now (kinds .entry)) (now (names .entry)) (now (literals .entry))) (c .line) (lines (drop start (now (text .entry))))) r (now (kinds .exit)) (now (names .exit)) (now (literals .exit)) ⌝ }
-{
-    let mut places = [0u8; names::PLACES];
-    read_lines(text, start, c, kinds, literals, names, &mut places)
-}
-
-// Reads the lines from `start` on.
-fn read_lines(
-    text: &[u8],
-    start: usize,
-    c: Counts,
-    kinds: &mut [u8],
-    literals: &mut [i32],
-    names: &mut [u16],
-    places: &mut [u8],
-) -> Counts
-    requires { ⌜ Sized c (now kinds) (now names) (now literals) × Indexed (take (c .unknowns) (now names)) (now places) ⌝ }
-    requires { ⌜ (start ≤ length (now text)) × (c .line ≤ start + 1) × (c .cause ≡ 0) ⌝ }
-    ensures { λ r. ⌜ All-read (lines-read (held c (now (kinds .entry)) (now (names .entry)) (now (literals .entry))) (c .line) (lines (drop start (now (text .entry))))) r (now (kinds .exit)) (now (names .exit)) (now (literals .exit)) ⌝ }
-{
-    let mut s = c;
-    let mut at = start;
+        cause: 0,
+        line: o.line + 1,
+    };
+    let mut at = o.at;
     while at < text.len() {
         let end = lines::find(text, at, b'\n');
         if end == text.len() {
             s.cause = 10;
             return s;
         }
-        s = body_line(&text[at..end], s, kinds, literals, names, places);
+        s = body_line(&text[at..end], s, kinds, literals, names, &mut places);
         if s.cause != 0 {
             return s;
         }
@@ -97,10 +74,10 @@ fn read_lines(
 fn body_line(
     line: &[u8],
     c: Counts,
-    kinds: &mut [u8],
-    literals: &mut [i32],
-    names: &mut [u16],
-    places: &mut [u8],
+    kinds: &mut [u8; Formula::UNKNOWNS],
+    literals: &mut [i32; Formula::ENTRIES],
+    names: &mut [u16; Formula::UNKNOWNS],
+    places: &mut [u8; names::PLACES],
 ) -> Counts
     requires { ⌜ Sized c (now kinds) (now names) (now literals) × Indexed (take (c .unknowns) (now names)) (now places) ⌝ }
     ensures { λ r. ⌜ Line-read (line-read (held c (now (kinds .entry)) (now (names .entry)) (now (literals .entry))) (now (line .entry))) c r (now (kinds .exit)) (now (names .exit)) (now (places .exit)) (now (literals .exit)) ⌝ }
@@ -131,9 +108,9 @@ fn binds(line: &[u8], done: usize) -> bool
 fn prefix_line(
     line: &[u8],
     c: Counts,
-    kinds: &mut [u8],
-    names: &mut [u16],
-    places: &mut [u8],
+    kinds: &mut [u8; Formula::UNKNOWNS],
+    names: &mut [u16; Formula::UNKNOWNS],
+    places: &mut [u8; names::PLACES],
 ) -> Counts
     requires { ⌜ (length (now kinds) ≡ max-unknowns) × (length (now names) ≡ max-unknowns) × (c .unknowns ≤ max-unknowns) × (c .variables ≤ max-variables) × Indexed (take (c .unknowns) (now names)) (now places) ⌝ }
     ensures { λ r. ⌜ ((L : List ℤ) → Sized c (now (kinds .entry)) (now (names .entry)) L → Line-read (prefix-read (held c (now (kinds .entry)) (now (names .entry)) L) (words (now (line .entry)))) c r (now (kinds .exit)) (now (names .exit)) (now (places .exit)) L) ⌝ }
@@ -165,8 +142,13 @@ fn kind_of(word: &[u8]) -> u8
 }
 
 // Reads a clause line.
-fn clause_line(line: &[u8], c: Counts, literals: &mut [i32], places: &[u8]) -> Counts
-    requires { ⌜ (length (now places) ≡ max-places) × (length (now literals) ≡ max-entries) × (c .variables ≤ max-variables) × (c .entries ≤ max-entries) ⌝ }
+fn clause_line(
+    line: &[u8],
+    c: Counts,
+    literals: &mut [i32; Formula::ENTRIES],
+    places: &[u8; names::PLACES],
+) -> Counts
+    requires { ⌜ (length (now literals) ≡ max-entries) × (c .variables ≤ max-variables) × (c .entries ≤ max-entries) ⌝ }
     ensures { λ r. ⌜ ((K N : List ℕ) → Sized c K N (now (literals .entry)) → Indexed (take (c .unknowns) N) (now (places .entry)) → Line-read (clause-read (held c K N (now (literals .entry))) (words (now (line .entry)))) c r K N (now (places .entry)) (now (literals .exit))) ⌝ }
 {
     let mut s = c;

@@ -5,14 +5,13 @@ ghost use Prim.Native.Nat.{_≤_};
 ghost use mathlib.Core.List.{_++_};
 ghost use lib.ListN.{length, take, drop};
 ghost use Rattle.formula.specs.Formula.{max-unknowns, max-entries};
-ghost use Rattle.lines.specs.Lines.{lines};
-ghost use Rattle.text.specs.Reading.{read as definition, Read-so, after-comments};
-ghost use Rattle.text.specs.Steps.{All-read, Comments-read};
+ghost use Rattle.text.specs.Reading.{read as definition, taken, Read-so};
+ghost use Rattle.text.specs.Steps.{Sized, held};
 use formula::Formula;
 
 mod body;
 mod names;
-mod problem;
+mod opening;
 
 // What a text gives: the unknowns bound, the entries of the literals, V and C; or the cause's number and its line.
 pub enum Reading {
@@ -32,33 +31,52 @@ pub enum Reading {
 pub fn read(text: &[u8], kinds: &mut [u8], literals: &mut [i32], names: &mut [u16]) -> Reading
     ensures { λ r. ⌜ Read-so (definition (now (text .entry)) (length (now (kinds .entry))) (length (now (literals .entry))) (length (now (names .entry)))) r (now (kinds .entry)) (now (literals .entry)) (now (names .entry)) (now (kinds .exit)) (now (literals .exit)) (now (names .exit)) ⌝ }
 {
-    if text.len() > 65_536 {
-        return Reading::Refused { number: 9, line: 0 };
-    }
-    if kinds.len() != Formula::UNKNOWNS {
-        return Reading::Refused { number: 9, line: 0 };
-    }
-    if literals.len() != Formula::ENTRIES {
-        return Reading::Refused { number: 9, line: 0 };
-    }
-    if names.len() != Formula::UNKNOWNS {
-        return Reading::Refused { number: 9, line: 0 };
+    let o = opening::read_opening(text, kinds.len(), literals.len(), names.len());
+    if o.cause != 0 {
+        return Reading::Refused {
+            number: o.cause,
+            line: o.line,
+        };
     }
     let mut own_kinds = [0u8; Formula::UNKNOWNS];
     let mut own_literals = [0i32; Formula::ENTRIES];
     let mut own_names = [0u16; Formula::UNKNOWNS];
-    let c = scan(text, &mut own_kinds, &mut own_literals, &mut own_names);
+    let c = body::read_lines(text, o, &mut own_kinds, &mut own_literals, &mut own_names);
     if c.cause != 0 {
         return Reading::Refused {
             number: c.cause,
             line: c.line,
         };
     }
+    hand_over(
+        c,
+        &own_kinds,
+        &own_literals,
+        &own_names,
+        kinds,
+        literals,
+        names,
+    )
+}
+
+// Writes what is taken over the front of the lent tables.
+fn hand_over(
+    c: body::Counts,
+    own_kinds: &[u8; Formula::UNKNOWNS],
+    own_literals: &[i32; Formula::ENTRIES],
+    own_names: &[u16; Formula::UNKNOWNS],
+    kinds: &mut [u8],
+    literals: &mut [i32],
+    names: &mut [u16],
+) -> Reading
+    requires { ⌜ Sized c (now «own_kinds») (now «own_names») (now «own_literals») × (length (now kinds) ≡ max-unknowns) × (length (now literals) ≡ max-entries) × (length (now names) ≡ max-unknowns) ⌝ }
+    ensures { λ r. ⌜ Read-so (taken (held c (now («own_kinds» .entry)) (now («own_names» .entry)) (now («own_literals» .entry)))) r (now (kinds .entry)) (now (literals .entry)) (now (names .entry)) (now (kinds .exit)) (now (literals .exit)) (now (names .exit)) ⌝ }
+{
     let n = c.unknowns;
     let m = c.entries;
-    copy_kinds(kinds, &own_kinds, n);
-    copy_literals(literals, &own_literals, m);
-    copy_names(names, &own_names, n);
+    copy_kinds(kinds, own_kinds, n);
+    copy_literals(literals, own_literals, m);
+    copy_names(names, own_names, n);
     Reading::Taken {
         unknowns: n,
         entries: m,
@@ -67,65 +85,9 @@ pub fn read(text: &[u8], kinds: &mut [u8], literals: &mut [i32], names: &mut [u1
     }
 }
 
-// Reads the whole text into the tables; if a cause is found, what they hold is of no use.
-fn scan(text: &[u8], kinds: &mut [u8], literals: &mut [i32], names: &mut [u16]) -> body::Counts
-    requires { ⌜ (length (now kinds) ≡ max-unknowns) × (length (now names) ≡ max-unknowns) × (length (now literals) ≡ max-entries) ⌝ }
-    ensures { λ r. ⌜ All-read (after-comments 1 (lines (now (text .entry)))) r (now (kinds .exit)) (now (names .exit)) (now (literals .exit)) ⌝ }
-{
-    let start = comments(text);
-    let at = start.at;
-    let line = start.line;
-    if at == text.len() {
-        return body::refused(10, line);
-    }
-    let end = lines::find(text, at, b'\n');
-    if end == text.len() {
-        return body::refused(10, line);
-    }
-    let p = problem::read_problem(&text[at..end]);
-    if p.cause != 0 {
-        return body::refused(p.cause, line);
-    }
-    let c = body::Counts {
-        variables: p.variables,
-        clauses: p.clauses,
-        unknowns: 0,
-        entries: 0,
-        clauses_read: 0,
-        cause: 0,
-        line: line + 1,
-    };
-    body::read_body(text, end + 1, c, kinds, literals, names)
-}
-
-struct Place {
-    at: usize,
-    line: usize,
-}
-
-// Past the lines that begin with c: where the first other line starts, and its number.
-fn comments(text: &[u8]) -> Place
-    ensures { λ r. ⌜ Comments-read (now (text .entry)) (r .at) (r .line) ⌝ }
-{
-    let mut at = 0;
-    let mut line = 1;
-    while at < text.len() {
-        let end = lines::find(text, at, b'\n');
-        if end == text.len() {
-            return Place { at, line };
-        }
-        if text[at] != b'c' {
-            return Place { at, line };
-        }
-        at = end + 1;
-        line += 1;
-    }
-    Place { at, line }
-}
-
 // Copies the first n entries.
-fn copy_kinds(to: &mut [u8], from: &[u8], n: usize)
-    requires { ⌜ (n ≤ length (now to)) × (n ≤ length (now from)) ⌝ }
+fn copy_kinds(to: &mut [u8], from: &[u8; Formula::UNKNOWNS], n: usize)
+    requires { ⌜ (n ≤ length (now to)) × (length (now from) ≡ max-unknowns) × (n ≤ max-unknowns) ⌝ }
     ensures { λ _. ⌜ now (to .exit) ≡ take n (now (from .entry)) ++ drop n (now (to .entry)) ⌝ }
 {
     let mut i = 0;
@@ -135,8 +97,8 @@ fn copy_kinds(to: &mut [u8], from: &[u8], n: usize)
     }
 }
 
-fn copy_literals(to: &mut [i32], from: &[i32], n: usize)
-    requires { ⌜ (n ≤ length (now to)) × (n ≤ length (now from)) ⌝ }
+fn copy_literals(to: &mut [i32], from: &[i32; Formula::ENTRIES], n: usize)
+    requires { ⌜ (n ≤ length (now to)) × (length (now from) ≡ max-entries) × (n ≤ max-entries) ⌝ }
     ensures { λ _. ⌜ now (to .exit) ≡ take n (now (from .entry)) ++ drop n (now (to .entry)) ⌝ }
 {
     let mut i = 0;
@@ -146,8 +108,8 @@ fn copy_literals(to: &mut [i32], from: &[i32], n: usize)
     }
 }
 
-fn copy_names(to: &mut [u16], from: &[u16], n: usize)
-    requires { ⌜ (n ≤ length (now to)) × (n ≤ length (now from)) ⌝ }
+fn copy_names(to: &mut [u16], from: &[u16; Formula::UNKNOWNS], n: usize)
+    requires { ⌜ (n ≤ length (now to)) × (length (now from) ≡ max-unknowns) × (n ≤ max-unknowns) ⌝ }
     ensures { λ _. ⌜ now (to .exit) ≡ take n (now (from .entry)) ++ drop n (now (to .entry)) ⌝ }
 {
     let mut i = 0;

@@ -1,11 +1,10 @@
 // Names bound, and the words of prefix and clause lines taken one by one.
 ghost use mathlib.Core.Path.{_≡_};
-ghost use mathlib.Core.List.{List};
-ghost use Prim.Native.Nat.{ℕ, _≤_};
+ghost use Prim.Native.Nat.{_≤_};
 ghost use lib.ListN.{length, take};
 ghost use Rattle.formula.specs.Formula.{max-unknowns, max-entries};
-ghost use Rattle.text.specs.Reading.{max-variables, name-cause as cause-of-name, room-cause as cause-of-room, signed as with-sign};
-ghost use Rattle.text.specs.Steps.{max-places, Indexed, Bound-all, Placed, Added-all};
+ghost use Rattle.text.specs.Reading.{max-variables, room-cause as cause-of-room, signed as with-sign};
+ghost use Rattle.text.specs.Steps.{Indexed, Named, Bound-all, Placed, Added-all};
 use formula::Formula;
 use lines::numbers;
 
@@ -25,9 +24,9 @@ pub(crate) fn bind_all(
     kind: u8,
     variables: usize,
     n: usize,
-    kinds: &mut [u8],
-    names: &mut [u16],
-    places: &mut [u8],
+    kinds: &mut [u8; Formula::UNKNOWNS],
+    names: &mut [u16; Formula::UNKNOWNS],
+    places: &mut [u8; PLACES],
 ) -> Used
     requires { ⌜ (i ≤ length (now line)) × (n ≤ max-unknowns) × (variables ≤ max-variables) × (length (now kinds) ≡ max-unknowns) × (length (now names) ≡ max-unknowns) ⌝ }
     requires { ⌜ Indexed (take n (now names)) (now places) ⌝ }
@@ -60,9 +59,9 @@ pub(crate) fn bind_all(
 }
 
 // The cause of a name in a prefix line, n names being bound.
-fn name_cause(v: usize, variables: usize, n: usize, places: &[u8]) -> u32
-    requires { ⌜ (variables ≤ max-variables) × (length (now places) ≡ max-places) ⌝ }
-    ensures { λ r. ⌜ ((names : List ℕ) → length names ≡ n → Indexed names (now (places .entry)) → r ≡ cause-of-name variables names v) ⌝ }
+fn name_cause(v: usize, variables: usize, n: usize, places: &[u8; PLACES]) -> u32
+    requires { ⌜ variables ≤ max-variables ⌝ }
+    ensures { λ r. ⌜ Named variables v n (now (places .entry)) r ⌝ }
 {
     if variables < v {
         return 11;
@@ -80,11 +79,11 @@ fn name_cause(v: usize, variables: usize, n: usize, places: &[u8]) -> u32
 pub(crate) fn add_entries(
     line: &[u8],
     variables: usize,
-    places: &[u8],
+    places: &[u8; PLACES],
     m: usize,
-    literals: &mut [i32],
+    literals: &mut [i32; Formula::ENTRIES],
 ) -> Used
-    requires { ⌜ (variables ≤ max-variables) × (length (now places) ≡ max-places) × (m ≤ max-entries) × (length (now literals) ≡ max-entries) ⌝ }
+    requires { ⌜ (variables ≤ max-variables) × (m ≤ max-entries) × (length (now literals) ≡ max-entries) ⌝ }
     ensures { λ r. ⌜ Added-all (now (line .entry)) variables m (now (places .entry)) (now (literals .entry)) (r .cause) (r .count) (now (literals .exit)) ⌝ }
 {
     let mut count = m;
@@ -118,8 +117,8 @@ struct Written {
     literal: i32,
 }
 
-fn entry(word: &[u8], variables: usize, places: &[u8], m: usize) -> Written
-    requires { ⌜ (variables ≤ max-variables) × (length (now places) ≡ max-places) ⌝ }
+fn entry(word: &[u8], variables: usize, places: &[u8; PLACES], m: usize) -> Written
+    requires { ⌜ variables ≤ max-variables ⌝ }
     ensures { λ r. ⌜ Placed variables (now (places .entry)) m (now (word .entry)) (r .cause) (r .literal) ⌝ }
 {
     if numbers::is_zero(word) {
@@ -135,7 +134,7 @@ fn entry(word: &[u8], variables: usize, places: &[u8], m: usize) -> Written
             literal: 0,
         };
     }
-    let p = places[v] as usize;
+    let p = place_of(places[v]);
     if p == 0 {
         return Written {
             cause: 13,
@@ -148,6 +147,13 @@ fn entry(word: &[u8], variables: usize, places: &[u8], m: usize) -> Written
     }
 }
 
+// The position that a byte of the table holds.
+fn place_of(byte: u8) -> usize
+    ensures { λ r. ⌜ (r ≡ byte) × (r ≤ 255) ⌝ }
+{
+    byte as usize
+}
+
 fn room_cause(m: usize) -> u32
     ensures { λ r. ⌜ r ≡ cause-of-room m ⌝ }
 {
@@ -157,7 +163,7 @@ fn room_cause(m: usize) -> u32
     14
 }
 
-// The literal of position p, which a byte holds.
+// The literal of position p.
 fn signed(negative: bool, p: usize) -> i32
     requires { ⌜ p ≤ 255 ⌝ }
     ensures { λ r. ⌜ r ≡ with-sign negative p ⌝ }

@@ -17,8 +17,8 @@ abbrev μ-loop : tie.MeasureT-loop
 loop-holds : tie.Need-loop-holds Inv-loop μ-loop
 loop-holds c = (omega arith, refl, refl)
 
-shared-slice-read-to : tie.Need-shared-slice-read-to Inv-loop μ-loop
-shared-slice-read-to c = omega arith
+element-copy-out-to : tie.Need-element-copy-out-to Inv-loop μ-loop
+element-copy-out-to c = omega arith
 
 slice-write-to : tie.Need-slice-write-to Inv-loop μ-loop
 slice-write-to c = omega arith
@@ -45,7 +45,7 @@ copy-kinds-spec =
     Inv-loop
     μ-loop
     loop-holds
-    shared-slice-read-to
+    element-copy-out-to
     slice-write-to
     add-i
     loop-less

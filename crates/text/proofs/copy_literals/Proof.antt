@@ -23,11 +23,11 @@ loop-holds c = (omega arith, refl, refl)
 mul-to : tie.Need-mul-to Inv-loop μ-loop
 mul-to c = omega arith
 
-shared-slice-copy-out-to : tie.Need-shared-slice-copy-out-to Inv-loop μ-loop
-shared-slice-copy-out-to c = omega arith
+element-copy-out-to : tie.Need-element-copy-out-to Inv-loop μ-loop
+element-copy-out-to c = omega arith
 
-mul-t9 : tie.Need-mul-t9 Inv-loop μ-loop
-mul-t9 c = omega arith
+mul-t10 : tie.Need-mul-t10 Inv-loop μ-loop
+mul-t10 c = omega arith
 
 slice-set-from-to : tie.Need-slice-set-from-to Inv-loop μ-loop
 slice-set-from-to c = omega arith
@@ -58,8 +58,8 @@ copy-literals-spec =
     μ-loop
     loop-holds
     mul-to
-    shared-slice-copy-out-to
-    mul-t9
+    element-copy-out-to
+    mul-t10
     slice-set-from-to
     add-i
     loop-less

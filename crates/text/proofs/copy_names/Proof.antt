@@ -20,8 +20,8 @@ loop-holds c = (omega arith, refl, refl)
 mul-to : tie.Need-mul-to Inv-loop μ-loop
 mul-to c = omega arith
 
-shared-slice-read-to : tie.Need-shared-slice-read-to Inv-loop μ-loop
-shared-slice-read-to c = omega arith
+element-copy-out-to : tie.Need-element-copy-out-to Inv-loop μ-loop
+element-copy-out-to c = omega arith
 
 mul-to-2 : tie.Need-mul-to-2 Inv-loop μ-loop
 mul-to-2 c = omega arith
@@ -52,7 +52,7 @@ copy-names-spec =
     μ-loop
     loop-holds
     mul-to
-    shared-slice-read-to
+    element-copy-out-to
     mul-to-2
     slice-write-to
     add-i

@@ -12,18 +12,9 @@ binds-requires c κs = search needs
 prefix-line-requires : tie.Need-prefix-line-requires
 prefix-line-requires c κs = search needs
 
-same-length : tie.Need-same-length
-same-length c = search needs
-
-same-length-2 : tie.Need-same-length-2
-same-length-2 c = search needs
-
-same-length-3 : tie.Need-same-length-3
-same-length-3 c = search needs
-
 returns : tie.Need-returns
 unfolding held
-returns c = rw (body-prefix (held (c .before .before .before .before .before .before .before .before .before .before .before .before .before .before .before .before .args .c) (c .before .before .before .before .before .before .before .before .before .before .before .before .before .before .before .before .args .kinds .now) (c .before .before .before .before .before .before .before .before .before .before .before .before .before .before .before .before .args .names .now) (c .before .before .before .before .before .before .before .before .before .before .before .before .before .before .before .before .args .literals .now)) (c .before .before .before .before .before .before .before .before .before .before .before .before .before .before .before .before .args .line .now) (sym (c .before .before .before .before .before .before .before .before .before .before .before .binds .ensures) ∙ c .before .before .before .before .before .before .before .before .before .before .if1 .taken)) (c .before .before .before .before .before .before .prefix-line .ensures (c .before .before .before .before .before .before .before .before .before .before .before .before .before .before .before .before .args .literals .now) (c .before .before .before .before .before .before .before .before .before .before .before .before .before .before .before .before .pre .0))
+returns c = rw (body-prefix (held (c .before .before .before .before .before .before .before .args .c) (c .before .before .before .before .before .before .before .args .kinds .now) (c .before .before .before .before .before .before .before .args .names .now) (c .before .before .before .before .before .before .before .args .literals .now)) (c .before .before .before .before .before .before .before .args .line .now) (sym (c .before .before .before .before .before .binds .ensures) ∙ c .before .before .before .before .if1 .taken)) (c .prefix-line .ensures (c .before .before .before .before .before .before .before .args .literals .now) (c .before .before .before .before .before .before .before .pre .0))
 
 is-clause-requires : tie.Need-is-clause-requires
 is-clause-requires c κs = search needs
@@ -31,19 +22,13 @@ is-clause-requires c κs = search needs
 clause-line-requires : tie.Need-clause-line-requires
 clause-line-requires c κs = search needs
 
-same-length-4 : tie.Need-same-length-4
-same-length-4 c = search needs
-
-same-length-5 : tie.Need-same-length-5
-same-length-5 c = search needs
-
 returns-2 : tie.Need-returns-2
 unfolding held
-returns-2 c = rw (body-clause (held (c .before .before .before .before .before .before .before .before .before .before .before .before .args .c) (c .before .before .before .before .before .before .before .before .before .before .before .before .args .kinds .now) (c .before .before .before .before .before .before .before .before .before .before .before .before .args .names .now) (c .before .before .before .before .before .before .before .before .before .before .before .before .args .literals .now)) (c .before .before .before .before .before .before .before .before .before .before .before .before .args .line .now) (sym (c .before .before .before .before .before .before .before .binds .ensures) ∙ c .before .before .before .before .before .before .if1 .left) (sym (c .before .before .before .before .before .is-clause .ensures) ∙ c .before .before .before .before .if2 .taken)) (c .before .clause-line .ensures (c .before .before .before .before .before .before .before .before .before .before .before .before .args .kinds .now) (c .before .before .before .before .before .before .before .before .before .before .before .before .args .names .now) (c .before .before .before .before .before .before .before .before .before .before .before .before .pre .0) (c .before .before .before .before .before .before .before .before .before .before .before .before .pre .1))
+returns-2 c = rw (body-clause (held (c .before .before .before .before .before .before .before .before .args .c) (c .before .before .before .before .before .before .before .before .args .kinds .now) (c .before .before .before .before .before .before .before .before .args .names .now) (c .before .before .before .before .before .before .before .before .args .literals .now)) (c .before .before .before .before .before .before .before .before .args .line .now) (sym (c .before .before .before .before .before .before .binds .ensures) ∙ c .before .before .before .before .before .if1 .left) (sym (c .before .before .before .before .is-clause .ensures) ∙ c .before .before .before .if2 .taken)) (c .clause-line .ensures (c .before .before .before .before .before .before .before .before .args .kinds .now) (c .before .before .before .before .before .before .before .before .args .names .now) (c .before .before .before .before .before .before .before .before .pre .0) (c .before .before .before .before .before .before .before .before .pre .1))
 
 returns-3 : tie.Need-returns-3
 unfolding held
-returns-3 c = rw (body-none (held (c .before .before .before .before .before .before .before .before .args .c) (c .before .before .before .before .before .before .before .before .args .kinds .now) (c .before .before .before .before .before .before .before .before .args .names .now) (c .before .before .before .before .before .before .before .before .args .literals .now)) (c .before .before .before .before .before .before .before .before .args .line .now) (sym (c .before .before .before .binds .ensures) ∙ c .before .before .if1 .left) (sym (c .before .is-clause .ensures) ∙ c .if2 .left)) (record { sized = resized refl refl refl (c .before .before .before .before .before .before .before .before .pre .0); indexed = c .before .before .before .before .before .before .before .before .pre .1; line = refl; right = refl })
+returns-3 c = rw (body-none (held (c .before .before .before .before .before .args .c) (c .before .before .before .before .before .args .kinds .now) (c .before .before .before .before .before .args .names .now) (c .before .before .before .before .before .args .literals .now)) (c .before .before .before .before .before .args .line .now) (sym (c .before .before .before .binds .ensures) ∙ c .before .before .if1 .left) (sym (c .before .is-clause .ensures) ∙ c .if2 .left)) (record { sized = resized refl refl refl (c .before .before .before .before .before .pre .0); indexed = c .before .before .before .before .before .pre .1; line = refl; right = refl })
 
 pub body-line-spec : {M : Type 1} → statement M
 body-line-spec =
@@ -51,13 +36,8 @@ body-line-spec =
     (tie.spec
     binds-requires
     prefix-line-requires
-    same-length
-    same-length-2
-    same-length-3
     returns
     is-clause-requires
     clause-line-requires
-    same-length-4
-    same-length-5
     returns-2
     returns-3)

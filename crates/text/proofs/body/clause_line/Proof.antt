@@ -13,7 +13,7 @@ use Rattle.text.proofs.body.clause_line.Tie as tie
 
 returns : tie.Need-returns
 unfolding clause-line held
-returns c = λ K N z x. record { sized = resized refl refl refl z; indexed = x; line = refl; right = rw (le-ltb ((c .before .before .before .before .args .c) .«clauses_read») ((c .before .before .before .before .args .c) .clauses) (omega arith)) refl }
+returns c = λ K N z x. record { sized = resized refl refl refl z; indexed = x; line = refl; right = rw (le-ltb ((c .before .before .before .args .c) .«clauses_read») ((c .before .before .before .args .c) .clauses) (omega arith)) refl }
 
 add-entries-requires : tie.Need-add-entries-requires
 add-entries-requires c κs = search needs
@@ -21,20 +21,17 @@ add-entries-requires c κs = search needs
 add-s : tie.Need-add-s
 add-s c = search needs
 
-same-length : tie.Need-same-length
-same-length c = search needs
-
 returns-2 : tie.Need-returns-2
 unfolding clause-line held
 returns-2 c = λ K N z x.
-    let added = c .before .before .add-entries .ensures .right (held (c .before .before .before .before .before .before .before .before .args .c) K N (c .before .before .before .before .before .before .before .before .args .literals .now)) refl x in
+    let added = c .before .add-entries .ensures .right (held (c .before .before .before .before .before .before .args .c) K N (c .before .before .before .before .before .before .args .literals .now)) refl x in
     record {
-      sized = record { kinds = z .kinds; names = z .names; literals = c .before .before .add-entries .kept .1 .1 .1 .1 .0 ∙ z .literals; unknowns = z .unknowns; entries = c .before .before .add-entries .ensures .room; variables = z .variables };
+      sized = record { kinds = z .kinds; names = z .names; literals = c .before .add-entries .ensures .literals; unknowns = z .unknowns; entries = c .before .add-entries .ensures .room; variables = z .variables };
       indexed = x;
       line = refl;
-      right = rw (lt-ltb ((c .before .before .before .before .before .before .before .before .args .c) .«clauses_read») ((c .before .before .before .before .before .before .before .before .args .c) .clauses) (omega arith), ← added)
-          (sym (clause-read-unless (c .before .before .add-entries .result .cause) (with-literals (held (c .before .before .before .before .before .before .before .before .args .c) K N (c .before .before .before .before .before .before .before .before .args .literals .now)) (take (c .before .before .add-entries .result .count) (c .before .before .add-entries .last .1 .1 .1 .1 .0))) ∙ rw (← add-one ((c .before .before .before .before .before .before .before .before .args .c) .«clauses_read»)) refl));
+      right = rw (lt-ltb ((c .before .before .before .before .before .before .args .c) .«clauses_read») ((c .before .before .before .before .before .before .args .c) .clauses) (omega arith), ← added)
+          (sym (clause-read-unless (c .before .add-entries .result .cause) (with-literals (held (c .before .before .before .before .before .before .args .c) K N (c .before .before .before .before .before .before .args .literals .now)) (take (c .before .add-entries .result .count) (c .before .add-entries .last .1 .1 .1 .1 .0))) ∙ rw (← add-one ((c .before .before .before .before .before .before .args .c) .«clauses_read»)) refl));
     }
 
 pub clause-line-spec : {M : Type 1} → statement M
-clause-line-spec = tie.close (tie.spec returns add-entries-requires add-s same-length returns-2)
+clause-line-spec = tie.close (tie.spec returns add-entries-requires add-s returns-2)

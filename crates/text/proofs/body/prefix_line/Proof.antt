@@ -24,24 +24,15 @@ kind-of-requires c κs = search needs
 bind-all-requires : tie.Need-bind-all-requires
 bind-all-requires c κs = search needs
 
-same-length : tie.Need-same-length
-same-length c = search needs
-
-same-length-2 : tie.Need-same-length-2
-same-length-2 c = search needs
-
-same-length-3 : tie.Need-same-length-3
-same-length-3 c = search needs
-
 returns : tie.Need-returns
 unfolding prefix-line held
 returns c = λ M z.
-    let bound = c .before .before .before .before .before .before .bind-all .ensures .right (held (c .before .before .before .before .before .before .before .before .before .before .before .before .before .before .before .before .before .args .c) (c .before .before .before .before .before .before .before .before .before .before .before .before .before .before .before .before .before .args .kinds .now) (c .before .before .before .before .before .before .before .before .before .before .before .before .before .before .before .before .before .args .names .now) M) refl in
+    let bound = c .bind-all .ensures .right (held (c .before .before .before .before .before .before .before .before .args .c) (c .before .before .before .before .before .before .before .before .args .kinds .now) (c .before .before .before .before .before .before .before .before .args .names .now) M) refl in
     record {
-      sized = record { kinds = c .before .before .before .before .before .before .bind-all .kept .1 .1 .1 .1 .1 .0 ∙ z .kinds; names = c .before .before .before .before .before .before .bind-all .kept .1 .1 .1 .1 .1 .1 .0 ∙ z .names; literals = z .literals; unknowns = c .before .before .before .before .before .before .bind-all .ensures .room; entries = z .entries; variables = z .variables };
-      indexed = c .before .before .before .before .before .before .bind-all .ensures .indexed;
+      sized = record { kinds = c .bind-all .ensures .kinds; names = c .bind-all .ensures .names; literals = z .literals; unknowns = c .bind-all .ensures .room; entries = z .entries; variables = z .variables };
+      indexed = c .bind-all .ensures .indexed;
       line = refl;
-      right = bound ∙ ap₂ (λ k ws. bind-all k (held (c .before .before .before .before .before .before .before .before .before .before .before .before .before .before .before .before .before .args .c) (c .before .before .before .before .before .before .before .before .before .before .before .before .before .before .before .before .before .args .kinds .now) (c .before .before .before .before .before .before .before .before .before .before .before .before .before .before .before .before .before .args .names .now) M) ws) (c .before .before .before .before .before .before .before .before .before .before .kind-of .ensures ∙ ap kind-of-word (c .before .before .before .before .before .before .before .before .before .before .before .before .next .ensures .word)) (c .before .before .before .before .before .before .before .before .before .before .before .before .next .ensures .others);
+      right = bound ∙ ap₂ (λ k ws. bind-all k (held (c .before .before .before .before .before .before .before .before .args .c) (c .before .before .before .before .before .before .before .before .args .kinds .now) (c .before .before .before .before .before .before .before .before .args .names .now) M) ws) (c .before .before .before .before .kind-of .ensures ∙ ap kind-of-word (c .before .before .before .before .before .before .next .ensures .word)) (c .before .before .before .before .before .before .next .ensures .others);
     }
 
 pub prefix-line-spec : {M : Type 1} → statement M
@@ -54,7 +45,4 @@ prefix-line-spec =
     part-kind-of-end
     kind-of-requires
     bind-all-requires
-    same-length
-    same-length-2
-    same-length-3
     returns)

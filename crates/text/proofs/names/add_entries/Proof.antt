@@ -21,16 +21,13 @@ abbrev μ-loop : tie.MeasureT-loop
 μ-loop line variables places m literals₀ count₀ at₀ literals count at = length line - at
 
 loop-holds : tie.Need-loop-holds Inv-loop μ-loop
-loop-holds c = (omega arith, c .before .before .pre .2, refl, λ s e f. refl)
+loop-holds c = (omega arith, c .before .pre .1, refl, λ s e f. refl)
 
 next-requires : tie.Need-next-requires Inv-loop μ-loop
 next-requires c κs = search needs
 
-same-length : tie.Need-same-length Inv-loop μ-loop
-same-length c = c .before .before .before .loop .inv .2
-
 returns : tie.Need-returns Inv-loop μ-loop
-returns c = record { room = c .before .before .before .loop .inv .1; right = λ s e f. sym (c .before .before .before .loop .inv .3 s e f ∙ rw (c .before .next .ensures .none (c .if1 .taken)) refl) }
+returns c = record { literals = c .before .before .before .loop .inv .2 ∙ c .before .before .before .before .before .pre .2; room = c .before .before .before .loop .inv .1; right = λ s e f. sym (c .before .before .before .loop .inv .3 s e f ∙ rw (c .before .next .ensures .none (c .if1 .taken)) refl) }
 
 sub-word : tie.Need-sub-word Inv-loop μ-loop
 sub-word c = omega (arith, c .before .next .ensures .ordered)
@@ -42,21 +39,18 @@ part-word-end : tie.Need-part-word-end Inv-loop μ-loop
 part-word-end c = omega (arith, c .before .next .ensures .within)
 
 entry-requires : tie.Need-entry-requires Inv-loop μ-loop
-entry-requires c κs = (c .before .before .before .before .before .before .before .pre .0, c .before .before .before .before .before .before .before .pre .1)
-
-same-length-2 : tie.Need-same-length-2 Inv-loop μ-loop
-same-length-2 c = c .before .before .before .before .before .before .before .loop .inv .2
+entry-requires c κs = c .before .before .before .before .before .before .pre .0
 
 returns-2 : tie.Need-returns-2 Inv-loop μ-loop
 returns-2 c =
     let h : c .before .before .before .before .before .next .result .start < c .before .before .before .before .before .next .result .end = omega (arith, c .before .before .before .before .before .next .ensures .ordered) in
-    record { room = c .before .before .before .before .before .before .before .loop .inv .1; right = λ s e f. sym (c .before .before .before .before .before .before .before .loop .inv .3 s e f ∙ ap (add-entries (with-literals s (take (c .before .before .before .before .before .before .before .loop .count) (c .before .before .before .before .before .before .before .loop .literals)))) (c .before .before .before .before .before .next .ensures .some h) ∙ add-refused (c .before .before .before .before .before .before .before .before .before .before .args .variables) (c .before .before .entry .result .cause) (c .before .before .before .before .before .before .before .loop .count) (c .before .before .before .before .before .before .before .loop .literals) (take (c .before .before .before .before .before .next .result .end - c .before .before .before .before .before .next .result .start) (drop (c .before .before .before .before .before .next .result .start) (c .before .before .before .before .before .before .before .before .before .before .args .line .now))) (words (drop (c .before .before .before .before .before .next .result .end) (c .before .before .before .before .before .before .before .before .before .before .args .line .now))) s e (omega arith) (c .before .before .entry .ensures .right (s .names) f) (c .if2 .taken) (went (with-literals s (take (c .before .before .before .before .before .before .before .loop .count) (c .before .before .before .before .before .before .before .loop .literals))))) }
+    record { literals = c .before .before .before .before .before .before .before .loop .inv .2 ∙ c .before .before .before .before .before .before .before .before .before .pre .2; room = c .before .before .before .before .before .before .before .loop .inv .1; right = λ s e f. sym (c .before .before .before .before .before .before .before .loop .inv .3 s e f ∙ ap (add-entries (with-literals s (take (c .before .before .before .before .before .before .before .loop .count) (c .before .before .before .before .before .before .before .loop .literals)))) (c .before .before .before .before .before .next .ensures .some h) ∙ add-refused (c .before .before .before .before .before .before .before .before .before .args .variables) (c .before .before .entry .result .cause) (c .before .before .before .before .before .before .before .loop .count) (c .before .before .before .before .before .before .before .loop .literals) (take (c .before .before .before .before .before .next .result .end - c .before .before .before .before .before .next .result .start) (drop (c .before .before .before .before .before .next .result .start) (c .before .before .before .before .before .before .before .before .before .args .line .now))) (words (drop (c .before .before .before .before .before .next .result .end) (c .before .before .before .before .before .before .before .before .before .args .line .now))) s e (omega arith) (c .before .before .entry .ensures .right (s .names) f) (c .if2 .taken) (went (with-literals s (take (c .before .before .before .before .before .before .before .loop .count) (c .before .before .before .before .before .before .before .loop .literals))))) }
 
 mul-literal : tie.Need-mul-literal Inv-loop μ-loop
 mul-literal c = omega arith
 
-slice-set-from-literal : tie.Need-slice-set-from-literal Inv-loop μ-loop
-slice-set-from-literal c =
+element-set-from-literal : tie.Need-element-set-from-literal Inv-loop μ-loop
+element-set-from-literal c =
     let z = c .before .before .before .entry .ensures .room (c .before .if2 .left) in
     omega arith
 
@@ -72,13 +66,10 @@ loop-again : tie.Need-loop-again Inv-loop μ-loop
 loop-again c =
     let h : c .before .before .before .before .before .before .next .result .start < c .before .before .before .before .before .before .next .result .end = omega (arith, c .before .before .before .before .before .before .next .ensures .ordered) in
     let z = c .before .before .before .entry .ensures .room (c .before .if2 .left) in
-    (c .before .before .before .before .before .before .next .ensures .within, omega arith, simp length-set (c .before .before .before .before .before .before .before .before .loop .inv .2), λ s e f. c .before .before .before .before .before .before .before .before .loop .inv .3 s e f ∙ ap (add-entries (with-literals s (take (c .before .before .before .before .before .before .before .before .loop .count) (c .before .before .before .before .before .before .before .before .loop .literals)))) (c .before .before .before .before .before .before .next .ensures .some h) ∙ add-taken (c .before .before .before .before .before .before .before .before .before .before .before .args .variables) (c .before .before .before .entry .result .cause) (c .before .before .before .before .before .before .before .before .loop .count) (c .before .before .before .before .before .before .before .before .loop .literals) (take (c .before .before .before .before .before .before .next .result .end - c .before .before .before .before .before .before .next .result .start) (drop (c .before .before .before .before .before .before .next .result .start) (c .before .before .before .before .before .before .before .before .before .before .before .args .line .now))) (words (drop (c .before .before .before .before .before .before .next .result .end) (c .before .before .before .before .before .before .before .before .before .before .before .args .line .now))) s e (omega arith) (c .before .before .before .entry .ensures .right (s .names) f) (c .before .if2 .left) (omega arith) (c .before .before .before .entry .result .literal) (c .before .before .before .entry .ensures .written (s .names) f (c .before .if2 .left)) ∙ rw (toZ-ofZ w32 (c .before .before .before .entry .result .literal) (record { sfits = c .struct-told .given .1 .0 .1 })) refl)
-
-same-length-3 : tie.Need-same-length-3 Inv-loop μ-loop
-same-length-3 c = c .before .loop .inv .2
+    (c .before .before .before .before .before .before .next .ensures .within, omega arith, simp length-set (c .before .before .before .before .before .before .before .before .loop .inv .2), λ s e f. c .before .before .before .before .before .before .before .before .loop .inv .3 s e f ∙ ap (add-entries (with-literals s (take (c .before .before .before .before .before .before .before .before .loop .count) (c .before .before .before .before .before .before .before .before .loop .literals)))) (c .before .before .before .before .before .before .next .ensures .some h) ∙ add-taken (c .before .before .before .before .before .before .before .before .before .before .args .variables) (c .before .before .before .entry .result .cause) (c .before .before .before .before .before .before .before .before .loop .count) (c .before .before .before .before .before .before .before .before .loop .literals) (take (c .before .before .before .before .before .before .next .result .end - c .before .before .before .before .before .before .next .result .start) (drop (c .before .before .before .before .before .before .next .result .start) (c .before .before .before .before .before .before .before .before .before .before .args .line .now))) (words (drop (c .before .before .before .before .before .before .next .result .end) (c .before .before .before .before .before .before .before .before .before .before .args .line .now))) s e (omega arith) (c .before .before .before .entry .ensures .right (s .names) f) (c .before .if2 .left) (omega arith) (c .before .before .before .entry .result .literal) (c .before .before .before .entry .ensures .written (s .names) f (c .before .if2 .left)) ∙ rw (toZ-ofZ w32 (c .before .before .before .entry .result .literal) (record { sfits = c .struct-told .given .1 .0 .1 })) refl)
 
 returns-3 : tie.Need-returns-3 Inv-loop μ-loop
-returns-3 c = record { room = c .before .loop .inv .1; right = λ s e f. sym (c .before .loop .inv .3 s e f ∙ rw (words-none (c .before .before .before .before .args .line .now) (c .before .loop .at) (c .loop-test .left)) refl) }
+returns-3 c = record { literals = c .before .loop .inv .2 ∙ c .before .before .before .pre .2; room = c .before .loop .inv .1; right = λ s e f. sym (c .before .loop .inv .3 s e f ∙ rw (words-none (c .before .before .before .args .line .now) (c .before .loop .at) (c .loop-test .left)) refl) }
 
 pub add-entries-spec : {M : Type 1} → statement M
 add-entries-spec =
@@ -88,18 +79,15 @@ add-entries-spec =
     μ-loop
     loop-holds
     next-requires
-    same-length
     returns
     sub-word
     part-word-start
     part-word-end
     entry-requires
-    same-length-2
     returns-2
     mul-literal
-    slice-set-from-literal
+    element-set-from-literal
     add-count
     loop-less
     loop-again
-    same-length-3
     returns-3)

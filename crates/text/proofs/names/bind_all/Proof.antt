@@ -21,22 +21,13 @@ abbrev μ-loop : tie.MeasureT-loop
 μ-loop line i kind variables n kinds₀ names₀ places₀ count₀ at₀ kinds names places count at = length line - at
 
 loop-holds : tie.Need-loop-holds Inv-loop μ-loop
-loop-holds c = (c .before .before .before .before .pre .0 .0, c .before .before .before .before .pre .0 .1, refl, refl, λ s e. refl, c .before .before .before .before .pre .1)
+loop-holds c = (c .before .pre .0 .0, c .before .pre .0 .1, refl, refl, λ s e. refl, c .before .pre .1)
 
 next-requires : tie.Need-next-requires Inv-loop μ-loop
 next-requires c κs = search needs
 
-same-length : tie.Need-same-length Inv-loop μ-loop
-same-length c = c .before .before .before .loop .inv .2
-
-same-length-2 : tie.Need-same-length-2 Inv-loop μ-loop
-same-length-2 c = c .before .before .before .loop .inv .3
-
-same-length-3 : tie.Need-same-length-3 Inv-loop μ-loop
-same-length-3 c = c .before .before .before .loop .inv .5 .size ∙ sym (c .before .before .before .before .before .before .before .before .pre .1 .size)
-
 returns : tie.Need-returns Inv-loop μ-loop
-returns c = record { room = c .before .before .before .loop .inv .1; indexed = c .before .before .before .loop .inv .5; right = λ s e. sym (c .before .before .before .loop .inv .4 s e ∙ rw (c .before .next .ensures .none (c .if1 .taken)) refl) }
+returns c = record { kinds = c .before .before .before .loop .inv .2 ∙ c .before .before .before .before .before .pre .0 .3; names = c .before .before .before .loop .inv .3 ∙ c .before .before .before .before .before .pre .0 .4; room = c .before .before .before .loop .inv .1; indexed = c .before .before .before .loop .inv .5; right = λ s e. sym (c .before .before .before .loop .inv .4 s e ∙ rw (c .before .next .ensures .none (c .if1 .taken)) refl) }
 
 sub-number : tie.Need-sub-number Inv-loop μ-loop
 sub-number c = omega (arith, c .before .next .ensures .ordered)
@@ -50,79 +41,41 @@ part-number-end c = omega (arith, c .before .next .ensures .within)
 number-requires : tie.Need-number-requires Inv-loop μ-loop
 number-requires c κs = search needs
 
-same-length-4 : tie.Need-same-length-4 Inv-loop μ-loop
-same-length-4 c = c .before .before .before .before .before .before .loop .inv .2
-
-same-length-5 : tie.Need-same-length-5 Inv-loop μ-loop
-same-length-5 c = c .before .before .before .before .before .before .loop .inv .3
-
-same-length-6 : tie.Need-same-length-6 Inv-loop μ-loop
-same-length-6 c = c .before .before .before .before .before .before .loop .inv .5 .size ∙ sym (c .before .before .before .before .before .before .before .before .before .before .before .pre .1 .size)
-
 returns-2 : tie.Need-returns-2 Inv-loop μ-loop
 returns-2 c =
     let h : c .before .before .before .before .next .result .start < c .before .before .before .before .next .result .end = omega (arith, c .before .before .before .before .next .ensures .ordered) in
-    record { room = c .before .before .before .before .before .before .loop .inv .1; indexed = c .before .before .before .before .before .before .loop .inv .5; right = λ s e. sym (c .before .before .before .before .before .before .loop .inv .4 s e ∙ ap (bind-all (c .before .before .before .before .before .before .before .before .before .before .before .args .kind) (with-prefix s (take (c .before .before .before .before .before .before .loop .count) (c .before .before .before .before .before .before .loop .kinds)) (take (c .before .before .before .before .before .before .loop .count) (c .before .before .before .before .before .before .loop .names)))) (c .before .before .before .before .next .ensures .some h) ∙ bind-ended (c .before .before .before .before .before .before .before .before .before .before .before .args .kind) (c .before .before .before .before .before .before .loop .count) (c .before .number .result) (c .before .before .before .before .before .before .loop .kinds) (c .before .before .before .before .before .before .loop .names) (take (c .before .before .before .before .next .result .end - c .before .before .before .before .next .result .start) (drop (c .before .before .before .before .next .result .start) (c .before .before .before .before .before .before .before .before .before .before .before .args .line .now))) (words (drop (c .before .before .before .before .next .result .end) (c .before .before .before .before .before .before .before .before .before .before .before .args .line .now))) (c .before .number .ensures) s (c .if2 .taken)) }
+    record { kinds = c .before .before .before .before .before .before .loop .inv .2 ∙ c .before .before .before .before .before .before .before .before .pre .0 .3; names = c .before .before .before .before .before .before .loop .inv .3 ∙ c .before .before .before .before .before .before .before .before .pre .0 .4; room = c .before .before .before .before .before .before .loop .inv .1; indexed = c .before .before .before .before .before .before .loop .inv .5; right = λ s e. sym (c .before .before .before .before .before .before .loop .inv .4 s e ∙ ap (bind-all (c .before .before .before .before .before .before .before .before .args .kind) (with-prefix s (take (c .before .before .before .before .before .before .loop .count) (c .before .before .before .before .before .before .loop .kinds)) (take (c .before .before .before .before .before .before .loop .count) (c .before .before .before .before .before .before .loop .names)))) (c .before .before .before .before .next .ensures .some h) ∙ bind-ended (c .before .before .before .before .before .before .before .before .args .kind) (c .before .before .before .before .before .before .loop .count) (c .before .number .result) (c .before .before .before .before .before .before .loop .kinds) (c .before .before .before .before .before .before .loop .names) (take (c .before .before .before .before .next .result .end - c .before .before .before .before .next .result .start) (drop (c .before .before .before .before .next .result .start) (c .before .before .before .before .before .before .before .before .args .line .now))) (words (drop (c .before .before .before .before .next .result .end) (c .before .before .before .before .before .before .before .before .args .line .now))) (c .before .number .ensures) s (c .if2 .taken)) }
 
 name-cause-requires : tie.Need-name-cause-requires Inv-loop μ-loop
-name-cause-requires c κs = (omega arith, c .before .before .before .before .before .before .before .loop .inv .5 .size)
-
-same-length-7 : tie.Need-same-length-7 Inv-loop μ-loop
-same-length-7 c = c .before .before .before .before .before .before .before .before .before .loop .inv .2
-
-same-length-8 : tie.Need-same-length-8 Inv-loop μ-loop
-same-length-8 c = c .before .before .before .before .before .before .before .before .before .loop .inv .3
-
-same-length-9 : tie.Need-same-length-9 Inv-loop μ-loop
-same-length-9 c = c .before .before .before .before .before .before .before .before .before .loop .inv .5 .size ∙ sym (c .before .before .before .before .before .before .before .before .before .before .before .before .before .before .pre .1 .size)
+name-cause-requires c κs = omega arith
 
 returns-3 : tie.Need-returns-3 Inv-loop μ-loop
 returns-3 c =
     let l = length-take-le (c .before .before .before .before .before .before .before .before .before .loop .count) (c .before .before .before .before .before .before .before .before .before .loop .names) (omega arith) in
-    let k = c .before .name-cause .ensures (take (c .before .before .before .before .before .before .before .before .before .loop .count) (c .before .before .before .before .before .before .before .before .before .loop .names)) l (c .before .before .before .before .before .before .before .before .before .loop .inv .5) in
+    let k = c .before .name-cause .ensures .right (take (c .before .before .before .before .before .before .before .before .before .loop .count) (c .before .before .before .before .before .before .before .before .before .loop .names)) l (c .before .before .before .before .before .before .before .before .before .loop .inv .5) in
     let h : c .before .before .before .before .before .before .before .next .result .start < c .before .before .before .before .before .before .before .next .result .end = omega (arith, c .before .before .before .before .before .before .before .next .ensures .ordered) in
-    record { room = c .before .before .before .before .before .before .before .before .before .loop .inv .1; indexed = c .before .before .before .before .before .before .before .before .before .loop .inv .5; right = λ s e. sym (c .before .before .before .before .before .before .before .before .before .loop .inv .4 s e ∙ ap (bind-all (c .before .before .before .before .before .before .before .before .before .before .before .before .before .before .args .kind) (with-prefix s (take (c .before .before .before .before .before .before .before .before .before .loop .count) (c .before .before .before .before .before .before .before .before .before .loop .kinds)) (take (c .before .before .before .before .before .before .before .before .before .loop .count) (c .before .before .before .before .before .before .before .before .before .loop .names)))) (c .before .before .before .before .before .before .before .next .ensures .some h) ∙ bind-refused (c .before .before .before .before .before .before .before .before .before .before .before .before .before .before .args .kind) (c .before .before .before .before .before .before .before .before .before .loop .count) (c .before .before .before .before .number .result) (c .before .before .before .before .before .before .before .before .before .loop .kinds) (c .before .before .before .before .before .before .before .before .before .loop .names) (take (c .before .before .before .before .before .before .before .next .result .end - c .before .before .before .before .before .before .before .next .result .start) (drop (c .before .before .before .before .before .before .before .next .result .start) (c .before .before .before .before .before .before .before .before .before .before .before .before .before .before .args .line .now))) (words (drop (c .before .before .before .before .before .before .before .next .result .end) (c .before .before .before .before .before .before .before .before .before .before .before .before .before .before .args .line .now))) (c .before .before .before .before .number .ensures) s (c .before .before .before .before .before .before .before .before .before .before .before .before .before .before .args .variables) (c .before .name-cause .result) e k (c .before .before .before .if2 .left) (c .if3 .taken) (went (with-prefix s (take (c .before .before .before .before .before .before .before .before .before .loop .count) (c .before .before .before .before .before .before .before .before .before .loop .kinds)) (take (c .before .before .before .before .before .before .before .before .before .loop .count) (c .before .before .before .before .before .before .before .before .before .loop .names))))) }
+    record { kinds = c .before .before .before .before .before .before .before .before .before .loop .inv .2 ∙ c .before .before .before .before .before .before .before .before .before .before .before .pre .0 .3; names = c .before .before .before .before .before .before .before .before .before .loop .inv .3 ∙ c .before .before .before .before .before .before .before .before .before .before .before .pre .0 .4; room = c .before .before .before .before .before .before .before .before .before .loop .inv .1; indexed = c .before .before .before .before .before .before .before .before .before .loop .inv .5; right = λ s e. sym (c .before .before .before .before .before .before .before .before .before .loop .inv .4 s e ∙ ap (bind-all (c .before .before .before .before .before .before .before .before .before .before .before .args .kind) (with-prefix s (take (c .before .before .before .before .before .before .before .before .before .loop .count) (c .before .before .before .before .before .before .before .before .before .loop .kinds)) (take (c .before .before .before .before .before .before .before .before .before .loop .count) (c .before .before .before .before .before .before .before .before .before .loop .names)))) (c .before .before .before .before .before .before .before .next .ensures .some h) ∙ bind-refused (c .before .before .before .before .before .before .before .before .before .before .before .args .kind) (c .before .before .before .before .before .before .before .before .before .loop .count) (c .before .before .before .before .number .result) (c .before .before .before .before .before .before .before .before .before .loop .kinds) (c .before .before .before .before .before .before .before .before .before .loop .names) (take (c .before .before .before .before .before .before .before .next .result .end - c .before .before .before .before .before .before .before .next .result .start) (drop (c .before .before .before .before .before .before .before .next .result .start) (c .before .before .before .before .before .before .before .before .before .before .before .args .line .now))) (words (drop (c .before .before .before .before .before .before .before .next .result .end) (c .before .before .before .before .before .before .before .before .before .before .before .args .line .now))) (c .before .before .before .before .number .ensures) s (c .before .before .before .before .before .before .before .before .before .before .before .args .variables) (c .before .name-cause .result) e k (c .before .before .before .if2 .left) (c .if3 .taken) (went (with-prefix s (take (c .before .before .before .before .before .before .before .before .before .loop .count) (c .before .before .before .before .before .before .before .before .before .loop .kinds)) (take (c .before .before .before .before .before .before .before .before .before .loop .count) (c .before .before .before .before .before .before .before .before .before .loop .names))))) }
 
-slice-write-kinds : tie.Need-slice-write-kinds Inv-loop μ-loop
-slice-write-kinds c =
-    let l = length-take-le (c .before .before .before .before .before .before .before .before .before .loop .count) (c .before .before .before .before .before .before .before .before .before .loop .names) (omega arith) in
-    let k = c .before .name-cause .ensures (take (c .before .before .before .before .before .before .before .before .before .loop .count) (c .before .before .before .before .before .before .before .before .before .loop .names)) l (c .before .before .before .before .before .before .before .before .before .loop .inv .5) in
-    let z = name-cause-zero (c .before .before .before .before .before .before .before .before .before .before .before .before .before .before .args .variables) (take (c .before .before .before .before .before .before .before .before .before .loop .count) (c .before .before .before .before .before .before .before .before .before .loop .names)) (c .before .before .before .before .number .result) (sym k ∙ c .if3 .left) in
-    omega arith
+element-write-kinds : tie.Need-element-write-kinds Inv-loop μ-loop
+element-write-kinds c = let z = c .before .name-cause .ensures .room (c .if3 .left) in omega (arith, z .0, z .1)
 
 cast-names : tie.Need-cast-names Inv-loop μ-loop
-cast-names c =
-    let l = length-take-le (c .before .before .before .before .before .before .before .before .before .loop .count) (c .before .before .before .before .before .before .before .before .before .loop .names) (omega arith) in
-    let k = c .before .name-cause .ensures (take (c .before .before .before .before .before .before .before .before .before .loop .count) (c .before .before .before .before .before .before .before .before .before .loop .names)) l (c .before .before .before .before .before .before .before .before .before .loop .inv .5) in
-    let z = name-cause-zero (c .before .before .before .before .before .before .before .before .before .before .before .before .before .before .args .variables) (take (c .before .before .before .before .before .before .before .before .before .loop .count) (c .before .before .before .before .before .before .before .before .before .loop .names)) (c .before .before .before .before .number .result) (sym k ∙ c .if3 .left) in
-    omega arith
+cast-names c = let z = c .before .name-cause .ensures .room (c .if3 .left) in omega (arith, z .0, z .1)
 
 mul-names : tie.Need-mul-names Inv-loop μ-loop
 mul-names c = omega arith
 
-slice-write-names : tie.Need-slice-write-names Inv-loop μ-loop
-slice-write-names c =
-    let l = length-take-le (c .before .before .before .before .before .before .before .before .before .loop .count) (c .before .before .before .before .before .before .before .before .before .loop .names) (omega arith) in
-    let k = c .before .name-cause .ensures (take (c .before .before .before .before .before .before .before .before .before .loop .count) (c .before .before .before .before .before .before .before .before .before .loop .names)) l (c .before .before .before .before .before .before .before .before .before .loop .inv .5) in
-    let z = name-cause-zero (c .before .before .before .before .before .before .before .before .before .before .before .before .before .before .args .variables) (take (c .before .before .before .before .before .before .before .before .before .loop .count) (c .before .before .before .before .before .before .before .before .before .loop .names)) (c .before .before .before .before .number .result) (sym k ∙ c .if3 .left) in
-    omega arith
+element-write-names : tie.Need-element-write-names Inv-loop μ-loop
+element-write-names c = let z = c .before .name-cause .ensures .room (c .if3 .left) in omega (arith, z .0, z .1)
 
 add-count : tie.Need-add-count Inv-loop μ-loop
 add-count c = omega arith
 
 cast-places : tie.Need-cast-places Inv-loop μ-loop
-cast-places c =
-    let l = length-take-le (c .before .before .before .before .before .before .before .before .before .loop .count) (c .before .before .before .before .before .before .before .before .before .loop .names) (omega arith) in
-    let k = c .before .name-cause .ensures (take (c .before .before .before .before .before .before .before .before .before .loop .count) (c .before .before .before .before .before .before .before .before .before .loop .names)) l (c .before .before .before .before .before .before .before .before .before .loop .inv .5) in
-    let z = name-cause-zero (c .before .before .before .before .before .before .before .before .before .before .before .before .before .before .args .variables) (take (c .before .before .before .before .before .before .before .before .before .loop .count) (c .before .before .before .before .before .before .before .before .before .loop .names)) (c .before .before .before .before .number .result) (sym k ∙ c .if3 .left) in
-    omega arith
+cast-places c = let z = c .before .name-cause .ensures .room (c .if3 .left) in omega (arith, z .0, z .1)
 
-slice-write-places : tie.Need-slice-write-places Inv-loop μ-loop
-slice-write-places c =
-    let l = length-take-le (c .before .before .before .before .before .before .before .before .before .loop .count) (c .before .before .before .before .before .before .before .before .before .loop .names) (omega arith) in
-    let k = c .before .name-cause .ensures (take (c .before .before .before .before .before .before .before .before .before .loop .count) (c .before .before .before .before .before .before .before .before .before .loop .names)) l (c .before .before .before .before .before .before .before .before .before .loop .inv .5) in
-    let z = name-cause-zero (c .before .before .before .before .before .before .before .before .before .before .before .before .before .before .args .variables) (take (c .before .before .before .before .before .before .before .before .before .loop .count) (c .before .before .before .before .before .before .before .before .before .loop .names)) (c .before .before .before .before .number .result) (sym k ∙ c .if3 .left) in
-    omega (arith, c .before .before .before .before .before .before .before .before .before .loop .inv .5 .size)
+element-write-places : tie.Need-element-write-places Inv-loop μ-loop
+element-write-places c = let z = c .before .name-cause .ensures .room (c .if3 .left) in omega (arith, z .0, z .1)
 
 loop-less : tie.Need-loop-less Inv-loop μ-loop
 loop-less c =
@@ -133,21 +86,12 @@ loop-again : tie.Need-loop-again Inv-loop μ-loop
 loop-again c =
     let h : c .before .before .before .before .before .before .before .next .result .start < c .before .before .before .before .before .before .before .next .result .end = omega (arith, c .before .before .before .before .before .before .before .next .ensures .ordered) in
     let l = length-take-le (c .before .before .before .before .before .before .before .before .before .loop .count) (c .before .before .before .before .before .before .before .before .before .loop .names) (omega arith) in
-    let k = c .before .name-cause .ensures (take (c .before .before .before .before .before .before .before .before .before .loop .count) (c .before .before .before .before .before .before .before .before .before .loop .names)) l (c .before .before .before .before .before .before .before .before .before .loop .inv .5) in
-    let z = name-cause-zero (c .before .before .before .before .before .before .before .before .before .before .before .before .before .before .args .variables) (take (c .before .before .before .before .before .before .before .before .before .loop .count) (c .before .before .before .before .before .before .before .before .before .loop .names)) (c .before .before .before .before .number .result) (sym k ∙ c .if3 .left) in
-    (c .before .before .before .before .before .before .before .next .ensures .within, omega arith, simp length-set (c .before .before .before .before .before .before .before .before .before .loop .inv .2), simp length-set (c .before .before .before .before .before .before .before .before .before .loop .inv .3), λ s e. c .before .before .before .before .before .before .before .before .before .loop .inv .4 s e ∙ ap (bind-all (c .before .before .before .before .before .before .before .before .before .before .before .before .before .before .args .kind) (with-prefix s (take (c .before .before .before .before .before .before .before .before .before .loop .count) (c .before .before .before .before .before .before .before .before .before .loop .kinds)) (take (c .before .before .before .before .before .before .before .before .before .loop .count) (c .before .before .before .before .before .before .before .before .before .loop .names)))) (c .before .before .before .before .before .before .before .next .ensures .some h) ∙ bind-taken (c .before .before .before .before .before .before .before .before .before .before .before .before .before .before .args .kind) (c .before .before .before .before .before .before .before .before .before .loop .count) (c .before .before .before .before .number .result) (c .before .before .before .before .before .before .before .before .before .loop .kinds) (c .before .before .before .before .before .before .before .before .before .loop .names) (take (c .before .before .before .before .before .before .before .next .result .end - c .before .before .before .before .before .before .before .next .result .start) (drop (c .before .before .before .before .before .before .before .next .result .start) (c .before .before .before .before .before .before .before .before .before .before .before .before .before .before .args .line .now))) (words (drop (c .before .before .before .before .before .before .before .next .result .end) (c .before .before .before .before .before .before .before .before .before .before .before .before .before .before .args .line .now))) (c .before .before .before .before .number .ensures) s (c .before .before .before .before .before .before .before .before .before .before .before .before .before .before .args .variables) (c .before .name-cause .result) e k (c .before .before .before .if2 .left) (c .if3 .left) (omega arith) (omega arith), indexed-more (c .before .before .before .before .before .before .before .before .before .loop .names) (c .before .before .before .before .before .before .before .before .before .loop .count) (c .before .before .before .before .number .result) (c .before .before .before .before .before .before .before .before .before .loop .inv .5) (omega arith) (omega arith) (z .2))
-
-same-length-10 : tie.Need-same-length-10 Inv-loop μ-loop
-same-length-10 c = c .before .loop .inv .2
-
-same-length-11 : tie.Need-same-length-11 Inv-loop μ-loop
-same-length-11 c = c .before .loop .inv .3
-
-same-length-12 : tie.Need-same-length-12 Inv-loop μ-loop
-same-length-12 c = c .before .loop .inv .5 .size ∙ sym (c .before .before .before .before .before .before .pre .1 .size)
+    let k = c .before .name-cause .ensures .right (take (c .before .before .before .before .before .before .before .before .before .loop .count) (c .before .before .before .before .before .before .before .before .before .loop .names)) l (c .before .before .before .before .before .before .before .before .before .loop .inv .5) in
+    let z = name-cause-zero (c .before .before .before .before .before .before .before .before .before .before .before .args .variables) (take (c .before .before .before .before .before .before .before .before .before .loop .count) (c .before .before .before .before .before .before .before .before .before .loop .names)) (c .before .before .before .before .number .result) (sym k ∙ c .if3 .left) in
+    (c .before .before .before .before .before .before .before .next .ensures .within, omega arith, simp length-set (c .before .before .before .before .before .before .before .before .before .loop .inv .2), simp length-set (c .before .before .before .before .before .before .before .before .before .loop .inv .3), λ s e. c .before .before .before .before .before .before .before .before .before .loop .inv .4 s e ∙ ap (bind-all (c .before .before .before .before .before .before .before .before .before .before .before .args .kind) (with-prefix s (take (c .before .before .before .before .before .before .before .before .before .loop .count) (c .before .before .before .before .before .before .before .before .before .loop .kinds)) (take (c .before .before .before .before .before .before .before .before .before .loop .count) (c .before .before .before .before .before .before .before .before .before .loop .names)))) (c .before .before .before .before .before .before .before .next .ensures .some h) ∙ bind-taken (c .before .before .before .before .before .before .before .before .before .before .before .args .kind) (c .before .before .before .before .before .before .before .before .before .loop .count) (c .before .before .before .before .number .result) (c .before .before .before .before .before .before .before .before .before .loop .kinds) (c .before .before .before .before .before .before .before .before .before .loop .names) (take (c .before .before .before .before .before .before .before .next .result .end - c .before .before .before .before .before .before .before .next .result .start) (drop (c .before .before .before .before .before .before .before .next .result .start) (c .before .before .before .before .before .before .before .before .before .before .before .args .line .now))) (words (drop (c .before .before .before .before .before .before .before .next .result .end) (c .before .before .before .before .before .before .before .before .before .before .before .args .line .now))) (c .before .before .before .before .number .ensures) s (c .before .before .before .before .before .before .before .before .before .before .before .args .variables) (c .before .name-cause .result) e k (c .before .before .before .if2 .left) (c .if3 .left) (omega arith) (omega arith), indexed-more (c .before .before .before .before .before .before .before .before .before .loop .names) (c .before .before .before .before .before .before .before .before .before .loop .count) (c .before .before .before .before .number .result) (c .before .before .before .before .before .before .before .before .before .loop .inv .5) (omega arith) (omega arith) (z .2))
 
 returns-4 : tie.Need-returns-4 Inv-loop μ-loop
-returns-4 c = record { room = c .before .loop .inv .1; indexed = c .before .loop .inv .5; right = λ s e. sym (c .before .loop .inv .4 s e ∙ rw (words-none (c .before .before .before .before .before .before .args .line .now) (c .before .loop .at) (c .loop-test .left)) refl) }
+returns-4 c = record { kinds = c .before .loop .inv .2 ∙ c .before .before .before .pre .0 .3; names = c .before .loop .inv .3 ∙ c .before .before .before .pre .0 .4; room = c .before .loop .inv .1; indexed = c .before .loop .inv .5; right = λ s e. sym (c .before .loop .inv .4 s e ∙ rw (words-none (c .before .before .before .args .line .now) (c .before .loop .at) (c .loop-test .left)) refl) }
 
 pub bind-all-spec : {M : Type 1} → statement M
 bind-all-spec =
@@ -157,33 +101,21 @@ bind-all-spec =
     μ-loop
     loop-holds
     next-requires
-    same-length
-    same-length-2
-    same-length-3
     returns
     sub-number
     part-number-start
     part-number-end
     number-requires
-    same-length-4
-    same-length-5
-    same-length-6
     returns-2
     name-cause-requires
-    same-length-7
-    same-length-8
-    same-length-9
     returns-3
-    slice-write-kinds
+    element-write-kinds
     cast-names
     mul-names
-    slice-write-names
+    element-write-names
     add-count
     cast-places
-    slice-write-places
+    element-write-places
     loop-less
     loop-again
-    same-length-10
-    same-length-11
-    same-length-12
     returns-4)

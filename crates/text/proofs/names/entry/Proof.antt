@@ -2,7 +2,6 @@
 use mathlib.Core.Path.{refl, sym, _∙_}
 use native.Mathlib.Omega.{arith}
 use borrow.Author.Tests.{lt-ltb, le-ltb, eq-eqb, ne-eqb}
-use lib.ListN.{getD}
 use mir.Syntax.{w32}
 use mir.ValLaws.{toZ-ofZ}
 use Rattle.text.specs.Reading.{literal-cause, entry}
@@ -21,7 +20,7 @@ returns : tie.Need-returns
 unfolding literal-cause entry
 returns c =
     record {
-      room = λ h. room-cause-zero (c .before .before .before .before .before .args .m) (sym (c .room-cause .ensures) ∙ h);
+      room = λ h. room-cause-zero (c .before .before .before .before .args .m) (sym (c .room-cause .ensures) ∙ h);
       right = λ names x. rw (← c .before .before .is-zero .ensures, c .before .if1 .taken) (c .room-cause .ensures);
       written = λ names x h. rw (← c .before .before .is-zero .ensures, c .before .if1 .taken) refl;
     }
@@ -34,22 +33,22 @@ unfolding literal-cause entry
 returns-2 c =
     record {
       room = λ h. absurd (omega arith);
-      right = λ names x. rw (← c .before .before .before .is-zero .ensures, c .before .before .if1 .left, ← c .before .magnitude .ensures, lt-ltb (c .before .before .before .before .before .before .args .variables) (c .before .magnitude .result) (c .if2 .taken)) refl;
+      right = λ names x. rw (← c .before .before .before .is-zero .ensures, c .before .before .if1 .left, ← c .before .magnitude .ensures, lt-ltb (c .before .before .before .before .before .args .variables) (c .before .magnitude .result) (c .if2 .taken)) refl;
       written = λ names x h. absurd (omega arith);
     }
 
-shared-slice-read-p : tie.Need-shared-slice-read-p
-shared-slice-read-p c = omega arith
+element-copy-out-place-of : tie.Need-element-copy-out-place-of
+element-copy-out-place-of c = omega arith
 
-cast-p : tie.Need-cast-p
-cast-p c = omega (arith, c .shared-slice-known3 .given (c .before .before .magnitude .result))
+place-of-requires : tie.Need-place-of-requires
+place-of-requires c κs = search needs
 
 returns-3 : tie.Need-returns-3
 unfolding literal-cause entry
 returns-3 c =
     record {
       room = λ h. absurd (omega arith);
-      right = λ names x. rw (← c .before .before .before .before .before .is-zero .ensures, c .before .before .before .before .if1 .left, ← c .before .before .before .magnitude .ensures, le-ltb (c .before .before .before .before .before .before .before .before .args .variables) (c .before .before .before .magnitude .result) (c .before .before .if2 .left), ← x .right (c .before .before .before .magnitude .result) (omega arith), eq-eqb (getD (c .before .before .before .before .before .before .before .before .args .places .now) (c .before .before .before .magnitude .result) 0) 0 (c .if3 .taken)) refl;
+      right = λ names x. rw (← c .before .before .before .before .before .before .is-zero .ensures, c .before .before .before .before .before .if1 .left, ← c .before .before .before .before .magnitude .ensures, le-ltb (c .before .before .before .before .before .before .before .before .args .variables) (c .before .before .before .before .magnitude .result) (c .before .before .before .if2 .left), ← x .right (c .before .before .before .before .magnitude .result) (omega arith), ← c .before .place-of .ensures .0, eq-eqb (c .before .place-of .result) 0 (c .if3 .taken)) refl;
       written = λ names x h. absurd (omega arith);
     }
 
@@ -60,15 +59,15 @@ negative-requires : tie.Need-negative-requires
 negative-requires c κs = search needs
 
 signed-requires : tie.Need-signed-requires
-signed-requires c κs = omega (arith, c .before .before .before .shared-slice-known3 .given (c .before .before .before .before .before .magnitude .result))
+signed-requires c κs = omega (arith, c .before .before .before .place-of .ensures .1)
 
 returns-4 : tie.Need-returns-4
 unfolding literal-cause entry
 returns-4 c =
     record {
       room = λ h. room-cause-zero (c .before .before .before .before .before .before .before .before .before .before .before .args .m) (sym (c .before .before .room-cause2 .ensures) ∙ h);
-      right = λ names x. rw (← c .before .before .before .before .before .before .before .before .is-zero .ensures, c .before .before .before .before .before .before .before .if1 .left, ← c .before .before .before .before .before .before .magnitude .ensures, le-ltb (c .before .before .before .before .before .before .before .before .before .before .before .args .variables) (c .before .before .before .before .before .before .magnitude .result) (c .before .before .before .before .before .if2 .left), ← x .right (c .before .before .before .before .before .before .magnitude .result) (omega arith), ne-eqb (getD (c .before .before .before .before .before .before .before .before .before .before .before .args .places .now) (c .before .before .before .before .before .before .magnitude .result) 0) 0 (c .before .before .before .if3 .left)) (c .before .before .room-cause2 .ensures);
-      written = λ names x h. rw (← c .before .before .before .before .before .before .before .before .is-zero .ensures, c .before .before .before .before .before .before .before .if1 .left, ← c .before .before .before .before .before .before .magnitude .ensures, ← x .right (c .before .before .before .before .before .before .magnitude .result) (omega arith), ← c .before .negative .ensures, toZ-ofZ w32 (c .signed .result) (record { sfits = c .signed .ok })) (c .signed .ensures);
+      right = λ names x. rw (← c .before .before .before .before .before .before .before .before .before .is-zero .ensures, c .before .before .before .before .before .before .before .before .if1 .left, ← c .before .before .before .before .before .before .before .magnitude .ensures, le-ltb (c .before .before .before .before .before .before .before .before .before .before .before .args .variables) (c .before .before .before .before .before .before .before .magnitude .result) (c .before .before .before .before .before .before .if2 .left), ← x .right (c .before .before .before .before .before .before .before .magnitude .result) (omega arith), ← c .before .before .before .before .place-of .ensures .0, ne-eqb (c .before .before .before .before .place-of .result) 0 (c .before .before .before .if3 .left)) (c .before .before .room-cause2 .ensures);
+      written = λ names x h. rw (← c .before .before .before .before .before .before .before .before .before .is-zero .ensures, c .before .before .before .before .before .before .before .before .if1 .left, ← c .before .before .before .before .before .before .before .magnitude .ensures, ← x .right (c .before .before .before .before .before .before .before .magnitude .result) (omega arith), ← c .before .before .before .before .place-of .ensures .0, ← c .before .negative .ensures, toZ-ofZ w32 (c .signed .result) (record { sfits = c .signed .ok })) (c .signed .ensures);
     }
 
 pub entry-spec : {M : Type 1} → statement M
@@ -80,8 +79,8 @@ entry-spec =
     returns
     magnitude-requires
     returns-2
-    shared-slice-read-p
-    cast-p
+    element-copy-out-place-of
+    place-of-requires
     returns-3
     room-cause-requires-2
     negative-requires

@@ -9,22 +9,22 @@ use Rattle.text.proofs.names.name_cause.Tie as tie
 
 returns : tie.Need-returns
 unfolding name-cause
-returns c = λ names l x. rw (lt-ltb (c .before .args .variables) (c .before .args .v) (c .if1 .taken)) refl
+returns c = record { room = λ h. absurd (omega arith); right = λ names l x. rw (lt-ltb (c .before .args .variables) (c .before .args .v) (c .if1 .taken)) refl }
 
-shared-slice-read-if2 : tie.Need-shared-slice-read-if2
-shared-slice-read-if2 c = omega arith
+element-copy-out-if2 : tie.Need-element-copy-out-if2
+element-copy-out-if2 c = omega arith
 
 returns-2 : tie.Need-returns-2
 unfolding name-cause
-returns-2 c = λ names l x. rw (le-ltb (c .before .before .before .args .variables) (c .before .before .before .args .v) (c .before .before .if1 .left), ← x .right (c .before .before .before .args .v) (omega arith), ne-eqb (getD (c .before .before .before .args .places .now) (c .before .before .before .args .v) 0) 0 (c .if2 .taken)) refl
+returns-2 c = record { room = λ h. absurd (omega arith); right = λ names l x. rw (le-ltb (c .before .before .before .args .variables) (c .before .before .before .args .v) (c .before .before .if1 .left), ← x .right (c .before .before .before .args .v) (omega arith), ne-eqb (getD (c .before .before .before .args .places .now) (c .before .before .before .args .v) 0) 0 (c .if2 .taken)) refl }
 
 returns-3 : tie.Need-returns-3
 unfolding name-cause
-returns-3 c = λ names l x. rw (le-ltb (c .before .before .before .before .args .variables) (c .before .before .before .before .args .v) (c .before .before .before .if1 .left), ← x .right (c .before .before .before .before .args .v) (omega arith), eq-eqb (getD (c .before .before .before .before .args .places .now) (c .before .before .before .before .args .v) 0) 0 (c .before .if2 .left), l, lt-ltb (c .before .before .before .before .args .n) 128 (c .if3 .taken)) refl
+returns-3 c = record { room = λ h. (omega arith, omega arith); right = λ names l x. rw (le-ltb (c .before .before .before .before .args .variables) (c .before .before .before .before .args .v) (c .before .before .before .if1 .left), ← x .right (c .before .before .before .before .args .v) (omega arith), eq-eqb (getD (c .before .before .before .before .args .places .now) (c .before .before .before .before .args .v) 0) 0 (c .before .if2 .left), l, lt-ltb (c .before .before .before .before .args .n) 128 (c .if3 .taken)) refl }
 
 returns-4 : tie.Need-returns-4
 unfolding name-cause
-returns-4 c = λ names l x. rw (le-ltb (c .before .before .before .before .args .variables) (c .before .before .before .before .args .v) (c .before .before .before .if1 .left), ← x .right (c .before .before .before .before .args .v) (omega arith), eq-eqb (getD (c .before .before .before .before .args .places .now) (c .before .before .before .before .args .v) 0) 0 (c .before .if2 .left), l, le-ltb (c .before .before .before .before .args .n) 128 (c .if3 .left)) refl
+returns-4 c = record { room = λ h. absurd (omega arith); right = λ names l x. rw (le-ltb (c .before .before .before .before .args .variables) (c .before .before .before .before .args .v) (c .before .before .before .if1 .left), ← x .right (c .before .before .before .before .args .v) (omega arith), eq-eqb (getD (c .before .before .before .before .args .places .now) (c .before .before .before .before .args .v) 0) 0 (c .before .if2 .left), l, le-ltb (c .before .before .before .before .args .n) 128 (c .if3 .left)) refl }
 
 pub name-cause-spec : {M : Type 1} → statement M
-name-cause-spec = tie.close (tie.spec returns shared-slice-read-if2 returns-2 returns-3 returns-4)
+name-cause-spec = tie.close (tie.spec returns element-copy-out-if2 returns-2 returns-3 returns-4)

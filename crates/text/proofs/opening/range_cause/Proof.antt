@@ -3,8 +3,8 @@ use mathlib.Core.Path.{refl}
 use native.Mathlib.Omega.{arith}
 use borrow.Author.Tests.{lt-ltb, le-ltb}
 use Rattle.text.specs.Steps.{range-cause}
-use Rattle.text.proofs.problem.range_cause.Statement.{statement}
-use Rattle.text.proofs.problem.range_cause.Tie as tie
+use Rattle.text.proofs.opening.range_cause.Statement.{statement}
+use Rattle.text.proofs.opening.range_cause.Tie as tie
 
 returns : tie.Need-returns
 unfolding range-cause

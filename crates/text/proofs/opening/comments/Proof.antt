@@ -12,8 +12,8 @@ use Rattle.lines.specs.Shapes.{is-comment}
 use Rattle.text.specs.Reading.{after-comments}
 use Rattle.lines.proofs.Spans.{before-le}
 use Rattle.lines.proofs.LineLaws.{lines-line, lines-rest, lines-none, comment-first}
-use Rattle.text.proofs.comments.Statement.{statement}
-use Rattle.text.proofs.comments.Tie as tie
+use Rattle.text.proofs.opening.comments.Statement.{statement}
+use Rattle.text.proofs.opening.comments.Tie as tie
 
 abbrev Inv-loop : tie.InvT-loop
 Inv-loop text at₀ line₀ at line = (at ≤ length text) × (line ≤ at + 1) × (after-comments line (lines (drop at text)) ≡ after-comments 1 (lines text))

@@ -4,8 +4,8 @@ use borrow.Author.Needs.{needs}
 use Rattle.text.specs.Reading.{problem-cause}
 use Rattle.text.specs.Steps.{range-cause}
 use Rattle.text.proofs.ProblemLaws.{range-small}
-use Rattle.text.proofs.problem.read_problem.Statement.{statement}
-use Rattle.text.proofs.problem.read_problem.Tie as tie
+use Rattle.text.proofs.opening.read_problem.Statement.{statement}
+use Rattle.text.proofs.opening.read_problem.Tie as tie
 
 p-line-requires : tie.Need-p-line-requires
 p-line-requires c κs = search needs
