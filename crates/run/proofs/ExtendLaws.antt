@@ -9,7 +9,7 @@ use lib.Dec.{eqb, leb}
 use lib.IntN.{ℤ}
 use lib.ListN.{length, take, drop, replicate, length-append, length-map, length-replicate}
 use lib.Seq.{take-all}
-use borrow.Author.Tests.{le-leb, lt-leb, eq-eqb, le-ltb, leb-true}
+use borrow.Author.Tests.{le-leb, lt-leb, eq-eqb, le-ltb, leb-true, leb-false}
 use Rattle.formula.specs.Formula.{Kind, existential, universal, prefix, clauses, max-rows}
 use Rattle.formula.specs.Meaning.{matrix}
 use Rattle.formula.specs.Causes.{count}
@@ -26,7 +26,9 @@ use Rattle.search.specs.Search.{work-size, side-of, lent-rows, cause, found as 
 use Rattle.run.specs.declared.Step.{Step}
 use Rattle.rounds.specs.Run.{Entry, Table, rows, under-mark, grown, if-fits}
 use Rattle.run.specs.Outcome.{row-bytes}
-use Rattle.run.specs.Growing.{Passes, is-found, is-new, count-below, Bytes, bytes, with-new-rows, HoldsRows, Holds, Half, half, half-fit, half-of, Extended}
+use Rattle.growth.specs.declared.Growth.the-variants.{Grown, NoRoom}
+use Rattle.growth.specs.Growth.{is-new, count-below, all-fit, Bytes, bytes, with-new-rows, growth, grown as grown-bytes}
+use Rattle.run.specs.Growing.{Passes, is-found, step-of, HoldsRows, Holds, Half, half, half-fit, half-of, Extended}
 use Rattle.rounds.proofs.GrowthLaws.{sized-found}
 use Rattle.run.proofs.ByteLaws.{Wide, length-table-of, rows-of-table, no-stray-rows}
 use Rattle.run.proofs.GrowingLaws.{wide-of-sized, sized-of-wide, length-row-bytes, image, counted-fresh, added-image, sized-grown}
@@ -176,12 +178,14 @@ module _ (kinds : List ℕ) (literals : List ℤ) (preferences others : List ℕ
           subst (λ (o : Option Table). Extended kinds (side-of side?) t (half-fit o) found found-marks (record { end = 1; count = k }) R M work′) (sym over)
           (record { ended = refl; counted = counted-t; holds = held; work-long = work-long′ })
 
-      grown-of : k + count-below n (λ j. is-new R k work′ j) ≤ room R → (R′ M′ : List ℕ)
-          → R′ ≡ with-new-rows work′ r n (bytes R M k) .row-part → M′ ≡ with-new-rows work′ r n (bytes R M k) .mark-part
+      abbrev after : Bytes
+      after = with-new-rows work′ r n (bytes R M k)
+
+      grown-of : k + count-below n (λ j. is-new R k work′ j) ≤ room R
           → Extended kinds (side-of side?) t (half (room found) r t (some new)) found found-marks
-          (record { end = 2; count = k + count-below n (λ j. is-new R k work′ j) }) R′ M′ work′
+          (record { end = 2; count = after .number }) (after .row-part) (after .mark-part) work′
       unfolding rest
-      grown-of enough R′ M′ er em =
+      grown-of enough =
           let u : Table = grown r t new in
           let fits : length u ≤ room found = omega (arith, same-room, total-is) in
           let under : if-fits (room found) u ≡ some u =
@@ -197,10 +201,10 @@ module _ (kinds : List ℕ) (literals : List ℤ) (preferences others : List ℕ
           wide-of-sized (count (side-of side?) (prefix kinds)) (rows u)
           (subst (λ (l : List Row). Sized (count (side-of side?) (prefix kinds)) (rows (grown r t l))) all-new
           (sized-grown (count (side-of side?) (prefix kinds)) few found found-marks (held .one-a-row) new rest new-sized t sized r (length new) (omega arith))) in
-          subst (λ (o : Option Table). Extended kinds (side-of side?) t (half-fit o) found found-marks (record { end = 2; count = k + count-below n (λ j. is-new R k work′ j) }) R′ M′ work′) (sym under)
+          subst (λ (o : Option Table). Extended kinds (side-of side?) t (half-fit o) found found-marks (record { end = 2; count = after .number }) (after .row-part) (after .mark-part) work′) (sym under)
           (record {
             ended = refl;
-            counted = total-is;
+            counted = ap (λ (b : Bytes). b .number) end;
             holds =
                 record {
                   in-rows =
@@ -208,13 +212,24 @@ module _ (kinds : List ℕ) (literals : List ℤ) (preferences others : List ℕ
                         fits = held .in-rows .fits;
                         in-room = fits;
                         sized = wide;
-                        in-bytes = er ∙ ap (λ (b : Bytes). b .row-part) end;
+                        in-bytes = ap (λ (b : Bytes). b .row-part) end;
                       };
                   one-a-row = held .one-a-row;
-                  in-marks = em ∙ ap (λ (b : Bytes). b .mark-part) end;
+                  in-marks = ap (λ (b : Bytes). b .mark-part) end;
                 };
             work-long = work-long′;
           })
+
+      -- Whether all fit or not: what `grow` returns and leaves.
+      model-of : Extended kinds (side-of side?) t (half (room found) r t (some new)) found found-marks
+          (step-of (growth R M k work′ n r) k) (grown-bytes R M k work′ n r .row-part) (grown-bytes R M k work′ n r .mark-part) work′
+      model-of = by-test (all-fit R k work′ n) refl
+        where
+          by-test : (v : Bool) → all-fit R k work′ n ≡ v
+              → Extended kinds (side-of side?) t (half (room found) r t (some new)) found found-marks
+              (step-of (cond v (Grown (after .number)) NoRoom) k) (cond v after (bytes R M k) .row-part) (cond v after (bytes R M k) .mark-part) work′
+          by-test true e = grown-of (leb-true (k + count-below n (λ j. is-new R k work′ j)) (room R) e)
+          by-test false e = no-room-of (leb-false (k + count-below n (λ j. is-new R k work′ j)) (room R) e)
 
     by-model : (P : Option (List Row) → Type 0) (work′ : List ℕ) → Searched searched true work′
         → ((new : List Row) → searched ≡ some new → work′ ≡ left (some new) → P (some new)) → P searched
@@ -224,24 +239,34 @@ module _ (kinds : List ℕ) (literals : List ℤ) (preferences others : List ℕ
         go none e q = absurd (false≢true (q .0))
         go (some new) e q = each new e (q .1)
 
-    pub no-room-extended : (flag : Bool) (work′ : List ℕ) → flag ≡ is-found (outcome kinds literals preferences others n side? work)
+    pub model-extended : (flag : Bool) (work′ : List ℕ) → flag ≡ is-found (outcome kinds literals preferences others n side? work)
         → work′ ≡ work-after kinds literals preferences others n side? work → flag ≡ true
-        → room R < k + count-below n (λ j. is-new R k work′ j) → Result (record { end = 1; count = k }) R M work′
-    no-room-extended flag work′ e w on full =
-        by-model (λ s. Extended kinds (side-of side?) t (half (room found) r t s) found found-marks (record { end = 1; count = k }) R M work′) work′
-        (what-is-left true work′ (sym on ∙ e) w)
-        (λ new yielded packed. no-room-of new yielded work′ packed full)
-
-    pub grown-extended : (flag : Bool) (work′ : List ℕ) → flag ≡ is-found (outcome kinds literals preferences others n side? work)
-        → work′ ≡ work-after kinds literals preferences others n side? work → flag ≡ true
-        → (total : ℕ) → total ≡ k + count-below n (λ j. is-new R k work′ j) → total ≤ room R → (R′ M′ : List ℕ)
-        → R′ ≡ with-new-rows work′ r n (bytes R M k) .row-part → M′ ≡ with-new-rows work′ r n (bytes R M k) .mark-part
-        → Result (record { end = 2; count = total }) R′ M′ work′
-    grown-extended flag work′ e w on total is enough R′ M′ er em =
-        subst (λ (c : ℕ). Result (record { end = 2; count = c }) R′ M′ work′) (sym is)
-        (by-model
+        → (result : Step) (R′ M′ : List ℕ) → result ≡ step-of (growth R M k work′ n r) k
+        → R′ ≡ grown-bytes R M k work′ n r .row-part → M′ ≡ grown-bytes R M k work′ n r .mark-part
+        → Result result R′ M′ work′
+    model-extended flag work′ e w on result R′ M′ is er em =
+        let made =
+        by-model
         (λ s.
-        Extended kinds (side-of side?) t (half (room found) r t s) found found-marks (record { end = 2; count = k + count-below n (λ j. is-new R k work′ j) }) R′ M′ work′)
+        Extended kinds (side-of side?) t (half (room found) r t s) found found-marks
+        (step-of (growth R M k work′ n r) k) (grown-bytes R M k work′ n r .row-part) (grown-bytes R M k work′ n r .mark-part) work′)
         work′
         (what-is-left true work′ (sym on ∙ e) w)
-        (λ new yielded packed. grown-of new yielded work′ packed (omega arith) R′ M′ er em))
+        (λ new yielded packed. model-of new yielded work′ packed) in
+        record {
+          ended = ap (λ (s : Step). s .end) is ∙ made .ended;
+          counted = ap (λ (s : Step). s .count) is ∙ made .counted;
+          holds =
+              record {
+                in-rows =
+                    record {
+                      fits = made .holds .in-rows .fits;
+                      in-room = made .holds .in-rows .in-room;
+                      sized = made .holds .in-rows .sized;
+                      in-bytes = er ∙ made .holds .in-rows .in-bytes;
+                    };
+                one-a-row = made .holds .one-a-row;
+                in-marks = em ∙ made .holds .in-marks;
+              };
+          work-long = made .work-long;
+        }

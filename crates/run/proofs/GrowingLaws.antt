@@ -6,8 +6,10 @@ use mathlib.Core.Path.{_≡_, refl, sym, ap, subst, _∙_}
 use mathlib.Core.Bool.{Bool, true, false, _&&_, cond, true≢false, false≢true}
 use mathlib.Core.List.{List, [], _∷_, _++_, map, append-assoc, append-nil}
 use mathlib.Core.Logic.{_⊎_, inl, inr, ⊎-elim}
+use lib.Dec.{ltb}
 use lib.ListN.{length, getD, take, drop, set, length-append, length-drop, length-map}
 use lib.Seq.{take-at, drop-at, drop-drop, take-all, take-suc, drop-cons, set-at, append-snoc}
+use borrow.Author.Tests.{lt-ltb}
 use Rattle.rows.specs.Row.{bytes-of, weight}
 use Rattle.rows.specs.Table.{table-of, room, first-place, placed}
 use Rattle.rows.specs.declared.Found.{Found}
@@ -19,7 +21,7 @@ use Rattle.expansion.proofs.Membership.{In, in-of-place, place-of-in, in-append
 use Rattle.expansion.proofs.Counting.{Sized}
 use Rattle.rounds.specs.Run.{Entry, Table, rows, under-mark, grown}
 use Rattle.run.specs.Outcome.{row-bytes, mark-numbers}
-use Rattle.run.specs.Growing.{is-absent, is-new, count-below, Bytes, bytes, with-row, with-new-row, with-new-rows}
+use Rattle.growth.specs.Growth.{is-absent, is-new, count-below, Bytes, bytes, with-row, with-new-row, with-new-rows}
 use Rattle.rounds.proofs.TableLaws.{rows-append, rows-grown}
 use Rattle.run.proofs.FreshLaws.{fresh-old, fresh-new, length-fresh-take}
 use Rattle.run.proofs.ByteLaws.{Wide, length-table-of, table-of-append, row-at-table, at-in, absent-not-in}
@@ -214,13 +216,15 @@ module _ (m : ℕ) (few : m ≤ 128) (found found-marks : List ℕ) (one-a-row :
           let more : length (grown r t (take (suc n) new)) ≡ length g + 1 = ap length next ∙ length-append g (under-mark r (getD new n []) ∷ []) in
           let room-left : length g < room found =
           omega (arith, length-grown-is (take (suc n) new), length-grown-is new, length-fresh-take (rows t) new (suc n)) in
-          ap (λ (v : Bool). cond v (with-row area r n (image found found-marks g)) (image found found-marks g)) e
+          let place : length g < room (row-bytes g found) = omega (arith, length-row-bytes g found (omega arith)) in
+          ap (λ (v : Bool). cond (v && ltb (length g) (room (row-bytes g found))) (with-row area r n (image found found-marks g)) (image found found-marks g)) e
+          ∙ ap (λ (v : Bool). cond v (with-row area r n (image found found-marks g)) (image found found-marks g)) (lt-ltb (length g) (room (row-bytes g found)) place)
           ∙ with-row-image g r n room-left h
           ∙ ap (image found found-marks) (sym next)
       image-next n h false e =
           let g : Table = grown r t (take n new) in
           let case = new-case g (sized-grown r n (omega arith)) n h false e in
-          ap (λ (v : Bool). cond v (with-row area r n (image found found-marks g)) (image found found-marks g)) e
+          ap (λ (v : Bool). cond (v && ltb (length g) (room (row-bytes g found))) (with-row area r n (image found found-marks g)) (image found found-marks g)) e
           ∙ ap (image found found-marks) (sym (grown-with n h false case))
 
       pub added-image : (n : ℕ) → n ≤ length new → with-new-rows area r n (image found found-marks t) ≡ image found found-marks (grown r t (take n new))

@@ -1,7 +1,7 @@
--- A round is its two sides' steps: what each of its five ends returns and leaves. Assumes nothing.
+-- A round is its two sides' steps: what each of its ends returns and leaves. Assumes nothing.
 use Prim.Native.Nat.{ℕ}
 use native.Mathlib.Omega.{arith}
-use mathlib.Core.Path.{_≡_, refl, sym, subst}
+use mathlib.Core.Path.{_≡_, refl, sym, ap, subst, _∙_}
 use mathlib.Core.List.{List, []}
 use mathlib.Core.Option.{Option, none, some}
 use lib.IntN.{ℤ}
@@ -12,13 +12,12 @@ use Rattle.preference.specs.Preference.{prefer}
 use Rattle.rows.specs.Table.{room}
 use Rattle.expansion.specs.Play.{Row}
 use Rattle.expansion.specs.Model.{search}
-use Rattle.run.specs.declared.Answer.{Answer}
-use Rattle.run.specs.declared.Answer.the-variants.{False, True, Spent, NoRoomUniversal, NoRoomExistential}
+use Rattle.run.specs.declared.Answer.the-variants.{Spent}
 use Rattle.run.specs.declared.Outcome.{Outcome}
 use Rattle.run.specs.declared.Step.{Step}
 use Rattle.rounds.specs.Run.{Table, rows, grown, if-fits, Lent, outcome, is-false, is-true, spent, no-room-universal, no-room-existential, step-1, step-2, step-3, step-4, round-of, Outcome as RunOutcome, Answer as RunAnswer}
 use Rattle.run.specs.Outcome.{given, lent, named}
-use Rattle.run.specs.Growing.{Holds, Half, no-model, no-room, grows, half, half-fit, half-table, half-of, Extended, Shows}
+use Rattle.run.specs.Growing.{Holds, Half, no-model, no-room, grows, half, half-fit, half-table, half-of, Extended, said, existential-stop, universal-stop, Shows}
 
 -- The outcome of round r by its steps' ends.
 after-second : ℕ → Table → Table → Half → RunOutcome
@@ -70,85 +69,70 @@ module _ (kinds : List ℕ) (literals : List ℤ) (preferences A-found A-marks-f
   unfolding round-of
   ends = end-1 l r A S (search (prefer preferences) existential (prefix kinds) (matrix (clauses literals)) (rows A))
 
-  abbrev said : Answer → ℕ → ℕ → Outcome
-  said a n k = record { answer = a; round = r; universal = n; existential = k }
-
-  shown : (o : RunOutcome) (a : RunAnswer) (A′ S′ : Table) (n k : ℕ) (AR AM SR SM W : List ℕ) → o ≡ outcome a r A′ S′ → n ≡ length A′ → k ≡ length S′
+  shown : (o : RunOutcome) (a : RunAnswer) (A′ S′ : Table) (n k : ℕ) (AR AM SR SM W : List ℕ) (result : Outcome) → o ≡ outcome a r A′ S′
+      → result ≡ said (named a) r n k → n ≡ length A′ → k ≡ length S′
       → Holds kinds universal A′ A-found A-marks-found AR AM → Holds kinds existential S′ S-found S-marks-found SR SM → length W ≡ 65536
-      → Made o (said (named a) n k) AR AM SR SM W
-  shown o a A′ S′ n k AR AM SR SM W is en ek hA hS long =
-      subst (λ (q : RunOutcome). Made q (said (named a) n k) AR AM SR SM W) (sym is)
-      (record { as-returned = λ d. said (named a) (en d) (ek d); both = record { holds-A = hA; holds-S = hS }; work-long = long })
+      → Made o result AR AM SR SM W
+  shown o a A′ S′ n k AR AM SR SM W result is told en ek hA hS long =
+      subst (λ (q : RunOutcome). Made q result AR AM SR SM W) (sym is)
+      (record { as-returned = told ∙ (λ d. said (named a) r (en d) (ek d)); both = record { holds-A = hA; holds-S = hS }; work-long = long })
 
   module _ (AR AM SR SM W : List ℕ) (step : Step) (held-A : Holds kinds universal A A-found A-marks-found AR AM)
       (made : Extended kinds existential S first S-found S-marks-found step SR SM W) where
-    pub false-shown : step .end ≡ 0 → Made (round-of l r A S) (said False u x) AR AM SR SM W
+    pub existential-stopped : (step .end ≡ 2 → ⊥) → (result : Outcome) → result ≡ said (existential-stop (step .end)) r u x
+        → Made (round-of l r A S) result AR AM SR SM W
     unfolding after-first
-    false-shown e = go first ends made
+    existential-stopped stops result told = go first ends made
       where
-        go : (h : Half) → round-of l r A S ≡ after-first l r A S h → Extended kinds existential S h S-found S-marks-found step SR SM W
-            → Made (round-of l r A S) (said False u x) AR AM SR SM W
-        go no-model is m = shown (round-of l r A S) is-false A S u x AR AM SR SM W is counted-A counted-S held-A (m .holds) (m .work-long)
-        go no-room is m = absurd (omega (arith, m .ended))
-        go (grows t) is m = absurd (omega (arith, m .ended))
+        by-end : (n : ℕ) → step .end ≡ n → result ≡ said (existential-stop n) r u x
+        by-end n e = told ∙ ap (λ (m : ℕ). said (existential-stop m) r u x) e
 
-    pub no-room-existential-shown : step .end ≡ 1 → Made (round-of l r A S) (said NoRoomExistential u x) AR AM SR SM W
-    unfolding after-first
-    no-room-existential-shown e = go first ends made
-      where
         go : (h : Half) → round-of l r A S ≡ after-first l r A S h → Extended kinds existential S h S-found S-marks-found step SR SM W
-            → Made (round-of l r A S) (said NoRoomExistential u x) AR AM SR SM W
-        go no-model is m = absurd (omega (arith, m .ended))
-        go no-room is m = shown (round-of l r A S) no-room-existential A S u x AR AM SR SM W is counted-A counted-S held-A (m .holds) (m .work-long)
-        go (grows t) is m = absurd (omega (arith, m .ended))
+            → Made (round-of l r A S) result AR AM SR SM W
+        go no-model is m = shown (round-of l r A S) is-false A S u x AR AM SR SM W result is (by-end 0 (m .ended)) counted-A counted-S held-A (m .holds) (m .work-long)
+        go no-room is m = shown (round-of l r A S) no-room-existential A S u x AR AM SR SM W result is (by-end 1 (m .ended)) counted-A counted-S held-A (m .holds) (m .work-long)
+        go (grows t) is m = absurd (stops (m .ended))
 
     -- The first step has grown the existential table; what follows is the second one.
-    module _ (some-model : step .end ≡ 0 → ⊥) (some-room : step .end ≡ 1 → ⊥) (AR′ AM′ W′ : List ℕ) (back : Step)
+    module _ (goes : step .end ≡ 2) (AR′ AM′ W′ : List ℕ) (back : Step)
         (made-back : Extended kinds universal A (second (half-table S first)) A-found A-marks-found back AR′ AM′ W′) where
       later : (result : Outcome)
-          → ((S′ : Table) → round-of l r A S ≡ after-second r A S′ (second S′) → step .count ≡ length S′
+          → ((S′ : Table) (h : Half) → round-of l r A S ≡ after-second r A S′ h → step .count ≡ length S′
           → Holds kinds existential S′ S-found S-marks-found SR SM
-          → Extended kinds universal A (second S′) A-found A-marks-found back AR′ AM′ W′ → Made (round-of l r A S) result AR′ AM′ SR SM W′)
+          → Extended kinds universal A h A-found A-marks-found back AR′ AM′ W′ → Made (round-of l r A S) result AR′ AM′ SR SM W′)
           → Made (round-of l r A S) result AR′ AM′ SR SM W′
       unfolding after-first
       later result each = go first ends made made-back
         where
           go : (h : Half) → round-of l r A S ≡ after-first l r A S h → Extended kinds existential S h S-found S-marks-found step SR SM W
               → Extended kinds universal A (second (half-table S h)) A-found A-marks-found back AR′ AM′ W′ → Made (round-of l r A S) result AR′ AM′ SR SM W′
-          go no-model is m b = absurd (some-model (m .ended))
-          go no-room is m b = absurd (some-room (m .ended))
-          go (grows S′) is m b = each S′ is (m .counted) (m .holds) b
+          go no-model is m b = absurd (omega (arith, m .ended))
+          go no-room is m b = absurd (omega (arith, m .ended))
+          go (grows S′) is m b = each S′ (second S′) is (m .counted) (m .holds) b
 
-      pub true-shown : back .end ≡ 0 → Made (round-of l r A S) (said True u (step .count)) AR′ AM′ SR SM W′
+      pub universal-stopped : (back .end ≡ 2 → ⊥) → (result : Outcome) → result ≡ said (universal-stop (back .end)) r u (step .count)
+          → Made (round-of l r A S) result AR′ AM′ SR SM W′
       unfolding after-second
-      true-shown e = later (said True u (step .count)) (λ S′ is n hS b. go S′ n hS (second S′) is b)
+      universal-stopped stops result told = later result go
         where
-          go : (S′ : Table) → step .count ≡ length S′ → Holds kinds existential S′ S-found S-marks-found SR SM → (h : Half)
-              → round-of l r A S ≡ after-second r A S′ h → Extended kinds universal A h A-found A-marks-found back AR′ AM′ W′
-              → Made (round-of l r A S) (said True u (step .count)) AR′ AM′ SR SM W′
-          go S′ n hS no-model is b = shown (round-of l r A S) is-true A S′ u (step .count) AR′ AM′ SR SM W′ is counted-A n (b .holds) hS (b .work-long)
-          go S′ n hS no-room is b = absurd (omega (arith, b .ended))
-          go S′ n hS (grows t) is b = absurd (omega (arith, b .ended))
+          by-end : (n : ℕ) → back .end ≡ n → result ≡ said (universal-stop n) r u (step .count)
+          by-end n e = told ∙ ap (λ (m : ℕ). said (universal-stop m) r u (step .count)) e
 
-      pub no-room-universal-shown : back .end ≡ 1 → Made (round-of l r A S) (said NoRoomUniversal u (step .count)) AR′ AM′ SR SM W′
-      unfolding after-second
-      no-room-universal-shown e = later (said NoRoomUniversal u (step .count)) (λ S′ is n hS b. go S′ n hS (second S′) is b)
-        where
-          go : (S′ : Table) → step .count ≡ length S′ → Holds kinds existential S′ S-found S-marks-found SR SM → (h : Half)
-              → round-of l r A S ≡ after-second r A S′ h → Extended kinds universal A h A-found A-marks-found back AR′ AM′ W′
-              → Made (round-of l r A S) (said NoRoomUniversal u (step .count)) AR′ AM′ SR SM W′
-          go S′ n hS no-model is b = absurd (omega (arith, b .ended))
-          go S′ n hS no-room is b = shown (round-of l r A S) no-room-universal A S′ u (step .count) AR′ AM′ SR SM W′ is counted-A n (b .holds) hS (b .work-long)
-          go S′ n hS (grows t) is b = absurd (omega (arith, b .ended))
+          go : (S′ : Table) (h : Half) → round-of l r A S ≡ after-second r A S′ h → step .count ≡ length S′ → Holds kinds existential S′ S-found S-marks-found SR SM
+              → Extended kinds universal A h A-found A-marks-found back AR′ AM′ W′ → Made (round-of l r A S) result AR′ AM′ SR SM W′
+          go S′ no-model is n hS b =
+              shown (round-of l r A S) is-true A S′ u (step .count) AR′ AM′ SR SM W′ result is (by-end 0 (b .ended)) counted-A n (b .holds) hS (b .work-long)
+          go S′ no-room is n hS b =
+              shown (round-of l r A S) no-room-universal A S′ u (step .count) AR′ AM′ SR SM W′ result is (by-end 1 (b .ended)) counted-A n (b .holds) hS (b .work-long)
+          go S′ (grows t) is n hS b = absurd (stops (b .ended))
 
-      pub spent-shown : (back .end ≡ 0 → ⊥) → (back .end ≡ 1 → ⊥) → Made (round-of l r A S) (said Spent (back .count) (step .count)) AR′ AM′ SR SM W′
+      pub round-finished : back .end ≡ 2 → Made (round-of l r A S) (said Spent r (back .count) (step .count)) AR′ AM′ SR SM W′
       unfolding after-second
-      spent-shown not-0 not-1 = later (said Spent (back .count) (step .count)) (λ S′ is n hS b. go S′ n hS (second S′) is b)
+      round-finished goes-back = later (said Spent r (back .count) (step .count)) go
         where
-          go : (S′ : Table) → step .count ≡ length S′ → Holds kinds existential S′ S-found S-marks-found SR SM → (h : Half)
-              → round-of l r A S ≡ after-second r A S′ h → Extended kinds universal A h A-found A-marks-found back AR′ AM′ W′
-              → Made (round-of l r A S) (said Spent (back .count) (step .count)) AR′ AM′ SR SM W′
-          go S′ n hS no-model is b = absurd (not-0 (b .ended))
-          go S′ n hS no-room is b = absurd (not-1 (b .ended))
-          go S′ n hS (grows A′) is b =
-              shown (round-of l r A S) spent A′ S′ (back .count) (step .count) AR′ AM′ SR SM W′ is (b .counted) n (b .holds) hS (b .work-long)
+          go : (S′ : Table) (h : Half) → round-of l r A S ≡ after-second r A S′ h → step .count ≡ length S′ → Holds kinds existential S′ S-found S-marks-found SR SM
+              → Extended kinds universal A h A-found A-marks-found back AR′ AM′ W′ → Made (round-of l r A S) (said Spent r (back .count) (step .count)) AR′ AM′ SR SM W′
+          go S′ no-model is n hS b = absurd (omega (arith, b .ended))
+          go S′ no-room is n hS b = absurd (omega (arith, b .ended))
+          go S′ (grows A′) is n hS b =
+              shown (round-of l r A S) spent A′ S′ (back .count) (step .count) AR′ AM′ SR SM W′ (said Spent r (back .count) (step .count)) is refl (b .counted) n (b .holds) hS (b .work-long)

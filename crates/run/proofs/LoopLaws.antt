@@ -1,5 +1,5 @@
 -- The loop over the rounds: what holds before each, and what the run is when it ends. Assumes nothing.
-use Prim.Native.Nat.{ℕ, suc, _+_, _*_, _%_, _≤_, _<_}
+use Prim.Native.Nat.{ℕ, zero, suc, _+_, _*_, _%_, _≤_, _<_}
 use native.Mathlib.Omega.{arith}
 use native.Mathlib.Numerals.{add-one}
 use mathlib.Core.Path.{_≡_, refl, sym, ap, subst, _∙_}
@@ -10,7 +10,7 @@ use lib.IntN.{ℤ}
 use lib.ListN.{length, drop, replicate}
 use lib.Seq.{set-split}
 use borrow.Author.Tests.{leb-true, eqb-true}
-use Rattle.formula.specs.Formula.{Kind, existential, universal, prefix, max-rows}
+use Rattle.formula.specs.Formula.{existential, universal, prefix, max-rows}
 use Rattle.formula.specs.Causes.{count}
 use Rattle.formula.specs.Progress.{fresh}
 use Rattle.formula.specs.declared.Progress.{Progress}
@@ -20,17 +20,21 @@ use Rattle.rows.specs.Table.{room, table-fits, marks-fit, rows-written, marks-w
 use Rattle.rows.proofs.WriteLaws.{rows-written-inside, marks-written-inside}
 use Rattle.rows.proofs.RowLaws.{length-bytes-of}
 use Rattle.search.specs.Search.{work-size}
-use Rattle.run.specs.declared.Answer.the-variants.{Spent}
+use Rattle.run.specs.declared.Answer.{Answer}
+use Rattle.run.specs.declared.Answer.the-variants.{False, True, Spent, NoRoomUniversal, NoRoomExistential, Refused}
 use Rattle.run.specs.declared.Outcome.{Outcome}
+use Rattle.run.specs.declared.Step.{Step}
 use Rattle.rounds.specs.Run.{Table, rows, preferred, Lent, is-false, is-true, spent, no-room-universal, no-room-existential, round-of, run, Outcome as RunOutcome, Answer as RunAnswer}
 use Rattle.run.specs.Outcome.{given, lent, named, side-fits, tables-fit, row-bytes, mark-numbers}
-use Rattle.run.specs.Growing.{goes-on, with-preferred, Holds, HoldsBoth, Shows, Ready}
+use Rattle.growth.specs.Growth.{with-preferred}
+use Rattle.run.specs.Growing.{Passes, half-table, half-of, Extended, Extends, said, existential-stop, universal-stop, HoldsBoth, Shows, Ready}
 use Rattle.rounds.proofs.RoundLaws.{Over}
 use Rattle.rounds.proofs.RunLaws.{run-goes-on, run-reached, run-stays}
 use Rattle.rounds.proofs.Bounds.{row-length, next-round-in-room}
-use Rattle.run.proofs.GrowingLaws.{wide-of-sized, length-row-bytes, length-mark-numbers}
+use Rattle.run.proofs.GrowingLaws.{wide-of-sized}
 use Rattle.run.proofs.ExtendLaws.{few-unknowns, most-bytes}
 use Rattle.run.proofs.StartLaws.{row-whole, preferred-bytes}
+use Rattle.run.proofs.HalfLaws.{existential-stopped, universal-stopped, round-finished}
 
 -- ---- the tables that are lent
 
@@ -53,19 +57,29 @@ tables-fitting A A-marks S S-marks e =
     let both = and-eq-true-iff (side-fits A A-marks) (side-fits S S-marks) .0 e in
     (side-fitting A A-marks (both .0), side-fitting S S-marks (both .1))
 
-module _ {kinds : List ℕ} {side : Kind} {t : Table} {found found-marks row-part mark-part : List ℕ} (h : Holds kinds side t found found-marks row-part mark-part) where
-  pub held-rows-length : length row-part ≡ length found
-  held-rows-length = ap length (h .in-rows .in-bytes) ∙ length-row-bytes t found (h .in-rows .in-room)
-
-  pub held-marks-length : length mark-part ≡ length found-marks
-  held-marks-length = ap length (h .in-marks) ∙ length-mark-numbers t found-marks (omega (arith, h .one-a-row, h .in-rows .in-room))
-
-  held-few : length t ≤ 256
-  held-few = omega (arith, h .in-rows .in-room, most-bytes found (h .in-rows .fits))
-
 -- ---- the answers
 
+-- The run goes on.
+goes-on : Answer → Bool
+goes-on False = false
+goes-on True = false
+goes-on Spent = true
+goes-on NoRoomUniversal = false
+goes-on NoRoomExistential = false
+goes-on (Refused n) = false
+
+existential-stops : (end : ℕ) → goes-on (existential-stop end) ≡ false
+unfolding goes-on
+existential-stops zero = refl
+existential-stops (suc end) = refl
+
+universal-stops : (end : ℕ) → goes-on (universal-stop end) ≡ false
+unfolding goes-on
+universal-stops zero = refl
+universal-stops (suc end) = refl
+
 goes-on-spent : (a : RunAnswer) → goes-on (named a) ≡ true → a ≡ spent
+unfolding goes-on
 goes-on-spent is-false e = absurd (false≢true e)
 goes-on-spent is-true e = absurd (false≢true e)
 goes-on-spent spent e = refl
@@ -73,6 +87,7 @@ goes-on-spent no-room-universal e = absurd (false≢true e)
 goes-on-spent no-room-existential e = absurd (false≢true e)
 
 goes-on-over : (a : RunAnswer) → goes-on (named a) ≡ false → Over a
+unfolding goes-on
 goes-on-over is-false e = tt
 goes-on-over is-true e = tt
 goes-on-over spent e = absurd (true≢false e)
@@ -83,6 +98,7 @@ goes-on-over no-room-existential e = tt
 
 -- After `made` finished rounds, none past the limit, the lent tables hold those of the run.
 pub record Going (kinds : List ℕ) (literals : List ℤ) (preferences A-found A-marks-found S-found S-marks-found : List ℕ) (limit made u x : ℕ) (AR AM SR SM W : List ℕ) : Type 0 where
+  pub passes : Passes kinds literals
   pub going : run (lent (given kinds literals preferences A-found A-marks-found S-found S-marks-found [] 0)) made .answer ≡ spent
   pub to-limit : made ≤ limit
   pub counted-A : u ≡ length (run (lent (given kinds literals preferences A-found A-marks-found S-found S-marks-found [] 0)) made .A)
@@ -121,6 +137,7 @@ module _ (kinds : List ℕ) (literals : List ℤ) (preferences A-found A-marks-f
       ∙ marks-written-inside A-found A-marks-found 0 (bytes-of first) 0 place marked whole 0
       ∙ set-split A-marks-found 0 0 marked in
       record {
+        passes = ready .passes;
         going = refl;
         to-limit = omega arith;
         counted-A = refl;
@@ -161,20 +178,16 @@ module _ (kinds : List ℕ) (literals : List ℤ) (preferences A-found A-marks-f
       (start-going universals AR AM W ready on-rows on-marks)
 
   module _ (made u x : ℕ) (AR AM SR SM W : List ℕ) (now-going : Going kinds literals preferences A-found A-marks-found S-found S-marks-found limit made u x AR AM SR SM W) where
-    pub round-bounds : (made + 1 < 65536) × (u ≤ 256) × (x ≤ 256) × (length AR ≤ 4096) × (length SR ≤ 4096)
-    round-bounds =
+    -- The next round's number is a mark.
+    pub number-in-marks : made + 1 < 65536
+    number-in-marks =
         let hA = now-going .both .holds-A in
         let hS = now-going .both .holds-S in
         let most-A = most-bytes A-found (hA .in-rows .fits) in
         let most-S = most-bytes S-found (hS .in-rows .fits) in
         let least-A = least-bytes A-found (hA .in-rows .fits) in
-        let in-marks = next-round-in-room l made (omega arith) (now-going .going) in (
-          omega arith,
-          omega (arith, now-going .counted-A, held-few hA),
-          omega (arith, now-going .counted-S, held-few hS),
-          omega (arith, held-rows-length hA),
-          omega (arith, held-rows-length hS),
-        )
+        let in-marks = next-round-in-room l made (omega arith) (now-going .going) in
+        omega arith
 
     module _ (next : Outcome) (AR′ AM′ SR′ SM′ W′ : List ℕ)
         (shows : Shows kinds A-found A-marks-found S-found S-marks-found (round-of l (made + 1) (run l made .A) (run l made .S)) next AR′ AM′ SR′ SM′ W′) where
@@ -184,7 +197,7 @@ module _ (kinds : List ℕ) (literals : List ℤ) (preferences A-found A-marks-f
           (ap (λ (r : ℕ). round-of l r (run l made .A) (run l made .S)) (add-one made) ∙ sym (run-goes-on l made (now-going .going)))
           shows
 
-      pub goes-further : made < limit → goes-on (next .answer) ≡ true
+      goes-further : made < limit → goes-on (next .answer) ≡ true
           → Going kinds literals preferences A-found A-marks-found S-found S-marks-found limit (next .round) (next .universal) (next .existential) AR′ AM′ SR′ SM′ W′
       goes-further below e =
           let o = run l (suc made) in
@@ -192,6 +205,7 @@ module _ (kinds : List ℕ) (literals : List ℤ) (preferences A-found A-marks-f
           let reached : next .round ≡ suc made = ap (λ (q : Outcome). q .round) (shows-next .as-returned) ∙ run-reached l (suc made) .at-limit ended in
           subst (λ (r : ℕ). Going kinds literals preferences A-found A-marks-found S-found S-marks-found limit r (next .universal) (next .existential) AR′ AM′ SR′ SM′ W′) (sym reached)
           (record {
+            passes = now-going .passes;
             going = ended;
             to-limit = below;
             counted-A = ap (λ (q : Outcome). q .universal) (shows-next .as-returned);
@@ -200,13 +214,7 @@ module _ (kinds : List ℕ) (literals : List ℤ) (preferences A-found A-marks-f
             work-long = shows-next .work-long;
           })
 
-      pub round-more : made < limit → goes-on (next .answer) ≡ true → next .round ≡ made + 1
-      round-more below e =
-          let o = run l (suc made) in
-          let ended : o .answer ≡ spent = goes-on-spent (o .answer) (sym (ap (λ (q : Outcome). goes-on (q .answer)) (shows-next .as-returned)) ∙ e) in
-          ap (λ (q : Outcome). q .round) (shows-next .as-returned) ∙ run-reached l (suc made) .at-limit ended ∙ sym (add-one made)
-
-      pub run-ended : made < limit → goes-on (next .answer) ≡ false
+      run-ended : made < limit → goes-on (next .answer) ≡ false
           → Shows kinds A-found A-marks-found S-found S-marks-found (run l limit) next AR′ AM′ SR′ SM′ W′
       run-ended below e =
           let o = run l (suc made) in
@@ -215,15 +223,65 @@ module _ (kinds : List ℕ) (literals : List ℤ) (preferences A-found A-marks-f
           (sym (run-stays l (suc made) limit below ended))
           shows-next
 
-    pub run-spent : limit ≤ made
-        → Shows kinds A-found A-marks-found S-found S-marks-found (run l limit) (record { answer = Spent; round = made; universal = u; existential = x }) AR AM SR SM W
-    run-spent past =
+    abbrev Made : RunOutcome → Outcome → List ℕ → List ℕ → List ℕ → List ℕ → List ℕ → Type 0
+    Made o = Shows kinds A-found A-marks-found S-found S-marks-found o
+
+    -- One round more, by its two steps.
+    module _ (step : Step) (SR′ SM′ W′ : List ℕ) (extends : Extends kinds literals preferences AR u false SR SM x (made + 1) W step SR′ SM′ W′) (below : made < limit) where
+      abbrev A : Table
+      A = run l made .A
+
+      abbrev S : Table
+      S = run l made .S
+
+      first : Extended kinds existential S (half-of kinds literals preferences existential (room S-found) (made + 1) A S) S-found S-marks-found step SR′ SM′ W′
+      first =
+          extends A S A-found S-found S-marks-found (now-going .passes) (now-going .counted-A) (now-going .counted-S) (now-going .both .holds-A .in-rows) (now-going .both .holds-S)
+          (now-going .work-long)
+
+      pub run-stopped : (step .end ≡ 2 → ⊥) → (result : Outcome) → result ≡ said (existential-stop (step .end)) (made + 1) u x → Made (run l limit) result AR AM SR′ SM′ W′
+      run-stopped stops result told =
+          run-ended result AR AM SR′ SM′ W′
+          (existential-stopped kinds literals preferences A-found A-marks-found S-found S-marks-found A S (made + 1) u x (now-going .counted-A) (now-going .counted-S)
+          AR AM SR′ SM′ W′ step (now-going .both .holds-A) first stops result told)
+          below
+          (ap (λ (o : Outcome). goes-on (o .answer)) told ∙ existential-stops (step .end))
+
+      module _ (goes : step .end ≡ 2) (back : Step) (AR′ AM′ W″ : List ℕ)
+          (extends-back : Extends kinds literals preferences SR′ (step .count) true AR AM u (made + 1) W′ back AR′ AM′ W″) where
+        abbrev S′ : Table
+        S′ = half-table S (half-of kinds literals preferences existential (room S-found) (made + 1) A S)
+
+        second : Extended kinds universal A (half-of kinds literals preferences universal (room A-found) (made + 1) S′ A) A-found A-marks-found back AR′ AM′ W″
+        second =
+            extends-back S′ A S-found A-found A-marks-found (now-going .passes) (first .counted) (now-going .counted-A) (first .holds .in-rows) (now-going .both .holds-A) (first .work-long)
+
+        pub run-stopped-back : (back .end ≡ 2 → ⊥) → (result : Outcome) → result ≡ said (universal-stop (back .end)) (made + 1) u (step .count)
+            → Made (run l limit) result AR′ AM′ SR′ SM′ W″
+        run-stopped-back stops result told =
+            run-ended result AR′ AM′ SR′ SM′ W″
+            (universal-stopped kinds literals preferences A-found A-marks-found S-found S-marks-found A S (made + 1) u x (now-going .counted-A) (now-going .counted-S)
+            AR AM SR′ SM′ W′ step (now-going .both .holds-A) first goes AR′ AM′ W″ back second stops result told)
+            below
+            (ap (λ (o : Outcome). goes-on (o .answer)) told ∙ universal-stops (back .end))
+
+        pub round-made : back .end ≡ 2
+            → Going kinds literals preferences A-found A-marks-found S-found S-marks-found limit (made + 1) (back .count) (step .count) AR′ AM′ SR′ SM′ W″
+        unfolding goes-on
+        round-made goes-back =
+            goes-further (said Spent (made + 1) (back .count) (step .count)) AR′ AM′ SR′ SM′ W″
+            (round-finished kinds literals preferences A-found A-marks-found S-found S-marks-found A S (made + 1) u x (now-going .counted-A) (now-going .counted-S)
+            AR AM SR′ SM′ W′ step (now-going .both .holds-A) first goes AR′ AM′ W″ back second goes-back)
+            below refl
+
+    pub run-spent : limit ≤ made → (result : Outcome) → result ≡ said Spent made u x → Made (run l limit) result AR AM SR SM W
+    run-spent past result told =
         let end : made ≡ limit = omega (arith, now-going .to-limit) in
         let answered : Spent ≡ named (run l made .answer) = ap named (sym (now-going .going)) in
         let reached : made ≡ run l made .round = sym (run-reached l made .at-limit (now-going .going)) in
-        subst (λ (n : ℕ). Shows kinds A-found A-marks-found S-found S-marks-found (run l n) (record { answer = Spent; round = made; universal = u; existential = x }) AR AM SR SM W) end
+        subst (λ (n : ℕ). Made (run l n) result AR AM SR SM W) end
         (record {
-          as-returned = λ d. record { answer = answered d; round = reached d; universal = now-going .counted-A d; existential = now-going .counted-S d };
+          as-returned = told ∙ (λ d. said (answered d) (reached d) (now-going .counted-A d) (now-going .counted-S d));
           both = now-going .both;
           work-long = now-going .work-long;
         })

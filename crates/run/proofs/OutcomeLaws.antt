@@ -9,6 +9,7 @@ use lib.IntN.{ℤ}
 use lib.ListN.{length, replicate}
 use borrow.Author.Tests.{eq-eqb, ne-eqb}
 use Rattle.formula.specs.Causes.{cause-1, cause-2, cause-3, refused-if, checked, sizes, number as cause-number}
+use Rattle.formula.proofs.Accepted.{accepted-sizes}
 use Rattle.formula.specs.declared.Formula.{Formula}
 use Rattle.formula.specs.declared.Check.{Check}
 use Rattle.formula.specs.declared.Check.the-variants.{Accepted, Refused}
@@ -16,7 +17,7 @@ use Rattle.search.specs.Search.{work-size}
 use Rattle.run.specs.declared.Outcome.{Outcome}
 use Rattle.rounds.specs.Run.{is-false, is-true, spent, no-room-universal, no-room-existential, number, run, Answer as RunAnswer}
 use Rattle.run.specs.Outcome.{Given, given, lent, tables-fit, cause, accepted, named, number-of, reported, refusal, returned, Returned, row-bytes, mark-numbers, Left, Proved}
-use Rattle.run.specs.Growing.{Shows}
+use Rattle.run.specs.Growing.{Shows, FirstCause}
 use Rattle.rounds.proofs.Claim.{claim}
 use Rattle.rounds.proofs.Verdict.{verdict-right}
 
@@ -49,7 +50,7 @@ returned-so g r e = record { value = e; numbered = ap (λ (o : Outcome). number-
     by-test false = refl
 
 -- A cause that applies.
-refused-so : (g : Given) (n : ℕ) (r : Outcome) → cause g ≡ n → 1 ≤ n → r ≡ refusal n
+pub refused-so : (g : Given) (n : ℕ) (r : Outcome) → cause g ≡ n → 1 ≤ n → r ≡ refusal n
     → Ended g r (g .universal-rows) (g .universal-marks) (g .existential-rows) (g .existential-marks) (g .work)
 unfolding returned
 refused-so g n r e some-cause is =
@@ -68,9 +69,53 @@ refused-so g n r e some-cause is =
       ),
     )
 
-module _ (kinds : List ℕ) (literals : List ℤ) (preferences A A-marks S S-marks work : List ℕ) (limit : ℕ) where
+-- The cause does not depend on the preferences.
+pub same-cause : (kinds : List ℕ) (literals : List ℤ) (preferences A A-marks S S-marks work : List ℕ) (limit : ℕ)
+    → cause (given kinds literals [] A A-marks S S-marks work limit) ≡ cause (given kinds literals preferences A A-marks S S-marks work limit)
+unfolding cause
+same-cause kinds literals preferences A A-marks S S-marks work limit = refl
+
+-- No cause applies.
+pub answered : (g : Given) → cause g ≡ 0 → 1 ≤ g .limit → (r : Outcome) (AR AM SR SM W W′ : List ℕ)
+    → Shows (g .kinds) (g .universal-rows) (g .universal-marks) (g .existential-rows) (g .existential-marks) (run (lent g) (g .limit)) r AR AM SR SM W
+    → W′ ≡ replicate (length W) 0 → Ended g r AR AM SR SM W′
+unfolding returned
+answered g no-cause some-limit r AR AM SR SM W W′ shows clear =
+    let yes-0 : accepted g ≡ true = eq-eqb (cause g) 0 no-cause in (
+      returned-so g r
+          (shows .as-returned ∙ sym (ap (λ (b : Bool). cond b (reported (run (lent g) (g .limit))) (refusal (cause g))) yes-0)),
+      (
+        record {
+          A-rows =
+              shows .both .holds-A .in-rows .in-bytes
+              ∙ sym (ap (λ (b : Bool). cond b (row-bytes (run (lent g) (g .limit) .A) (g .universal-rows)) (g .universal-rows)) yes-0);
+          A-marks =
+              shows .both .holds-A .in-marks
+              ∙ sym (ap (λ (b : Bool). cond b (mark-numbers (run (lent g) (g .limit) .A) (g .universal-marks)) (g .universal-marks)) yes-0);
+          S-rows =
+              shows .both .holds-S .in-rows .in-bytes
+              ∙ sym (ap (λ (b : Bool). cond b (row-bytes (run (lent g) (g .limit) .S) (g .existential-rows)) (g .existential-rows)) yes-0);
+          S-marks =
+              shows .both .holds-S .in-marks
+              ∙ sym (ap (λ (b : Bool). cond b (mark-numbers (run (lent g) (g .limit) .S) (g .existential-marks)) (g .existential-marks)) yes-0);
+          area =
+              clear
+              ∙ ap (λ (n : ℕ). replicate n 0) (shows .work-long)
+              ∙ sym (ap (λ (b : Bool). cond b (replicate work-size 0) (g .work)) yes-0);
+        },
+        λ _. record { claim = claim (lent g) (g .limit) some-limit; verdict = verdict-right (lent g) (g .limit) },
+      ),
+    )
+
+-- ---- the first cause
+
+applies : (g : Given) (n u : ℕ) → n ≡ cause g → 1 ≤ n → FirstCause g (record { cause = n; universals = u })
+applies g n u e some-cause =
+    record { first = e; ready = λ (z : n ≡ 0). absurd (omega arith); some-limit = λ (z : n ≡ 0). absurd (omega arith) }
+
+module _ (kinds : List ℕ) (literals : List ℤ) (A A-marks S S-marks work : List ℕ) (limit : ℕ) where
   abbrev g : Given
-  g = given kinds literals preferences A A-marks S S-marks work limit
+  g = given kinds literals [] A A-marks S S-marks work limit
 
   abbrev later : ℕ
   later = cond (not (tables-fit A A-marks S S-marks)) 4 (cond (not (eqb (length work) work-size)) 5 (cond (eqb limit 0) 6 0))
@@ -90,62 +135,41 @@ module _ (kinds : List ℕ) (literals : List ℤ) (preferences A A-marks S S-mar
   unfolding cause
   later-cause f e = ap (λ (c : Check). cond (eqb (cause-number c) 0) later (cause-number c)) e
 
-  pub formula-refused : (n : ℕ) (r : Outcome) → checked kinds literals ≡ Refused n → r ≡ refusal n → Ended g r A A-marks S S-marks work
-  formula-refused n r e is = refused-so g n r (formula-cause n e) (formula-number n e) is
+  pub formula-refused : (n u : ℕ) → checked kinds literals ≡ Refused n → FirstCause g (record { cause = n; universals = u })
+  formula-refused n u e = applies g n u (sym (formula-cause n e)) (formula-number n e)
 
   module _ (f : Formula) (passes : checked kinds literals ≡ Accepted f) where
-    pub tables-refused : (r : Outcome) → tables-fit A A-marks S S-marks ≡ false → r ≡ refusal 4 → Ended g r A A-marks S S-marks work
-    tables-refused r e is =
-        refused-so g 4 r
-        (later-cause f passes ∙ ap (λ (b : Bool). cond (not b) 4 (cond (not (eqb (length work) work-size)) 5 (cond (eqb limit 0) 6 0))) e)
-        (omega arith) is
+    pub tables-refused : (u : ℕ) → tables-fit A A-marks S S-marks ≡ false → FirstCause g (record { cause = 4; universals = u })
+    tables-refused u e =
+        applies g 4 u
+        (sym
+        (later-cause f passes ∙ ap (λ (b : Bool). cond (not b) 4 (cond (not (eqb (length work) work-size)) 5 (cond (eqb limit 0) 6 0))) e))
+        (omega arith)
 
     module _ (fit : tables-fit A A-marks S S-marks ≡ true) where
       sized-cause : cause g ≡ cond (not (eqb (length work) work-size)) 5 (cond (eqb limit 0) 6 0)
       sized-cause = later-cause f passes ∙ ap (λ (b : Bool). cond (not b) 4 (cond (not (eqb (length work) work-size)) 5 (cond (eqb limit 0) 6 0))) fit
 
-      pub work-refused : (r : Outcome) → (length work ≡ work-size → ⊥) → r ≡ refusal 5 → Ended g r A A-marks S S-marks work
-      work-refused r other is =
-          refused-so g 5 r
-          (sized-cause ∙ ap (λ (b : Bool). cond (not b) 5 (cond (eqb limit 0) 6 0)) (ne-eqb (length work) work-size other))
-          (omega arith) is
+      pub work-refused : (u : ℕ) → (length work ≡ work-size → ⊥) → FirstCause g (record { cause = 5; universals = u })
+      work-refused u differ =
+          applies g 5 u
+          (sym (sized-cause ∙ ap (λ (b : Bool). cond (not b) 5 (cond (eqb limit 0) 6 0)) (ne-eqb (length work) work-size differ)))
+          (omega arith)
 
       module _ (long : length work ≡ work-size) where
         limit-cause : cause g ≡ cond (eqb limit 0) 6 0
         limit-cause = sized-cause ∙ ap (λ (b : Bool). cond (not b) 5 (cond (eqb limit 0) 6 0)) (eq-eqb (length work) work-size long)
 
-        pub limit-refused : (r : Outcome) → limit ≡ 0 → r ≡ refusal 6 → Ended g r A A-marks S S-marks work
-        limit-refused r e is = refused-so g 6 r (limit-cause ∙ ap (λ (b : Bool). cond b 6 0) (eq-eqb limit 0 e)) (omega arith) is
+        pub limit-refused : (u : ℕ) → limit ≡ 0 → FirstCause g (record { cause = 6; universals = u })
+        limit-refused u e = applies g 6 u (sym (limit-cause ∙ ap (λ (b : Bool). cond b 6 0) (eq-eqb limit 0 e))) (omega arith)
 
-        -- No cause applies.
-        pub answered : (limit ≡ 0 → ⊥) → (r : Outcome) (AR AM SR SM W W′ : List ℕ)
-            → Shows kinds A A-marks S S-marks (run (lent (given kinds literals preferences A A-marks S S-marks [] 0)) limit) r AR AM SR SM W
-            → W′ ≡ replicate (length W) 0 → Ended g r AR AM SR SM W′
-        unfolding returned
-        answered some-limit r AR AM SR SM W W′ shows clear =
-            let no-cause : cause g ≡ 0 = limit-cause ∙ ap (λ (b : Bool). cond b 6 0) (ne-eqb limit 0 some-limit) in
-            let yes-0 : accepted g ≡ true = eq-eqb (cause g) 0 no-cause in (
-              returned-so g r
-                  (shows .as-returned ∙ sym (ap (λ (b : Bool). cond b (reported (run (lent g) limit)) (refusal (cause g))) yes-0)),
-              (
-                record {
-                  A-rows =
-                      shows .both .holds-A .in-rows .in-bytes
-                      ∙ sym (ap (λ (b : Bool). cond b (row-bytes (run (lent g) limit .A) A) A) yes-0);
-                  A-marks =
-                      shows .both .holds-A .in-marks
-                      ∙ sym (ap (λ (b : Bool). cond b (mark-numbers (run (lent g) limit .A) A-marks) A-marks) yes-0);
-                  S-rows =
-                      shows .both .holds-S .in-rows .in-bytes
-                      ∙ sym (ap (λ (b : Bool). cond b (row-bytes (run (lent g) limit .S) S) S) yes-0);
-                  S-marks =
-                      shows .both .holds-S .in-marks
-                      ∙ sym (ap (λ (b : Bool). cond b (mark-numbers (run (lent g) limit .S) S-marks) S-marks) yes-0);
-                  area =
-                      clear
-                      ∙ ap (λ (n : ℕ). replicate n 0) (shows .work-long)
-                      ∙ sym (ap (λ (b : Bool). cond b (replicate work-size 0) work) yes-0);
-                },
-                λ _. record { claim = claim (lent g) limit (omega arith); verdict = verdict-right (lent g) limit },
-              ),
-            )
+        pub none-applies : (limit ≡ 0 → ⊥) → FirstCause g (record { cause = 0; universals = f .universals })
+        none-applies some-limit =
+            let sizes-are = accepted-sizes kinds literals passes in
+            record {
+              first = sym (limit-cause ∙ ap (λ (b : Bool). cond b 6 0) (ne-eqb limit 0 some-limit));
+              ready =
+                  λ _.
+                  record { passes = passes ∙ ap Accepted sizes-are; tables = fit; work-long = long; counted = ap (λ (s : Formula). s .universals) sizes-are };
+              some-limit = λ _. omega arith;
+            }

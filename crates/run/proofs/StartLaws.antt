@@ -18,8 +18,8 @@ use Rattle.rows.proofs.RowLaws.{IsRow, length-bytes-of, bytes-of-below, bit-byt
 use Rattle.rows.proofs.TableLaws.{row-at-inside}
 use Rattle.rows.proofs.WriteLaws.{bit-set-inside, bit-of-bit-set}
 use Rattle.rounds.specs.Run.{preferred}
-use Rattle.run.specs.Growing.{with-preferred}
-use Rattle.run.proofs.CountLaws.{length-bit-set}
+use Rattle.growth.specs.Growth.{with-preferred}
+use Rattle.growth.proofs.CountLaws.{length-bit-set}
 
 -- Value q of the preferred ones.
 getD-preferred : (k : ℕ) (f : ℕ → Bool) (q : ℕ) → q < k → getD (preferred k f) q false ≡ f q

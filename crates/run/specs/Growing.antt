@@ -1,9 +1,9 @@
 -- What the functions below `run` promise each other: how a table's bytes stand for a table of the run, and what a side's step of a round
 -- makes of it.
 -- Assumes nothing.
-use Prim.Native.Nat.{ℕ, zero, suc, _+_, _≤_, _<_}
+use Prim.Native.Nat.{ℕ, zero, suc, _≤_, _<_}
 use mathlib.Core.Path.{_≡_}
-use mathlib.Core.Bool.{Bool, true, false, _&&_, cond}
+use mathlib.Core.Bool.{Bool, true, false}
 use mathlib.Core.List.{List, []}
 use mathlib.Core.Option.{Option, none, some}
 use lib.IntN.{ℤ}
@@ -13,79 +13,32 @@ use Rattle.formula.specs.Meaning.{matrix}
 use Rattle.formula.specs.Causes.{count, checked, sizes}
 use Rattle.formula.specs.declared.Check.the-variants.{Accepted}
 use Rattle.preference.specs.Preference.{prefer}
-use Rattle.rows.specs.Row.{weight}
-use Rattle.rows.specs.Table.{room, table-fits, first-place, rows-written, marks-written, bit-set}
-use Rattle.rows.specs.declared.Found.{Found}
-use Rattle.rows.specs.declared.Found.the-variants.{At, Absent}
+use Rattle.rows.specs.Table.{room, table-fits}
+use Rattle.expansion.specs.Side.{other}
 use Rattle.expansion.specs.Play.{Row}
 use Rattle.expansion.specs.Model.{search}
-use Rattle.search.specs.Search.{work-size}
+use Rattle.search.specs.Search.{work-size, side-of}
 use Rattle.search.specs.declared.Search.{Search}
 use Rattle.search.specs.declared.Search.the-variants.{Found as ModelFound, NoModel, Refused as SearchRefused}
 use Rattle.run.specs.declared.Answer.{Answer}
-use Rattle.run.specs.declared.Answer.the-variants.{False, True, Spent, NoRoomUniversal, NoRoomExistential, Refused}
+use Rattle.run.specs.declared.Answer.the-variants.{False, True, NoRoomUniversal, NoRoomExistential}
+use Rattle.run.specs.declared.Checked.{Checked}
 use Rattle.run.specs.declared.Outcome.{Outcome}
 use Rattle.run.specs.declared.Step.{Step}
+use Rattle.growth.specs.declared.Growth.{Growth}
+use Rattle.growth.specs.declared.Growth.the-variants.{Grown, NoRoom}
 use Rattle.rounds.specs.Run.{Table, rows, grown, if-fits, Outcome as RunOutcome}
-use Rattle.run.specs.Outcome.{tables-fit, reported, row-bytes, mark-numbers}
+use Rattle.run.specs.Outcome.{Given, tables-fit, cause, reported, row-bytes, mark-numbers}
 
 -- None of the causes 1 to 3 applies.
 abbrev pub Passes : List ℕ → List ℤ → Type 0
 Passes kinds literals = checked kinds literals ≡ Accepted (sizes kinds literals)
 
--- The model was found; the run goes on.
+-- The model was found.
 abbrev pub is-found : Search → Bool
 is-found ModelFound = true
 is-found NoModel = false
 is-found (SearchRefused n) = false
-
-abbrev pub goes-on : Answer → Bool
-goes-on False = false
-goes-on True = false
-goes-on Spent = true
-goes-on NoRoomUniversal = false
-goes-on NoRoomExistential = false
-goes-on (Refused n) = false
-
-abbrev pub is-absent : Found → Bool
-is-absent (At i) = false
-is-absent Absent = true
-
--- Row j of the yielded rows is neither in the table nor among those before it.
-unfoldable pub is-new : List ℕ → ℕ → List ℕ → ℕ → Bool
-is-new table n yielded j = is-absent (first-place table n yielded j) && is-absent (first-place yielded j yielded j)
-
--- At how many places below n a function is true.
-abbrev pub count-below : ℕ → (ℕ → Bool) → ℕ
-count-below zero f = 0
-count-below (suc n) f = count-below n f + weight (f n)
-
--- A table as the code holds it, and after its new ones of the first n yielded rows are added.
-pub record Bytes : Type 0 where
-  pub row-part : List ℕ
-  pub mark-part : List ℕ
-  pub number : ℕ
-
-abbrev pub bytes : List ℕ → List ℕ → ℕ → Bytes
-bytes row-part mark-part n = record { row-part = row-part; mark-part = mark-part; number = n }
-
-abbrev pub with-row : List ℕ → ℕ → ℕ → Bytes → Bytes
-with-row yielded mark j b =
-    bytes (rows-written (b .row-part) (b .mark-part) (b .number) yielded j)
-    (marks-written (b .row-part) (b .mark-part) (b .number) yielded j mark)
-    (b .number + 1)
-
-unfoldable pub with-new-row : List ℕ → ℕ → ℕ → Bytes → Bytes
-with-new-row yielded mark j b = cond (is-new (b .row-part) (b .number) yielded j) (with-row yielded mark j b) b
-
-abbrev pub with-new-rows : List ℕ → ℕ → ℕ → Bytes → Bytes
-with-new-rows yielded mark zero b = b
-with-new-rows yielded mark (suc n) b = with-new-row yielded mark n (with-new-rows yielded mark n b)
-
--- Sixteen bytes with the bits below k set that are preferred.
-abbrev pub with-preferred : (ℕ → Bool) → ℕ → List ℕ → List ℕ
-with-preferred f zero row = row
-with-preferred f (suc k) row = cond (f k) (bit-set (with-preferred f k row) 0 k) (with-preferred f k row)
 
 -- The lent bytes hold the rows of a side's table from the start, and what was found behind them ..
 pub record HoldsRows (kinds : List ℕ) (side : Kind) (t : Table) (found row-part : List ℕ) : Type 0 where
@@ -134,6 +87,35 @@ pub record Extended (kinds : List ℕ) (side : Kind) (t : Table) (h : Half) (fou
   pub holds : Holds kinds side (half-table t h) found found-marks row-part mark-part
   pub work-long : length work ≡ work-size
 
+-- What `extend` makes of a table t that the lent bytes hold, whatever was found behind its rows.
+abbrev pub Extends : List ℕ → List ℤ → List ℕ → List ℕ → ℕ → Bool → List ℕ → List ℕ → ℕ → ℕ → List ℕ → Step → List ℕ → List ℕ → List ℕ → Type 0
+Extends kinds literals preferences others other-count side row-part mark-part n mark work result row-part′ mark-part′ work′ =
+    (from t : Table) (from-found found found-marks : List ℕ)
+    → Passes kinds literals
+    → other-count ≡ length from
+    → n ≡ length t
+    → HoldsRows kinds (other (side-of side)) from from-found others
+    → Holds kinds (side-of side) t found found-marks row-part mark-part
+    → length work ≡ work-size
+    → Extended kinds (side-of side) t (half-of kinds literals preferences (side-of side) (room found) mark from t) found found-marks result row-part′ mark-part′ work′
+
+-- A step that has a model, by what it adds.
+abbrev pub step-of : Growth → ℕ → Step
+step-of (Grown end) n = record { end = 2; count = end }
+step-of NoRoom n = record { end = 1; count = n }
+
+abbrev pub said : Answer → ℕ → ℕ → ℕ → Outcome
+said a r n k = record { answer = a; round = r; universal = n; existential = k }
+
+-- The answer where a side's step ends the run: it has no model, or no room.
+abbrev pub existential-stop : ℕ → Answer
+existential-stop zero = False
+existential-stop (suc end) = NoRoomExistential
+
+abbrev pub universal-stop : ℕ → Answer
+universal-stop zero = True
+universal-stop (suc end) = NoRoomUniversal
+
 -- The four lent tables hold an outcome's two.
 pub record HoldsBoth (kinds A-found A-marks-found S-found S-marks-found : List ℕ) (o : RunOutcome) (A-rows A-marks S-rows S-marks : List ℕ) : Type 0 where
   pub holds-A : Holds kinds universal (o .A) A-found A-marks-found A-rows A-marks
@@ -151,3 +133,10 @@ pub record Ready (kinds : List ℕ) (literals : List ℤ) (A-rows A-marks S-rows
   pub tables : tables-fit A-rows A-marks S-rows S-marks ≡ true
   pub work-long : length work ≡ work-size
   pub counted : universals ≡ count universal (prefix kinds)
+
+-- The first cause that applies, or 0 where all is ready for a run.
+pub record FirstCause (g : Given) (result : Checked) : Type 0 where
+  pub first : result .cause ≡ cause g
+  pub ready : result .cause ≡ 0
+      → Ready (g .kinds) (g .literals) (g .universal-rows) (g .universal-marks) (g .existential-rows) (g .existential-marks) (g .work) (result .universals)
+  pub some-limit : result .cause ≡ 0 → 1 ≤ g .limit

@@ -1,14 +1,14 @@
--- `run::count_new` meets its contract. The loop's invariant: the count is that of the rows passed. Assumes nothing.
+-- `growth::count_new` meets its contract. The loop's invariant: the count is that of the rows passed. Assumes nothing.
 use mathlib.Core.Bool.{Bool, true, false}
-use Rattle.run.proofs.CountLaws.{count-below-next}
+use Rattle.growth.proofs.CountLaws.{count-below-next}
 use native.Mathlib.Nat.{add-zero}
 use Prim.Native.Nat.{ℕ, _+_, _≤_, _-_}
 use mathlib.Core.Path.{_≡_, refl, sym, ap, _∙_}
 use mathlib.Core.Logic.{⊎-elim}
 use native.Mathlib.Omega.{arith}
-use Rattle.run.specs.Growing.{is-new, count-below}
-use Rattle.run.proofs.count_new.Statement.{statement}
-use Rattle.run.proofs.count_new.Tie as tie
+use Rattle.growth.specs.Growth.{is-new, count-below}
+use Rattle.growth.proofs.count_new.Statement.{statement}
+use Rattle.growth.proofs.count_new.Tie as tie
 
 abbrev Inv-loop : tie.InvT-loop
 Inv-loop rows count yielded number new₀ j₀ new j = (new ≡ count-below j (λ (q : ℕ). is-new rows count yielded q)) × (new ≤ j) × (j ≤ number)
@@ -46,7 +46,7 @@ returns : tie.Need-returns Inv-loop μ-loop
 returns c =
     let given = c .before .before .before .before .args in
     let end : c .before .loop .j ≡ given .number = omega arith in
-    (c .before .loop .inv .0 ∙ ap (λ (n : ℕ). count-below n (λ (q : ℕ). is-new (given .rows .now) (given .count) (given .yielded .now) q)) end, omega arith)
+    c .before .loop .inv .0 ∙ ap (λ (n : ℕ). count-below n (λ (q : ℕ). is-new (given .rows .now) (given .count) (given .yielded .now) q)) end
 
 pub count-new-spec : {M : Type 1} → statement M
 count-new-spec =

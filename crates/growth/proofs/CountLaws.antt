@@ -13,7 +13,7 @@ use borrow.Author.Tests.{leb-true}
 use Rattle.rows.specs.Table.{inside, row-at, bit-set, placed, writable, rows-written, marks-written}
 use Rattle.rows.proofs.TableLaws.{length-row-at}
 use Rattle.rows.proofs.WriteLaws.{length-placed}
-use Rattle.run.specs.Growing.{is-new, count-below, Bytes, with-row, with-new-row, with-new-rows, with-preferred}
+use Rattle.growth.specs.Growth.{is-added, count-below, Bytes, with-row, with-new-row, with-new-rows, with-preferred}
 
 pub count-below-next : (n : ℕ) (f : ℕ → Bool) (v : Bool) → f n ≡ v → count-below (n + 1) f ≡ count-below n f + weight v
 count-below-next n f v e =
@@ -66,7 +66,7 @@ length-marks-written t marks i u j mark = by-test (writable t marks i u j)
 pub length-with-new-row : (yielded : List ℕ) (mark j : ℕ) (b : Bytes)
     → (length (with-new-row yielded mark j b .row-part) ≡ length (b .row-part)) × (length (with-new-row yielded mark j b .mark-part) ≡ length (b .mark-part))
 unfolding with-new-row
-length-with-new-row yielded mark j b = by-test (is-new (b .row-part) (b .number) yielded j)
+length-with-new-row yielded mark j b = by-test (is-added (b .row-part) (b .number) yielded j)
   where
     by-test : (v : Bool)
         → (length (cond v (with-row yielded mark j b) b .row-part) ≡ length (b .row-part))

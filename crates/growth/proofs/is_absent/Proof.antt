@@ -1,9 +1,9 @@
--- `run::is_absent` meets its contract. Assumes nothing.
-use Rattle.run.specs.Growing.{is-absent}
+-- `growth::is_absent` meets its contract. Assumes nothing.
+use Rattle.growth.specs.Growth.{is-absent}
 use mathlib.Core.Path.{sym, ap, _∙_}
 use borrow.Author.Needs.{needs}
-use Rattle.run.proofs.is_absent.Statement.{statement}
-use Rattle.run.proofs.is_absent.Tie as tie
+use Rattle.growth.proofs.is_absent.Statement.{statement}
+use Rattle.growth.proofs.is_absent.Tie as tie
 
 find-requires : tie.Need-find-requires
 find-requires c κs = search needs

@@ -1,13 +1,13 @@
--- `run::is_new` meets its contract. Assumes nothing.
+-- `growth::is_new` meets its contract. Assumes nothing.
 use Prim.Native.Nat.{ℕ}
 use mathlib.Core.Bool.{Bool, true, _&&_}
 use mathlib.Core.List.{List}
 use Rattle.rows.specs.Table.{first-place}
-use Rattle.run.specs.Growing.{is-absent, is-new}
+use Rattle.growth.specs.Growth.{is-absent, is-new}
 use mathlib.Core.Path.{_≡_, sym, ap, _∙_}
 use borrow.Author.Needs.{needs}
-use Rattle.run.proofs.is_new.Statement.{statement}
-use Rattle.run.proofs.is_new.Tie as tie
+use Rattle.growth.proofs.is_new.Statement.{statement}
+use Rattle.growth.proofs.is_new.Tie as tie
 
 is-absent-requires : tie.Need-is-absent-requires
 is-absent-requires c κs = search needs

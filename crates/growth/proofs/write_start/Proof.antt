@@ -1,8 +1,8 @@
--- `run::write_start` meets its contract. The loop's invariant: the bits passed are set that are preferred. Assumes nothing.
+-- `growth::write_start` meets its contract. The loop's invariant: the bits passed are set that are preferred. Assumes nothing.
 use mathlib.Core.Bool.{Bool, true, false}
 use mathlib.Core.List.{List}
 use Rattle.rows.specs.Table.{bit-set, rows-written, marks-written}
-use Rattle.run.proofs.CountLaws.{with-preferred-next, length-bit-set}
+use Rattle.growth.proofs.CountLaws.{with-preferred-next, length-bit-set}
 use Prim.Native.Nat.{ℕ, _≤_, _-_}
 use mathlib.Core.Path.{_≡_, refl, sym, ap, _∙_}
 use mathlib.Core.Logic.{⊎-elim}
@@ -10,9 +10,9 @@ use native.Mathlib.Omega.{arith}
 use lib.ListN.{length, replicate}
 use borrow.Author.Needs.{needs}
 use Rattle.preference.specs.Preference.{prefer}
-use Rattle.run.specs.Growing.{with-preferred}
-use Rattle.run.proofs.write_start.Statement.{statement}
-use Rattle.run.proofs.write_start.Tie as tie
+use Rattle.growth.specs.Growth.{with-preferred}
+use Rattle.growth.proofs.write_start.Statement.{statement}
+use Rattle.growth.proofs.write_start.Tie as tie
 
 abbrev Inv-loop : tie.InvT-loop
 Inv-loop preferences universals rows marks row₀ k₀ row k = (row ≡ with-preferred (prefer preferences) k (replicate 16 0)) × (k ≤ universals) × (length row ≡ 16)

@@ -1,15 +1,18 @@
--- `run::append_if_new` meets its contract. Assumes nothing.
-use Prim.Native.Nat.{_+_}
+-- `growth::append_if_new` meets its contract. Assumes nothing.
+use Prim.Native.Nat.{_+_, _<_}
 use mathlib.Core.Path.{_≡_, sym, ap, _∙_}
-use mathlib.Core.Bool.{Bool, cond}
+use mathlib.Core.Bool.{Bool, cond, and-eq-true-iff}
+use lib.Dec.{ltb}
+use Rattle.rows.specs.Table.{room}
+use borrow.Author.Tests.{ltb-true}
 use native.Mathlib.Omega.{arith}
-use Rattle.run.specs.Growing.{bytes, with-row, with-new-row}
+use Rattle.growth.specs.Growth.{is-new, bytes, with-row, with-new-row}
 use borrow.Author.Needs.{needs}
-use Rattle.run.proofs.append_if_new.Statement.{statement}
-use Rattle.run.proofs.append_if_new.Tie as tie
+use Rattle.growth.proofs.append_if_new.Statement.{statement}
+use Rattle.growth.proofs.append_if_new.Tie as tie
 
-is-new-requires : tie.Need-is-new-requires
-is-new-requires c κs = search needs
+is-added-requires : tie.Need-is-added-requires
+is-added-requires c κs = search needs
 
 same-length : tie.Need-same-length
 same-length c = search needs
@@ -19,13 +22,18 @@ unfolding with-new-row
 returns c =
     let given = c .before .before .before .before .before .before .args in
     let b = bytes (given .rows .now) (given .marks .now) (given .end) in
-    (ap (λ (v : Bool). cond v (with-row (given .yielded .now) (given .mark) (given .j) b) b) (sym (c .if1 .left) ∙ c .before .is-new .ensures), omega arith)
+    ap (λ (v : Bool). cond v (with-row (given .yielded .now) (given .mark) (given .j) b) b) (sym (c .if1 .left) ∙ c .before .is-added .ensures)
 
 write-requires : tie.Need-write-requires
 write-requires c κs = search needs
 
 add-result : tie.Need-add-result
-add-result c = search needs
+add-result c =
+    let given = c .before .before .before .before .before .before .before .before .before .before .before .before .before .args in
+    let place : given .end < room (given .rows .now) =
+    ltb-true (given .end) (room (given .rows .now))
+    (and-eq-true-iff (is-new (given .rows .now) (given .end) (given .yielded .now) (given .j)) (ltb (given .end) (room (given .rows .now))) .0 (sym (c .before .before .before .before .before .before .before .before .is-added .ensures) ∙ c .before .before .before .before .before .before .before .if1 .taken) .1) in
+    omega arith
 
 same-length-2 : tie.Need-same-length-2
 same-length-2 c = search needs
@@ -42,13 +50,13 @@ returns-2 c =
     let marks-now = c .before .before .before .before .write .ensures .1 in
     let written : bytes (c .before .before .before .before .write .last .0) (c .before .before .before .before .write .last .1 .0) (given .end + 1) ≡ with-row (given .yielded .now) (given .mark) (given .j) b =
     λ d. bytes (rows-now d) (marks-now d) (given .end + 1) in
-    (written ∙ ap (λ (v : Bool). cond v (with-row (given .yielded .now) (given .mark) (given .j) b) b) (sym (c .before .before .before .before .before .before .before .if1 .taken) ∙ c .before .before .before .before .before .before .before .before .is-new .ensures), omega arith)
+    written ∙ ap (λ (v : Bool). cond v (with-row (given .yielded .now) (given .mark) (given .j) b) b) (sym (c .before .before .before .before .before .before .before .if1 .taken) ∙ c .before .before .before .before .before .before .before .before .is-added .ensures)
 
 pub append-if-new-spec : {M : Type 1} → statement M
 append-if-new-spec =
     tie.close
     (tie.spec
-    is-new-requires
+    is-added-requires
     same-length
     returns
     write-requires

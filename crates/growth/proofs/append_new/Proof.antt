@@ -1,17 +1,16 @@
--- `run::append_new` meets its contract. The loop's invariant: the tables are those with the new ones of the rows passed. Assumes nothing.
-use Prim.Native.Nat.{ℕ, _≤_, _+_, _-_}
+-- `growth::append_new` meets its contract. The loop's invariant: the tables are those with the new ones of the rows passed. Assumes nothing.
+use Prim.Native.Nat.{ℕ, _≤_, _-_}
 use mathlib.Core.Path.{_≡_, refl, sym, ap, _∙_}
 use native.Mathlib.Omega.{arith}
 use lib.ListN.{length}
-use Rattle.run.specs.Growing.{Bytes, bytes, with-new-row, with-new-rows}
-use Rattle.run.proofs.CountLaws.{with-new-rows-next, length-with-new-row}
-use Rattle.run.proofs.append_new.Statement.{statement}
-use Rattle.run.proofs.append_new.Tie as tie
+use Rattle.growth.specs.Growth.{Bytes, bytes, with-new-row, with-new-rows}
+use Rattle.growth.proofs.CountLaws.{with-new-rows-next, length-with-new-row}
+use Rattle.growth.proofs.append_new.Statement.{statement}
+use Rattle.growth.proofs.append_new.Tie as tie
 
 abbrev Inv-loop : tie.InvT-loop
 Inv-loop rows₀ marks₀ count yielded number mark end₀ j₀ rows marks end j =
     (bytes rows marks end ≡ with-new-rows yielded mark j (bytes rows₀ marks₀ count))
-    × (end ≤ count + j)
     × (j ≤ number)
     × (length rows ≡ length rows₀)
     × (length marks ≡ length marks₀)
@@ -20,10 +19,10 @@ abbrev μ-loop : tie.MeasureT-loop
 μ-loop rows₀ marks₀ count yielded number mark end₀ j₀ rows marks end j = number - j
 
 loop-holds : tie.Need-loop-holds Inv-loop μ-loop
-loop-holds c = (refl, omega arith, omega arith, refl, refl)
+loop-holds c = (refl, omega arith, refl, refl)
 
 append-if-new-requires : tie.Need-append-if-new-requires Inv-loop μ-loop
-append-if-new-requires c κs = omega arith
+append-if-new-requires c κs = tt
 
 add-j : tie.Need-add-j Inv-loop μ-loop
 add-j c = omega arith
@@ -36,31 +35,28 @@ loop-again c =
     let given = c .before .before .before .before .before .before .before .before .before .before .before .before .args in
     let so-far = c .before .before .before .before .before .before .before .before .loop .inv in
     let b = bytes (c .before .before .before .before .before .before .before .before .loop .rows) (c .before .before .before .before .before .before .before .before .loop .marks) (c .before .before .before .before .before .before .before .before .loop .end) in
-    let next = c .before .before .before .before .append-if-new .ensures .0 in
+    let next = c .before .before .before .before .append-if-new .ensures in
     let long = length-with-new-row (given .yielded .now) (given .mark) (c .before .before .before .before .before .before .before .before .loop .j) b in (
       next
           ∙ ap (with-new-row (given .yielded .now) (given .mark) (c .before .before .before .before .before .before .before .before .loop .j)) (so-far .0)
           ∙ sym (with-new-rows-next (given .yielded .now) (given .mark) (c .before .before .before .before .before .before .before .before .loop .j) (bytes (given .rows .now) (given .marks .now) (given .count))),
-      omega (arith, c .before .before .before .before .append-if-new .ensures .1),
       omega arith,
-      ap (λ (x : Bytes). length (x .row-part)) next ∙ long .0 ∙ so-far .3,
-      ap (λ (x : Bytes). length (x .mark-part)) next ∙ long .1 ∙ so-far .4,
+      ap (λ (x : Bytes). length (x .row-part)) next ∙ long .0 ∙ so-far .2,
+      ap (λ (x : Bytes). length (x .mark-part)) next ∙ long .1 ∙ so-far .3,
     )
 
 same-length : tie.Need-same-length Inv-loop μ-loop
-same-length c = c .before .loop .inv .3
+same-length c = c .before .loop .inv .2
 
 same-length-2 : tie.Need-same-length-2 Inv-loop μ-loop
-same-length-2 c = c .before .loop .inv .4
+same-length-2 c = c .before .loop .inv .3
 
 returns : tie.Need-returns Inv-loop μ-loop
 returns c =
     let given = c .before .before .before .before .before .args in
     let end : c .before .loop .j ≡ given .number = omega arith in
-    let whole =
     c .before .loop .inv .0
-    ∙ ap (λ (n : ℕ). with-new-rows (given .yielded .now) (given .mark) n (bytes (given .rows .now) (given .marks .now) (given .count))) end in
-    (ap (λ (x : Bytes). x .row-part) whole, ap (λ (x : Bytes). x .mark-part) whole)
+    ∙ ap (λ (n : ℕ). with-new-rows (given .yielded .now) (given .mark) n (bytes (given .rows .now) (given .marks .now) (given .count))) end
 
 pub append-new-spec : {M : Type 1} → statement M
 append-new-spec =

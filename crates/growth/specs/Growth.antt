@@ -1,0 +1,71 @@
+-- A row table's bytes while rows are added to it: which of the yielded rows are new, the table with them, and the first universal row.
+-- Assumes nothing.
+use Prim.Native.Nat.{ℕ, zero, suc, _+_}
+use mathlib.Core.Bool.{Bool, true, false, _&&_, cond}
+use mathlib.Core.List.{List}
+use lib.Dec.{leb, ltb}
+use Rattle.rows.specs.Row.{weight}
+use Rattle.rows.specs.Table.{room, first-place, rows-written, marks-written, bit-set}
+use Rattle.rows.specs.declared.Found.{Found}
+use Rattle.rows.specs.declared.Found.the-variants.{At, Absent}
+use Rattle.growth.specs.declared.Growth.{Growth as Answer}
+use Rattle.growth.specs.declared.Growth.the-variants.{Grown, NoRoom}
+
+abbrev pub is-absent : Found → Bool
+is-absent (At i) = false
+is-absent Absent = true
+
+-- Row j of the yielded rows is neither in the table nor among those before it.
+unfoldable pub is-new : List ℕ → ℕ → List ℕ → ℕ → Bool
+is-new table n yielded j = is-absent (first-place table n yielded j) && is-absent (first-place yielded j yielded j)
+
+-- At how many places below n a function is true.
+abbrev pub count-below : ℕ → (ℕ → Bool) → ℕ
+count-below zero f = 0
+count-below (suc n) f = count-below n f + weight (f n)
+
+-- The table has room for the new ones of the first yielded rows.
+abbrev pub all-fit : List ℕ → ℕ → List ℕ → ℕ → Bool
+all-fit table n yielded number = leb (n + count-below number (λ j. is-new table n yielded j)) (room table)
+
+-- A table of rows with its marks and its count.
+pub record Bytes : Type 0 where
+  pub row-part : List ℕ
+  pub mark-part : List ℕ
+  pub number : ℕ
+
+abbrev pub bytes : List ℕ → List ℕ → ℕ → Bytes
+bytes row-part mark-part n = record { row-part = row-part; mark-part = mark-part; number = n }
+
+-- With row j of the yielded rows behind the others.
+abbrev pub with-row : List ℕ → ℕ → ℕ → Bytes → Bytes
+with-row yielded mark j b =
+    bytes (rows-written (b .row-part) (b .mark-part) (b .number) yielded j)
+    (marks-written (b .row-part) (b .mark-part) (b .number) yielded j mark)
+    (b .number + 1)
+
+-- Row j is new, and there is a place for it.
+abbrev pub is-added : List ℕ → ℕ → List ℕ → ℕ → Bool
+is-added table n yielded j = is-new table n yielded j && ltb n (room table)
+
+unfoldable pub with-new-row : List ℕ → ℕ → ℕ → Bytes → Bytes
+with-new-row yielded mark j b = cond (is-added (b .row-part) (b .number) yielded j) (with-row yielded mark j b) b
+
+-- With the new ones of the first n yielded rows, while there are places.
+abbrev pub with-new-rows : List ℕ → ℕ → ℕ → Bytes → Bytes
+with-new-rows yielded mark zero b = b
+with-new-rows yielded mark (suc n) b = with-new-row yielded mark n (with-new-rows yielded mark n b)
+
+-- 'Those not in the table are added in that order, each once, mark r. If they don't all fit, none is added.'
+abbrev pub grown : List ℕ → List ℕ → ℕ → List ℕ → ℕ → ℕ → Bytes
+grown table marks n yielded number mark =
+    cond (all-fit table n yielded number) (with-new-rows yielded mark number (bytes table marks n)) (bytes table marks n)
+
+abbrev pub growth : List ℕ → List ℕ → ℕ → List ℕ → ℕ → ℕ → Answer
+growth table marks n yielded number mark =
+    cond (all-fit table n yielded number) (Grown (with-new-rows yielded mark number (bytes table marks n) .number)) NoRoom
+
+-- Sixteen bytes with the bits below k set that are preferred.
+abbrev pub with-preferred : (ℕ → Bool) → ℕ → List ℕ → List ℕ
+with-preferred f zero row = row
+with-preferred f (suc k) row = cond (f k) (bit-set (with-preferred f k row) 0 k) (with-preferred f k row)

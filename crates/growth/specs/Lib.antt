@@ -1,0 +1,2 @@
+-- What the functions of `growth` make of the tables.
+pub mod Growth
