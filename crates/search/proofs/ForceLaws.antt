@@ -15,10 +15,10 @@ use Rattle.expansion.proofs.Node.{Node, MasksWithin, grown-refl, grown-stored}
 use Rattle.expansion.proofs.Steps.{node-store}
 use Rattle.expansion.proofs.ClauseCuts.{Every, Rests, dead-clause, unit-clause, matrix-at}
 use Rattle.search.specs.Cells.{cells, CellsSet}
-use Rattle.search.specs.Masks.{set-at, masks, cut, SetReplaced}
+use Rattle.search.specs.Masks.{set-at, masks, cut, SetsKept}
 use Rattle.search.specs.Codes.{position, code-true, code-clauses, clause-of, code-goal, Begins, Coded}
 use Rattle.search.specs.Steps.{Fits, Settled, Settles, Lent, Looked, Blamed, CopyFrom, CopyTo}
-use Rattle.search.proofs.StepLaws.{masks-below, masks-grown, masks-replaced, within-refl, within-trans, settles-refl, settles-then}
+use Rattle.search.proofs.StepLaws.{masks-below, masks-grown, masks-kept, within-refl, within-trans, settles-refl, settles-then}
 use Rattle.search.proofs.Rows.{agree-between, parted-apart}
 use Rattle.search.proofs.CodeLaws.{code-local, code-sign, clause-among, clause-coded, every-both, every-some}
 use Rattle.search.proofs.LookLaws.{FalseBut, Takes}
@@ -53,12 +53,12 @@ module _ (P : Problem) (kinds splits codes : List ℕ) (F : Fits P kinds splits 
 
   -- ---- a clause that is false
 
-  module _ (found : ℕ) (none : found ≡ 0) (looked : Looked codes w i start found) (s1 t : List ℕ) (emptied : SetReplaced 128 s s1) (blamed : Blamed clause 128 s1 t) where
+  module _ (found : ℕ) (none : found ≡ 0) (looked : Looked codes w i start found) (s1 t : List ℕ) (emptied : SetsKept s s1) (blamed : Blamed clause 128 s1 t) where
     within-cut : (c : ℕ) → position c < 128 → Takes s1 t 128 c → Within k (masks s (position c)) (cut t)
     within-cut c lt takes l lk h =
         ⊎-elim
         (λ e. absurd (omega arith))
-        (λ takes′. ap (λ (m : Mask). m l) (cut-is t) ∙ takes′ l (emptied .others (position c) (λ e. omega arith) l ∙ sym (ap (λ (m : Mask). m l) (masks-below s (position c) lt)) ∙ h))
+        (λ takes′. ap (λ (m : Mask). m l) (cut-is t) ∙ takes′ l (emptied .same (position c) lt l ∙ sym (ap (λ (m : Mask). m l) (masks-below s (position c) lt)) ∙ h))
         takes
 
     dead-rests : Every (Rests code-true position (P .n) k (cells w) (masks s) (cut t) i false) clause
@@ -85,14 +85,14 @@ module _ (P : Problem) (kinds splits codes : List ℕ) (F : Fits P kinds splits 
     settled-dead mark = record {
       grown = grown-refl mark lo hi (cells w);
       wanted = λ h j. refl;
-      masked = within-trans k (masks s) (masks s1) (masks t) (masks-replaced k 128 s s1 (omega arith) emptied) (masks-grown k 128 s1 t (blamed .grown));
+      masked = within-trans k (masks s) (masks s1) (masks t) (masks-kept k s s1 emptied) (masks-grown k 128 s1 t (blamed .grown));
       kept = λ e. absurd (never-both e refl);
       failed = λ e. refuted-row P i lo k v (cut t) (omega arith) (omega arith) (A .depth) (A .agree i lo il ih (omega arith) (omega arith)) refuted-here;
     }
 
   -- ---- a clause with one open literal, all others false
 
-  module _ (c : ℕ) (two : 2 ≤ c) (looked : Looked codes w i start c) (t t1 : List ℕ) (blamed : Blamed clause (position c) s t) (noted : SetReplaced 129 t t1) (u : List ℕ) (mark from to : ℕ) (pos : 0 < mark) (most : mark ≤ k + 1)
+  module _ (c : ℕ) (two : 2 ≤ c) (looked : Looked codes w i start c) (t t1 : List ℕ) (blamed : Blamed clause (position c) s t) (noted : SetsKept t t1) (u : List ℕ) (mark from to : ℕ) (pos : 0 < mark) (most : mark ≤ k + 1)
       (copy-from : CopyFrom splits (position c) lo i from) (copy-to : CopyTo splits (position c) i hi to) (stored : CellsSet (position c) from to mark (eqb (c % 2) 0) w u) where
     below : position c < P .n
     below = every-some (Literal (P .n)) (λ x. x ≡ c) (position c < P .n) (λ x a e. subst (λ (y : ℕ). position y < P .n) e (a .0 .1)) clause named (looked .named two)
@@ -196,11 +196,11 @@ module _ (P : Problem) (kinds splits codes : List ℕ) (F : Fits P kinds splits 
         (open-or-set (cells w .level h (position c)))
 
     larger : MasksWithin k (masks s) (masks t1)
-    larger = within-trans k (masks s) (masks t) (masks t1) (masks-grown k (position c) s t (blamed .grown)) (masks-replaced k 129 t t1 (omega arith) noted)
+    larger = within-trans k (masks s) (masks t) (masks t1) (masks-grown k (position c) s t (blamed .grown)) (masks-kept k t t1 noted)
 
     forced : (h : ℕ) → lo ≤ h → h < hi → from ≤ h → h < to → Implied P k v (masks t1 (position c)) h (position c) (eqb (c % 2) 0)
     forced h hl hh p q =
-        implied-larger P k v (masks t (position c)) (masks t1 (position c)) h (position c) (eqb (c % 2) 0) (masks-replaced k 129 t t1 (omega arith) noted (position c))
+        implied-larger P k v (masks t (position c)) (masks t1 (position c)) h (position c) (eqb (c % 2) 0) (masks-kept k t t1 noted (position c))
         (implied-row P i h k (position c) v (masks t (position c)) (eqb (c % 2) 0) (omega arith) (omega arith) (A .depth) below (A .agree i h il ih hl hh) own (shares h p q) implied-here)
 
     settled-force : Settled P k lo hi v mark w u s t1 true
@@ -215,78 +215,75 @@ module _ (P : Problem) (kinds splits codes : List ℕ) (F : Fits P kinds splits 
 -- ---- the same over every problem
 
 module _ (splits codes : List ℕ) (coded : Coded 128 codes) (lo hi mark : ℕ) (w s : List ℕ) (i start : ℕ) (il : lo ≤ i) (ih : i < hi) (begins : Begins codes start) where
-  pub settles-dead : (found : ℕ) → found ≡ 0 → Looked codes w i start found → (s1 t : List ℕ) → SetReplaced 128 s s1 → Blamed (clause-of (drop start codes)) 128 s1 t → Settles 0 splits codes lo hi mark w w s t false
+  pub settles-dead : (found : ℕ) → found ≡ 0 → Looked codes w i start found → (s1 t : List ℕ) → SetsKept s s1 → Blamed (clause-of (drop start codes)) 128 s1 t → Settles 0 splits codes lo hi mark w w s t false
   settles-dead found none looked s1 t emptied blamed P kinds k v F A pos most =
       settled-dead P kinds splits codes F coded k lo hi v w s A i start il ih begins found none looked s1 t emptied blamed mark
 
-  pub settles-force : (c : ℕ) → 2 ≤ c → Looked codes w i start c → (t t1 : List ℕ) → Blamed (clause-of (drop start codes)) (position c) s t → SetReplaced 129 t t1 → (u : List ℕ) (from to : ℕ) → CopyFrom splits (position c) lo i from → CopyTo splits (position c) i hi to → CellsSet (position c) from to mark (eqb (c % 2) 0) w u
+  pub settles-force : (c : ℕ) → 2 ≤ c → Looked codes w i start c → (t t1 : List ℕ) → Blamed (clause-of (drop start codes)) (position c) s t → SetsKept t t1 → (u : List ℕ) (from to : ℕ) → CopyFrom splits (position c) lo i from → CopyTo splits (position c) i hi to → CellsSet (position c) from to mark (eqb (c % 2) 0) w u
       → Settles 0 splits codes lo hi mark w u s t1 true
   settles-force c two looked t t1 blamed noted u from to copy-from copy-to stored P kinds k v F A pos most =
       settled-force P kinds splits codes F coded k lo hi v w s A i start il ih begins c two looked t t1 blamed noted u mark from to pos most copy-from copy-to stored
 
   -- at a number that is the literal's position
-  pub settles-force-at : (p c : ℕ) → p ≡ position c → 2 ≤ c → Looked codes w i start c → (t t1 : List ℕ) → Blamed (clause-of (drop start codes)) p s t → SetReplaced 129 t t1 → (u : List ℕ) (from to : ℕ) → CopyFrom splits p lo i from → CopyTo splits p i hi to → CellsSet p from to mark (eqb (c % 2) 0) w u
+  pub settles-force-at : (p c : ℕ) → p ≡ position c → 2 ≤ c → Looked codes w i start c → (t t1 : List ℕ) → Blamed (clause-of (drop start codes)) p s t → SetsKept t t1 → (u : List ℕ) (from to : ℕ) → CopyFrom splits p lo i from → CopyTo splits p i hi to → CellsSet p from to mark (eqb (c % 2) 0) w u
       → Settles 0 splits codes lo hi mark w u s t1 true
   settles-force-at p c e two looked t t1 blamed noted u from to copy-from copy-to stored =
       settles-force c two looked t t1 (subst (λ (x : ℕ). Blamed (clause-of (drop start codes)) x s t) e blamed) noted u from to (subst (λ (x : ℕ). CopyFrom splits x lo i from) e copy-from) (subst (λ (x : ℕ). CopyTo splits x i hi to) e copy-to) (subst (λ (x : ℕ). CellsSet x from to mark (eqb (c % 2) 0) w u) e stored)
 
 -- ---- looks one after the other
 
--- From the area w, the sets s and the hints h to u, t and g, over looks that do not fail.
-pub record Going (splits codes : List ℕ) (lo hi mark : ℕ) (w u s t h g : List ℕ) : Type 0 where
+-- From the area w and the sets s to u and t, over looks that do not fail.
+pub record Going (splits codes : List ℕ) (lo hi mark : ℕ) (w u s t : List ℕ) : Type 0 where
   pub settles : Settles 0 splits codes lo hi mark w u s t true
   pub work : length u ≡ length w
   pub sets : length t ≡ length s
-  pub hints : length g ≡ length h
 
 -- what changes the positions to look at alone changes nothing else
-pub settles-noted : (splits codes : List ℕ) (lo hi mark : ℕ) (w s t : List ℕ) → SetReplaced 129 s t → Settles 0 splits codes lo hi mark w w s t true
-settles-noted splits codes lo hi mark w s t noted = settles-refl 0 splits codes lo hi mark w s t (λ k. masks-replaced k 129 s t (omega arith) noted)
+pub settles-noted : (splits codes : List ℕ) (lo hi mark : ℕ) (w s t : List ℕ) → SetsKept s t → Settles 0 splits codes lo hi mark w w s t true
+settles-noted splits codes lo hi mark w s t noted = settles-refl 0 splits codes lo hi mark w s t (λ k. masks-kept k s t noted)
 
 pub settles-nothing : (splits codes : List ℕ) (lo hi mark : ℕ) (w s : List ℕ) → Settles 0 splits codes lo hi mark w w s s true
 settles-nothing splits codes lo hi mark w s = settles-refl 0 splits codes lo hi mark w s s (λ k. within-refl k (masks s))
 
-pub noted-first : (splits codes : List ℕ) (lo hi mark : ℕ) (w x s t y : List ℕ) (r : Bool) → SetReplaced 129 s t → Settles 0 splits codes lo hi mark w x t y r → Settles 0 splits codes lo hi mark w x s y r
+pub noted-first : (splits codes : List ℕ) (lo hi mark : ℕ) (w x s t y : List ℕ) (r : Bool) → SetsKept s t → Settles 0 splits codes lo hi mark w x t y r → Settles 0 splits codes lo hi mark w x s y r
 noted-first splits codes lo hi mark w x s t y r noted next = settles-then 0 splits codes lo hi mark w w x s t y r (settles-noted splits codes lo hi mark w s t noted) next
 
-pub lent-noted : {splits codes w s t h g : List ℕ} → Lent splits codes w s h → length t ≡ length s → length g ≡ length h → Lent splits codes w t g
-lent-noted lent a b = record {
+pub lent-noted : {splits codes w s t x : List ℕ} → Lent splits codes w s x → length t ≡ length s → Lent splits codes w t x
+lent-noted lent a = record {
   rows = lent .rows;
   entries = lent .entries;
   coded = lent .coded;
   area = lent .area;
   sets-lent = a ∙ lent .sets-lent;
-  hints-lent = b ∙ lent .hints-lent;
+  index-lent = lent .index-lent;
 }
 
-pub going-start : {splits codes : List ℕ} {lo hi mark : ℕ} {w s h : List ℕ} → Going splits codes lo hi mark w w s s h h
-going-start {splits} {codes} {lo} {hi} {mark} {w} {s} {h} = record { settles = settles-nothing splits codes lo hi mark w s; work = refl; sets = refl; hints = refl }
+pub going-start : {splits codes : List ℕ} {lo hi mark : ℕ} {w s : List ℕ} → Going splits codes lo hi mark w w s s
+going-start {splits} {codes} {lo} {hi} {mark} {w} {s} = record { settles = settles-nothing splits codes lo hi mark w s; work = refl; sets = refl }
 
-module _ {splits codes : List ℕ} {lo hi mark : ℕ} {w u s t h g : List ℕ} (so-far : Going splits codes lo hi mark w u s t h g) where
-  pub lent-still : Lent splits codes w s h → Lent splits codes u t g
+module _ {splits codes : List ℕ} {lo hi mark : ℕ} {w u s t : List ℕ} (so-far : Going splits codes lo hi mark w u s t) where
+  pub lent-still : {x : List ℕ} → Lent splits codes w s x → Lent splits codes u t x
   lent-still lent = record {
     rows = lent .rows;
     entries = lent .entries;
     coded = lent .coded;
     area = so-far .work ∙ lent .area;
     sets-lent = so-far .sets ∙ lent .sets-lent;
-    hints-lent = so-far .hints ∙ lent .hints-lent;
+    index-lent = lent .index-lent;
   }
 
-  pub going-noted : {y : List ℕ} → SetReplaced 129 t y → length y ≡ length t → Going splits codes lo hi mark w u s y h g
+  pub going-noted : {y : List ℕ} → SetsKept t y → length y ≡ length t → Going splits codes lo hi mark w u s y
   going-noted {y} noted same = record {
     settles = settles-then 0 splits codes lo hi mark w u u s t y true (so-far .settles) (settles-noted splits codes lo hi mark u t y noted);
     work = so-far .work;
     sets = same ∙ so-far .sets;
-    hints = so-far .hints;
   }
 
-  pub going-then : {x y i : List ℕ} (r : Bool) → Settles 0 splits codes lo hi mark u x t y r → r ≡ true → length x ≡ length u → length y ≡ length t → length i ≡ length g → Going splits codes lo hi mark w x s y h i
-  going-then {x} {y} {i} r next e a b c = record {
+  pub going-then : {x y : List ℕ} (r : Bool) → Settles 0 splits codes lo hi mark u x t y r → r ≡ true → length x ≡ length u → length y ≡ length t → Going splits codes lo hi mark w x s y
+  going-then {x} {y} r next e a b = record {
     settles = settles-then 0 splits codes lo hi mark w u x s t y true (so-far .settles) (subst (λ (z : Bool). Settles 0 splits codes lo hi mark u x t y z) e next);
     work = a ∙ so-far .work;
     sets = b ∙ so-far .sets;
-    hints = c ∙ so-far .hints;
   }
 
   -- the last look, and one that fails
@@ -296,7 +293,6 @@ module _ {splits codes : List ℕ} {lo hi mark : ℕ} {w u s t h g : List ℕ} (
   pub going-ends : (x y : List ℕ) (r : Bool) → Settles 0 splits codes lo hi mark u x t y r → r ≡ false → Settles 0 splits codes lo hi mark w x s y false
   going-ends x y r next e = going-last x y false (subst (λ (z : Bool). Settles 0 splits codes lo hi mark u x t y z) e next)
 
-  pub going-at : {u′ t′ g′ : List ℕ} → u′ ≡ u → t′ ≡ t → g′ ≡ g → Going splits codes lo hi mark w u′ s t′ h g′
-  going-at {u′} {t′} {g′} a b c =
-      subst (λ (x : List ℕ). Going splits codes lo hi mark w x s t′ h g′) (sym a)
-      (subst (λ (x : List ℕ). Going splits codes lo hi mark w u s x h g′) (sym b) (subst (λ (x : List ℕ). Going splits codes lo hi mark w u s t h x) (sym c) so-far))
+  pub going-at : {u′ t′ : List ℕ} → u′ ≡ u → t′ ≡ t → Going splits codes lo hi mark w u′ s t′
+  going-at {u′} {t′} a b =
+      subst (λ (x : List ℕ). Going splits codes lo hi mark w x s t′) (sym a) (subst (λ (x : List ℕ). Going splits codes lo hi mark w u s x) (sym b) so-far)

@@ -14,7 +14,7 @@ use lib.Seq.{drop-cons}
 use Rattle.expansion.proofs.Booleans.{never-both}
 use Rattle.expansion.proofs.ClauseCuts.{clause-at, matrix-at}
 use Rattle.search.specs.Cells.{cells}
-use Rattle.search.specs.Masks.{set-at, SetGrown, SetReplaced}
+use Rattle.search.specs.Masks.{set-at, SetGrown, SetsKept}
 use Rattle.search.specs.Codes.{code-true, code-onto, code-clauses, Ended, code-goal}
 use Rattle.search.specs.Steps.{Excused, Parting, Stands, Reached}
 use Rattle.search.proofs.LiveLaws.{clauses-some}
@@ -241,15 +241,15 @@ module _ (codes : List ℕ) (side : ℕ) (w : List ℕ) (i : ℕ) (s : List ℕ)
     (is-matrix : Ended codes → all ≡ matrix-at code-true (code-clauses codes) (cells w .value i)) where
   pub reached-goal : ((side ≡ 0) × (all ≡ true)) ⊎ ((side ≡ 0 → ⊥) × (all ≡ false)) → Reached codes side w i s s true
   reached-goal came = record {
-    others = λ p other l. refl;
+    kept = record { same = λ p lt l. refl };
     goal = λ ended. goal-is side codes (cells w .value i) all true (is-matrix ended) came;
     full = λ e. absurd (never-both refl e);
   }
 
-  pub reached-not : (t : List ℕ) → ((side ≡ 0) × (all ≡ false)) ⊎ ((side ≡ 0 → ⊥) × (all ≡ true)) → SetReplaced 128 s t
+  pub reached-not : (t : List ℕ) → ((side ≡ 0) × (all ≡ false)) ⊎ ((side ≡ 0 → ⊥) × (all ≡ true)) → SetsKept s t
       → ((l : ℕ) → l < 128 → set-at t 128 l ≡ true) → Reached codes side w i s t false
-  reached-not t came replaced full = record {
-    others = replaced .others;
+  reached-not t came kept full = record {
+    kept = kept;
     goal = λ ended. goal-is side codes (cells w .value i) all false (is-matrix ended) came;
     full = λ e. full;
   }

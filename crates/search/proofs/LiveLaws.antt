@@ -16,11 +16,11 @@ use Rattle.expansion.proofs.Cuts.{Mask, Problem, Refuted, refuted-row}
 use Rattle.expansion.proofs.Node.{Node, grown-refl}
 use Rattle.expansion.proofs.ClauseCuts.{Every, Some, Rests, matrix-at, every-map, some-map, dead-row}
 use Rattle.search.specs.Cells.{cells}
-use Rattle.search.specs.Masks.{set-at, masks, cut, SetGrown, SetReplaced, United}
+use Rattle.search.specs.Masks.{set-at, masks, cut, SetGrown, SetsKept, United}
 use Rattle.search.specs.Codes.{position, code-true, code-onto, code-clauses, HasEnd, Ended, code-goal, Coded}
 use Rattle.search.specs.Steps.{Fits, Settles, IsAt, RowBlamed}
 use Rattle.search.specs.Live.{RowDead}
-use Rattle.search.proofs.StepLaws.{masks-replaced, settles-refl}
+use Rattle.search.proofs.StepLaws.{masks-kept, settles-refl}
 
 -- ---- codes
 
@@ -217,10 +217,10 @@ unfolding code-goal
 universal-goal P kinds splits codes F f = F .goal f
 
 -- after the failure's set was emptied, every clause's true literal is taken in
-pub row-dead : (codes w : List ℕ) (i : ℕ) (s t u : List ℕ) (r : Bool) → SetReplaced 128 s t → RowBlamed codes w i t u r → RowDead codes w i s u r
+pub row-dead : (codes w : List ℕ) (i : ℕ) (s t u : List ℕ) (r : Bool) → SetsKept s t → RowBlamed codes w i t u r → RowDead codes w i s u r
 unfolding cut
 row-dead codes w i s t u r emptied blamed = record {
-  replaced = record { others = λ p o l. blamed .grown .others p o l ∙ emptied .others p o l };
+  kept = record { same = λ p lt l. blamed .grown .others p (λ e. omega arith) l ∙ emptied .same p lt l };
   dead = refuted;
 }
   where
@@ -239,27 +239,30 @@ row-dead codes w i s t u r emptied blamed = record {
           named = q .0;
           set = q .1 .0 .set;
           is = q .1 .0 .is;
-          masked = λ l lk h. q .1 .1 l (set-of-mask t (position c) l (masks-replaced k 128 s t (omega arith) emptied (position c) l lk h));
+          masked = λ l lk h. q .1 .1 l (set-of-mask t (position c) l (masks-kept k s t emptied (position c) l lk h));
         }
 
+pub row-lives-noted : (codes w : List ℕ) (i : ℕ) (s t : List ℕ) → SetsKept s t → RowDead codes w i s t false
+row-lives-noted codes w i s t kept = record { kept = kept; dead = λ e. absurd (never-both e refl) }
+
 pub row-lives : (codes w : List ℕ) (i : ℕ) (s : List ℕ) → RowDead codes w i s s false
-row-lives codes w i s = record { replaced = record { others = λ p o l. refl }; dead = λ e. absurd (never-both e refl) }
+row-lives codes w i s = row-lives-noted codes w i s s (record { same = λ p lt l. refl })
 
 -- ---- the group
 
--- only the failure's set changed, and no row is dead: the group stays
-pub group-lives : (splits codes : List ℕ) (lo hi mark : ℕ) (w s t : List ℕ) → SetReplaced 128 s t → Settles 1 splits codes lo hi mark w w s t true
-group-lives splits codes lo hi mark w s t same = settles-refl 1 splits codes lo hi mark w s t (λ k. masks-replaced k 128 s t (omega arith) same)
+-- the sets of the positions stayed, and no row is dead: the group stays
+pub group-lives : (splits codes : List ℕ) (lo hi mark : ℕ) (w s t : List ℕ) → SetsKept s t → Settles 1 splits codes lo hi mark w w s t true
+group-lives splits codes lo hi mark w s t same = settles-refl 1 splits codes lo hi mark w s t (λ k. masks-kept k s t same)
 
 -- a dead row ends the branch
-pub group-dead : (splits codes : List ℕ) (lo hi mark i : ℕ) (w s t u : List ℕ) (r : Bool) → lo ≤ i → i < hi → SetReplaced 128 s t → RowDead codes w i t u r → r ≡ true
+pub group-dead : (splits codes : List ℕ) (lo hi mark i : ℕ) (w s t u : List ℕ) (r : Bool) → lo ≤ i → i < hi → SetsKept s t → RowDead codes w i t u r → r ≡ true
     → Settles 1 splits codes lo hi mark w w s u false
 group-dead splits codes lo hi mark i w s t u r low high same row is-dead P kinds k v F A pos le =
-    let stays = settles-refl 1 splits codes lo hi mark w s t (λ j. masks-replaced j 128 s t (omega arith) same) P kinds k v F A pos le in
+    let stays = settles-refl 1 splits codes lo hi mark w s t (λ j. masks-kept j s t same) P kinds k v F A pos le in
     record {
       grown = grown-refl mark lo hi (cells w);
       wanted = λ h j. refl;
-      masked = masks-replaced k 128 s u (omega arith) (record { others = λ p o l. row .replaced .others p o l ∙ same .others p o l });
+      masked = masks-kept k s u (record { same = λ p lt l. row .kept .same p lt l ∙ same .same p lt l });
       kept = λ e. absurd (never-both e refl);
       failed = λ e.
           refuted-row P i lo k v (cut u) (let z : hi ≤ P .count = A .rows in omega arith) (let z : hi ≤ P .count = A .rows in omega arith) (A .depth)

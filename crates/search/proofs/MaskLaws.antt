@@ -15,7 +15,7 @@ use lib.Pow.{pow-pos, field, high, ones-lt, ones-split, mod-mod-pow, shl-exact, 
 use lib.Seq.{getD-set-same, getD-set-other}
 use borrow.Author.Tests.{ltb-true, ltb-false, lt-ltb, le-ltb, eqb-true, eq-eqb}
 use Rattle.preference.specs.Preference.{odd}
-use Rattle.search.specs.Masks.{words, set-at, SetGrown, SetReplaced, Put, WordsUnited, Trimmed}
+use Rattle.search.specs.Masks.{words, set-at, SetGrown, SetsKept, Put, WordsUnited, Trimmed}
 
 -- ---- bits of a word
 
@@ -116,9 +116,19 @@ store-put s to a b fits = record {
       (getD-set-same (set s (2 * to) a) (2 * to + 1) b 0 (omega (arith, length-set s (2 * to) a)));
 }
 
--- A store into one of a set's words.
-pub store-one : (s : List ℕ) (at x to : ℕ) → 2 * to ≤ at → at ≤ 2 * to + 1 → SetReplaced to s (set s at x)
-store-one s at x to low upper = record { others = λ p other l. store-elsewhere s at x p l (omega arith) (omega arith) }
+-- A store behind the sets of the positions.
+pub store-behind : (s : List ℕ) (at x : ℕ) → 256 ≤ at → SetsKept s (set s at x)
+store-behind s at x behind = record { same = λ p lt l. store-elsewhere s at x p l (omega arith) (omega arith) }
+
+pub kept-trans : {s t u : List ℕ} → SetsKept s t → SetsKept t u → SetsKept s u
+kept-trans a b = record { same = λ p lt l. b .same p lt l ∙ a .same p lt l }
+
+-- A change of a set behind those of the positions.
+pub kept-grown : {to : ℕ} {s t : List ℕ} → 128 ≤ to → SetGrown to s t → SetsKept s t
+kept-grown behind grown = record { same = λ p lt l. grown .others p (λ e. omega arith) l }
+
+pub kept-put : {to low upper : ℕ} {s t : List ℕ} → 128 ≤ to → Put to low upper s t → SetsKept s t
+kept-put behind put = record { same = λ p lt l. put .others p (λ e. omega arith) l }
 
 -- A word that takes in bits loses none.
 store-or : (s : List ℕ) (at x q l : ℕ) → at < length s → odd (getD s q 0 / 2 ^ l) ≡ true
@@ -138,7 +148,7 @@ store-or s at x q l fits h = go (ℕ-discrete q at)
 pub store-grown : (s : List ℕ) (at x to : ℕ) → at < length s → 2 * to ≤ at → at ≤ 2 * to + 1
     → SetGrown to s (set s at (bitOr (getD s at 0) x))
 store-grown s at x to fits low upper = record {
-  others = store-one s at (bitOr (getD s at 0) x) to low upper .others;
+  others = λ p other l. store-elsewhere s at (bitOr (getD s at 0) x) p l (omega arith) (omega arith);
   keeps = λ l.
       words-keep (getD s (2 * to) 0) (getD s (2 * to + 1) 0) _ _ l
       (λ below. store-or s at x (2 * to) l fits)

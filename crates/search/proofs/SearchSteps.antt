@@ -12,7 +12,7 @@ use Rattle.expansion.proofs.Booleans.{true-or-false, never-both}
 use Rattle.expansion.proofs.Node.{Node, Won}
 use Rattle.search.specs.Cells.{cells, wants, CellsSet, CellsOpened}
 use Rattle.search.specs.Masks.{set-at, words, masks, cut, SetGrown, WordsUnited, Trimmed}
-use Rattle.search.specs.Steps.{Fits, Settled, Settles, Searched, Searches, with-value, Tried, Tries, Chooses, Splits, Steps, Excused, Parting, PartedAt, Stands, Reached, FromStart}
+use Rattle.search.specs.Steps.{Fits, Settled, Settles, Searched, Searches, with-value, Tried, Tries, Chooses, Steps, Excused, Parting, PartedAt, Stands, Reached, FromStart}
 use Rattle.search.proofs.StepLaws.{masks-grown}
 use Rattle.search.proofs.SolveLaws.{tried-node, tried-refuted, tried-searched, chosen-first, failed-without, second-node, second-wants, second-open, chosen-second, failed-both, failed-second, high-node, split-first, low-node, split-second, searched-leaf, stood-node, at-fits, stood-open, parted-other, stood-searched, stood-won}
 
@@ -89,6 +89,14 @@ module _ (kinds splits codes : List ℕ) (side k lo hi : ℕ) (kk : k < length k
 
 -- ---- a split
 
+-- A split of the group at the other side's position k, at which the rows from mid on part from those before.
+abbrev pub Splits : List ℕ → List ℕ → List ℕ → ℕ → ℕ → ℕ → ℕ → ℕ → List ℕ → List ℕ → List ℕ → List ℕ → Bool → Type 0
+Splits kinds splits codes side k lo mid hi w u s t r =
+    (P : Problem) (v : ℕ → Bool)
+    → Fits P kinds splits codes side → ((i j : ℕ) → i < P .count → j < P .n → P .own j ≡ true → wants w i j ≡ P .wanted i j) → Node P k lo hi v (cells w) (masks s)
+    → P .own k ≡ false → Parting splits lo hi mid → getD splits mid 0 ≡ k
+    → Searched P k lo hi v w u s t r
+
 module _ (kinds splits codes : List ℕ) (side k lo mid hi : ℕ) (kk : k < length kinds) (lm : lo < mid) (w w1 s s1 : List ℕ) (r1 : Bool) (first : Searches kinds splits codes side (k + 1) mid hi w w1 s s1 r1) where
   pub splits-first : r1 ≡ false → Splits kinds splits codes side k lo mid hi w w1 s s1 false
   splits-first e P v F W A o parting at-k =
@@ -115,12 +123,13 @@ module _ (kinds splits codes : List ℕ) (side at until lo mid hi : ℕ) (short 
       (searched-leaf P kinds splits codes side F lo hi v w s t r (subst (λ (x : ℕ). Node P x lo hi v (cells w) (masks s)) n A) reached
       (λ f l lt. reached .full f l (let m : P .n ≡ length kinds = F .unknowns in omega arith)))
 
-  pub steps-split : at ≡ until → at < length kinds → Splits kinds splits codes side at lo mid hi w u s t r → Steps kinds splits codes side at until lo mid hi w u s t r
-  steps-split e lt split P v F W A parting parted most opens others =
+  pub steps-split : until ≤ at → at < length kinds → Splits kinds splits codes side at lo mid hi w u s t r → Steps kinds splits codes side at until lo mid hi w u s t r
+  steps-split le lt split P v F W A parting parted most opens others =
+      let e : at ≡ until = omega arith in
       split P v F W A (subst (λ (x : ℕ). P .own x ≡ false) (sym e) (others (omega arith))) parting (parted .there (omega arith) .1 ∙ sym e)
 
-  pub steps-choose : (at ≡ until → ⊥) → Chooses kinds splits codes side at lo hi w u s t r → Steps kinds splits codes side at until lo mid hi w u s t r
-  steps-choose ne choose P v F W A parting parted most opens others = choose P v F W A (opens (omega arith) .0) (opens (omega arith) .1)
+  pub steps-choose : at < until → Chooses kinds splits codes side at lo hi w u s t r → Steps kinds splits codes side at until lo mid hi w u s t r
+  steps-choose lt choose P v F W A parting parted most opens others = choose P v F W A (opens (omega arith) .0) (opens (omega arith) .1)
 
 -- ---- the whole
 

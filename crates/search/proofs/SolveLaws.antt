@@ -18,11 +18,11 @@ use Rattle.expansion.proofs.Steps.{node-part, node-same, node-next, node-decide
 use Rattle.expansion.proofs.Success.{past-kept, won-leaf, won-wanted, won-other, won-parts, won-kept}
 use Rattle.expansion.proofs.Stand.{node-stand, won-stand, refuted-stand}
 use Rattle.search.specs.Cells.{cells, wants, SameWants, CellsSet, CellsOpened}
-use Rattle.search.specs.Masks.{set-at, masks, cut, SetGrown, SetReplaced, United, WordsUnited, Trimmed, words}
+use Rattle.search.specs.Masks.{set-at, masks, cut, SetGrown, United, WordsUnited, Trimmed, words}
 use Rattle.search.specs.Codes.{Ended, code-goal}
-use Rattle.search.specs.Steps.{Fits, Settled, Settles, Searched, Searches, with-value, Tried, Tries, Chooses, Splits, Steps, Excused, Parting, PartedAt, Stands, Reached}
+use Rattle.search.specs.Steps.{Fits, Settled, Settles, Searched, Searches, with-value, Tried, Tries, Chooses, Steps, Excused, Parting, PartedAt, Stands, Reached}
 use Rattle.search.proofs.Rows.{agree-group, parted-apart}
-use Rattle.search.proofs.StepLaws.{masks-below, masks-within, within-refl, within-trans, within-shorter, masks-grown, masks-replaced, wants-trans}
+use Rattle.search.proofs.StepLaws.{masks-below, masks-within, within-refl, within-trans, within-shorter, masks-grown, wants-trans}
 
 with-same : (k : ℕ) (y : Bool) (v : ℕ → Bool) → SameBelow k v (with-value k y v)
 unfolding with-value
@@ -278,7 +278,7 @@ module _ (P : Problem) (kinds splits codes : List ℕ) (side : ℕ) (F : Fits P 
   searched-leaf lo hi v w s t r A reached full = record {
     grown = grown-refl (P .n + 2) lo hi (cells w);
     wanted = λ i j. refl;
-    masked = masks-within (P .n) s t (λ p lt l lk h. reached .others p (λ e. omega arith) l ∙ h);
+    masked = masks-within (P .n) s t (λ p lt l lk h. reached .kept .same p lt l ∙ h);
     won = λ e. won-leaf P lo hi v (cells w) (masks s) (F .sound) A (F .goal (cells w .value lo) ∙ sym (reached .goal (F .ended)) ∙ e);
     failed = λ e m M heeds.
         never-both

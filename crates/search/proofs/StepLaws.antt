@@ -16,9 +16,9 @@ use Rattle.expansion.proofs.Node.{Cells, Node, Won, SameCell, Grown, Stored, Ma
 use Rattle.expansion.proofs.Steps.{node-part, node-same, node-next, node-decide}
 use Rattle.expansion.proofs.Success.{won-leaf, won-wanted, won-other, won-parts, won-kept}
 use Rattle.search.specs.Cells.{cells, wants, SameWants, CellsSet, CellsOpened}
-use Rattle.search.specs.Masks.{set-at, masks, cut, SetGrown, SetReplaced, United, WordsUnited, Trimmed, words}
+use Rattle.search.specs.Masks.{set-at, masks, cut, SetGrown, SetsKept, United, WordsUnited, Trimmed, words}
 use Rattle.search.specs.Codes.{Ended, code-goal}
-use Rattle.search.specs.Steps.{Fits, Settled, Settles, Searched, Searches, with-value, Tried, Tries, Chooses, Splits, Steps, Excused, Parting, PartedAt, Stands, Reached}
+use Rattle.search.specs.Steps.{Fits, Settled, Settles, Searched, Searches, with-value, Tried, Tries, Chooses, Steps, Excused, Parting, PartedAt, Stands, Reached}
 
 -- ---- masks
 
@@ -54,8 +54,8 @@ masks-grown k to s t g = masks-within k s t (λ p lt l lk h. go p l h (ℕ-discr
     go p l h (yes e) = subst (λ (q : ℕ). set-at t q l ≡ true) (sym e) (g .keeps l (subst (λ (q : ℕ). set-at s q l ≡ true) e h))
     go p l h (no n) = g .others p n l ∙ h
 
-pub masks-replaced : (k to : ℕ) (s t : List ℕ) → 128 ≤ to → SetReplaced to s t → MasksWithin k (masks s) (masks t)
-masks-replaced k to s t le g = masks-within k s t (λ p lt l lk h. g .others p (λ e. omega arith) l ∙ h)
+pub masks-kept : (k : ℕ) (s t : List ℕ) → SetsKept s t → MasksWithin k (masks s) (masks t)
+masks-kept k s t g = masks-within k s t (λ p lt l lk h. g .same p lt l ∙ h)
 
 pub wants-trans : (w u x : List ℕ) → SameWants w u → SameWants u x → SameWants w x
 wants-trans w u x a b i k = b i k ∙ a i k

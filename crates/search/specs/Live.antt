@@ -7,11 +7,11 @@ use mathlib.Core.List.{List}
 use Rattle.expansion.proofs.Cuts.{Problem, Refuted}
 use Rattle.expansion.proofs.Node.{Node}
 use Rattle.search.specs.Cells.{cells}
-use Rattle.search.specs.Masks.{masks, cut, SetReplaced}
+use Rattle.search.specs.Masks.{masks, cut, SetsKept}
 use Rattle.search.specs.Steps.{Fits}
 
--- Only the failure's set changes. If the answer is yes, row i is refuted by it in every group that has the row.
+-- The sets of the positions stay. If the answer is yes, row i is refuted by it in every group that has the row.
 pub record RowDead (codes w : List ℕ) (i : ℕ) (s t : List ℕ) (r : Bool) : Type 0 where
-  pub replaced : SetReplaced 128 s t
+  pub kept : SetsKept s t
   pub dead : r ≡ true → (P : Problem) (kinds splits : List ℕ) (k lo hi : ℕ) (v : ℕ → Bool)
       → Fits P kinds splits codes 1 → Node P k lo hi v (cells w) (masks s) → lo ≤ i → i < hi → Refuted P k v (cut t) i

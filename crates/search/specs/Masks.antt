@@ -30,9 +30,9 @@ pub record SetGrown (to : ℕ) (s u : List ℕ) : Type 0 where
   pub others : (p : ℕ) → p ≢ to → (l : ℕ) → set-at u p l ≡ set-at s p l
   pub keeps : (l : ℕ) → set-at s to l ≡ true → set-at u to l ≡ true
 
--- Only the set at `to` changes.
-pub record SetReplaced (to : ℕ) (s u : List ℕ) : Type 0 where
-  pub others : (p : ℕ) → p ≢ to → (l : ℕ) → set-at u p l ≡ set-at s p l
+-- The sets of the positions stay.
+pub record SetsKept (s u : List ℕ) : Type 0 where
+  pub same : (p : ℕ) → p < 128 → (l : ℕ) → set-at u p l ≡ set-at s p l
 
 -- The set at `to` becomes that of two words.
 pub record Put (to low high : ℕ) (s u : List ℕ) : Type 0 where

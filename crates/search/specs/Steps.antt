@@ -11,7 +11,7 @@ use Rattle.expansion.proofs.Cuts.{Values, Mask, Problem, Agree, Sound, Refuted}
 use Rattle.expansion.proofs.Node.{Cells, Node, Won, Grown, MasksWithin}
 use Rattle.expansion.proofs.ClauseCuts.{Every, Some}
 use Rattle.search.specs.Cells.{cells, wants, SameWants}
-use Rattle.search.specs.Masks.{set-at, masks, cut, SetGrown}
+use Rattle.search.specs.Masks.{set-at, masks, cut, SetGrown, SetsKept}
 use Rattle.search.specs.Codes.{position, code-true, code-clauses, clause-of, HasEnd, Ended, code-goal, Coded}
 
 -- The sorted rows: entry i of `splits` is the first position where row i and the row before it have different values, or past the last.
@@ -96,14 +96,6 @@ pub record Parting (splits : List ℕ) (lo hi mid : ℕ) : Type 0 where
   pub behind : lo < mid → (h : ℕ) → mid < h → h < hi → getD splits mid 0 ≤ getD splits h 0
   pub alone : mid ≡ lo → (h : ℕ) → lo < h → h < hi → 255 ≤ getD splits h 0
 
--- A split of the group at the other side's position k, at which the rows from mid on part from those before.
-abbrev pub Splits : List ℕ → List ℕ → List ℕ → ℕ → ℕ → ℕ → ℕ → ℕ → List ℕ → List ℕ → List ℕ → List ℕ → Bool → Type 0
-Splits kinds splits codes side k lo mid hi w u s t r =
-    (P : Problem) (v : ℕ → Bool)
-    → Fits P kinds splits codes side → ((i j : ℕ) → i < P .count → j < P .n → P .own j ≡ true → wants w i j ≡ P .wanted i j) → Node P k lo hi v (cells w) (masks s)
-    → P .own k ≡ false → Parting splits lo hi mid → getD splits mid 0 ≡ k
-    → Searched P k lo hi v w u s t r
-
 -- The positions from k to `at` are the other side's, or set in row lo; `at` is `until`, or is an own position that is open there.
 pub record Stands (kinds w : List ℕ) (side k lo until at : ℕ) : Type 0 where
   pub low : k ≤ at
@@ -130,7 +122,7 @@ Steps kinds splits codes side at until lo mid hi w u s t r =
 
 -- Past the last position: the values of row i reach the goal, or every position is to blame.
 pub record Reached (codes : List ℕ) (side : ℕ) (w : List ℕ) (i : ℕ) (s t : List ℕ) (r : Bool) : Type 0 where
-  pub others : (p : ℕ) → p ≢ 128 → (l : ℕ) → set-at t p l ≡ set-at s p l
+  pub kept : SetsKept s t
   pub goal : Ended codes → r ≡ code-goal side codes (cells w .value i)
   pub full : r ≡ false → (l : ℕ) → l < 128 → set-at t 128 l ≡ true
 
@@ -146,13 +138,13 @@ FromStart kinds splits codes side w u r =
 -- ---- what is lent, and looking at one clause in one row
 
 -- The sizes of what the steps are lent.
-pub record Lent (splits codes work sets hints : List ℕ) : Type 0 where
+pub record Lent (splits codes work sets index : List ℕ) : Type 0 where
   pub rows : length splits ≤ 256
   pub entries : length codes ≤ 8192
   pub coded : Coded 128 codes
   pub area : length work ≡ 65536
-  pub sets-lent : length sets ≡ 260
-  pub hints-lent : length hints ≡ 8707
+  pub sets-lent : length sets ≡ 516
+  pub index-lent : length index ≡ 8451
 
 -- The code's cell is set in row i, and its literal is y there.
 pub record IsAt (w : List ℕ) (i : ℕ) (y : Bool) (c : ℕ) : Type 0 where

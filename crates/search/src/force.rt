@@ -6,14 +6,14 @@ ghost use Prim.Native.Nat.{ℕ, _+_, _*_, _≤_, _<_};
 ghost use lib.ListN.{length, getD, drop};
 ghost use Rattle.search.specs.Codes.{position, clause-of, Begins, Coded};
 ghost use mathlib.Core.Bool.{true};
-ghost use Rattle.search.specs.Masks.{SetReplaced};
+ghost use Rattle.search.specs.Masks.{SetsKept};
 ghost use Rattle.search.specs.Steps.{Settles, Looked, Blamed, CopyFrom, CopyTo, Lent};
 use super::clauses::begins;
 use super::clauses::position;
-use super::index::BOUNDS;
 use super::sets;
 use super::sets::CHANGED;
 use super::sets::CUT;
+use super::sets::HINTS;
 use super::table;
 use super::width::wide8;
 use super::width::wide16;
@@ -24,20 +24,20 @@ pub(crate) fn survey(
     codes: &[u16],
     work: &mut [u8],
     sets: &mut [u64],
-    hints: &mut [u16],
+    index: &[u16],
 ) -> bool
-    requires { ⌜ Lent (now splits) (now codes) (now work) (now sets) (now hints) ⌝ }
+    requires { ⌜ Lent (now splits) (now codes) (now work) (now sets) (now index) ⌝ }
     ensures { λ r. ⌜ Settles 0 (now (splits .entry)) (now (codes .entry)) 0 (length (now (splits .entry))) 1 (now (work .entry)) (now (work .exit)) (now (sets .entry)) (now (sets .exit)) r ⌝ }
 {
     sets::empty(sets, CHANGED);
     let mut i = 0;
     while i < splits.len() {
-        if survey_row(splits, codes, work, sets, hints, i) {} else {
+        if survey_row(splits, codes, work, sets, index, i) {} else {
             return false;
         }
         i += 1;
     }
-    settle(splits, codes, work, sets, hints, 1, 0, splits.len())
+    settle(splits, codes, work, sets, index, 1, 0, splits.len())
 }
 
 fn survey_row(
@@ -45,10 +45,10 @@ fn survey_row(
     codes: &[u16],
     work: &mut [u8],
     sets: &mut [u64],
-    hints: &mut [u16],
+    index: &[u16],
     i: usize,
 ) -> bool
-    requires { ⌜ Lent (now splits) (now codes) (now work) (now sets) (now hints) ⌝ }
+    requires { ⌜ Lent (now splits) (now codes) (now work) (now sets) (now index) ⌝ }
     requires { ⌜ i < length (now splits) ⌝ }
     ensures { λ r. ⌜ Settles 0 (now (splits .entry)) (now (codes .entry)) 0 (length (now (splits .entry))) 1 (now (work .entry)) (now (work .exit)) (now (sets .entry)) (now (sets .exit)) r ⌝ }
 {
@@ -60,7 +60,7 @@ fn survey_row(
                 codes,
                 work,
                 sets,
-                hints,
+                index,
                 1,
                 0,
                 splits.len(),
@@ -110,18 +110,18 @@ pub(crate) fn propagate(
     codes: &[u16],
     work: &mut [u8],
     sets: &mut [u64],
-    hints: &mut [u16],
+    index: &[u16],
     k: usize,
     lo: usize,
     hi: usize,
 ) -> bool
-    requires { ⌜ Lent (now splits) (now codes) (now work) (now sets) (now hints) ⌝ }
+    requires { ⌜ Lent (now splits) (now codes) (now work) (now sets) (now index) ⌝ }
     requires { ⌜ (k < 128) × (lo < hi) × (hi ≤ length (now splits)) ⌝ }
     ensures { λ r. ⌜ Settles 0 (now (splits .entry)) (now (codes .entry)) lo hi (k + 2) (now (work .entry)) (now (work .exit)) (now (sets .entry)) (now (sets .exit)) r ⌝ }
 {
     sets::empty(sets, CHANGED);
-    note(sets, hints, k, lo, hi);
-    settle(splits, codes, work, sets, hints, k as u8 + 2, lo, hi)
+    note(sets, k, lo, hi);
+    settle(splits, codes, work, sets, index, k as u8 + 2, lo, hi)
 }
 
 // Visits the positions with changes until there is none.
@@ -130,12 +130,12 @@ fn settle(
     codes: &[u16],
     work: &mut [u8],
     sets: &mut [u64],
-    hints: &mut [u16],
+    index: &[u16],
     mark: u8,
     lo: usize,
     hi: usize,
 ) -> bool
-    requires { ⌜ Lent (now splits) (now codes) (now work) (now sets) (now hints) ⌝ }
+    requires { ⌜ Lent (now splits) (now codes) (now work) (now sets) (now index) ⌝ }
     requires { ⌜ hi ≤ length (now splits) ⌝ }
     ensures { λ r. ⌜ Settles 0 (now (splits .entry)) (now (codes .entry)) lo hi mark (now (work .entry)) (now (work .exit)) (now (sets .entry)) (now (sets .exit)) r ⌝ }
 {
@@ -145,9 +145,9 @@ fn settle(
         if k < CUT {} else {
             return true;
         }
-        let from = higher(wide16(hints[2 * k]), lo);
-        let to = lower(wide16(hints[2 * k + 1]), hi);
-        if visit(splits, codes, work, sets, hints, mark, lo, hi, k, from, to) {} else {
+        let from = higher(sets[HINTS + 2 * k] as usize, lo);
+        let to = lower(sets[HINTS + 2 * k + 1] as usize, hi);
+        if visit(splits, codes, work, sets, index, mark, lo, hi, k, from, to) {} else {
             return false;
         }
         left -= 1;
@@ -161,7 +161,7 @@ fn visit(
     codes: &[u16],
     work: &mut [u8],
     sets: &mut [u64],
-    hints: &mut [u16],
+    index: &[u16],
     mark: u8,
     lo: usize,
     hi: usize,
@@ -169,14 +169,14 @@ fn visit(
     from: usize,
     to: usize,
 ) -> bool
-    requires { ⌜ Lent (now splits) (now codes) (now work) (now sets) (now hints) ⌝ }
+    requires { ⌜ Lent (now splits) (now codes) (now work) (now sets) (now index) ⌝ }
     requires { ⌜ (hi ≤ length (now splits)) × (k < 128) × (lo ≤ from) × (to ≤ hi) ⌝ }
     ensures { λ r. ⌜ Settles 0 (now (splits .entry)) (now (codes .entry)) lo hi mark (now (work .entry)) (now (work .exit)) (now (sets .entry)) (now (sets .exit)) r ⌝ }
 {
     let mut i = from;
     while i < to {
         let c = shortened(table::value(work, i, k), k);
-        if visit_row(splits, codes, work, sets, hints, mark, lo, hi, c, from, i) {} else {
+        if visit_row(splits, codes, work, sets, index, mark, lo, hi, c, from, i) {} else {
             return false;
         }
         i += 1;
@@ -198,7 +198,7 @@ fn visit_row(
     codes: &[u16],
     work: &mut [u8],
     sets: &mut [u64],
-    hints: &mut [u16],
+    index: &[u16],
     mark: u8,
     lo: usize,
     hi: usize,
@@ -206,16 +206,16 @@ fn visit_row(
     from: usize,
     i: usize,
 ) -> bool
-    requires { ⌜ Lent (now splits) (now codes) (now work) (now sets) (now hints) ⌝ }
+    requires { ⌜ Lent (now splits) (now codes) (now work) (now sets) (now index) ⌝ }
     requires { ⌜ (lo ≤ i) × (i < hi) × (hi ≤ length (now splits)) × (2 ≤ c) × (c ≤ 257) ⌝ }
     ensures { λ r. ⌜ Settles 0 (now (splits .entry)) (now (codes .entry)) lo hi mark (now (work .entry)) (now (work .exit)) (now (sets .entry)) (now (sets .exit)) r ⌝ }
 {
-    let end = lower(wide16(hints[BOUNDS + c]), hints.len());
-    let mut at = wide16(hints[BOUNDS + c - 1]);
+    let end = lower(wide16(index[c]), index.len());
+    let mut at = wide16(index[c - 1]);
     while at < end {
-        let start = wide16(hints[at]);
+        let start = wide16(index[at]);
         if repeats(splits, codes, from, i, start) {} else {
-            if touch(splits, codes, work, sets, hints, mark, lo, hi, i, start) {} else {
+            if touch(splits, codes, work, sets, index, mark, lo, hi, i, start) {} else {
                 return false;
             }
         }
@@ -242,14 +242,14 @@ fn touch(
     codes: &[u16],
     work: &mut [u8],
     sets: &mut [u64],
-    hints: &mut [u16],
+    index: &[u16],
     mark: u8,
     lo: usize,
     hi: usize,
     i: usize,
     start: usize,
 ) -> bool
-    requires { ⌜ Lent (now splits) (now codes) (now work) (now sets) (now hints) ⌝ }
+    requires { ⌜ Lent (now splits) (now codes) (now work) (now sets) (now index) ⌝ }
     requires { ⌜ (lo ≤ i) × (i < hi) × (hi ≤ length (now splits)) ⌝ }
     ensures { λ r. ⌜ Settles 0 (now (splits .entry)) (now (codes .entry)) lo hi mark (now (work .entry)) (now (work .exit)) (now (sets .entry)) (now (sets .exit)) r ⌝ }
 {
@@ -265,7 +265,7 @@ fn touch(
         blame(codes, sets, start, CUT);
         return false;
     }
-    force(splits, codes, work, sets, hints, mark, lo, hi, i, start, c);
+    force(splits, codes, work, sets, index, mark, lo, hi, i, start, c);
     true
 }
 
@@ -275,7 +275,7 @@ fn force(
     codes: &[u16],
     work: &mut [u8],
     sets: &mut [u64],
-    hints: &mut [u16],
+    index: &[u16],
     mark: u8,
     lo: usize,
     hi: usize,
@@ -283,7 +283,7 @@ fn force(
     start: usize,
     c: usize,
 )
-    requires { ⌜ Lent (now splits) (now codes) (now work) (now sets) (now hints) ⌝ }
+    requires { ⌜ Lent (now splits) (now codes) (now work) (now sets) (now index) ⌝ }
     requires { ⌜ (lo ≤ i) × (i < hi) × (hi ≤ length (now splits)) × (2 ≤ c) × (position c < 128) ⌝ }
     ensures { λ _. ⌜ (Begins (now (codes .entry)) start → Looked (now (codes .entry)) (now (work .entry)) i start c → Settles 0 (now (splits .entry)) (now (codes .entry)) lo hi mark (now (work .entry)) (now (work .exit)) (now (sets .entry)) (now (sets .exit)) true) ⌝ }
 {
@@ -292,7 +292,7 @@ fn force(
     let from = copy_start(splits, k, lo, i);
     let to = copy_end(splits, k, i, hi);
     table::set_rows(work, k, from, to, mark, c % 2 == 0);
-    note(sets, hints, k, from, to);
+    note(sets, k, from, to);
 }
 
 // The clause at `start` in row i: 0 if all its literals are false, the code of its one open literal if all others are false, else 1.
@@ -324,7 +324,7 @@ fn look(codes: &[u16], work: &[u8], i: usize, start: usize) -> usize
 
 // Unites, at `to`, the sets of the clause's positions other than `to`.
 fn blame(codes: &[u16], sets: &mut [u64], start: usize, to: usize)
-    requires { ⌜ (length (now sets) ≡ 260) × (to < 130) × Coded 128 (now codes) ⌝ }
+    requires { ⌜ (length (now sets) ≡ 516) × (to < 130) × Coded 128 (now codes) ⌝ }
     ensures { λ _. ⌜ Blamed (clause-of (drop start (now (codes .entry)))) to (now (sets .entry)) (now (sets .exit)) ⌝ }
 {
     let mut e = start;
@@ -372,26 +372,18 @@ fn copy_end(splits: &[u8], k: usize, i: usize, hi: usize) -> usize
 }
 
 // Position k has changes in the rows from lo to hi.
-fn note(sets: &mut [u64], hints: &mut [u16], k: usize, lo: usize, hi: usize)
-    requires { ⌜ (length (now sets) ≡ 260) × (length (now hints) ≡ 8707) × (k < 128) × (lo ≤ 256) × (hi ≤ 256) ⌝ }
-    ensures { λ _. ⌜ SetReplaced 129 (now (sets .entry)) (now (sets .exit)) ⌝ }
+fn note(sets: &mut [u64], k: usize, lo: usize, hi: usize)
+    requires { ⌜ (length (now sets) ≡ 516) × (k < 128) ⌝ }
+    ensures { λ _. ⌜ SetsKept (now (sets .entry)) (now (sets .exit)) ⌝ }
 {
+    let at = HINTS + 2 * k;
+    let mut from = lo;
+    let mut to = hi;
     if sets::has(sets, CHANGED, k) {
-        widen(hints, k, lo, hi);
-        return;
+        from = lower(sets[at] as usize, lo);
+        to = higher(sets[at + 1] as usize, hi);
     }
     sets::add(sets, CHANGED, k);
-    hints[2 * k] = lo as u16;
-    hints[2 * k + 1] = hi as u16;
-}
-
-fn widen(hints: &mut [u16], k: usize, lo: usize, hi: usize)
-    requires { ⌜ (length (now hints) ≡ 8707) × (k < 128) × (lo ≤ 256) × (hi ≤ 256) ⌝ }
-{
-    if lo < wide16(hints[2 * k]) {
-        hints[2 * k] = lo as u16;
-    }
-    if hi > wide16(hints[2 * k + 1]) {
-        hints[2 * k + 1] = hi as u16;
-    }
+    sets[at] = from as u64;
+    sets[at + 1] = to as u64;
 }

@@ -14,6 +14,7 @@ ghost use Rattle.search.specs.Live.{RowDead};
 use super::clauses::position;
 use super::sets;
 use super::sets::CUT;
+use super::sets::HINTS;
 use super::table;
 use super::width::wide16;
 
@@ -22,16 +23,15 @@ pub(crate) fn check(
     codes: &[u16],
     work: &[u8],
     sets: &mut [u64],
-    hints: &mut [u16],
     lo: usize,
     hi: usize,
 ) -> bool
-    requires { ⌜ (length (now work) ≡ 65536) × (length (now sets) ≡ 260) × (length (now hints) ≡ 8707) × (lo ≤ hi) × (hi ≤ 256) × (length (now codes) ≤ 8192) × Coded 128 (now codes) ⌝ }
+    requires { ⌜ (length (now work) ≡ 65536) × (length (now sets) ≡ 516) × (lo ≤ hi) × (hi ≤ 256) × (length (now codes) ≤ 8192) × Coded 128 (now codes) ⌝ }
     ensures { λ r. ⌜ ((splits : List ℕ) (mark : ℕ) → Settles 1 splits (now (codes .entry)) lo hi mark (now (work .entry)) (now (work .entry)) (now (sets .entry)) (now (sets .exit)) r) ⌝ }
 {
     let mut i = lo;
     while i < hi {
-        if dead(codes, work, sets, hints, i) {
+        if dead(codes, work, sets, i) {
             return false;
         }
         i += 1;
@@ -40,20 +40,27 @@ pub(crate) fn check(
 }
 
 // Whether every clause has a true literal in row i. True: CUT says by which decisions.
-fn dead(codes: &[u16], work: &[u8], sets: &mut [u64], hints: &mut [u16], i: usize) -> bool
-    requires { ⌜ (length (now work) ≡ 65536) × (length (now sets) ≡ 260) × (length (now hints) ≡ 8707) × (i < 256) × (length (now codes) ≤ 8192) × Coded 128 (now codes) ⌝ }
+fn dead(codes: &[u16], work: &[u8], sets: &mut [u64], i: usize) -> bool
+    requires { ⌜ (length (now work) ≡ 65536) × (length (now sets) ≡ 516) × (i < 256) × (length (now codes) ≤ 8192) × Coded 128 (now codes) ⌝ }
     ensures { λ r. ⌜ RowDead (now (codes .entry)) (now (work .entry)) i (now (sets .entry)) (now (sets .exit)) r ⌝ }
 {
-    if lives(codes, work, i, wide16(hints[i])) {
+    if lives(codes, work, i, live_clause(sets, i)) {
         return false;
     }
-    let start = other_live(codes, work, hints, i);
+    let start = other_live(codes, work, sets, i);
     if start < codes.len() {
-        hints[i] = start as u16;
+        sets[HINTS + i] = start as u64;
         return false;
     }
     sets::empty(sets, CUT);
     blame(codes, work, sets, i)
+}
+
+// The clause that was live in row i.
+fn live_clause(sets: &[u64], i: usize) -> usize
+    requires { ⌜ (length (now sets) ≡ 516) × (i < 256) ⌝ }
+{
+    sets[HINTS + i] as usize
 }
 
 // Whether the entries from `start` to the end of a clause have no true literal in row i.
@@ -88,16 +95,16 @@ fn holds(work: &[u8], i: usize, c: usize) -> bool
 
 // The start of another clause without a true literal in row i: that of the row before, the next one behind row i's, or the first one. At
 // least the number of entries if there is none.
-fn other_live(codes: &[u16], work: &[u8], hints: &[u16], i: usize) -> usize
-    requires { ⌜ (length (now work) ≡ 65536) × (length (now hints) ≡ 8707) × (i < 256) × Coded 128 (now codes) ⌝ }
+fn other_live(codes: &[u16], work: &[u8], sets: &[u64], i: usize) -> usize
+    requires { ⌜ (length (now work) ≡ 65536) × (length (now sets) ≡ 516) × (i < 256) × Coded 128 (now codes) ⌝ }
 {
     if i > 0 {
-        let near = wide16(hints[i - 1]);
+        let near = live_clause(sets, i - 1);
         if lives(codes, work, i, near) {
             return near;
         }
     }
-    let next = next_live(codes, work, i, wide16(hints[i]));
+    let next = next_live(codes, work, i, live_clause(sets, i));
     if next < codes.len() {
         return next;
     }
@@ -130,7 +137,7 @@ fn next_live(codes: &[u16], work: &[u8], i: usize, from: usize) -> usize
 
 // Unites, at CUT, for each clause the set of its earliest true literal in row i. False: a clause has none.
 fn blame(codes: &[u16], work: &[u8], sets: &mut [u64], i: usize) -> bool
-    requires { ⌜ (length (now work) ≡ 65536) × (length (now sets) ≡ 260) × (i < 256) × Coded 128 (now codes) ⌝ }
+    requires { ⌜ (length (now work) ≡ 65536) × (length (now sets) ≡ 516) × (i < 256) × Coded 128 (now codes) ⌝ }
     ensures { λ r. ⌜ RowBlamed (now (codes .entry)) (now (work .entry)) i (now (sets .entry)) (now (sets .exit)) r ⌝ }
 {
     let mut best = CUT;

@@ -7,8 +7,8 @@ ghost use lib.ListN.{length, getD};
 ghost use Rattle.expansion.proofs.ClauseCuts.{matrix-at};
 ghost use Rattle.search.specs.Cells.{cells};
 ghost use Rattle.search.specs.Codes.{code-true, code-clauses, code-goal, Coded, Ended};
-ghost use Rattle.search.specs.Masks.{set-at, SetReplaced};
-ghost use Rattle.search.specs.Steps.{Lent, Settles, Searches, Tries, Chooses, Splits, Steps, Excused, Reached, Parting, PartedAt, Stands, FromStart};
+ghost use Rattle.search.specs.Masks.{set-at};
+ghost use Rattle.search.specs.Steps.{Lent, Settles, Searches, Tries, Chooses, Steps, Excused, Reached, Parting, PartedAt, Stands, FromStart};
 use super::force;
 use super::index;
 use super::live;
@@ -29,9 +29,10 @@ pub(crate) fn from_start(
     requires { ⌜ (length (now kinds) ≤ 128) × (0 < length (now splits)) × (length (now splits) ≤ 256) × (length (now codes) ≤ 8192) × Coded 128 (now codes) × (side ≤ 1) × (length (now work) ≡ 65536) ⌝ }
     ensures { λ r. ⌜ FromStart (now (kinds .entry)) (now (splits .entry)) (now (codes .entry)) side (now (work .entry)) (now (work .exit)) r ⌝ }
 {
-    let mut sets = [0u64; 260];
-    let mut hints = [0u16; 8_707];
-    if look_around(splits, codes, work, &mut sets, &mut hints, side) {
+    let mut sets = [0u64; 516];
+    let mut index = [0u16; 8_451];
+    index::fill(codes, side, &mut index);
+    if look_around(splits, codes, work, &mut sets, &index, side) {
         let hi = splits.len();
         solve(
             kinds,
@@ -39,7 +40,7 @@ pub(crate) fn from_start(
             codes,
             work,
             &mut sets,
-            &mut hints,
+            &index,
             side,
             0,
             0,
@@ -56,18 +57,17 @@ fn look_around(
     codes: &[u16],
     work: &mut [u8],
     sets: &mut [u64],
-    hints: &mut [u16],
+    index: &[u16],
     side: u8,
 ) -> bool
-    requires { ⌜ Lent (now splits) (now codes) (now work) (now sets) (now hints) ⌝ }
+    requires { ⌜ Lent (now splits) (now codes) (now work) (now sets) (now index) ⌝ }
     requires { ⌜ side ≤ 1 ⌝ }
     ensures { λ r. ⌜ Settles side (now (splits .entry)) (now (codes .entry)) 0 (length (now (splits .entry))) 1 (now (work .entry)) (now (work .exit)) (now (sets .entry)) (now (sets .exit)) r ⌝ }
 {
     if side == 1 {
-        live::check(codes, work, sets, hints, 0, splits.len())
+        live::check(codes, work, sets, 0, splits.len())
     } else {
-        index::fill(codes, hints);
-        force::survey(splits, codes, work, sets, hints)
+        force::survey(splits, codes, work, sets, index)
     }
 }
 
@@ -78,13 +78,13 @@ fn solve(
     codes: &[u16],
     work: &mut [u8],
     sets: &mut [u64],
-    hints: &mut [u16],
+    index: &[u16],
     side: u8,
     k: usize,
     lo: usize,
     hi: usize,
 ) -> bool
-    requires { ⌜ Lent (now splits) (now codes) (now work) (now sets) (now hints) ⌝ }
+    requires { ⌜ Lent (now splits) (now codes) (now work) (now sets) (now index) ⌝ }
     requires { ⌜ (length (now kinds) ≤ 128) × (side ≤ 1) × (k ≤ length (now kinds)) × (lo < hi) × (hi ≤ length (now splits)) ⌝ }
     ensures { λ r. ⌜ Searches (now (kinds .entry)) (now (splits .entry)) (now (codes .entry)) side k lo hi (now (work .entry)) (now (work .exit)) (now (sets .entry)) (now (sets .exit)) r ⌝ }
 {
@@ -97,7 +97,7 @@ fn solve(
         codes,
         work,
         sets,
-        hints,
+        index,
         side,
         at,
         until,
@@ -111,14 +111,15 @@ fn solve(
     false
 }
 
-// The search at the position `at` behind those that stand: past the last one, at a split, or at a choice.
+// The search at the position `at` behind those that stand: past the last one, at a choice, or at a split, where the rows from mid on and
+// those before have different values.
 fn step(
     kinds: &[u8],
     splits: &[u8],
     codes: &[u16],
     work: &mut [u8],
     sets: &mut [u64],
-    hints: &mut [u16],
+    index: &[u16],
     side: u8,
     at: usize,
     until: usize,
@@ -126,7 +127,7 @@ fn step(
     mid: usize,
     hi: usize,
 ) -> bool
-    requires { ⌜ Lent (now splits) (now codes) (now work) (now sets) (now hints) ⌝ }
+    requires { ⌜ Lent (now splits) (now codes) (now work) (now sets) (now index) ⌝ }
     requires { ⌜ (length (now kinds) ≤ 128) × (side ≤ 1) × (at ≤ length (now kinds)) × (until ≤ length (now kinds)) × (lo < hi) × (hi ≤ length (now splits)) ⌝ }
     requires { ⌜ (lo ≤ mid) × (mid < hi) × (until < length (now kinds) → lo < mid) ⌝ }
     ensures { λ r. ⌜ Steps (now (kinds .entry)) (now (splits .entry)) (now (codes .entry)) side at until lo mid hi (now (work .entry)) (now (work .exit)) (now (sets .entry)) (now (sets .exit)) r ⌝ }
@@ -134,66 +135,33 @@ fn step(
     if at == kinds.len() {
         return reached(codes, work, sets, side, lo);
     }
-    if at == until {
-        return split(
-            kinds,
-            splits,
-            codes,
-            work,
-            sets,
-            hints,
-            side,
-            at,
-            lo,
-            mid,
-            hi,
-        );
+    if at < until {
+        return choose(kinds, splits, codes, work, sets, index, side, at, lo, hi);
     }
-    choose(kinds, splits, codes, work, sets, hints, side, at, lo, hi)
-}
-
-// Searches the rows from mid on and those before, which have different values at position k.
-fn split(
-    kinds: &[u8],
-    splits: &[u8],
-    codes: &[u16],
-    work: &mut [u8],
-    sets: &mut [u64],
-    hints: &mut [u16],
-    side: u8,
-    k: usize,
-    lo: usize,
-    mid: usize,
-    hi: usize,
-) -> bool
-    requires { ⌜ Lent (now splits) (now codes) (now work) (now sets) (now hints) ⌝ }
-    requires { ⌜ (length (now kinds) ≤ 128) × (side ≤ 1) × (k < length (now kinds)) × (lo < mid) × (mid < hi) × (hi ≤ length (now splits)) ⌝ }
-    ensures { λ r. ⌜ Splits (now (kinds .entry)) (now (splits .entry)) (now (codes .entry)) side k lo mid hi (now (work .entry)) (now (work .exit)) (now (sets .entry)) (now (sets .exit)) r ⌝ }
-{
     if solve(
         kinds,
         splits,
         codes,
         work,
         sets,
-        hints,
+        index,
         side,
-        k + 1,
+        at + 1,
         mid,
         hi,
     ) {} else {
         return false;
     }
-    sets::trim(sets, k, kinds.len()); // no choice of one part stands in the other
+    sets::trim(sets, at, kinds.len()); // no choice of one part stands in the other
     solve(
         kinds,
         splits,
         codes,
         work,
         sets,
-        hints,
+        index,
         side,
-        k + 1,
+        at + 1,
         lo, // the other part: from lo
         mid, // to mid
     )
@@ -201,7 +169,7 @@ fn split(
 
 // Where a failure was reached by values that stand from k to `at`, it was reached by what they were reached by.
 fn excuse(sets: &mut [u64], k: usize, at: usize)
-    requires { ⌜ (length (now sets) ≡ 260) × (at ≤ 128) ⌝ }
+    requires { ⌜ (length (now sets) ≡ 516) × (at ≤ 128) ⌝ }
     ensures { λ _. ⌜ Excused k at (now (sets .entry)) (now (sets .exit)) ⌝ }
 {
     let mut p = k;
@@ -221,13 +189,13 @@ fn choose(
     codes: &[u16],
     work: &mut [u8],
     sets: &mut [u64],
-    hints: &mut [u16],
+    index: &[u16],
     side: u8,
     k: usize,
     lo: usize,
     hi: usize,
 ) -> bool
-    requires { ⌜ Lent (now splits) (now codes) (now work) (now sets) (now hints) ⌝ }
+    requires { ⌜ Lent (now splits) (now codes) (now work) (now sets) (now index) ⌝ }
     requires { ⌜ (length (now kinds) ≤ 128) × (side ≤ 1) × (k < length (now kinds)) × (lo < hi) × (hi ≤ length (now splits)) ⌝ }
     ensures { λ r. ⌜ Chooses (now (kinds .entry)) (now (splits .entry)) (now (codes .entry)) side k lo hi (now (work .entry)) (now (work .exit)) (now (sets .entry)) (now (sets .exit)) r ⌝ }
 {
@@ -238,7 +206,7 @@ fn choose(
         codes,
         work,
         sets,
-        hints,
+        index,
         side,
         k,
         lo,
@@ -260,7 +228,7 @@ fn choose(
         codes,
         work,
         sets,
-        hints,
+        index,
         side,
         k,
         lo,
@@ -282,21 +250,21 @@ fn attempt(
     codes: &[u16],
     work: &mut [u8],
     sets: &mut [u64],
-    hints: &mut [u16],
+    index: &[u16],
     side: u8,
     k: usize,
     lo: usize,
     hi: usize,
     value: bool,
 ) -> bool
-    requires { ⌜ Lent (now splits) (now codes) (now work) (now sets) (now hints) ⌝ }
+    requires { ⌜ Lent (now splits) (now codes) (now work) (now sets) (now index) ⌝ }
     requires { ⌜ (length (now kinds) ≤ 128) × (side ≤ 1) × (k < length (now kinds)) × (lo < hi) × (hi ≤ length (now splits)) ⌝ }
     ensures { λ r. ⌜ Tries (now (kinds .entry)) (now (splits .entry)) (now (codes .entry)) side k lo hi value (now (work .entry)) (now (work .exit)) (now (sets .entry)) (now (sets .exit)) r ⌝ }
 {
     sets::add(sets, k, k);
     table::set_rows(work, k, lo, hi, k as u8 + 2, value);
-    if follow(splits, codes, work, sets, hints, side, k, lo, hi) {
-        solve(kinds, splits, codes, work, sets, hints, side, k + 1, lo, hi)
+    if follow(splits, codes, work, sets, index, side, k, lo, hi) {
+        solve(kinds, splits, codes, work, sets, index, side, k + 1, lo, hi)
     } else {
         false
     }
@@ -308,20 +276,20 @@ fn follow(
     codes: &[u16],
     work: &mut [u8],
     sets: &mut [u64],
-    hints: &mut [u16],
+    index: &[u16],
     side: u8,
     k: usize,
     lo: usize,
     hi: usize,
 ) -> bool
-    requires { ⌜ Lent (now splits) (now codes) (now work) (now sets) (now hints) ⌝ }
+    requires { ⌜ Lent (now splits) (now codes) (now work) (now sets) (now index) ⌝ }
     requires { ⌜ (side ≤ 1) × (k < 128) × (lo < hi) × (hi ≤ length (now splits)) ⌝ }
     ensures { λ r. ⌜ Settles side (now (splits .entry)) (now (codes .entry)) lo hi (k + 2) (now (work .entry)) (now (work .exit)) (now (sets .entry)) (now (sets .exit)) r ⌝ }
 {
     if side == 1 {
-        live::check(codes, work, sets, hints, lo, hi)
+        live::check(codes, work, sets, lo, hi)
     } else {
-        force::propagate(splits, codes, work, sets, hints, k, lo, hi)
+        force::propagate(splits, codes, work, sets, index, k, lo, hi)
     }
 }
 
@@ -379,7 +347,7 @@ fn stand(kinds: &[u8], work: &[u8], side: u8, k: usize, lo: usize, until: usize)
 
 // Whether the values of row i reach the side's goal. Where they do not, every position is to blame.
 fn reached(codes: &[u16], work: &[u8], sets: &mut [u64], side: u8, i: usize) -> bool
-    requires { ⌜ (length (now work) ≡ 65536) × (length (now sets) ≡ 260) × (i < 256) × (side ≤ 1) × Coded 128 (now codes) ⌝ }
+    requires { ⌜ (length (now work) ≡ 65536) × (length (now sets) ≡ 516) × (i < 256) × (side ≤ 1) × Coded 128 (now codes) ⌝ }
     ensures { λ r. ⌜ Reached (now (codes .entry)) side (now (work .entry)) i (now (sets .entry)) (now (sets .exit)) r ⌝ }
 {
     let all = matrix(codes, work, i);

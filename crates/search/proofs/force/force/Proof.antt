@@ -20,7 +20,7 @@ set-rows-requires : tie.Need-set-rows-requires
 set-rows-requires c κs = (omega arith, omega arith, omega arith, omega arith)
 
 note-requires : tie.Need-note-requires
-note-requires c κs = (omega arith, omega arith, omega arith, omega arith, omega arith)
+note-requires c κs = (omega arith, omega arith)
 
 same-length : tie.Need-same-length
 same-length c = omega arith
@@ -28,14 +28,11 @@ same-length c = omega arith
 same-length-2 : tie.Need-same-length-2
 same-length-2 c = omega arith
 
-same-length-3 : tie.Need-same-length-3
-same-length-3 c = omega arith
-
 returns : tie.Need-returns
 returns c =
     λ begins looked.
-    settles-force-at (c .before .before .before .before .before .before .before .before .before .before .before .before .before .before .before .before .before .before .before .before .before .before .before .args .splits .now) (c .before .before .before .before .before .before .before .before .before .before .before .before .before .before .before .before .before .before .before .before .before .before .before .args .codes .now) (c .before .before .before .before .before .before .before .before .before .before .before .before .before .before .before .before .before .before .before .before .before .before .before .pre .0 .coded) (c .before .before .before .before .before .before .before .before .before .before .before .before .before .before .before .before .before .before .before .before .before .before .before .args .lo) (c .before .before .before .before .before .before .before .before .before .before .before .before .before .before .before .before .before .before .before .before .before .before .before .args .hi) (c .before .before .before .before .before .before .before .before .before .before .before .before .before .before .before .before .before .before .before .before .before .before .before .args .mark) (c .before .before .before .before .before .before .before .before .before .before .before .before .before .before .before .before .before .before .before .before .before .before .before .args .work .now) (c .before .before .before .before .before .before .before .before .before .before .before .before .before .before .before .before .before .before .before .before .before .before .before .args .sets .now) (c .before .before .before .before .before .before .before .before .before .before .before .before .before .before .before .before .before .before .before .before .before .before .before .args .i) (c .before .before .before .before .before .before .before .before .before .before .before .before .before .before .before .before .before .before .before .before .before .before .before .args .start) (c .before .before .before .before .before .before .before .before .before .before .before .before .before .before .before .before .before .before .before .before .before .before .before .pre .1 .0) (c .before .before .before .before .before .before .before .before .before .before .before .before .before .before .before .before .before .before .before .before .before .before .before .pre .1 .1) begins
-    (c .before .before .before .before .before .before .before .before .before .before .before .before .before .before .before .before .before .position .result) (c .before .before .before .before .before .before .before .before .before .before .before .before .before .before .before .before .before .before .before .before .before .before .before .args .c) (c .before .before .before .before .before .before .before .before .before .before .before .before .before .before .before .before .before .position .ensures) (c .before .before .before .before .before .before .before .before .before .before .before .before .before .before .before .before .before .before .before .before .before .before .before .pre .1 .3) looked (c .before .before .before .before .before .before .before .before .before .before .before .before .before .before .before .blame .last .1 .0) (c .before .before .before .before .note .last .0) (c .before .before .before .before .before .before .before .before .before .before .before .before .before .before .before .blame .ensures) (c .before .before .before .before .note .ensures) (c .before .before .before .before .before .before .before .before .before .set-rows .last .0) (c .before .before .before .before .before .before .before .before .before .before .before .before .copy-start .result) (c .before .before .before .before .before .before .before .before .before .before .before .copy-end .result) (c .before .before .before .before .before .before .before .before .before .before .before .before .copy-start .ensures) (c .before .before .before .before .before .before .before .before .before .before .before .copy-end .ensures) (c .before .before .before .before .before .before .before .before .before .set-rows .ensures)
+    settles-force-at (c .before .before .before .before .before .before .before .before .before .before .before .before .before .before .before .before .before .before .before .before .args .splits .now) (c .before .before .before .before .before .before .before .before .before .before .before .before .before .before .before .before .before .before .before .before .args .codes .now) (c .before .before .before .before .before .before .before .before .before .before .before .before .before .before .before .before .before .before .before .before .pre .0 .coded) (c .before .before .before .before .before .before .before .before .before .before .before .before .before .before .before .before .before .before .before .before .args .lo) (c .before .before .before .before .before .before .before .before .before .before .before .before .before .before .before .before .before .before .before .before .args .hi) (c .before .before .before .before .before .before .before .before .before .before .before .before .before .before .before .before .before .before .before .before .args .mark) (c .before .before .before .before .before .before .before .before .before .before .before .before .before .before .before .before .before .before .before .before .args .work .now) (c .before .before .before .before .before .before .before .before .before .before .before .before .before .before .before .before .before .before .before .before .args .sets .now) (c .before .before .before .before .before .before .before .before .before .before .before .before .before .before .before .before .before .before .before .before .args .i) (c .before .before .before .before .before .before .before .before .before .before .before .before .before .before .before .before .before .before .before .before .args .start) (c .before .before .before .before .before .before .before .before .before .before .before .before .before .before .before .before .before .before .before .before .pre .1 .0) (c .before .before .before .before .before .before .before .before .before .before .before .before .before .before .before .before .before .before .before .before .pre .1 .1) begins
+    (c .before .before .before .before .before .before .before .before .before .before .before .before .before .before .position .result) (c .before .before .before .before .before .before .before .before .before .before .before .before .before .before .before .before .before .before .before .before .args .c) (c .before .before .before .before .before .before .before .before .before .before .before .before .before .before .position .ensures) (c .before .before .before .before .before .before .before .before .before .before .before .before .before .before .before .before .before .before .before .before .pre .1 .3) looked (c .before .before .before .before .before .before .before .before .before .before .before .before .blame .last .1 .0) (c .before .before .note .last .0) (c .before .before .before .before .before .before .before .before .before .before .before .before .blame .ensures) (c .before .before .note .ensures) (c .before .before .before .before .before .before .set-rows .last .0) (c .before .before .before .before .before .before .before .before .before .copy-start .result) (c .before .before .before .before .before .before .before .before .copy-end .result) (c .before .before .before .before .before .before .before .before .before .copy-start .ensures) (c .before .before .before .before .before .before .before .before .copy-end .ensures) (c .before .before .before .before .before .before .set-rows .ensures)
 
 pub force-spec : {M : Type 1} → statement M
 force-spec =
@@ -49,5 +46,4 @@ force-spec =
     note-requires
     same-length
     same-length-2
-    same-length-3
     returns)

@@ -1,83 +1,84 @@
 -- `force::note` meets its contract. Assumes nothing.
 use native.Mathlib.Omega.{arith}
 use lib.ListN.{length-set}
+use Rattle.search.proofs.MaskLaws.{store-behind, kept-trans, kept-grown}
 use borrow.Author.Needs.{needs}
 use Rattle.search.proofs.force.note.Statement.{statement}
 use Rattle.search.proofs.force.note.Tie as tie
 
+mul-at : tie.Need-mul-at
+mul-at c = search needs
+
+add-at : tie.Need-add-at
+add-at c = search needs
+
 has-requires : tie.Need-has-requires
 has-requires c κs = search needs
 
-widen-requires : tie.Need-widen-requires
-widen-requires c κs = search needs
+mul-lower : tie.Need-mul-lower
+mul-lower c = search needs
 
-same-length : tie.Need-same-length
-same-length c = search needs
+slice-read-lower : tie.Need-slice-read-lower
+slice-read-lower c = search needs
 
-same-length-2 : tie.Need-same-length-2
-same-length-2 c = search needs
+lower-requires : tie.Need-lower-requires
+lower-requires c κs = search needs
 
-returns : tie.Need-returns
-returns c = search needs
+add-higher : tie.Need-add-higher
+add-higher c = search needs
+
+mul-higher : tie.Need-mul-higher
+mul-higher c = search needs
+
+slice-read-higher : tie.Need-slice-read-higher
+slice-read-higher c = search needs
+
+higher-requires : tie.Need-higher-requires
+higher-requires c κs = search needs
 
 add-requires : tie.Need-add-requires
 add-requires c κs = search needs
 
-cast-hints : tie.Need-cast-hints
-cast-hints c = search needs
+mul-sets : tie.Need-mul-sets
+mul-sets c = search needs
 
-mul-hints : tie.Need-mul-hints
-mul-hints c = search needs
+slice-write-sets : tie.Need-slice-write-sets
+slice-write-sets c = search needs
 
-mul-hints-2 : tie.Need-mul-hints-2
-mul-hints-2 c = search needs
+add-sets : tie.Need-add-sets
+add-sets c = search needs
 
-slice-write-hints : tie.Need-slice-write-hints
-slice-write-hints c = search needs
+mul-sets-2 : tie.Need-mul-sets-2
+mul-sets-2 c = search needs
 
-cast-hints-2 : tie.Need-cast-hints-2
-cast-hints-2 c = search needs
+slice-write-sets-2 : tie.Need-slice-write-sets-2
+slice-write-sets-2 c = simp length-set (omega arith)
 
-mul-hints-3 : tie.Need-mul-hints-3
-mul-hints-3 c = search needs
+same-length : tie.Need-same-length
+same-length c = search needs
 
-add-hints : tie.Need-add-hints
-add-hints c = search needs
-
-mul-hints-4 : tie.Need-mul-hints-4
-mul-hints-4 c = search needs
-
-slice-write-hints-2 : tie.Need-slice-write-hints-2
-slice-write-hints-2 c = simp length-set (omega arith)
-
-same-length-3 : tie.Need-same-length-3
-same-length-3 c = search needs
-
-same-length-4 : tie.Need-same-length-4
-same-length-4 c = search needs
-
-returns-2 : tie.Need-returns-2
-returns-2 c = search needs
+returns : tie.Need-returns
+returns c = kept-trans (kept-grown (omega arith) (c .before .before .add .ensures .0)) (kept-trans (store-behind _ _ _ (omega arith)) (store-behind _ _ _ (omega arith)))
 
 pub note-spec : {M : Type 1} → statement M
 note-spec =
     tie.close
     (tie.spec
+    mul-at
+    add-at
     has-requires
-    widen-requires
-    same-length
-    same-length-2
-    returns
+    mul-lower
+    slice-read-lower
+    lower-requires
+    add-higher
+    mul-higher
+    slice-read-higher
+    higher-requires
     add-requires
-    cast-hints
-    mul-hints
-    mul-hints-2
-    slice-write-hints
-    cast-hints-2
-    mul-hints-3
-    add-hints
-    mul-hints-4
-    slice-write-hints-2
-    same-length-3
-    same-length-4
-    returns-2)
+    mul-sets
+    slice-write-sets
+    add-sets
+    mul-sets-2
+    slice-write-sets-2
+    same-length
+    returns)

@@ -9,33 +9,30 @@ use Rattle.search.proofs.force.survey.Statement.{statement}
 use Rattle.search.proofs.force.survey.Tie as tie
 
 abbrev Inv-loop : tie.InvT-loop
-Inv-loop splits codes work₀ sets₀ hints₀ i₀ work sets hints i = Going splits codes 0 (length splits) 1 work₀ work sets₀ sets hints₀ hints
+Inv-loop splits codes work₀ sets₀ index i₀ work sets i = Going splits codes 0 (length splits) 1 work₀ work sets₀ sets
 
 abbrev μ-loop : tie.MeasureT-loop
-μ-loop splits codes work₀ sets₀ hints₀ i₀ work sets hints i = length splits - i
+μ-loop splits codes work₀ sets₀ index i₀ work sets i = length splits - i
 
 empty-requires : tie.Need-empty-requires Inv-loop μ-loop
-empty-requires c κs = (omega arith, omega arith)
+empty-requires c κs = (omega arith, omega arith, omega arith)
 
 loop-holds : tie.Need-loop-holds Inv-loop μ-loop
 loop-holds c = going-start
 
 survey-row-requires : tie.Need-survey-row-requires Inv-loop μ-loop
-survey-row-requires c κs = (lent-still (c .before .before .before .before .loop .inv) (lent-noted (c .before .before .before .before .before .before .before .before .before .before .before .before .before .before .pre) (c .before .before .before .before .before .before .before .empty .kept .0) refl), omega arith)
+survey-row-requires c κs = (lent-still (c .before .before .before .loop .inv) (lent-noted (c .before .before .before .before .before .before .before .before .before .before .before .before .before .pre) (c .before .before .before .before .before .before .empty .kept .0)), omega arith)
 
 same-length : tie.Need-same-length Inv-loop μ-loop
-same-length c = c .before .before .before .before .before .before .before .survey-row .kept .1 .1 .0 ∙ c .before .before .before .before .before .before .before .before .before .before .before .before .loop .inv .work
+same-length c = c .before .before .before .before .before .survey-row .kept .1 .1 .0 ∙ c .before .before .before .before .before .before .before .before .before .loop .inv .work
 
 same-length-2 : tie.Need-same-length-2 Inv-loop μ-loop
-same-length-2 c = c .before .before .before .before .before .before .before .survey-row .kept .1 .1 .1 .0 ∙ c .before .before .before .before .before .before .before .before .before .before .before .before .loop .inv .sets ∙ c .before .before .before .before .before .before .before .before .before .before .before .before .before .before .before .empty .kept .0
-
-same-length-3 : tie.Need-same-length-3 Inv-loop μ-loop
-same-length-3 c = c .before .before .before .before .before .before .before .survey-row .kept .1 .1 .1 .1 .0 ∙ c .before .before .before .before .before .before .before .before .before .before .before .before .loop .inv .hints
+same-length-2 c = c .before .before .before .before .before .survey-row .kept .1 .1 .1 .0 ∙ c .before .before .before .before .before .before .before .before .before .loop .inv .sets ∙ c .before .before .before .before .before .before .before .before .before .before .before .before .empty .kept .0
 
 returns : tie.Need-returns Inv-loop μ-loop
 returns c =
-    noted-first (c .before .before .before .before .before .before .before .before .before .before .before .before .before .before .before .before .before .before .before .before .before .before .args .splits .now) (c .before .before .before .before .before .before .before .before .before .before .before .before .before .before .before .before .before .before .before .before .before .before .args .codes .now) 0 (length (c .before .before .before .before .before .before .before .before .before .before .before .before .before .before .before .before .before .before .before .before .before .before .args .splits .now)) 1 (c .before .before .before .before .before .before .before .before .before .before .before .before .before .before .before .before .before .before .before .before .before .before .args .work .now) (c .before .before .before .before .before .before .before .survey-row .last .1 .1 .0) (c .before .before .before .before .before .before .before .before .before .before .before .before .before .before .before .before .before .before .before .before .before .before .args .sets .now) (c .before .before .before .before .before .before .before .before .before .before .before .before .before .before .before .empty .last .0) (c .before .before .before .before .before .before .before .survey-row .last .1 .1 .1 .0) false (c .before .before .before .before .before .before .before .before .before .before .before .before .before .before .before .empty .ensures)
-    (going-ends (c .before .before .before .before .before .before .before .before .before .before .before .before .loop .inv) (c .before .before .before .before .before .before .before .survey-row .last .1 .1 .0) (c .before .before .before .before .before .before .before .survey-row .last .1 .1 .1 .0) (c .before .before .before .before .before .before .before .survey-row .result) (c .before .before .before .before .before .before .before .survey-row .ensures) (c .if1 .left))
+    noted-first (c .before .before .before .before .before .before .before .before .before .before .before .before .before .before .before .before .before .before .before .args .splits .now) (c .before .before .before .before .before .before .before .before .before .before .before .before .before .before .before .before .before .before .before .args .codes .now) 0 (length (c .before .before .before .before .before .before .before .before .before .before .before .before .before .before .before .before .before .before .before .args .splits .now)) 1 (c .before .before .before .before .before .before .before .before .before .before .before .before .before .before .before .before .before .before .before .args .work .now) (c .before .before .before .before .before .survey-row .last .1 .1 .0) (c .before .before .before .before .before .before .before .before .before .before .before .before .before .before .before .before .before .before .before .args .sets .now) (c .before .before .before .before .before .before .before .before .before .before .before .before .empty .last .0) (c .before .before .before .before .before .survey-row .last .1 .1 .1 .0) false (c .before .before .before .before .before .before .before .before .before .before .before .before .empty .ensures)
+    (going-ends (c .before .before .before .before .before .before .before .before .before .loop .inv) (c .before .before .before .before .before .survey-row .last .1 .1 .0) (c .before .before .before .before .before .survey-row .last .1 .1 .1 .0) (c .before .before .before .before .before .survey-row .result) (c .before .before .before .before .before .survey-row .ensures) (c .if1 .left))
 
 add-i : tie.Need-add-i Inv-loop μ-loop
 add-i c = omega arith
@@ -44,24 +41,21 @@ loop-less : tie.Need-loop-less Inv-loop μ-loop
 loop-less c = omega arith
 
 loop-again : tie.Need-loop-again Inv-loop μ-loop
-loop-again c = going-then (c .before .before .before .before .before .before .before .before .before .before .before .before .loop .inv) (c .before .before .before .before .before .before .before .survey-row .result) (c .before .before .before .before .before .before .before .survey-row .ensures) (c .if1 .taken) (c .before .before .before .before .before .before .before .survey-row .kept .1 .1 .0) (c .before .before .before .before .before .before .before .survey-row .kept .1 .1 .1 .0) (c .before .before .before .before .before .before .before .survey-row .kept .1 .1 .1 .1 .0)
+loop-again c = going-then (c .before .before .before .before .before .before .before .before .before .loop .inv) (c .before .before .before .before .before .survey-row .result) (c .before .before .before .before .before .survey-row .ensures) (c .if1 .taken) (c .before .before .before .before .before .survey-row .kept .1 .1 .0) (c .before .before .before .before .before .survey-row .kept .1 .1 .1 .0)
 
 settle-requires : tie.Need-settle-requires Inv-loop μ-loop
-settle-requires c κs = (lent-still (c .before .before .before .before .loop .inv) (lent-noted (c .before .before .before .before .before .before .before .before .before .before .before .before .before .before .pre) (c .before .before .before .before .before .before .before .empty .kept .0) refl), omega arith)
+settle-requires c κs = (lent-still (c .before .before .before .loop .inv) (lent-noted (c .before .before .before .before .before .before .before .before .before .before .before .before .before .pre) (c .before .before .before .before .before .before .empty .kept .0)), omega arith)
+
+same-length-3 : tie.Need-same-length-3 Inv-loop μ-loop
+same-length-3 c = c .before .before .before .before .settle .kept .1 .1 .0 ∙ c .before .before .before .before .before .before .before .before .loop .inv .work
 
 same-length-4 : tie.Need-same-length-4 Inv-loop μ-loop
-same-length-4 c = c .before .before .before .before .before .before .settle .kept .1 .1 .0 ∙ c .before .before .before .before .before .before .before .before .before .before .before .loop .inv .work
-
-same-length-5 : tie.Need-same-length-5 Inv-loop μ-loop
-same-length-5 c = c .before .before .before .before .before .before .settle .kept .1 .1 .1 .0 ∙ c .before .before .before .before .before .before .before .before .before .before .before .loop .inv .sets ∙ c .before .before .before .before .before .before .before .before .before .before .before .before .before .before .empty .kept .0
-
-same-length-6 : tie.Need-same-length-6 Inv-loop μ-loop
-same-length-6 c = c .before .before .before .before .before .before .settle .kept .1 .1 .1 .1 .0 ∙ c .before .before .before .before .before .before .before .before .before .before .before .loop .inv .hints
+same-length-4 c = c .before .before .before .before .settle .kept .1 .1 .1 .0 ∙ c .before .before .before .before .before .before .before .before .loop .inv .sets ∙ c .before .before .before .before .before .before .before .before .before .before .before .empty .kept .0
 
 returns-2 : tie.Need-returns-2 Inv-loop μ-loop
 returns-2 c =
-    noted-first (c .before .before .before .before .before .before .before .before .before .before .before .before .before .before .before .before .before .before .before .before .before .args .splits .now) (c .before .before .before .before .before .before .before .before .before .before .before .before .before .before .before .before .before .before .before .before .before .args .codes .now) 0 (length (c .before .before .before .before .before .before .before .before .before .before .before .before .before .before .before .before .before .before .before .before .before .args .splits .now)) 1 (c .before .before .before .before .before .before .before .before .before .before .before .before .before .before .before .before .before .before .before .before .before .args .work .now) (c .before .before .before .before .before .before .settle .last .1 .1 .0) (c .before .before .before .before .before .before .before .before .before .before .before .before .before .before .before .before .before .before .before .before .before .args .sets .now) (c .before .before .before .before .before .before .before .before .before .before .before .before .before .before .empty .last .0) (c .before .before .before .before .before .before .settle .last .1 .1 .1 .0) (c .before .before .before .before .before .before .settle .result) (c .before .before .before .before .before .before .before .before .before .before .before .before .before .before .empty .ensures)
-    (going-last (c .before .before .before .before .before .before .before .before .before .before .before .loop .inv) (c .before .before .before .before .before .before .settle .last .1 .1 .0) (c .before .before .before .before .before .before .settle .last .1 .1 .1 .0) (c .before .before .before .before .before .before .settle .result) (c .before .before .before .before .before .before .settle .ensures))
+    noted-first (c .before .before .before .before .before .before .before .before .before .before .before .before .before .before .before .before .before .before .args .splits .now) (c .before .before .before .before .before .before .before .before .before .before .before .before .before .before .before .before .before .before .args .codes .now) 0 (length (c .before .before .before .before .before .before .before .before .before .before .before .before .before .before .before .before .before .before .args .splits .now)) 1 (c .before .before .before .before .before .before .before .before .before .before .before .before .before .before .before .before .before .before .args .work .now) (c .before .before .before .before .settle .last .1 .1 .0) (c .before .before .before .before .before .before .before .before .before .before .before .before .before .before .before .before .before .before .args .sets .now) (c .before .before .before .before .before .before .before .before .before .before .before .empty .last .0) (c .before .before .before .before .settle .last .1 .1 .1 .0) (c .before .before .before .before .settle .result) (c .before .before .before .before .before .before .before .before .before .before .before .empty .ensures)
+    (going-last (c .before .before .before .before .before .before .before .before .loop .inv) (c .before .before .before .before .settle .last .1 .1 .0) (c .before .before .before .before .settle .last .1 .1 .1 .0) (c .before .before .before .before .settle .result) (c .before .before .before .before .settle .ensures))
 
 pub survey-spec : {M : Type 1} → statement M
 survey-spec =
@@ -74,13 +68,11 @@ survey-spec =
     survey-row-requires
     same-length
     same-length-2
-    same-length-3
     returns
     add-i
     loop-less
     loop-again
     settle-requires
+    same-length-3
     same-length-4
-    same-length-5
-    same-length-6
     returns-2)

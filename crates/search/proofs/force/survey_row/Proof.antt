@@ -9,10 +9,10 @@ use Rattle.search.proofs.force.survey_row.Statement.{statement}
 use Rattle.search.proofs.force.survey_row.Tie as tie
 
 abbrev Inv-loop : tie.InvT-loop
-Inv-loop splits codes work₀ sets₀ hints₀ i start₀ work sets hints start = Going splits codes 0 (length splits) 1 work₀ work sets₀ sets hints₀ hints
+Inv-loop splits codes work₀ sets₀ index i start₀ work sets start = Going splits codes 0 (length splits) 1 work₀ work sets₀ sets
 
 abbrev μ-loop : tie.MeasureT-loop
-μ-loop splits codes work₀ sets₀ hints₀ i start₀ work sets hints start = length codes - start
+μ-loop splits codes work₀ sets₀ index i start₀ work sets start = length codes - start
 
 loop-holds : tie.Need-loop-holds Inv-loop μ-loop
 loop-holds c = going-start
@@ -21,19 +21,16 @@ repeats-requires : tie.Need-repeats-requires Inv-loop μ-loop
 repeats-requires c κs = omega arith
 
 touch-requires : tie.Need-touch-requires Inv-loop μ-loop
-touch-requires c κs = (lent-still (c .before .before .before .before .before .before .loop .inv) (c .before .before .before .before .before .before .before .before .before .before .before .before .pre .0), (omega arith, omega arith, omega arith))
+touch-requires c κs = (lent-still (c .before .before .before .before .before .loop .inv) (c .before .before .before .before .before .before .before .before .before .before .before .pre .0), (omega arith, omega arith, omega arith))
 
 same-length : tie.Need-same-length Inv-loop μ-loop
-same-length c = c .before .before .before .before .before .before .before .touch .kept .1 .1 .0 ∙ c .before .before .before .before .before .before .before .before .before .before .before .before .before .before .loop .inv .work
+same-length c = c .before .before .before .before .before .touch .kept .1 .1 .0 ∙ c .before .before .before .before .before .before .before .before .before .before .before .loop .inv .work
 
 same-length-2 : tie.Need-same-length-2 Inv-loop μ-loop
-same-length-2 c = c .before .before .before .before .before .before .before .touch .kept .1 .1 .1 .0 ∙ c .before .before .before .before .before .before .before .before .before .before .before .before .before .before .loop .inv .sets
-
-same-length-3 : tie.Need-same-length-3 Inv-loop μ-loop
-same-length-3 c = c .before .before .before .before .before .before .before .touch .kept .1 .1 .1 .1 .0 ∙ c .before .before .before .before .before .before .before .before .before .before .before .before .before .before .loop .inv .hints
+same-length-2 c = c .before .before .before .before .before .touch .kept .1 .1 .1 .0 ∙ c .before .before .before .before .before .before .before .before .before .before .before .loop .inv .sets
 
 returns : tie.Need-returns Inv-loop μ-loop
-returns c = going-ends (c .before .before .before .before .before .before .before .before .before .before .before .before .before .before .loop .inv) (c .before .before .before .before .before .before .before .touch .last .1 .1 .0) (c .before .before .before .before .before .before .before .touch .last .1 .1 .1 .0) (c .before .before .before .before .before .before .before .touch .result) (c .before .before .before .before .before .before .before .touch .ensures) (c .if2 .left)
+returns c = going-ends (c .before .before .before .before .before .before .before .before .before .before .before .loop .inv) (c .before .before .before .before .before .touch .last .1 .1 .0) (c .before .before .before .before .before .touch .last .1 .1 .1 .0) (c .before .before .before .before .before .touch .result) (c .before .before .before .before .before .touch .ensures) (c .if2 .left)
 
 past-clause-requires : tie.Need-past-clause-requires Inv-loop μ-loop
 past-clause-requires c κs = omega arith
@@ -44,18 +41,15 @@ loop-less c = omega arith
 loop-again : tie.Need-loop-again Inv-loop μ-loop
 loop-again c =
     ⊎-elim
-    (λ w. going-at (c .before .before .before .before .loop .inv) (w .1) (w .2) (w .3))
-    (λ w. going-at (going-then (c .before .before .before .before .loop .inv) (w .4 .result) (w .4 .ensures) (w .11 .taken) (w .4 .kept .1 .1 .0) (w .4 .kept .1 .1 .1 .0) (w .4 .kept .1 .1 .1 .1 .0)) (w .12) (w .13) (w .14))
+    (λ w. going-at (c .before .before .before .before .loop .inv) (w .1) (w .2))
+    (λ w. going-at (going-then (c .before .before .before .before .loop .inv) (w .3 .result) (w .3 .ensures) (w .8 .taken) (w .3 .kept .1 .1 .0) (w .3 .kept .1 .1 .1 .0)) (w .9) (w .10))
     (c .before .if1 .came)
 
+same-length-3 : tie.Need-same-length-3 Inv-loop μ-loop
+same-length-3 c = c .before .loop .inv .work
+
 same-length-4 : tie.Need-same-length-4 Inv-loop μ-loop
-same-length-4 c = c .before .loop .inv .work
-
-same-length-5 : tie.Need-same-length-5 Inv-loop μ-loop
-same-length-5 c = c .before .loop .inv .sets
-
-same-length-6 : tie.Need-same-length-6 Inv-loop μ-loop
-same-length-6 c = c .before .loop .inv .hints
+same-length-4 c = c .before .loop .inv .sets
 
 returns-2 : tie.Need-returns-2 Inv-loop μ-loop
 returns-2 c = c .before .loop .inv .settles
@@ -71,12 +65,10 @@ survey-row-spec =
     touch-requires
     same-length
     same-length-2
-    same-length-3
     returns
     past-clause-requires
     loop-less
     loop-again
+    same-length-3
     same-length-4
-    same-length-5
-    same-length-6
     returns-2)

@@ -21,7 +21,7 @@ returns-2 : tie.Need-returns-2
 returns-2 c = settles-nothing (c .before .before .before .before .before .before .before .before .before .before .args .splits .now) (c .before .before .before .before .before .before .before .before .before .before .args .codes .now) (c .before .before .before .before .before .before .before .before .before .before .args .lo) (c .before .before .before .before .before .before .before .before .before .before .args .hi) (c .before .before .before .before .before .before .before .before .before .before .args .mark) (c .before .before .before .before .before .before .before .before .before .before .args .work .now) (c .before .before .before .before .before .before .before .before .before .before .args .sets .now)
 
 empty-requires : tie.Need-empty-requires
-empty-requires c κs = (omega arith, omega arith)
+empty-requires c κs = (omega arith, omega arith, omega arith)
 
 blame-requires : tie.Need-blame-requires
 blame-requires c κs = (omega arith, omega arith, c .before .before .before .before .before .before .before .before .before .before .before .before .before .before .before .before .pre .0 .coded)
@@ -38,19 +38,16 @@ returns-3 c =
     (c .before .before .before .before .before .before .before .before .before .before .look .result) (omega arith) (c .before .before .before .before .before .before .before .before .before .before .look .ensures) (c .before .before .before .before .before .before .empty .last .0) (c .before .before .blame .last .1 .0) (c .before .before .before .before .before .before .empty .ensures) (c .before .before .blame .ensures)
 
 force-requires : tie.Need-force-requires
-force-requires c κs = (c .before .before .before .before .before .before .before .before .before .before .before .before .before .before .pre .0, (c .before .before .before .before .before .before .before .before .before .before .before .before .before .before .pre .1 .0, c .before .before .before .before .before .before .before .before .before .before .before .before .before .before .pre .1 .1, c .before .before .before .before .before .before .before .before .before .before .before .before .before .before .pre .1 .2, omega arith, c .before .before .before .before .before .look .ensures .fits (omega arith)))
+force-requires c κs = (c .before .before .before .before .before .before .before .before .before .before .before .before .before .pre .0, (c .before .before .before .before .before .before .before .before .before .before .before .before .before .pre .1 .0, c .before .before .before .before .before .before .before .before .before .before .before .before .before .pre .1 .1, c .before .before .before .before .before .before .before .before .before .before .before .before .before .pre .1 .2, omega arith, c .before .before .before .before .look .ensures .fits (omega arith)))
 
 same-length-4 : tie.Need-same-length-4
-same-length-4 c = c .before .before .before .before .before .before .force .kept .1 .1 .0
+same-length-4 c = c .before .before .before .before .force .kept .1 .1 .0
 
 same-length-5 : tie.Need-same-length-5
-same-length-5 c = c .before .before .before .before .before .before .force .kept .1 .1 .1 .0
-
-same-length-6 : tie.Need-same-length-6
-same-length-6 c = c .before .before .before .before .before .before .force .kept .1 .1 .1 .1 .0
+same-length-5 c = c .before .before .before .before .force .kept .1 .1 .1 .0
 
 returns-4 : tie.Need-returns-4
-returns-4 c = c .before .before .before .before .before .before .force .ensures (c .before .before .before .before .before .before .before .before .before .before .before .before .before .before .before .begins .ensures (c .before .before .before .before .before .before .before .before .before .before .before .before .before .before .if1 .taken)) (c .before .before .before .before .before .before .before .before .before .before .before .before .look .ensures)
+returns-4 c = c .before .before .before .before .force .ensures (c .before .before .before .before .before .before .before .before .before .before .before .before .begins .ensures (c .before .before .before .before .before .before .before .before .before .before .before .if1 .taken)) (c .before .before .before .before .before .before .before .before .before .look .ensures)
 
 pub touch-spec : {M : Type 1} → statement M
 touch-spec =
@@ -69,5 +66,4 @@ touch-spec =
     force-requires
     same-length-4
     same-length-5
-    same-length-6
     returns-4)

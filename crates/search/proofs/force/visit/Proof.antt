@@ -7,10 +7,10 @@ use Rattle.search.proofs.force.visit.Statement.{statement}
 use Rattle.search.proofs.force.visit.Tie as tie
 
 abbrev Inv-loop : tie.InvT-loop
-Inv-loop splits codes work₀ sets₀ hints₀ mark lo hi k from to i₀ work sets hints i = (from ≤ i) × Going splits codes lo hi mark work₀ work sets₀ sets hints₀ hints
+Inv-loop splits codes work₀ sets₀ index mark lo hi k from to i₀ work sets i = (from ≤ i) × Going splits codes lo hi mark work₀ work sets₀ sets
 
 abbrev μ-loop : tie.MeasureT-loop
-μ-loop splits codes work₀ sets₀ hints₀ mark lo hi k from to i₀ work sets hints i = to - i
+μ-loop splits codes work₀ sets₀ index mark lo hi k from to i₀ work sets i = to - i
 
 loop-holds : tie.Need-loop-holds Inv-loop μ-loop
 loop-holds c = (omega arith, going-start)
@@ -22,19 +22,16 @@ shortened-requires : tie.Need-shortened-requires Inv-loop μ-loop
 shortened-requires c κs = omega arith
 
 visit-row-requires : tie.Need-visit-row-requires Inv-loop μ-loop
-visit-row-requires c κs = (lent-still (c .before .before .before .before .before .before .before .loop .inv .1) (c .before .before .before .before .before .before .before .before .before .before .before .before .before .pre .0), (omega arith, omega arith, omega arith, omega arith, omega arith))
+visit-row-requires c κs = (lent-still (c .before .before .before .before .before .before .loop .inv .1) (c .before .before .before .before .before .before .before .before .before .before .before .before .pre .0), (omega arith, omega arith, omega arith, omega arith, omega arith))
 
 same-length : tie.Need-same-length Inv-loop μ-loop
-same-length c = c .before .before .before .before .before .before .before .visit-row .kept .1 .1 .0 ∙ c .before .before .before .before .before .before .before .before .before .before .before .before .before .before .before .loop .inv .1 .work
+same-length c = c .before .before .before .before .before .visit-row .kept .1 .1 .0 ∙ c .before .before .before .before .before .before .before .before .before .before .before .before .loop .inv .1 .work
 
 same-length-2 : tie.Need-same-length-2 Inv-loop μ-loop
-same-length-2 c = c .before .before .before .before .before .before .before .visit-row .kept .1 .1 .1 .0 ∙ c .before .before .before .before .before .before .before .before .before .before .before .before .before .before .before .loop .inv .1 .sets
-
-same-length-3 : tie.Need-same-length-3 Inv-loop μ-loop
-same-length-3 c = c .before .before .before .before .before .before .before .visit-row .kept .1 .1 .1 .1 .0 ∙ c .before .before .before .before .before .before .before .before .before .before .before .before .before .before .before .loop .inv .1 .hints
+same-length-2 c = c .before .before .before .before .before .visit-row .kept .1 .1 .1 .0 ∙ c .before .before .before .before .before .before .before .before .before .before .before .before .loop .inv .1 .sets
 
 returns : tie.Need-returns Inv-loop μ-loop
-returns c = going-ends (c .before .before .before .before .before .before .before .before .before .before .before .before .before .before .before .loop .inv .1) (c .before .before .before .before .before .before .before .visit-row .last .1 .1 .0) (c .before .before .before .before .before .before .before .visit-row .last .1 .1 .1 .0) (c .before .before .before .before .before .before .before .visit-row .result) (c .before .before .before .before .before .before .before .visit-row .ensures) (c .if1 .left)
+returns c = going-ends (c .before .before .before .before .before .before .before .before .before .before .before .before .loop .inv .1) (c .before .before .before .before .before .visit-row .last .1 .1 .0) (c .before .before .before .before .before .visit-row .last .1 .1 .1 .0) (c .before .before .before .before .before .visit-row .result) (c .before .before .before .before .before .visit-row .ensures) (c .if1 .left)
 
 add-i : tie.Need-add-i Inv-loop μ-loop
 add-i c = omega arith
@@ -43,16 +40,13 @@ loop-less : tie.Need-loop-less Inv-loop μ-loop
 loop-less c = omega arith
 
 loop-again : tie.Need-loop-again Inv-loop μ-loop
-loop-again c = (omega arith, going-then (c .before .before .before .before .before .before .before .before .before .before .before .before .before .before .before .loop .inv .1) (c .before .before .before .before .before .before .before .visit-row .result) (c .before .before .before .before .before .before .before .visit-row .ensures) (c .if1 .taken) (c .before .before .before .before .before .before .before .visit-row .kept .1 .1 .0) (c .before .before .before .before .before .before .before .visit-row .kept .1 .1 .1 .0) (c .before .before .before .before .before .before .before .visit-row .kept .1 .1 .1 .1 .0))
+loop-again c = (omega arith, going-then (c .before .before .before .before .before .before .before .before .before .before .before .before .loop .inv .1) (c .before .before .before .before .before .visit-row .result) (c .before .before .before .before .before .visit-row .ensures) (c .if1 .taken) (c .before .before .before .before .before .visit-row .kept .1 .1 .0) (c .before .before .before .before .before .visit-row .kept .1 .1 .1 .0))
+
+same-length-3 : tie.Need-same-length-3 Inv-loop μ-loop
+same-length-3 c = c .before .loop .inv .1 .work
 
 same-length-4 : tie.Need-same-length-4 Inv-loop μ-loop
-same-length-4 c = c .before .loop .inv .1 .work
-
-same-length-5 : tie.Need-same-length-5 Inv-loop μ-loop
-same-length-5 c = c .before .loop .inv .1 .sets
-
-same-length-6 : tie.Need-same-length-6 Inv-loop μ-loop
-same-length-6 c = c .before .loop .inv .1 .hints
+same-length-4 c = c .before .loop .inv .1 .sets
 
 returns-2 : tie.Need-returns-2 Inv-loop μ-loop
 returns-2 c = c .before .loop .inv .1 .settles
@@ -69,12 +63,10 @@ visit-spec =
     visit-row-requires
     same-length
     same-length-2
-    same-length-3
     returns
     add-i
     loop-less
     loop-again
+    same-length-3
     same-length-4
-    same-length-5
-    same-length-6
     returns-2)

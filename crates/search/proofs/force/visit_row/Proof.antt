@@ -9,19 +9,16 @@ use Rattle.search.proofs.force.visit_row.Statement.{statement}
 use Rattle.search.proofs.force.visit_row.Tie as tie
 
 abbrev Inv-loop : tie.InvT-loop
-Inv-loop splits codes work₀ sets₀ hints₀ mark lo hi c from i end at₀ work sets hints at = (end ≤ length hints₀) × Going splits codes lo hi mark work₀ work sets₀ sets hints₀ hints
+Inv-loop splits codes work₀ sets₀ index mark lo hi c from i end at₀ work sets at = (end ≤ length index) × Going splits codes lo hi mark work₀ work sets₀ sets
 
 abbrev μ-loop : tie.MeasureT-loop
-μ-loop splits codes work₀ sets₀ hints₀ mark lo hi c from i end at₀ work sets hints at = end - at
-
-add-wide16 : tie.Need-add-wide16 Inv-loop μ-loop
-add-wide16 c = omega arith
+μ-loop splits codes work₀ sets₀ index mark lo hi c from i end at₀ work sets at = end - at
 
 mul-wide16 : tie.Need-mul-wide16 Inv-loop μ-loop
 mul-wide16 c = omega arith
 
-slice-read-wide16 : tie.Need-slice-read-wide16 Inv-loop μ-loop
-slice-read-wide16 c = omega arith
+shared-slice-read-wide16 : tie.Need-shared-slice-read-wide16 Inv-loop μ-loop
+shared-slice-read-wide16 c = omega arith
 
 wide16-requires : tie.Need-wide16-requires Inv-loop μ-loop
 wide16-requires c κs = tt
@@ -29,17 +26,14 @@ wide16-requires c κs = tt
 lower-requires : tie.Need-lower-requires Inv-loop μ-loop
 lower-requires c κs = tt
 
-add-wide16-2 : tie.Need-add-wide16-2 Inv-loop μ-loop
-add-wide16-2 c = omega arith
-
 sub-wide16 : tie.Need-sub-wide16 Inv-loop μ-loop
 sub-wide16 c = omega arith
 
 mul-wide16-2 : tie.Need-mul-wide16-2 Inv-loop μ-loop
 mul-wide16-2 c = omega arith
 
-slice-read-wide16-2 : tie.Need-slice-read-wide16-2 Inv-loop μ-loop
-slice-read-wide16-2 c = omega arith
+shared-slice-read-wide16-2 : tie.Need-shared-slice-read-wide16-2 Inv-loop μ-loop
+shared-slice-read-wide16-2 c = omega arith
 
 wide16-requires-2 : tie.Need-wide16-requires-2 Inv-loop μ-loop
 wide16-requires-2 c κs = tt
@@ -50,8 +44,8 @@ loop-holds c = (omega arith, going-start)
 mul-wide16-3 : tie.Need-mul-wide16-3 Inv-loop μ-loop
 mul-wide16-3 c = omega arith
 
-slice-read-wide16-3 : tie.Need-slice-read-wide16-3 Inv-loop μ-loop
-slice-read-wide16-3 c = omega arith
+shared-slice-read-wide16-3 : tie.Need-shared-slice-read-wide16-3 Inv-loop μ-loop
+shared-slice-read-wide16-3 c = omega arith
 
 wide16-requires-3 : tie.Need-wide16-requires-3 Inv-loop μ-loop
 wide16-requires-3 c κs = tt
@@ -60,19 +54,16 @@ repeats-requires : tie.Need-repeats-requires Inv-loop μ-loop
 repeats-requires c κs = omega arith
 
 touch-requires : tie.Need-touch-requires Inv-loop μ-loop
-touch-requires c κs = (lent-still (c .before .before .before .before .before .before .before .before .loop .inv .1) (c .before .before .before .before .before .before .before .before .before .before .before .before .before .before .before .before .before .before .before .pre .0), (omega arith, omega arith, omega arith))
+touch-requires c κs = (lent-still (c .before .before .before .before .before .before .before .loop .inv .1) (c .before .before .before .before .before .before .before .before .before .before .before .before .before .before .before .before .before .before .pre .0), (omega arith, omega arith, omega arith))
 
 same-length : tie.Need-same-length Inv-loop μ-loop
-same-length c = c .before .before .before .before .before .before .before .touch .kept .1 .1 .0 ∙ c .before .before .before .before .before .before .before .before .before .before .before .before .before .before .before .before .loop .inv .1 .work
+same-length c = c .before .before .before .before .before .touch .kept .1 .1 .0 ∙ c .before .before .before .before .before .before .before .before .before .before .before .before .before .loop .inv .1 .work
 
 same-length-2 : tie.Need-same-length-2 Inv-loop μ-loop
-same-length-2 c = c .before .before .before .before .before .before .before .touch .kept .1 .1 .1 .0 ∙ c .before .before .before .before .before .before .before .before .before .before .before .before .before .before .before .before .loop .inv .1 .sets
-
-same-length-3 : tie.Need-same-length-3 Inv-loop μ-loop
-same-length-3 c = c .before .before .before .before .before .before .before .touch .kept .1 .1 .1 .1 .0 ∙ c .before .before .before .before .before .before .before .before .before .before .before .before .before .before .before .before .loop .inv .1 .hints
+same-length-2 c = c .before .before .before .before .before .touch .kept .1 .1 .1 .0 ∙ c .before .before .before .before .before .before .before .before .before .before .before .before .before .loop .inv .1 .sets
 
 returns : tie.Need-returns Inv-loop μ-loop
-returns c = going-ends (c .before .before .before .before .before .before .before .before .before .before .before .before .before .before .before .before .loop .inv .1) (c .before .before .before .before .before .before .before .touch .last .1 .1 .0) (c .before .before .before .before .before .before .before .touch .last .1 .1 .1 .0) (c .before .before .before .before .before .before .before .touch .result) (c .before .before .before .before .before .before .before .touch .ensures) (c .if2 .left)
+returns c = going-ends (c .before .before .before .before .before .before .before .before .before .before .before .before .before .loop .inv .1) (c .before .before .before .before .before .touch .last .1 .1 .0) (c .before .before .before .before .before .touch .last .1 .1 .1 .0) (c .before .before .before .before .before .touch .result) (c .before .before .before .before .before .touch .ensures) (c .if2 .left)
 
 add-at : tie.Need-add-at Inv-loop μ-loop
 add-at c = omega arith
@@ -84,19 +75,16 @@ loop-again : tie.Need-loop-again Inv-loop μ-loop
 loop-again c = (
   omega arith,
   ⊎-elim
-      (λ w. going-at (c .before .before .before .before .before .loop .inv .1) (w .1) (w .2) (w .3))
-      (λ w. going-at (going-then (c .before .before .before .before .before .loop .inv .1) (w .4 .result) (w .4 .ensures) (w .11 .taken) (w .4 .kept .1 .1 .0) (w .4 .kept .1 .1 .1 .0) (w .4 .kept .1 .1 .1 .1 .0)) (w .12) (w .13) (w .14))
+      (λ w. going-at (c .before .before .before .before .before .loop .inv .1) (w .1) (w .2))
+      (λ w. going-at (going-then (c .before .before .before .before .before .loop .inv .1) (w .3 .result) (w .3 .ensures) (w .8 .taken) (w .3 .kept .1 .1 .0) (w .3 .kept .1 .1 .1 .0)) (w .9) (w .10))
       (c .if1 .came),
 )
 
+same-length-3 : tie.Need-same-length-3 Inv-loop μ-loop
+same-length-3 c = c .before .loop .inv .1 .work
+
 same-length-4 : tie.Need-same-length-4 Inv-loop μ-loop
-same-length-4 c = c .before .loop .inv .1 .work
-
-same-length-5 : tie.Need-same-length-5 Inv-loop μ-loop
-same-length-5 c = c .before .loop .inv .1 .sets
-
-same-length-6 : tie.Need-same-length-6 Inv-loop μ-loop
-same-length-6 c = c .before .loop .inv .1 .hints
+same-length-4 c = c .before .loop .inv .1 .sets
 
 returns-2 : tie.Need-returns-2 Inv-loop μ-loop
 returns-2 c = c .before .loop .inv .1 .settles
@@ -107,30 +95,26 @@ visit-row-spec =
     (tie.spec
     Inv-loop
     μ-loop
-    add-wide16
     mul-wide16
-    slice-read-wide16
+    shared-slice-read-wide16
     wide16-requires
     lower-requires
-    add-wide16-2
     sub-wide16
     mul-wide16-2
-    slice-read-wide16-2
+    shared-slice-read-wide16-2
     wide16-requires-2
     loop-holds
     mul-wide16-3
-    slice-read-wide16-3
+    shared-slice-read-wide16-3
     wide16-requires-3
     repeats-requires
     touch-requires
     same-length
     same-length-2
-    same-length-3
     returns
     add-at
     loop-less
     loop-again
+    same-length-3
     same-length-4
-    same-length-5
-    same-length-6
     returns-2)

@@ -1,6 +1,7 @@
 -- `sets::fill` meets its contract. Assumes nothing.
 use mathlib.Core.Path.{_∙_}
-use Rattle.search.proofs.MaskLaws.{words-full}
+use native.Mathlib.Omega.{arith}
+use Rattle.search.proofs.MaskLaws.{words-full, kept-put}
 use borrow.Author.Needs.{needs}
 use Rattle.search.proofs.sets.fill.Statement.{statement}
 use Rattle.search.proofs.sets.fill.Tie as tie
@@ -12,7 +13,7 @@ same-length : tie.Need-same-length
 same-length c = search needs
 
 returns : tie.Need-returns
-returns c = (record { others = c .before .before .put .ensures .others }, λ l h. c .before .before .put .ensures .there l ∙ words-full l h)
+returns c = (kept-put (omega arith) (c .before .before .put .ensures), λ l h. c .before .before .put .ensures .there l ∙ words-full l h)
 
 pub fill-spec : {M : Type 1} → statement M
 fill-spec = tie.close (tie.spec put-requires same-length returns)

@@ -3,7 +3,7 @@ use native.Mathlib.Omega.{arith}
 use lib.Count.{trailing-le}
 use lib.ListN.{getD}
 use Prim.Native.Nat.{_+_, _*_}
-use Rattle.search.proofs.MaskLaws.{store-one}
+use Rattle.search.proofs.MaskLaws.{store-behind}
 use borrow.Author.Needs.{needs}
 use Rattle.search.proofs.sets.take_lowest.Statement.{statement}
 use Rattle.search.proofs.sets.take_lowest.Tie as tie
@@ -36,7 +36,7 @@ same-length : tie.Need-same-length
 same-length c = search needs
 
 returns : tie.Need-returns
-returns c = store-one (c .before .before .args .sets .now) _ _ (c .before .before .args .of) (omega arith) (omega arith)
+returns c = store-behind (c .before .before .args .sets .now) _ _ (omega arith)
 
 mul-high : tie.Need-mul-high
 mul-high c = omega arith
@@ -75,7 +75,7 @@ same-length-2 : tie.Need-same-length-2
 same-length-2 c = search needs
 
 returns-2 : tie.Need-returns-2
-returns-2 c = store-one (c .before .before .before .before .args .sets .now) _ _ (c .before .before .before .before .args .of) (omega arith) (omega arith)
+returns-2 c = store-behind (c .before .before .before .before .args .sets .now) _ _ (omega arith)
 
 returns-3 : tie.Need-returns-3
 returns-3 c = search needs

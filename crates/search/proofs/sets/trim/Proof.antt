@@ -9,7 +9,7 @@ use Rattle.search.proofs.sets.trim.Statement.{statement}
 use Rattle.search.proofs.sets.trim.Tie as tie
 
 abbrev Inv-loop : tie.InvT-loop
-Inv-loop sets₀ k n low high p₀ sets p = (length sets ≡ 260) × (p ≤ n) × Trimmed k sets₀ sets
+Inv-loop sets₀ k n low high p₀ sets p = (length sets ≡ 516) × (p ≤ n) × Trimmed k sets₀ sets
 
 abbrev μ-loop : tie.MeasureT-loop
 μ-loop sets₀ k n low high p₀ sets p = n - p

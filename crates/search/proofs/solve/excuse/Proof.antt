@@ -10,7 +10,7 @@ use Rattle.search.proofs.solve.excuse.Statement.{statement}
 use Rattle.search.proofs.solve.excuse.Tie as tie
 
 abbrev Inv-loop : tie.InvT-loop
-Inv-loop sets₀ k at p₀ sets p = (length sets ≡ 260) × (k ≤ p) × Excused k p sets₀ sets
+Inv-loop sets₀ k at p₀ sets p = (length sets ≡ 516) × (k ≤ p) × Excused k p sets₀ sets
 
 abbrev μ-loop : tie.MeasureT-loop
 μ-loop sets₀ k at p₀ sets p = at - p

@@ -1,57 +1,52 @@
+-- `solve::from_start` meets its contract. Assumes nothing.
 use borrow.Author.Needs.{needs}
 use native.Mathlib.Omega.{arith}
 use Rattle.search.proofs.SearchSteps.{start-searched, start-refuted}
 use Rattle.search.proofs.solve.from_start.Statement.{statement}
 use Rattle.search.proofs.solve.from_start.Tie as tie
-use Rattle.search.proofs.solve.from_start.Reads as reads
-use Rattle.search.proofs.solve.from_start.Lts as lts
-use Rattle.search.proofs.solve.look_around.Reads as look-around-reads
-use Rattle.search.proofs.solve.solve.Reads as solve-reads
 
--- src/solve.rt:34:41
+slice-aggregate-fill : tie.Need-slice-aggregate-fill
+slice-aggregate-fill c = search needs
+
+fill-requires : tie.Need-fill-requires
+fill-requires c κs = search needs
+
 slice-aggregate-look-around : tie.Need-slice-aggregate-look-around
 slice-aggregate-look-around c = search needs
 
--- src/solve.rt:34:52
 slice-aggregate-look-around-2 : tie.Need-slice-aggregate-look-around-2
 slice-aggregate-look-around-2 c = search needs
 
--- src/solve.rt:34:8
 look-around-requires : tie.Need-look-around-requires
 look-around-requires c κs = search needs
 
--- src/solve.rt:36:43
 slice-aggregate-solve : tie.Need-slice-aggregate-solve
 slice-aggregate-solve c = search needs
 
--- src/solve.rt:36:54
 slice-aggregate-solve-2 : tie.Need-slice-aggregate-solve-2
 slice-aggregate-solve-2 c = search needs
 
--- src/solve.rt:36:9
 solve-requires : tie.Need-solve-requires
-solve-requires c κs = (record { rows = (let p = c .before .before .before .before .before .before .before .before .before .before .before .before .before .before .before .before .pre in omega (arith, c .before .before .before .before .before .before .before .before .look-around .kept .1 .1 .0, c .before .before .before .before .before .before .before .before .look-around .kept .1 .1 .1 .0, c .before .before .before .before .before .before .before .before .look-around .kept .1 .1 .1 .1 .0)); entries = (let p = c .before .before .before .before .before .before .before .before .before .before .before .before .before .before .before .before .pre in omega (arith, c .before .before .before .before .before .before .before .before .look-around .kept .1 .1 .0, c .before .before .before .before .before .before .before .before .look-around .kept .1 .1 .1 .0, c .before .before .before .before .before .before .before .before .look-around .kept .1 .1 .1 .1 .0)); coded = c .before .before .before .before .before .before .before .before .before .before .before .before .before .before .before .before .pre .4; area = (let p = c .before .before .before .before .before .before .before .before .before .before .before .before .before .before .before .before .pre in omega (arith, c .before .before .before .before .before .before .before .before .look-around .kept .1 .1 .0, c .before .before .before .before .before .before .before .before .look-around .kept .1 .1 .1 .0, c .before .before .before .before .before .before .before .before .look-around .kept .1 .1 .1 .1 .0)); sets-lent = (let p = c .before .before .before .before .before .before .before .before .before .before .before .before .before .before .before .before .pre in omega (arith, c .before .before .before .before .before .before .before .before .look-around .kept .1 .1 .0, c .before .before .before .before .before .before .before .before .look-around .kept .1 .1 .1 .0, c .before .before .before .before .before .before .before .before .look-around .kept .1 .1 .1 .1 .0)); hints-lent = (let p = c .before .before .before .before .before .before .before .before .before .before .before .before .before .before .before .before .pre in omega (arith, c .before .before .before .before .before .before .before .before .look-around .kept .1 .1 .0, c .before .before .before .before .before .before .before .before .look-around .kept .1 .1 .1 .0, c .before .before .before .before .before .before .before .before .look-around .kept .1 .1 .1 .1 .0)) }, ((let p = c .before .before .before .before .before .before .before .before .before .before .before .before .before .before .before .before .pre in omega (arith, c .before .before .before .before .before .before .before .before .look-around .kept .1 .1 .0, c .before .before .before .before .before .before .before .before .look-around .kept .1 .1 .1 .0, c .before .before .before .before .before .before .before .before .look-around .kept .1 .1 .1 .1 .0)), (let p = c .before .before .before .before .before .before .before .before .before .before .before .before .before .before .before .before .pre in omega (arith, c .before .before .before .before .before .before .before .before .look-around .kept .1 .1 .0, c .before .before .before .before .before .before .before .before .look-around .kept .1 .1 .1 .0, c .before .before .before .before .before .before .before .before .look-around .kept .1 .1 .1 .1 .0)), (let p = c .before .before .before .before .before .before .before .before .before .before .before .before .before .before .before .before .pre in omega (arith, c .before .before .before .before .before .before .before .before .look-around .kept .1 .1 .0, c .before .before .before .before .before .before .before .before .look-around .kept .1 .1 .1 .0, c .before .before .before .before .before .before .before .before .look-around .kept .1 .1 .1 .1 .0)), (let p = c .before .before .before .before .before .before .before .before .before .before .before .before .before .before .before .before .pre in omega (arith, c .before .before .before .before .before .before .before .before .look-around .kept .1 .1 .0, c .before .before .before .before .before .before .before .before .look-around .kept .1 .1 .1 .0, c .before .before .before .before .before .before .before .before .look-around .kept .1 .1 .1 .1 .0)), (let p = c .before .before .before .before .before .before .before .before .before .before .before .before .before .before .before .before .pre in omega (arith, c .before .before .before .before .before .before .before .before .look-around .kept .1 .1 .0, c .before .before .before .before .before .before .before .before .look-around .kept .1 .1 .1 .0, c .before .before .before .before .before .before .before .before .look-around .kept .1 .1 .1 .1 .0))))
+solve-requires c κs = (record { rows = (let p = c .before .before .before .before .before .before .before .before .before .before .before .before .before .before .before .before .before .before .pre in omega (arith, c .before .before .before .before .before .before .before .look-around .kept .1 .1 .0, c .before .before .before .before .before .before .before .look-around .kept .1 .1 .1 .0, c .before .before .before .before .before .before .before .before .before .before .before .before .fill .kept .1 .1 .0)); entries = (let p = c .before .before .before .before .before .before .before .before .before .before .before .before .before .before .before .before .before .before .pre in omega (arith, c .before .before .before .before .before .before .before .look-around .kept .1 .1 .0, c .before .before .before .before .before .before .before .look-around .kept .1 .1 .1 .0, c .before .before .before .before .before .before .before .before .before .before .before .before .fill .kept .1 .1 .0)); coded = c .before .before .before .before .before .before .before .before .before .before .before .before .before .before .before .before .before .before .pre .4; area = (let p = c .before .before .before .before .before .before .before .before .before .before .before .before .before .before .before .before .before .before .pre in omega (arith, c .before .before .before .before .before .before .before .look-around .kept .1 .1 .0, c .before .before .before .before .before .before .before .look-around .kept .1 .1 .1 .0, c .before .before .before .before .before .before .before .before .before .before .before .before .fill .kept .1 .1 .0)); sets-lent = (let p = c .before .before .before .before .before .before .before .before .before .before .before .before .before .before .before .before .before .before .pre in omega (arith, c .before .before .before .before .before .before .before .look-around .kept .1 .1 .0, c .before .before .before .before .before .before .before .look-around .kept .1 .1 .1 .0, c .before .before .before .before .before .before .before .before .before .before .before .before .fill .kept .1 .1 .0)); index-lent = (let p = c .before .before .before .before .before .before .before .before .before .before .before .before .before .before .before .before .before .before .pre in omega (arith, c .before .before .before .before .before .before .before .look-around .kept .1 .1 .0, c .before .before .before .before .before .before .before .look-around .kept .1 .1 .1 .0, c .before .before .before .before .before .before .before .before .before .before .before .before .fill .kept .1 .1 .0)) }, ((let p = c .before .before .before .before .before .before .before .before .before .before .before .before .before .before .before .before .before .before .pre in omega (arith, c .before .before .before .before .before .before .before .look-around .kept .1 .1 .0, c .before .before .before .before .before .before .before .look-around .kept .1 .1 .1 .0, c .before .before .before .before .before .before .before .before .before .before .before .before .fill .kept .1 .1 .0)), (let p = c .before .before .before .before .before .before .before .before .before .before .before .before .before .before .before .before .before .before .pre in omega (arith, c .before .before .before .before .before .before .before .look-around .kept .1 .1 .0, c .before .before .before .before .before .before .before .look-around .kept .1 .1 .1 .0, c .before .before .before .before .before .before .before .before .before .before .before .before .fill .kept .1 .1 .0)), (let p = c .before .before .before .before .before .before .before .before .before .before .before .before .before .before .before .before .before .before .pre in omega (arith, c .before .before .before .before .before .before .before .look-around .kept .1 .1 .0, c .before .before .before .before .before .before .before .look-around .kept .1 .1 .1 .0, c .before .before .before .before .before .before .before .before .before .before .before .before .fill .kept .1 .1 .0)), (let p = c .before .before .before .before .before .before .before .before .before .before .before .before .before .before .before .before .before .before .pre in omega (arith, c .before .before .before .before .before .before .before .look-around .kept .1 .1 .0, c .before .before .before .before .before .before .before .look-around .kept .1 .1 .1 .0, c .before .before .before .before .before .before .before .before .before .before .before .before .fill .kept .1 .1 .0)), (let p = c .before .before .before .before .before .before .before .before .before .before .before .before .before .before .before .before .before .before .pre in omega (arith, c .before .before .before .before .before .before .before .look-around .kept .1 .1 .0, c .before .before .before .before .before .before .before .look-around .kept .1 .1 .1 .0, c .before .before .before .before .before .before .before .before .before .before .before .before .fill .kept .1 .1 .0))))
 
--- src/solve.rt:22:1
 same-length : tie.Need-same-length
 same-length c = search needs
 
--- src/solve.rt:22:1
 returns : tie.Need-returns
-returns c = start-searched (c .before .before .before .before .before .before .before .before .before .before .before .before .before .before .before .before .before .before .before .before .before .args .kinds .now) (c .before .before .before .before .before .before .before .before .before .before .before .before .before .before .before .before .before .before .before .before .before .args .splits .now) (c .before .before .before .before .before .before .before .before .before .before .before .before .before .before .before .before .before .before .before .before .before .args .codes .now) (c .before .before .before .before .before .before .before .before .before .before .before .before .before .before .before .before .before .before .before .before .before .args .side) (let p = c .before .before .before .before .before .before .before .before .before .before .before .before .before .before .before .before .before .before .before .before .before .pre in omega (arith)) _ _ _ _ _ (c .before .before .before .before .before .before .before .before .before .before .before .before .before .look-around .ensures) _ _ _ (c .before .before .before .before .before .before .before .before .if1 .taken) (c .before .before .before .before .solve .ensures)
+returns c = start-searched (c .before .before .before .before .before .before .before .before .before .before .before .before .before .before .before .before .before .before .before .before .before .before .args .kinds .now) (c .before .before .before .before .before .before .before .before .before .before .before .before .before .before .before .before .before .before .before .before .before .before .args .splits .now) (c .before .before .before .before .before .before .before .before .before .before .before .before .before .before .before .before .before .before .before .before .before .before .args .codes .now) (c .before .before .before .before .before .before .before .before .before .before .before .before .before .before .before .before .before .before .before .before .before .before .args .side) (let p = c .before .before .before .before .before .before .before .before .before .before .before .before .before .before .before .before .before .before .before .before .before .before .pre in omega (arith)) _ _ _ _ _ (c .before .before .before .before .before .before .before .before .before .before .before .look-around .ensures) _ _ _ (c .before .before .before .before .before .before .before .if1 .taken) (c .before .before .before .solve .ensures)
 
--- src/solve.rt:22:1
 same-length-2 : tie.Need-same-length-2
 same-length-2 c = search needs
 
--- src/solve.rt:22:1
 returns-2 : tie.Need-returns-2
-returns-2 c = start-refuted (c .before .before .before .before .before .before .before .before .before .before .before .before .before .args .kinds .now) (c .before .before .before .before .before .before .before .before .before .before .before .before .before .args .splits .now) (c .before .before .before .before .before .before .before .before .before .before .before .before .before .args .codes .now) (c .before .before .before .before .before .before .before .before .before .before .before .before .before .args .side) (let p = c .before .before .before .before .before .before .before .before .before .before .before .before .before .pre in omega (arith)) _ _ _ _ _ (c .before .before .before .before .before .look-around .ensures) (c .if1 .left)
+returns-2 c = start-refuted (c .before .before .before .before .before .before .before .before .before .before .before .before .before .before .before .args .kinds .now) (c .before .before .before .before .before .before .before .before .before .before .before .before .before .before .before .args .splits .now) (c .before .before .before .before .before .before .before .before .before .before .before .before .before .before .before .args .codes .now) (c .before .before .before .before .before .before .before .before .before .before .before .before .before .before .before .args .side) (let p = c .before .before .before .before .before .before .before .before .before .before .before .before .before .before .before .pre in omega (arith)) _ _ _ _ _ (c .before .before .before .before .look-around .ensures) (c .if1 .left)
 
 pub from-start-spec : {M : Type 1} → statement M
 from-start-spec =
     tie.close
     (tie.spec
+    slice-aggregate-fill
+    fill-requires
     slice-aggregate-look-around
     slice-aggregate-look-around-2
     look-around-requires

@@ -8,9 +8,6 @@ use Rattle.search.proofs.solve.look_around.Tie as tie
 check-requires : tie.Need-check-requires
 check-requires c κs = search needs
 
-fill-requires : tie.Need-fill-requires
-fill-requires c κs = search needs
-
 survey-requires : tie.Need-survey-requires
 survey-requires c κs = search needs
 
@@ -20,36 +17,27 @@ same-length c = search needs
 same-length-2 : tie.Need-same-length-2
 same-length-2 c = search needs
 
+returns : tie.Need-returns
+returns c = rw (c .before .before .before .before .before .if1 .taken) (c .before .before .check .ensures (c .before .before .before .before .before .before .before .before .before .before .before .args .splits .now) 1)
+
 same-length-3 : tie.Need-same-length-3
 same-length-3 c = search needs
-
-returns : tie.Need-returns
-returns c = rw (c .before .before .before .before .before .before .before .before .if1 .taken) (c .before .before .before .before .check .ensures (c .before .before .before .before .before .before .before .before .before .before .before .before .before .before .args .splits .now) 1)
 
 same-length-4 : tie.Need-same-length-4
 same-length-4 c = search needs
 
-same-length-5 : tie.Need-same-length-5
-same-length-5 c = search needs
-
-same-length-6 : tie.Need-same-length-6
-same-length-6 c = search needs
-
 returns-2 : tie.Need-returns-2
-returns-2 c = let existential : c .before .before .before .before .before .before .before .before .before .before .before .before .before .before .before .before .before .before .before .before .args .side ≡ 0 = omega arith in rw existential (c .before .before .before .before .before .before .survey .ensures)
+returns-2 c = let existential : c .before .before .before .before .before .before .before .before .before .before .before .before .before .args .side ≡ 0 = omega arith in rw existential (c .before .before .before .before .survey .ensures)
 
 pub look-around-spec : {M : Type 1} → statement M
 look-around-spec =
     tie.close
     (tie.spec
     check-requires
-    fill-requires
     survey-requires
     same-length
     same-length-2
-    same-length-3
     returns
+    same-length-3
     same-length-4
-    same-length-5
-    same-length-6
     returns-2)

@@ -1,0 +1,1171 @@
+-- `solve`, `step`, `choose` and `attempt`, which call each other, meet their contracts. Assumes nothing.
+use Prim.Native.Nat.{ℕ, _+_, _*_, _-_, _<_}
+use native.Mathlib.Omega.{arith}
+use borrow.Author.Needs.{needs}
+use mathlib.Core.Path.{refl, sym, _∙_}
+use lib.ListN.{length}
+use Rattle.search.specs.Masks.{cut}
+use Rattle.search.proofs.SearchSteps.{tries-refuted, tries-searched, chooses-first, chooses-without, chooses-second, chooses-last, chooses-neither, splits-first, splits-second, steps-reached, steps-split, steps-choose, searches-won, searches-failed}
+use borrow.Fn.Kinds.{In}
+use borrow.Fn.PlainCycle.{Measures, is, falls, and}
+use Rattle.search.proofs.solve.attempt.Reads as attempt
+use Rattle.search.proofs.solve.attempt.Kinds as attempt-kinds
+use Rattle.search.proofs.solve.choose.Reads as choose
+use Rattle.search.proofs.solve.choose.Kinds as choose-kinds
+use Rattle.search.proofs.solve.solve.Reads as solve
+use Rattle.search.proofs.solve.solve.Kinds as solve-kinds
+use Rattle.search.proofs.solve.step.Reads as step
+use Rattle.search.proofs.solve.step.Kinds as step-kinds
+use Rattle.search.proofs.sets.add.Reads as add-reads
+use Rattle.search.proofs.sets.has.Reads as has-reads
+use Rattle.search.proofs.sets.trim.Reads as trim-reads
+use Rattle.search.proofs.sets.unite_words.Reads as unite-words-reads
+use Rattle.search.proofs.solve.excuse.Reads as excuse-reads
+use Rattle.search.proofs.solve.follow.Reads as follow-reads
+use Rattle.search.proofs.solve.parted_at.Reads as parted-at-reads
+use Rattle.search.proofs.solve.parting.Reads as parting-reads
+use Rattle.search.proofs.solve.reached.Reads as reached-reads
+use Rattle.search.proofs.solve.stand.Reads as stand-reads
+use Rattle.search.proofs.table.set_rows.Reads as set-rows-reads
+use Rattle.search.proofs.table.undo.Reads as undo-reads
+use Rattle.search.proofs.table.wanted.Reads as wanted-reads
+use Rattle.search.proofs.solve.+attempt+choose+solve+step.Lts-attempt as attempt-lts
+use Rattle.search.proofs.solve.+attempt+choose+solve+step.Lts-choose as choose-lts
+use Rattle.search.proofs.solve.+attempt+choose+solve+step.Lts-solve as solve-lts
+use Rattle.search.proofs.solve.+attempt+choose+solve+step.Lts-step as step-lts
+use Rattle.search.proofs.solve.+attempt+choose+solve+step.{statement}
+use Rattle.search.proofs.solve.+attempt+choose+solve+step.Tie.{close}
+
+abbrev μ-attempt : Measures 6 attempt-kinds.ps ℕ
+μ-attempt κs a = 4 * (length (a .0 .now) - a .1 .1 .1 .1 .1 .1 .1 .0)
+
+abbrev μ-choose : Measures 6 choose-kinds.ps ℕ
+μ-choose κs a = 4 * (length (a .0 .now) - a .1 .1 .1 .1 .1 .1 .1 .0) + 1
+
+abbrev μ-solve : Measures 6 solve-kinds.ps ℕ
+μ-solve κs a = 4 * (length (a .0 .now) - a .1 .1 .1 .1 .1 .1 .1 .0) + 3
+
+abbrev μ-step : Measures 6 step-kinds.ps ℕ
+μ-step κs a = 4 * (length (a .0 .now) - a .1 .1 .1 .1 .1 .1 .1 .0) + 2
+
+abbrev attempt-at : ℕ → In 6 attempt-kinds.ps
+attempt-at t = and 6 attempt-kinds.ps (is 6 attempt-kinds.ps μ-attempt t) attempt.Pre
+
+abbrev attempt-below : ℕ → In 6 attempt-kinds.ps
+attempt-below t = and 6 attempt-kinds.ps (falls 6 attempt-kinds.ps _<_ μ-attempt t) attempt.Pre
+
+abbrev choose-at : ℕ → In 6 choose-kinds.ps
+choose-at t = and 6 choose-kinds.ps (is 6 choose-kinds.ps μ-choose t) choose.Pre
+
+abbrev choose-below : ℕ → In 6 choose-kinds.ps
+choose-below t = and 6 choose-kinds.ps (falls 6 choose-kinds.ps _<_ μ-choose t) choose.Pre
+
+abbrev solve-at : ℕ → In 6 solve-kinds.ps
+solve-at t = and 6 solve-kinds.ps (is 6 solve-kinds.ps μ-solve t) solve.Pre
+
+abbrev solve-below : ℕ → In 6 solve-kinds.ps
+solve-below t = and 6 solve-kinds.ps (falls 6 solve-kinds.ps _<_ μ-solve t) solve.Pre
+
+abbrev step-at : ℕ → In 6 step-kinds.ps
+step-at t = and 6 step-kinds.ps (is 6 step-kinds.ps μ-step t) step.Pre
+
+abbrev step-below : ℕ → In 6 step-kinds.ps
+step-below t = and 6 step-kinds.ps (falls 6 step-kinds.ps _<_ μ-step t) step.Pre
+
+attempt-add-requires : (t : ℕ) → attempt-lts.Need-add-requires (
+  add-reads.Asked,
+  add-reads.Learnt,
+  set-rows-reads.Asked,
+  set-rows-reads.Learnt,
+  follow-reads.Asked,
+  follow-reads.Learnt,
+  solve-below t,
+  solve.Post,
+) (attempt-at t) attempt.Post
+attempt-add-requires t c κs = search needs
+
+attempt-cast-set-rows : (t : ℕ) → attempt-lts.Need-cast-set-rows (
+  add-reads.Asked,
+  add-reads.Learnt,
+  set-rows-reads.Asked,
+  set-rows-reads.Learnt,
+  follow-reads.Asked,
+  follow-reads.Learnt,
+  solve-below t,
+  solve.Post,
+) (attempt-at t) attempt.Post
+attempt-cast-set-rows t c = search needs
+
+attempt-add-set-rows : (t : ℕ) → attempt-lts.Need-add-set-rows (
+  add-reads.Asked,
+  add-reads.Learnt,
+  set-rows-reads.Asked,
+  set-rows-reads.Learnt,
+  follow-reads.Asked,
+  follow-reads.Learnt,
+  solve-below t,
+  solve.Post,
+) (attempt-at t) attempt.Post
+attempt-add-set-rows t c = search needs
+
+attempt-set-rows-requires : (t : ℕ) → attempt-lts.Need-set-rows-requires (
+  add-reads.Asked,
+  add-reads.Learnt,
+  set-rows-reads.Asked,
+  set-rows-reads.Learnt,
+  follow-reads.Asked,
+  follow-reads.Learnt,
+  solve-below t,
+  solve.Post,
+) (attempt-at t) attempt.Post
+attempt-set-rows-requires t c κs = search needs
+
+attempt-follow-requires : (t : ℕ) → attempt-lts.Need-follow-requires (
+  add-reads.Asked,
+  add-reads.Learnt,
+  set-rows-reads.Asked,
+  set-rows-reads.Learnt,
+  follow-reads.Asked,
+  follow-reads.Learnt,
+  solve-below t,
+  solve.Post,
+) (attempt-at t) attempt.Post
+attempt-follow-requires t c κs = (record { rows = c .before .before .before .before .before .before .before .before .before .before .before .before .before .before .before .before .pre .1 .0 .rows; entries = c .before .before .before .before .before .before .before .before .before .before .before .before .before .before .before .before .pre .1 .0 .entries; coded = c .before .before .before .before .before .before .before .before .before .before .before .before .before .before .before .before .pre .1 .0 .coded; area = c .before .before .before .before .set-rows .kept .0 ∙ c .before .before .before .before .before .before .before .before .before .before .before .before .before .before .before .before .pre .1 .0 .area; sets-lent = c .before .before .before .before .before .before .before .before .add .kept .0 ∙ c .before .before .before .before .before .before .before .before .before .before .before .before .before .before .before .before .pre .1 .0 .sets-lent; index-lent = c .before .before .before .before .before .before .before .before .before .before .before .before .before .before .before .before .pre .1 .0 .index-lent }, (c .before .before .before .before .before .before .before .before .before .before .before .before .before .before .before .before .pre .1 .1 .1, (let p = c .before .before .before .before .before .before .before .before .before .before .before .before .before .before .before .before .pre in omega arith), c .before .before .before .before .before .before .before .before .before .before .before .before .before .before .before .before .pre .1 .1 .3, c .before .before .before .before .before .before .before .before .before .before .before .before .before .before .before .before .pre .1 .1 .4))
+
+attempt-add-solve : (t : ℕ) → attempt-lts.Need-add-solve (
+  add-reads.Asked,
+  add-reads.Learnt,
+  set-rows-reads.Asked,
+  set-rows-reads.Learnt,
+  follow-reads.Asked,
+  follow-reads.Learnt,
+  solve-below t,
+  solve.Post,
+) (attempt-at t) attempt.Post
+attempt-add-solve t c = record { fits = (let p = c .before .before .before .before .before .before .before .before .before .before .before .before .before .before .before .before .before .before .before .before .before .before .before .before .pre in omega arith) }
+
+attempt-solve-requires : (t : ℕ) → attempt-lts.Need-solve-requires (
+  add-reads.Asked,
+  add-reads.Learnt,
+  set-rows-reads.Asked,
+  set-rows-reads.Learnt,
+  follow-reads.Asked,
+  follow-reads.Learnt,
+  solve-below t,
+  solve.Post,
+) (attempt-at t) attempt.Post
+attempt-solve-requires t c κs = ((let p = c .before .before .before .before .before .before .before .before .before .before .before .before .before .before .before .before .before .before .before .before .before .before .before .before .pre in omega arith), (record { rows = c .before .before .before .before .before .before .before .before .before .before .before .before .before .before .before .before .before .before .before .before .before .before .before .before .pre .1 .0 .rows; entries = c .before .before .before .before .before .before .before .before .before .before .before .before .before .before .before .before .before .before .before .before .before .before .before .before .pre .1 .0 .entries; coded = c .before .before .before .before .before .before .before .before .before .before .before .before .before .before .before .before .before .before .before .before .before .before .before .before .pre .1 .0 .coded; area = c .before .before .before .before .before .before .before .follow .kept .1 .1 .0 ∙ c .before .before .before .before .before .before .before .before .before .before .before .before .set-rows .kept .0 ∙ c .before .before .before .before .before .before .before .before .before .before .before .before .before .before .before .before .before .before .before .before .before .before .before .before .pre .1 .0 .area; sets-lent = c .before .before .before .before .before .before .before .follow .kept .1 .1 .1 .0 ∙ c .before .before .before .before .before .before .before .before .before .before .before .before .before .before .before .before .add .kept .0 ∙ c .before .before .before .before .before .before .before .before .before .before .before .before .before .before .before .before .before .before .before .before .before .before .before .before .pre .1 .0 .sets-lent; index-lent = c .before .before .before .before .before .before .before .before .before .before .before .before .before .before .before .before .before .before .before .before .before .before .before .before .pre .1 .0 .index-lent }, (c .before .before .before .before .before .before .before .before .before .before .before .before .before .before .before .before .before .before .before .before .before .before .before .before .pre .1 .1 .0, c .before .before .before .before .before .before .before .before .before .before .before .before .before .before .before .before .before .before .before .before .before .before .before .before .pre .1 .1 .1, (let p = c .before .before .before .before .before .before .before .before .before .before .before .before .before .before .before .before .before .before .before .before .before .before .before .before .pre in omega arith), c .before .before .before .before .before .before .before .before .before .before .before .before .before .before .before .before .before .before .before .before .before .before .before .before .pre .1 .1 .3, c .before .before .before .before .before .before .before .before .before .before .before .before .before .before .before .before .before .before .before .before .before .before .before .before .pre .1 .1 .4)))
+
+attempt-same-length : (t : ℕ) → attempt-lts.Need-same-length (
+  add-reads.Asked,
+  add-reads.Learnt,
+  set-rows-reads.Asked,
+  set-rows-reads.Learnt,
+  follow-reads.Asked,
+  follow-reads.Learnt,
+  solve-below t,
+  solve.Post,
+) (attempt-at t) attempt.Post
+attempt-same-length t c = c .before .before .before .before .solve .kept .1 .1 .1 .0 ∙ c .before .before .before .before .before .before .before .before .before .before .before .before .follow .kept .1 .1 .0 ∙ c .before .before .before .before .before .before .before .before .before .before .before .before .before .before .before .before .before .set-rows .kept .0
+
+attempt-same-length-2 : (t : ℕ) → attempt-lts.Need-same-length-2 (
+  add-reads.Asked,
+  add-reads.Learnt,
+  set-rows-reads.Asked,
+  set-rows-reads.Learnt,
+  follow-reads.Asked,
+  follow-reads.Learnt,
+  solve-below t,
+  solve.Post,
+) (attempt-at t) attempt.Post
+attempt-same-length-2 t c = c .before .before .before .before .solve .kept .1 .1 .1 .1 .0 ∙ c .before .before .before .before .before .before .before .before .before .before .before .before .follow .kept .1 .1 .1 .0 ∙ c .before .before .before .before .before .before .before .before .before .before .before .before .before .before .before .before .before .before .before .before .before .add .kept .0
+
+attempt-returns : (t : ℕ) → attempt-lts.Need-returns (
+  add-reads.Asked,
+  add-reads.Learnt,
+  set-rows-reads.Asked,
+  set-rows-reads.Learnt,
+  follow-reads.Asked,
+  follow-reads.Learnt,
+  solve-below t,
+  solve.Post,
+) (attempt-at t) attempt.Post
+attempt-returns t c = tries-searched (c .before .before .before .before .before .before .before .before .before .before .before .before .before .before .before .before .before .before .before .before .before .before .before .before .before .before .before .before .before .args .kinds .now) (c .before .before .before .before .before .before .before .before .before .before .before .before .before .before .before .before .before .before .before .before .before .before .before .before .before .before .before .before .before .args .splits .now) (c .before .before .before .before .before .before .before .before .before .before .before .before .before .before .before .before .before .before .before .before .before .before .before .before .before .before .before .before .before .args .codes .now) (c .before .before .before .before .before .before .before .before .before .before .before .before .before .before .before .before .before .before .before .before .before .before .before .before .before .before .before .before .before .args .side) (c .before .before .before .before .before .before .before .before .before .before .before .before .before .before .before .before .before .before .before .before .before .before .before .before .before .before .before .before .before .args .k) (c .before .before .before .before .before .before .before .before .before .before .before .before .before .before .before .before .before .before .before .before .before .before .before .before .before .before .before .before .before .args .lo) (c .before .before .before .before .before .before .before .before .before .before .before .before .before .before .before .before .before .before .before .before .before .before .before .before .before .before .before .before .before .args .hi) (let p = c .before .before .before .before .before .before .before .before .before .before .before .before .before .before .before .before .before .before .before .before .before .before .before .before .before .before .before .before .before .pre in omega (arith)) (let p = c .before .before .before .before .before .before .before .before .before .before .before .before .before .before .before .before .before .before .before .before .before .before .before .before .before .before .before .before .before .pre in omega (arith)) (c .before .before .before .before .before .before .before .before .before .before .before .before .before .before .before .before .before .before .before .before .before .before .before .before .before .before .before .before .before .args .value) _ _ _ _ _ _ _ (c .before .before .before .before .before .before .before .before .before .before .before .before .before .before .before .before .before .before .before .before .before .add .ensures .0) (c .before .before .before .before .before .before .before .before .before .before .before .before .before .before .before .before .before .before .before .before .before .add .ensures .1) (c .before .before .before .before .before .before .before .before .before .before .before .before .before .before .before .before .before .set-rows .ensures) (c .before .before .before .before .before .before .before .before .before .before .before .before .follow .ensures) _ _ _ (c .before .before .before .before .before .before .before .if1 .taken) (c .before .before .before .before .solve .ensures)
+
+attempt-same-length-3 : (t : ℕ) → attempt-lts.Need-same-length-3 (
+  add-reads.Asked,
+  add-reads.Learnt,
+  set-rows-reads.Asked,
+  set-rows-reads.Learnt,
+  follow-reads.Asked,
+  follow-reads.Learnt,
+  solve-below t,
+  solve.Post,
+) (attempt-at t) attempt.Post
+attempt-same-length-3 t c = c .before .before .before .before .before .follow .kept .1 .1 .0 ∙ c .before .before .before .before .before .before .before .before .before .before .set-rows .kept .0
+
+attempt-same-length-4 : (t : ℕ) → attempt-lts.Need-same-length-4 (
+  add-reads.Asked,
+  add-reads.Learnt,
+  set-rows-reads.Asked,
+  set-rows-reads.Learnt,
+  follow-reads.Asked,
+  follow-reads.Learnt,
+  solve-below t,
+  solve.Post,
+) (attempt-at t) attempt.Post
+attempt-same-length-4 t c = c .before .before .before .before .before .follow .kept .1 .1 .1 .0 ∙ c .before .before .before .before .before .before .before .before .before .before .before .before .before .before .add .kept .0
+
+attempt-returns-2 : (t : ℕ) → attempt-lts.Need-returns-2 (
+  add-reads.Asked,
+  add-reads.Learnt,
+  set-rows-reads.Asked,
+  set-rows-reads.Learnt,
+  follow-reads.Asked,
+  follow-reads.Learnt,
+  solve-below t,
+  solve.Post,
+) (attempt-at t) attempt.Post
+attempt-returns-2 t c = tries-refuted (c .before .before .before .before .before .before .before .before .before .before .before .before .before .before .before .before .before .before .before .before .before .before .args .kinds .now) (c .before .before .before .before .before .before .before .before .before .before .before .before .before .before .before .before .before .before .before .before .before .before .args .splits .now) (c .before .before .before .before .before .before .before .before .before .before .before .before .before .before .before .before .before .before .before .before .before .before .args .codes .now) (c .before .before .before .before .before .before .before .before .before .before .before .before .before .before .before .before .before .before .before .before .before .before .args .side) (c .before .before .before .before .before .before .before .before .before .before .before .before .before .before .before .before .before .before .before .before .before .before .args .k) (c .before .before .before .before .before .before .before .before .before .before .before .before .before .before .before .before .before .before .before .before .before .before .args .lo) (c .before .before .before .before .before .before .before .before .before .before .before .before .before .before .before .before .before .before .before .before .before .before .args .hi) (let p = c .before .before .before .before .before .before .before .before .before .before .before .before .before .before .before .before .before .before .before .before .before .before .pre in omega (arith)) (let p = c .before .before .before .before .before .before .before .before .before .before .before .before .before .before .before .before .before .before .before .before .before .before .pre in omega (arith)) (c .before .before .before .before .before .before .before .before .before .before .before .before .before .before .before .before .before .before .before .before .before .before .args .value) _ _ _ _ _ _ _ (c .before .before .before .before .before .before .before .before .before .before .before .before .before .before .add .ensures .0) (c .before .before .before .before .before .before .before .before .before .before .before .before .before .before .add .ensures .1) (c .before .before .before .before .before .before .before .before .before .before .set-rows .ensures) (c .before .before .before .before .before .follow .ensures) (c .if1 .left)
+
+choose-wanted-requires : (t : ℕ) → choose-lts.Need-wanted-requires (
+  wanted-reads.Asked,
+  wanted-reads.Learnt,
+  attempt-below t,
+  attempt.Post,
+  has-reads.Asked,
+  has-reads.Learnt,
+  undo-reads.Asked,
+  undo-reads.Learnt,
+  trim-reads.Asked,
+  trim-reads.Learnt,
+  unite-words-reads.Asked,
+  unite-words-reads.Learnt,
+) (choose-at t) choose.Post
+choose-wanted-requires t c κs = search needs
+
+choose-attempt-requires : (t : ℕ) → choose-lts.Need-attempt-requires (
+  wanted-reads.Asked,
+  wanted-reads.Learnt,
+  attempt-below t,
+  attempt.Post,
+  has-reads.Asked,
+  has-reads.Learnt,
+  undo-reads.Asked,
+  undo-reads.Learnt,
+  trim-reads.Asked,
+  trim-reads.Learnt,
+  unite-words-reads.Asked,
+  unite-words-reads.Learnt,
+) (choose-at t) choose.Post
+choose-attempt-requires t c κs = search needs
+
+choose-same-length : (t : ℕ) → choose-lts.Need-same-length (
+  wanted-reads.Asked,
+  wanted-reads.Learnt,
+  attempt-below t,
+  attempt.Post,
+  has-reads.Asked,
+  has-reads.Learnt,
+  undo-reads.Asked,
+  undo-reads.Learnt,
+  trim-reads.Asked,
+  trim-reads.Learnt,
+  unite-words-reads.Asked,
+  unite-words-reads.Learnt,
+) (choose-at t) choose.Post
+choose-same-length t c = c .before .before .before .before .before .attempt .kept .1 .1 .1 .0
+
+choose-same-length-2 : (t : ℕ) → choose-lts.Need-same-length-2 (
+  wanted-reads.Asked,
+  wanted-reads.Learnt,
+  attempt-below t,
+  attempt.Post,
+  has-reads.Asked,
+  has-reads.Learnt,
+  undo-reads.Asked,
+  undo-reads.Learnt,
+  trim-reads.Asked,
+  trim-reads.Learnt,
+  unite-words-reads.Asked,
+  unite-words-reads.Learnt,
+) (choose-at t) choose.Post
+choose-same-length-2 t c = c .before .before .before .before .before .attempt .kept .1 .1 .1 .1 .0
+
+choose-returns : (t : ℕ) → choose-lts.Need-returns (
+  wanted-reads.Asked,
+  wanted-reads.Learnt,
+  attempt-below t,
+  attempt.Post,
+  has-reads.Asked,
+  has-reads.Learnt,
+  undo-reads.Asked,
+  undo-reads.Learnt,
+  trim-reads.Asked,
+  trim-reads.Learnt,
+  unite-words-reads.Asked,
+  unite-words-reads.Learnt,
+) (choose-at t) choose.Post
+choose-returns t c = chooses-first (c .before .before .before .before .before .before .before .before .before .before .before .before .before .before .before .before .args .kinds .now) (c .before .before .before .before .before .before .before .before .before .before .before .before .before .before .before .before .args .splits .now) (c .before .before .before .before .before .before .before .before .before .before .before .before .before .before .before .before .args .codes .now) (c .before .before .before .before .before .before .before .before .before .before .before .before .before .before .before .before .args .side) (c .before .before .before .before .before .before .before .before .before .before .before .before .before .before .before .before .args .k) (c .before .before .before .before .before .before .before .before .before .before .before .before .before .before .before .before .args .lo) (c .before .before .before .before .before .before .before .before .before .before .before .before .before .before .before .before .args .hi) (let p = c .before .before .before .before .before .before .before .before .before .before .before .before .before .before .before .before .pre in omega (arith)) (let p = c .before .before .before .before .before .before .before .before .before .before .before .before .before .before .before .before .pre in omega (arith)) (c .before .before .before .before .before .before .before .before .wanted .result) _ _ _ _ _ (sym (c .before .before .before .before .before .before .before .before .wanted .ensures)) (c .before .before .before .before .before .attempt .ensures) (c .if1 .taken)
+
+choose-has-requires : (t : ℕ) → choose-lts.Need-has-requires (
+  wanted-reads.Asked,
+  wanted-reads.Learnt,
+  attempt-below t,
+  attempt.Post,
+  has-reads.Asked,
+  has-reads.Learnt,
+  undo-reads.Asked,
+  undo-reads.Learnt,
+  trim-reads.Asked,
+  trim-reads.Learnt,
+  unite-words-reads.Asked,
+  unite-words-reads.Learnt,
+) (choose-at t) choose.Post
+choose-has-requires t c κs = search needs
+
+choose-same-length-3 : (t : ℕ) → choose-lts.Need-same-length-3 (
+  wanted-reads.Asked,
+  wanted-reads.Learnt,
+  attempt-below t,
+  attempt.Post,
+  has-reads.Asked,
+  has-reads.Learnt,
+  undo-reads.Asked,
+  undo-reads.Learnt,
+  trim-reads.Asked,
+  trim-reads.Learnt,
+  unite-words-reads.Asked,
+  unite-words-reads.Learnt,
+) (choose-at t) choose.Post
+choose-same-length-3 t c = c .before .before .before .before .before .before .before .before .attempt .kept .1 .1 .1 .0
+
+choose-same-length-4 : (t : ℕ) → choose-lts.Need-same-length-4 (
+  wanted-reads.Asked,
+  wanted-reads.Learnt,
+  attempt-below t,
+  attempt.Post,
+  has-reads.Asked,
+  has-reads.Learnt,
+  undo-reads.Asked,
+  undo-reads.Learnt,
+  trim-reads.Asked,
+  trim-reads.Learnt,
+  unite-words-reads.Asked,
+  unite-words-reads.Learnt,
+) (choose-at t) choose.Post
+choose-same-length-4 t c = c .before .before .before .before .before .before .before .before .attempt .kept .1 .1 .1 .1 .0
+
+choose-returns-2 : (t : ℕ) → choose-lts.Need-returns-2 (
+  wanted-reads.Asked,
+  wanted-reads.Learnt,
+  attempt-below t,
+  attempt.Post,
+  has-reads.Asked,
+  has-reads.Learnt,
+  undo-reads.Asked,
+  undo-reads.Learnt,
+  trim-reads.Asked,
+  trim-reads.Learnt,
+  unite-words-reads.Asked,
+  unite-words-reads.Learnt,
+) (choose-at t) choose.Post
+unfolding cut
+choose-returns-2 t c = chooses-without (c .before .before .before .before .before .before .before .before .before .before .before .before .before .before .before .before .before .before .before .args .kinds .now) (c .before .before .before .before .before .before .before .before .before .before .before .before .before .before .before .before .before .before .before .args .splits .now) (c .before .before .before .before .before .before .before .before .before .before .before .before .before .before .before .before .before .before .before .args .codes .now) (c .before .before .before .before .before .before .before .before .before .before .before .before .before .before .before .before .before .before .before .args .side) (c .before .before .before .before .before .before .before .before .before .before .before .before .before .before .before .before .before .before .before .args .k) (c .before .before .before .before .before .before .before .before .before .before .before .before .before .before .before .before .before .before .before .args .lo) (c .before .before .before .before .before .before .before .before .before .before .before .before .before .before .before .before .before .before .before .args .hi) (let p = c .before .before .before .before .before .before .before .before .before .before .before .before .before .before .before .before .before .before .before .pre in omega (arith)) (let p = c .before .before .before .before .before .before .before .before .before .before .before .before .before .before .before .before .before .before .before .pre in omega (arith)) (c .before .before .before .before .before .before .before .before .before .before .before .wanted .result) _ _ _ _ _ (sym (c .before .before .before .before .before .before .before .before .before .before .before .wanted .ensures)) (c .before .before .before .before .before .before .before .before .attempt .ensures) (c .before .before .before .if1 .left) (sym (c .before .has .ensures) ∙ c .if2 .left)
+
+choose-cast-undo : (t : ℕ) → choose-lts.Need-cast-undo (
+  wanted-reads.Asked,
+  wanted-reads.Learnt,
+  attempt-below t,
+  attempt.Post,
+  has-reads.Asked,
+  has-reads.Learnt,
+  undo-reads.Asked,
+  undo-reads.Learnt,
+  trim-reads.Asked,
+  trim-reads.Learnt,
+  unite-words-reads.Asked,
+  unite-words-reads.Learnt,
+) (choose-at t) choose.Post
+choose-cast-undo t c = search needs
+
+choose-add-undo : (t : ℕ) → choose-lts.Need-add-undo (
+  wanted-reads.Asked,
+  wanted-reads.Learnt,
+  attempt-below t,
+  attempt.Post,
+  has-reads.Asked,
+  has-reads.Learnt,
+  undo-reads.Asked,
+  undo-reads.Learnt,
+  trim-reads.Asked,
+  trim-reads.Learnt,
+  unite-words-reads.Asked,
+  unite-words-reads.Learnt,
+) (choose-at t) choose.Post
+choose-add-undo t c = search needs
+
+choose-undo-requires : (t : ℕ) → choose-lts.Need-undo-requires (
+  wanted-reads.Asked,
+  wanted-reads.Learnt,
+  attempt-below t,
+  attempt.Post,
+  has-reads.Asked,
+  has-reads.Learnt,
+  undo-reads.Asked,
+  undo-reads.Learnt,
+  trim-reads.Asked,
+  trim-reads.Learnt,
+  unite-words-reads.Asked,
+  unite-words-reads.Learnt,
+) (choose-at t) choose.Post
+choose-undo-requires t c κs = search needs
+
+choose-trim-requires : (t : ℕ) → choose-lts.Need-trim-requires (
+  wanted-reads.Asked,
+  wanted-reads.Learnt,
+  attempt-below t,
+  attempt.Post,
+  has-reads.Asked,
+  has-reads.Learnt,
+  undo-reads.Asked,
+  undo-reads.Learnt,
+  trim-reads.Asked,
+  trim-reads.Learnt,
+  unite-words-reads.Asked,
+  unite-words-reads.Learnt,
+) (choose-at t) choose.Post
+choose-trim-requires t c κs = (c .before .before .before .before .before .before .before .before .before .before .before .before .before .attempt .kept .1 .1 .1 .1 .0 ∙ c .before .before .before .before .before .before .before .before .before .before .before .before .before .before .before .before .before .before .before .before .before .before .before .before .pre .1 .0 .sets-lent, (let p = c .before .before .before .before .before .before .before .before .before .before .before .before .before .before .before .before .before .before .before .before .before .before .before .before .pre in omega arith), c .before .before .before .before .before .before .before .before .before .before .before .before .before .before .before .before .before .before .before .before .before .before .before .before .pre .1 .1 .0)
+
+choose-slice-read-low : (t : ℕ) → choose-lts.Need-slice-read-low (
+  wanted-reads.Asked,
+  wanted-reads.Learnt,
+  attempt-below t,
+  attempt.Post,
+  has-reads.Asked,
+  has-reads.Learnt,
+  undo-reads.Asked,
+  undo-reads.Learnt,
+  trim-reads.Asked,
+  trim-reads.Learnt,
+  unite-words-reads.Asked,
+  unite-words-reads.Learnt,
+) (choose-at t) choose.Post
+choose-slice-read-low t c = (let p = c .before .before .before .before .before .before .before .before .before .before .before .before .before .before .before .before .before .before .before .before .before .before .before .before .before .before .before .before .pre in omega (arith, c .before .before .before .before .before .before .before .before .before .before .before .before .before .before .before .before .before .attempt .kept .1 .1 .1 .1 .0, c .before .before .before .trim .kept .0))
+
+choose-slice-read-high : (t : ℕ) → choose-lts.Need-slice-read-high (
+  wanted-reads.Asked,
+  wanted-reads.Learnt,
+  attempt-below t,
+  attempt.Post,
+  has-reads.Asked,
+  has-reads.Learnt,
+  undo-reads.Asked,
+  undo-reads.Learnt,
+  trim-reads.Asked,
+  trim-reads.Learnt,
+  unite-words-reads.Asked,
+  unite-words-reads.Learnt,
+) (choose-at t) choose.Post
+choose-slice-read-high t c = (let p = c .before .before .before .before .before .before .before .before .before .before .before .before .before .before .before .before .before .before .before .before .before .before .before .before .before .before .before .before .before .pre in omega (arith, c .before .before .before .before .before .before .before .before .before .before .before .before .before .before .before .before .before .before .attempt .kept .1 .1 .1 .1 .0, c .before .before .before .before .trim .kept .0))
+
+choose-attempt-requires-2 : (t : ℕ) → choose-lts.Need-attempt-requires-2 (
+  wanted-reads.Asked,
+  wanted-reads.Learnt,
+  attempt-below t,
+  attempt.Post,
+  has-reads.Asked,
+  has-reads.Learnt,
+  undo-reads.Asked,
+  undo-reads.Learnt,
+  trim-reads.Asked,
+  trim-reads.Learnt,
+  unite-words-reads.Asked,
+  unite-words-reads.Learnt,
+) (choose-at t) choose.Post
+choose-attempt-requires-2 t c κs = ((let p = c .before .before .before .before .before .before .before .before .before .before .before .before .before .before .before .before .before .before .before .before .before .before .before .before .before .before .before .before .before .before .before .pre in omega arith), (record { rows = c .before .before .before .before .before .before .before .before .before .before .before .before .before .before .before .before .before .before .before .before .before .before .before .before .before .before .before .before .before .before .before .pre .1 .0 .rows; entries = c .before .before .before .before .before .before .before .before .before .before .before .before .before .before .before .before .before .before .before .before .before .before .before .before .before .before .before .before .before .before .before .pre .1 .0 .entries; coded = c .before .before .before .before .before .before .before .before .before .before .before .before .before .before .before .before .before .before .before .before .before .before .before .before .before .before .before .before .before .before .before .pre .1 .0 .coded; area = c .before .before .before .before .before .before .before .before .before .before .undo .kept .0 ∙ c .before .before .before .before .before .before .before .before .before .before .before .before .before .before .before .before .before .before .before .before .attempt .kept .1 .1 .1 .0 ∙ c .before .before .before .before .before .before .before .before .before .before .before .before .before .before .before .before .before .before .before .before .before .before .before .before .before .before .before .before .before .before .before .pre .1 .0 .area; sets-lent = c .before .before .before .before .before .before .trim .kept .0 ∙ c .before .before .before .before .before .before .before .before .before .before .before .before .before .before .before .before .before .before .before .before .attempt .kept .1 .1 .1 .1 .0 ∙ c .before .before .before .before .before .before .before .before .before .before .before .before .before .before .before .before .before .before .before .before .before .before .before .before .before .before .before .before .before .before .before .pre .1 .0 .sets-lent; index-lent = c .before .before .before .before .before .before .before .before .before .before .before .before .before .before .before .before .before .before .before .before .before .before .before .before .before .before .before .before .before .before .before .pre .1 .0 .index-lent }, (c .before .before .before .before .before .before .before .before .before .before .before .before .before .before .before .before .before .before .before .before .before .before .before .before .before .before .before .before .before .before .before .pre .1 .1 .0, c .before .before .before .before .before .before .before .before .before .before .before .before .before .before .before .before .before .before .before .before .before .before .before .before .before .before .before .before .before .before .before .pre .1 .1 .1, c .before .before .before .before .before .before .before .before .before .before .before .before .before .before .before .before .before .before .before .before .before .before .before .before .before .before .before .before .before .before .before .pre .1 .1 .2, c .before .before .before .before .before .before .before .before .before .before .before .before .before .before .before .before .before .before .before .before .before .before .before .before .before .before .before .before .before .before .before .pre .1 .1 .3, c .before .before .before .before .before .before .before .before .before .before .before .before .before .before .before .before .before .before .before .before .before .before .before .before .before .before .before .before .before .before .before .pre .1 .1 .4)))
+
+choose-same-length-5 : (t : ℕ) → choose-lts.Need-same-length-5 (
+  wanted-reads.Asked,
+  wanted-reads.Learnt,
+  attempt-below t,
+  attempt.Post,
+  has-reads.Asked,
+  has-reads.Learnt,
+  undo-reads.Asked,
+  undo-reads.Learnt,
+  trim-reads.Asked,
+  trim-reads.Learnt,
+  unite-words-reads.Asked,
+  unite-words-reads.Learnt,
+) (choose-at t) choose.Post
+choose-same-length-5 t c = c .before .before .before .before .before .attempt2 .kept .1 .1 .1 .0 ∙ c .before .before .before .before .before .before .before .before .before .before .before .before .before .before .before .before .undo .kept .0 ∙ c .before .before .before .before .before .before .before .before .before .before .before .before .before .before .before .before .before .before .before .before .before .before .before .before .before .before .attempt .kept .1 .1 .1 .0
+
+choose-same-length-6 : (t : ℕ) → choose-lts.Need-same-length-6 (
+  wanted-reads.Asked,
+  wanted-reads.Learnt,
+  attempt-below t,
+  attempt.Post,
+  has-reads.Asked,
+  has-reads.Learnt,
+  undo-reads.Asked,
+  undo-reads.Learnt,
+  trim-reads.Asked,
+  trim-reads.Learnt,
+  unite-words-reads.Asked,
+  unite-words-reads.Learnt,
+) (choose-at t) choose.Post
+choose-same-length-6 t c = c .before .before .before .before .before .attempt2 .kept .1 .1 .1 .1 .0 ∙ c .before .before .before .before .before .before .before .before .before .before .before .before .trim .kept .0 ∙ c .before .before .before .before .before .before .before .before .before .before .before .before .before .before .before .before .before .before .before .before .before .before .before .before .before .before .attempt .kept .1 .1 .1 .1 .0
+
+choose-returns-3 : (t : ℕ) → choose-lts.Need-returns-3 (
+  wanted-reads.Asked,
+  wanted-reads.Learnt,
+  attempt-below t,
+  attempt.Post,
+  has-reads.Asked,
+  has-reads.Learnt,
+  undo-reads.Asked,
+  undo-reads.Learnt,
+  trim-reads.Asked,
+  trim-reads.Learnt,
+  unite-words-reads.Asked,
+  unite-words-reads.Learnt,
+) (choose-at t) choose.Post
+choose-returns-3 t c = chooses-second (c .before .before .before .before .before .before .before .before .before .before .before .before .before .before .before .before .before .before .before .before .before .before .before .before .before .before .before .before .before .before .before .before .before .before .before .before .before .args .kinds .now) (c .before .before .before .before .before .before .before .before .before .before .before .before .before .before .before .before .before .before .before .before .before .before .before .before .before .before .before .before .before .before .before .before .before .before .before .before .before .args .splits .now) (c .before .before .before .before .before .before .before .before .before .before .before .before .before .before .before .before .before .before .before .before .before .before .before .before .before .before .before .before .before .before .before .before .before .before .before .before .before .args .codes .now) (c .before .before .before .before .before .before .before .before .before .before .before .before .before .before .before .before .before .before .before .before .before .before .before .before .before .before .before .before .before .before .before .before .before .before .before .before .before .args .side) (c .before .before .before .before .before .before .before .before .before .before .before .before .before .before .before .before .before .before .before .before .before .before .before .before .before .before .before .before .before .before .before .before .before .before .before .before .before .args .k) (c .before .before .before .before .before .before .before .before .before .before .before .before .before .before .before .before .before .before .before .before .before .before .before .before .before .before .before .before .before .before .before .before .before .before .before .before .before .args .lo) (c .before .before .before .before .before .before .before .before .before .before .before .before .before .before .before .before .before .before .before .before .before .before .before .before .before .before .before .before .before .before .before .before .before .before .before .before .before .args .hi) (let p = c .before .before .before .before .before .before .before .before .before .before .before .before .before .before .before .before .before .before .before .before .before .before .before .before .before .before .before .before .before .before .before .before .before .before .before .before .before .pre in omega (arith)) (let p = c .before .before .before .before .before .before .before .before .before .before .before .before .before .before .before .before .before .before .before .before .before .before .before .before .before .before .before .before .before .before .before .before .before .before .before .before .before .pre in omega (arith)) (c .before .before .before .before .before .before .before .before .before .before .before .before .before .before .before .before .before .before .before .before .before .before .before .before .before .before .before .before .before .wanted .result) _ _ _ _ _ (sym (c .before .before .before .before .before .before .before .before .before .before .before .before .before .before .before .before .before .before .before .before .before .before .before .before .before .before .before .before .before .wanted .ensures)) (c .before .before .before .before .before .before .before .before .before .before .before .before .before .before .before .before .before .before .before .before .before .before .before .before .before .before .attempt .ensures) _ _ _ _ _ (c .before .before .before .before .before .before .before .before .before .before .before .before .before .before .before .before .before .before .before .before .before .if1 .left) (c .before .before .before .before .before .before .before .before .before .before .before .before .before .before .before .before .undo .ensures) (c .before .before .before .before .before .before .before .before .before .before .before .before .trim .ensures) (c .before .before .before .before .before .attempt2 .ensures) (c .if3 .taken)
+
+choose-has-requires-2 : (t : ℕ) → choose-lts.Need-has-requires-2 (
+  wanted-reads.Asked,
+  wanted-reads.Learnt,
+  attempt-below t,
+  attempt.Post,
+  has-reads.Asked,
+  has-reads.Learnt,
+  undo-reads.Asked,
+  undo-reads.Learnt,
+  trim-reads.Asked,
+  trim-reads.Learnt,
+  unite-words-reads.Asked,
+  unite-words-reads.Learnt,
+) (choose-at t) choose.Post
+choose-has-requires-2 t c κs = (c .before .before .before .before .before .before .attempt2 .kept .1 .1 .1 .1 .0 ∙ c .before .before .before .before .before .before .before .before .before .before .before .before .before .trim .kept .0 ∙ c .before .before .before .before .before .before .before .before .before .before .before .before .before .before .before .before .before .before .before .before .before .before .before .before .before .before .before .attempt .kept .1 .1 .1 .1 .0 ∙ c .before .before .before .before .before .before .before .before .before .before .before .before .before .before .before .before .before .before .before .before .before .before .before .before .before .before .before .before .before .before .before .before .before .before .before .before .before .before .pre .1 .0 .sets-lent, omega arith, (let p = c .before .before .before .before .before .before .before .before .before .before .before .before .before .before .before .before .before .before .before .before .before .before .before .before .before .before .before .before .before .before .before .before .before .before .before .before .before .before .pre in omega arith))
+
+choose-unite-words-requires : (t : ℕ) → choose-lts.Need-unite-words-requires (
+  wanted-reads.Asked,
+  wanted-reads.Learnt,
+  attempt-below t,
+  attempt.Post,
+  has-reads.Asked,
+  has-reads.Learnt,
+  undo-reads.Asked,
+  undo-reads.Learnt,
+  trim-reads.Asked,
+  trim-reads.Learnt,
+  unite-words-reads.Asked,
+  unite-words-reads.Learnt,
+) (choose-at t) choose.Post
+choose-unite-words-requires t c κs = (c .before .before .before .before .before .before .before .before .before .attempt2 .kept .1 .1 .1 .1 .0 ∙ c .before .before .before .before .before .before .before .before .before .before .before .before .before .before .before .before .trim .kept .0 ∙ c .before .before .before .before .before .before .before .before .before .before .before .before .before .before .before .before .before .before .before .before .before .before .before .before .before .before .before .before .before .before .attempt .kept .1 .1 .1 .1 .0 ∙ c .before .before .before .before .before .before .before .before .before .before .before .before .before .before .before .before .before .before .before .before .before .before .before .before .before .before .before .before .before .before .before .before .before .before .before .before .before .before .before .before .before .pre .1 .0 .sets-lent, omega arith)
+
+choose-same-length-7 : (t : ℕ) → choose-lts.Need-same-length-7 (
+  wanted-reads.Asked,
+  wanted-reads.Learnt,
+  attempt-below t,
+  attempt.Post,
+  has-reads.Asked,
+  has-reads.Learnt,
+  undo-reads.Asked,
+  undo-reads.Learnt,
+  trim-reads.Asked,
+  trim-reads.Learnt,
+  unite-words-reads.Asked,
+  unite-words-reads.Learnt,
+) (choose-at t) choose.Post
+choose-same-length-7 t c = c .before .before .before .before .before .before .before .before .before .before .before .before .attempt2 .kept .1 .1 .1 .0 ∙ c .before .before .before .before .before .before .before .before .before .before .before .before .before .before .before .before .before .before .before .before .before .before .before .undo .kept .0 ∙ c .before .before .before .before .before .before .before .before .before .before .before .before .before .before .before .before .before .before .before .before .before .before .before .before .before .before .before .before .before .before .before .before .before .attempt .kept .1 .1 .1 .0
+
+choose-same-length-8 : (t : ℕ) → choose-lts.Need-same-length-8 (
+  wanted-reads.Asked,
+  wanted-reads.Learnt,
+  attempt-below t,
+  attempt.Post,
+  has-reads.Asked,
+  has-reads.Learnt,
+  undo-reads.Asked,
+  undo-reads.Learnt,
+  trim-reads.Asked,
+  trim-reads.Learnt,
+  unite-words-reads.Asked,
+  unite-words-reads.Learnt,
+) (choose-at t) choose.Post
+choose-same-length-8 t c = c .before .before .unite-words .kept .0 ∙ c .before .before .before .before .before .before .before .before .before .before .before .before .attempt2 .kept .1 .1 .1 .1 .0 ∙ c .before .before .before .before .before .before .before .before .before .before .before .before .before .before .before .before .before .before .before .trim .kept .0 ∙ c .before .before .before .before .before .before .before .before .before .before .before .before .before .before .before .before .before .before .before .before .before .before .before .before .before .before .before .before .before .before .before .before .before .attempt .kept .1 .1 .1 .1 .0
+
+choose-returns-4 : (t : ℕ) → choose-lts.Need-returns-4 (
+  wanted-reads.Asked,
+  wanted-reads.Learnt,
+  attempt-below t,
+  attempt.Post,
+  has-reads.Asked,
+  has-reads.Learnt,
+  undo-reads.Asked,
+  undo-reads.Learnt,
+  trim-reads.Asked,
+  trim-reads.Learnt,
+  unite-words-reads.Asked,
+  unite-words-reads.Learnt,
+) (choose-at t) choose.Post
+choose-returns-4 t c = chooses-neither (c .before .before .before .before .before .before .before .before .before .before .before .before .before .before .before .before .before .before .before .before .before .before .before .before .before .before .before .before .before .before .before .before .before .before .before .before .before .before .before .before .before .before .before .before .args .kinds .now) (c .before .before .before .before .before .before .before .before .before .before .before .before .before .before .before .before .before .before .before .before .before .before .before .before .before .before .before .before .before .before .before .before .before .before .before .before .before .before .before .before .before .before .before .before .args .splits .now) (c .before .before .before .before .before .before .before .before .before .before .before .before .before .before .before .before .before .before .before .before .before .before .before .before .before .before .before .before .before .before .before .before .before .before .before .before .before .before .before .before .before .before .before .before .args .codes .now) (c .before .before .before .before .before .before .before .before .before .before .before .before .before .before .before .before .before .before .before .before .before .before .before .before .before .before .before .before .before .before .before .before .before .before .before .before .before .before .before .before .before .before .before .before .args .side) (c .before .before .before .before .before .before .before .before .before .before .before .before .before .before .before .before .before .before .before .before .before .before .before .before .before .before .before .before .before .before .before .before .before .before .before .before .before .before .before .before .before .before .before .before .args .k) (c .before .before .before .before .before .before .before .before .before .before .before .before .before .before .before .before .before .before .before .before .before .before .before .before .before .before .before .before .before .before .before .before .before .before .before .before .before .before .before .before .before .before .before .before .args .lo) (c .before .before .before .before .before .before .before .before .before .before .before .before .before .before .before .before .before .before .before .before .before .before .before .before .before .before .before .before .before .before .before .before .before .before .before .before .before .before .before .before .before .before .before .before .args .hi) (let p = c .before .before .before .before .before .before .before .before .before .before .before .before .before .before .before .before .before .before .before .before .before .before .before .before .before .before .before .before .before .before .before .before .before .before .before .before .before .before .before .before .before .before .before .before .pre in omega (arith)) (let p = c .before .before .before .before .before .before .before .before .before .before .before .before .before .before .before .before .before .before .before .before .before .before .before .before .before .before .before .before .before .before .before .before .before .before .before .before .before .before .before .before .before .before .before .before .pre in omega (arith)) (c .before .before .before .before .before .before .before .before .before .before .before .before .before .before .before .before .before .before .before .before .before .before .before .before .before .before .before .before .before .before .before .before .before .before .before .before .wanted .result) _ _ _ _ _ (sym (c .before .before .before .before .before .before .before .before .before .before .before .before .before .before .before .before .before .before .before .before .before .before .before .before .before .before .before .before .before .before .before .before .before .before .before .before .wanted .ensures)) (c .before .before .before .before .before .before .before .before .before .before .before .before .before .before .before .before .before .before .before .before .before .before .before .before .before .before .before .before .before .before .before .before .before .attempt .ensures) _ _ _ _ _ (c .before .before .before .before .before .before .before .before .before .before .before .before .before .before .before .before .before .before .before .before .before .before .before .before .before .before .before .before .if1 .left) (c .before .before .before .before .before .before .before .before .before .before .before .before .before .before .before .before .before .before .before .before .before .before .before .undo .ensures) (c .before .before .before .before .before .before .before .before .before .before .before .before .before .before .before .before .before .before .before .trim .ensures) (c .before .before .before .before .before .before .before .before .before .before .before .before .attempt2 .ensures) _ (c .before .before .before .before .before .before .before .if3 .left) (c .before .before .unite-words .ensures)
+
+choose-same-length-9 : (t : ℕ) → choose-lts.Need-same-length-9 (
+  wanted-reads.Asked,
+  wanted-reads.Learnt,
+  attempt-below t,
+  attempt.Post,
+  has-reads.Asked,
+  has-reads.Learnt,
+  undo-reads.Asked,
+  undo-reads.Learnt,
+  trim-reads.Asked,
+  trim-reads.Learnt,
+  unite-words-reads.Asked,
+  unite-words-reads.Learnt,
+) (choose-at t) choose.Post
+choose-same-length-9 t c = c .before .before .before .before .before .before .before .before .attempt2 .kept .1 .1 .1 .0 ∙ c .before .before .before .before .before .before .before .before .before .before .before .before .before .before .before .before .before .before .before .undo .kept .0 ∙ c .before .before .before .before .before .before .before .before .before .before .before .before .before .before .before .before .before .before .before .before .before .before .before .before .before .before .before .before .before .attempt .kept .1 .1 .1 .0
+
+choose-same-length-10 : (t : ℕ) → choose-lts.Need-same-length-10 (
+  wanted-reads.Asked,
+  wanted-reads.Learnt,
+  attempt-below t,
+  attempt.Post,
+  has-reads.Asked,
+  has-reads.Learnt,
+  undo-reads.Asked,
+  undo-reads.Learnt,
+  trim-reads.Asked,
+  trim-reads.Learnt,
+  unite-words-reads.Asked,
+  unite-words-reads.Learnt,
+) (choose-at t) choose.Post
+choose-same-length-10 t c = c .before .before .before .before .before .before .before .before .attempt2 .kept .1 .1 .1 .1 .0 ∙ c .before .before .before .before .before .before .before .before .before .before .before .before .before .before .before .trim .kept .0 ∙ c .before .before .before .before .before .before .before .before .before .before .before .before .before .before .before .before .before .before .before .before .before .before .before .before .before .before .before .before .before .attempt .kept .1 .1 .1 .1 .0
+
+choose-returns-5 : (t : ℕ) → choose-lts.Need-returns-5 (
+  wanted-reads.Asked,
+  wanted-reads.Learnt,
+  attempt-below t,
+  attempt.Post,
+  has-reads.Asked,
+  has-reads.Learnt,
+  undo-reads.Asked,
+  undo-reads.Learnt,
+  trim-reads.Asked,
+  trim-reads.Learnt,
+  unite-words-reads.Asked,
+  unite-words-reads.Learnt,
+) (choose-at t) choose.Post
+unfolding cut
+choose-returns-5 t c = chooses-last (c .before .before .before .before .before .before .before .before .before .before .before .before .before .before .before .before .before .before .before .before .before .before .before .before .before .before .before .before .before .before .before .before .before .before .before .before .before .before .before .before .args .kinds .now) (c .before .before .before .before .before .before .before .before .before .before .before .before .before .before .before .before .before .before .before .before .before .before .before .before .before .before .before .before .before .before .before .before .before .before .before .before .before .before .before .before .args .splits .now) (c .before .before .before .before .before .before .before .before .before .before .before .before .before .before .before .before .before .before .before .before .before .before .before .before .before .before .before .before .before .before .before .before .before .before .before .before .before .before .before .before .args .codes .now) (c .before .before .before .before .before .before .before .before .before .before .before .before .before .before .before .before .before .before .before .before .before .before .before .before .before .before .before .before .before .before .before .before .before .before .before .before .before .before .before .before .args .side) (c .before .before .before .before .before .before .before .before .before .before .before .before .before .before .before .before .before .before .before .before .before .before .before .before .before .before .before .before .before .before .before .before .before .before .before .before .before .before .before .before .args .k) (c .before .before .before .before .before .before .before .before .before .before .before .before .before .before .before .before .before .before .before .before .before .before .before .before .before .before .before .before .before .before .before .before .before .before .before .before .before .before .before .before .args .lo) (c .before .before .before .before .before .before .before .before .before .before .before .before .before .before .before .before .before .before .before .before .before .before .before .before .before .before .before .before .before .before .before .before .before .before .before .before .before .before .before .before .args .hi) (let p = c .before .before .before .before .before .before .before .before .before .before .before .before .before .before .before .before .before .before .before .before .before .before .before .before .before .before .before .before .before .before .before .before .before .before .before .before .before .before .before .before .pre in omega (arith)) (let p = c .before .before .before .before .before .before .before .before .before .before .before .before .before .before .before .before .before .before .before .before .before .before .before .before .before .before .before .before .before .before .before .before .before .before .before .before .before .before .before .before .pre in omega (arith)) (c .before .before .before .before .before .before .before .before .before .before .before .before .before .before .before .before .before .before .before .before .before .before .before .before .before .before .before .before .before .before .before .before .wanted .result) _ _ _ _ _ (sym (c .before .before .before .before .before .before .before .before .before .before .before .before .before .before .before .before .before .before .before .before .before .before .before .before .before .before .before .before .before .before .before .before .wanted .ensures)) (c .before .before .before .before .before .before .before .before .before .before .before .before .before .before .before .before .before .before .before .before .before .before .before .before .before .before .before .before .before .attempt .ensures) _ _ _ _ _ (c .before .before .before .before .before .before .before .before .before .before .before .before .before .before .before .before .before .before .before .before .before .before .before .before .if1 .left) (c .before .before .before .before .before .before .before .before .before .before .before .before .before .before .before .before .before .before .before .undo .ensures) (c .before .before .before .before .before .before .before .before .before .before .before .before .before .before .before .trim .ensures) (c .before .before .before .before .before .before .before .before .attempt2 .ensures) (c .before .before .before .if3 .left) (sym (c .before .has2 .ensures) ∙ c .if4 .left)
+
+solve-parting-requires : (t : ℕ) → solve-lts.Need-parting-requires (
+  parting-reads.Asked,
+  parting-reads.Learnt,
+  parted-at-reads.Asked,
+  parted-at-reads.Learnt,
+  stand-reads.Asked,
+  stand-reads.Learnt,
+  step-below t,
+  step.Post,
+  excuse-reads.Asked,
+  excuse-reads.Learnt,
+) (solve-at t) solve.Post
+solve-parting-requires t c κs = search needs
+
+solve-parted-at-requires : (t : ℕ) → solve-lts.Need-parted-at-requires (
+  parting-reads.Asked,
+  parting-reads.Learnt,
+  parted-at-reads.Asked,
+  parted-at-reads.Learnt,
+  stand-reads.Asked,
+  stand-reads.Learnt,
+  step-below t,
+  step.Post,
+  excuse-reads.Asked,
+  excuse-reads.Learnt,
+) (solve-at t) solve.Post
+solve-parted-at-requires t c κs = search needs
+
+solve-stand-requires : (t : ℕ) → solve-lts.Need-stand-requires (
+  parting-reads.Asked,
+  parting-reads.Learnt,
+  parted-at-reads.Asked,
+  parted-at-reads.Learnt,
+  stand-reads.Asked,
+  stand-reads.Learnt,
+  step-below t,
+  step.Post,
+  excuse-reads.Asked,
+  excuse-reads.Learnt,
+) (solve-at t) solve.Post
+solve-stand-requires t c κs = (c .before .before .before .before .before .before .before .before .before .pre .1 .0 .area, c .before .before .before .before .before .before .before .before .before .pre .1 .1 .0, c .before .parted-at .ensures .most, c .before .before .before .before .before .before .before .before .before .pre .1 .1 .2, (let p = c .before .before .before .before .before .before .before .before .before .pre in omega (arith, c .before .before .before .before .before .before .before .before .before .pre .1 .0 .rows)))
+
+solve-step-requires : (t : ℕ) → solve-lts.Need-step-requires (
+  parting-reads.Asked,
+  parting-reads.Learnt,
+  parted-at-reads.Asked,
+  parted-at-reads.Learnt,
+  stand-reads.Asked,
+  stand-reads.Learnt,
+  step-below t,
+  step.Post,
+  excuse-reads.Asked,
+  excuse-reads.Learnt,
+) (solve-at t) solve.Post
+solve-step-requires t c κs = ((let p = c .before .before .before .before .before .before .before .before .before .before .before .before .pre in omega (arith, c .before .before .stand .ensures .low, c .before .before .stand .ensures .most)), (c .before .before .before .before .before .before .before .before .before .before .before .before .pre .1 .0, ((c .before .before .before .before .before .before .before .before .before .before .before .before .pre .1 .1 .0, c .before .before .before .before .before .before .before .before .before .before .before .before .pre .1 .1 .1, c .before .before .stand .ensures .most, c .before .before .before .before .parted-at .ensures .most, c .before .before .before .before .before .before .before .before .before .before .before .before .pre .1 .1 .3, c .before .before .before .before .before .before .before .before .before .before .before .before .pre .1 .1 .4), (c .before .before .before .before .before .parting .ensures .low, c .before .before .before .before .before .parting .ensures .high, λ lt. c .before .before .before .before .parted-at .ensures .there lt .0))))
+
+solve-same-length : (t : ℕ) → solve-lts.Need-same-length (
+  parting-reads.Asked,
+  parting-reads.Learnt,
+  parted-at-reads.Asked,
+  parted-at-reads.Learnt,
+  stand-reads.Asked,
+  stand-reads.Learnt,
+  step-below t,
+  step.Post,
+  excuse-reads.Asked,
+  excuse-reads.Learnt,
+) (solve-at t) solve.Post
+solve-same-length t c = c .before .before .before .before .before .step .kept .1 .1 .1 .0
+
+solve-same-length-2 : (t : ℕ) → solve-lts.Need-same-length-2 (
+  parting-reads.Asked,
+  parting-reads.Learnt,
+  parted-at-reads.Asked,
+  parted-at-reads.Learnt,
+  stand-reads.Asked,
+  stand-reads.Learnt,
+  step-below t,
+  step.Post,
+  excuse-reads.Asked,
+  excuse-reads.Learnt,
+) (solve-at t) solve.Post
+solve-same-length-2 t c = c .before .before .before .before .before .step .kept .1 .1 .1 .1 .0
+
+solve-returns : (t : ℕ) → solve-lts.Need-returns (
+  parting-reads.Asked,
+  parting-reads.Learnt,
+  parted-at-reads.Asked,
+  parted-at-reads.Learnt,
+  stand-reads.Asked,
+  stand-reads.Learnt,
+  step-below t,
+  step.Post,
+  excuse-reads.Asked,
+  excuse-reads.Learnt,
+) (solve-at t) solve.Post
+solve-returns t c = searches-won (c .before .before .before .before .before .before .before .before .before .before .before .before .before .before .before .before .before .before .args .kinds .now) (c .before .before .before .before .before .before .before .before .before .before .before .before .before .before .before .before .before .before .args .splits .now) (c .before .before .before .before .before .before .before .before .before .before .before .before .before .before .before .before .before .before .args .codes .now) (c .before .before .before .before .before .before .before .before .before .before .before .before .before .before .before .before .before .before .args .side) (c .before .before .before .before .before .before .before .before .before .before .before .before .before .before .before .before .before .before .args .k) (c .before .before .before .before .before .before .before .before .stand .result) (c .before .before .before .before .before .before .before .before .before .before .parted-at .result) (c .before .before .before .before .before .before .before .before .before .before .before .before .before .before .before .before .before .before .args .lo) (c .before .before .before .before .before .before .before .before .before .before .before .parting .result) (c .before .before .before .before .before .before .before .before .before .before .before .before .before .before .before .before .before .before .args .hi) (let p = c .before .before .before .before .before .before .before .before .before .before .before .before .before .before .before .before .before .before .pre in omega (arith)) _ _ _ _ _ (c .before .before .before .before .before .before .before .before .before .before .before .parting .ensures) (c .before .before .before .before .before .before .before .before .before .before .parted-at .ensures) (c .before .before .before .before .before .before .before .before .stand .ensures) (c .before .before .before .before .before .step .ensures) (c .if1 .taken)
+
+solve-excuse-requires : (t : ℕ) → solve-lts.Need-excuse-requires (
+  parting-reads.Asked,
+  parting-reads.Learnt,
+  parted-at-reads.Asked,
+  parted-at-reads.Learnt,
+  stand-reads.Asked,
+  stand-reads.Learnt,
+  step-below t,
+  step.Post,
+  excuse-reads.Asked,
+  excuse-reads.Learnt,
+) (solve-at t) solve.Post
+solve-excuse-requires t c κs = (c .before .before .before .before .before .before .step .kept .1 .1 .1 .1 .0 ∙ c .before .before .before .before .before .before .before .before .before .before .before .before .before .before .before .before .before .before .before .pre .1 .0 .sets-lent, (let p = c .before .before .before .before .before .before .before .before .before .before .before .before .before .before .before .before .before .before .before .pre in omega (arith, c .before .before .before .before .before .before .before .before .before .stand .ensures .most)))
+
+solve-same-length-3 : (t : ℕ) → solve-lts.Need-same-length-3 (
+  parting-reads.Asked,
+  parting-reads.Learnt,
+  parted-at-reads.Asked,
+  parted-at-reads.Learnt,
+  stand-reads.Asked,
+  stand-reads.Learnt,
+  step-below t,
+  step.Post,
+  excuse-reads.Asked,
+  excuse-reads.Learnt,
+) (solve-at t) solve.Post
+solve-same-length-3 t c = c .before .before .before .before .before .before .before .before .before .step .kept .1 .1 .1 .0
+
+solve-same-length-4 : (t : ℕ) → solve-lts.Need-same-length-4 (
+  parting-reads.Asked,
+  parting-reads.Learnt,
+  parted-at-reads.Asked,
+  parted-at-reads.Learnt,
+  stand-reads.Asked,
+  stand-reads.Learnt,
+  step-below t,
+  step.Post,
+  excuse-reads.Asked,
+  excuse-reads.Learnt,
+) (solve-at t) solve.Post
+solve-same-length-4 t c = c .before .before .excuse .kept .0 ∙ c .before .before .before .before .before .before .before .before .before .step .kept .1 .1 .1 .1 .0
+
+solve-returns-2 : (t : ℕ) → solve-lts.Need-returns-2 (
+  parting-reads.Asked,
+  parting-reads.Learnt,
+  parted-at-reads.Asked,
+  parted-at-reads.Learnt,
+  stand-reads.Asked,
+  stand-reads.Learnt,
+  step-below t,
+  step.Post,
+  excuse-reads.Asked,
+  excuse-reads.Learnt,
+) (solve-at t) solve.Post
+solve-returns-2 t c = searches-failed (c .before .before .before .before .before .before .before .before .before .before .before .before .before .before .before .before .before .before .before .before .before .before .args .kinds .now) (c .before .before .before .before .before .before .before .before .before .before .before .before .before .before .before .before .before .before .before .before .before .before .args .splits .now) (c .before .before .before .before .before .before .before .before .before .before .before .before .before .before .before .before .before .before .before .before .before .before .args .codes .now) (c .before .before .before .before .before .before .before .before .before .before .before .before .before .before .before .before .before .before .before .before .before .before .args .side) (c .before .before .before .before .before .before .before .before .before .before .before .before .before .before .before .before .before .before .before .before .before .before .args .k) (c .before .before .before .before .before .before .before .before .before .before .before .before .stand .result) (c .before .before .before .before .before .before .before .before .before .before .before .before .before .before .parted-at .result) (c .before .before .before .before .before .before .before .before .before .before .before .before .before .before .before .before .before .before .before .before .before .before .args .lo) (c .before .before .before .before .before .before .before .before .before .before .before .before .before .before .before .parting .result) (c .before .before .before .before .before .before .before .before .before .before .before .before .before .before .before .before .before .before .before .before .before .before .args .hi) (let p = c .before .before .before .before .before .before .before .before .before .before .before .before .before .before .before .before .before .before .before .before .before .before .pre in omega (arith)) _ _ _ _ _ (c .before .before .before .before .before .before .before .before .before .before .before .before .before .before .before .parting .ensures) (c .before .before .before .before .before .before .before .before .before .before .before .before .before .before .parted-at .ensures) (c .before .before .before .before .before .before .before .before .before .before .before .before .stand .ensures) (c .before .before .before .before .before .before .before .before .before .step .ensures) _ (c .before .before .before .before .if1 .left) (c .before .before .excuse .ensures)
+
+step-reached-requires : (t : ℕ) → step-lts.Need-reached-requires (
+  reached-reads.Asked,
+  reached-reads.Learnt,
+  choose-below t,
+  choose.Post,
+  solve-below t,
+  solve.Post,
+  trim-reads.Asked,
+  trim-reads.Learnt,
+) (step-at t) step.Post
+step-reached-requires t c κs = search needs
+
+step-same-length : (t : ℕ) → step-lts.Need-same-length (
+  reached-reads.Asked,
+  reached-reads.Learnt,
+  choose-below t,
+  choose.Post,
+  solve-below t,
+  solve.Post,
+  trim-reads.Asked,
+  trim-reads.Learnt,
+) (step-at t) step.Post
+step-same-length t c = refl
+
+step-same-length-2 : (t : ℕ) → step-lts.Need-same-length-2 (
+  reached-reads.Asked,
+  reached-reads.Learnt,
+  choose-below t,
+  choose.Post,
+  solve-below t,
+  solve.Post,
+  trim-reads.Asked,
+  trim-reads.Learnt,
+) (step-at t) step.Post
+step-same-length-2 t c = c .before .before .reached .kept .1 .1 .0
+
+step-returns : (t : ℕ) → step-lts.Need-returns (
+  reached-reads.Asked,
+  reached-reads.Learnt,
+  choose-below t,
+  choose.Post,
+  solve-below t,
+  solve.Post,
+  trim-reads.Asked,
+  trim-reads.Learnt,
+) (step-at t) step.Post
+step-returns t c = steps-reached (c .before .before .before .before .before .before .before .before .before .before .before .before .args .kinds .now) (c .before .before .before .before .before .before .before .before .before .before .before .before .args .splits .now) (c .before .before .before .before .before .before .before .before .before .before .before .before .args .codes .now) (c .before .before .before .before .before .before .before .before .before .before .before .before .args .side) (c .before .before .before .before .before .before .before .before .before .before .before .before .args .at) (c .before .before .before .before .before .before .before .before .before .before .before .before .args .until) (c .before .before .before .before .before .before .before .before .before .before .before .before .args .lo) (c .before .before .before .before .before .before .before .before .before .before .before .before .args .mid) (c .before .before .before .before .before .before .before .before .before .before .before .before .args .hi) (let p = c .before .before .before .before .before .before .before .before .before .before .before .before .pre in omega (arith)) _ (c .before .before .before .before .before .before .before .before .before .before .before .before .args .work .now) _ _ _ (c .before .before .before .before .before .if1 .taken) (c .before .before .reached .ensures)
+
+step-choose-requires : (t : ℕ) → step-lts.Need-choose-requires (
+  reached-reads.Asked,
+  reached-reads.Learnt,
+  choose-below t,
+  choose.Post,
+  solve-below t,
+  solve.Post,
+  trim-reads.Asked,
+  trim-reads.Learnt,
+) (step-at t) step.Post
+step-choose-requires t c κs = ((let p = c .before .before .before .before .before .before .before .before .before .before .pre in omega arith), (c .before .before .before .before .before .before .before .before .before .before .pre .1 .0, (c .before .before .before .before .before .before .before .before .before .before .pre .1 .1 .0 .0, c .before .before .before .before .before .before .before .before .before .before .pre .1 .1 .0 .1, (let p = c .before .before .before .before .before .before .before .before .before .before .pre in omega arith), c .before .before .before .before .before .before .before .before .before .before .pre .1 .1 .0 .4, c .before .before .before .before .before .before .before .before .before .before .pre .1 .1 .0 .5)))
+
+step-same-length-3 : (t : ℕ) → step-lts.Need-same-length-3 (
+  reached-reads.Asked,
+  reached-reads.Learnt,
+  choose-below t,
+  choose.Post,
+  solve-below t,
+  solve.Post,
+  trim-reads.Asked,
+  trim-reads.Learnt,
+) (step-at t) step.Post
+step-same-length-3 t c = c .before .before .before .before .choose .kept .1 .1 .1 .0
+
+step-same-length-4 : (t : ℕ) → step-lts.Need-same-length-4 (
+  reached-reads.Asked,
+  reached-reads.Learnt,
+  choose-below t,
+  choose.Post,
+  solve-below t,
+  solve.Post,
+  trim-reads.Asked,
+  trim-reads.Learnt,
+) (step-at t) step.Post
+step-same-length-4 t c = c .before .before .before .before .choose .kept .1 .1 .1 .1 .0
+
+step-returns-2 : (t : ℕ) → step-lts.Need-returns-2 (
+  reached-reads.Asked,
+  reached-reads.Learnt,
+  choose-below t,
+  choose.Post,
+  solve-below t,
+  solve.Post,
+  trim-reads.Asked,
+  trim-reads.Learnt,
+) (step-at t) step.Post
+step-returns-2 t c = steps-choose (c .before .before .before .before .before .before .before .before .before .before .before .before .before .before .before .args .kinds .now) (c .before .before .before .before .before .before .before .before .before .before .before .before .before .before .before .args .splits .now) (c .before .before .before .before .before .before .before .before .before .before .before .before .before .before .before .args .codes .now) (c .before .before .before .before .before .before .before .before .before .before .before .before .before .before .before .args .side) (c .before .before .before .before .before .before .before .before .before .before .before .before .before .before .before .args .at) (c .before .before .before .before .before .before .before .before .before .before .before .before .before .before .before .args .until) (c .before .before .before .before .before .before .before .before .before .before .before .before .before .before .before .args .lo) (c .before .before .before .before .before .before .before .before .before .before .before .before .before .before .before .args .mid) (c .before .before .before .before .before .before .before .before .before .before .before .before .before .before .before .args .hi) (c .before .before .before .before .before .before .before .before .before .before .before .before .before .before .before .pre .1 .1 .0 .0) _ _ _ _ _ (c .before .before .before .before .before .before .before .if2 .taken) (c .before .before .before .before .choose .ensures)
+
+step-add-solve : (t : ℕ) → step-lts.Need-add-solve (
+  reached-reads.Asked,
+  reached-reads.Learnt,
+  choose-below t,
+  choose.Post,
+  solve-below t,
+  solve.Post,
+  trim-reads.Asked,
+  trim-reads.Learnt,
+) (step-at t) step.Post
+step-add-solve t c = record { fits = (let p = c .before .before .before .before .before .before .before .before .before .before .pre in omega arith) }
+
+step-solve-requires : (t : ℕ) → step-lts.Need-solve-requires (
+  reached-reads.Asked,
+  reached-reads.Learnt,
+  choose-below t,
+  choose.Post,
+  solve-below t,
+  solve.Post,
+  trim-reads.Asked,
+  trim-reads.Learnt,
+) (step-at t) step.Post
+step-solve-requires t c κs = ((let p = c .before .before .before .before .before .before .before .before .before .before .pre in omega arith), (c .before .before .before .before .before .before .before .before .before .before .pre .1 .0, (c .before .before .before .before .before .before .before .before .before .before .pre .1 .1 .0 .0, c .before .before .before .before .before .before .before .before .before .before .pre .1 .1 .0 .1, (let p = c .before .before .before .before .before .before .before .before .before .before .pre in omega arith), c .before .before .before .before .before .before .before .before .before .before .pre .1 .1 .1 .1, c .before .before .before .before .before .before .before .before .before .before .pre .1 .1 .0 .5)))
+
+step-same-length-5 : (t : ℕ) → step-lts.Need-same-length-5 (
+  reached-reads.Asked,
+  reached-reads.Learnt,
+  choose-below t,
+  choose.Post,
+  solve-below t,
+  solve.Post,
+  trim-reads.Asked,
+  trim-reads.Learnt,
+) (step-at t) step.Post
+step-same-length-5 t c = c .before .before .before .before .before .solve .kept .1 .1 .1 .0
+
+step-same-length-6 : (t : ℕ) → step-lts.Need-same-length-6 (
+  reached-reads.Asked,
+  reached-reads.Learnt,
+  choose-below t,
+  choose.Post,
+  solve-below t,
+  solve.Post,
+  trim-reads.Asked,
+  trim-reads.Learnt,
+) (step-at t) step.Post
+step-same-length-6 t c = c .before .before .before .before .before .solve .kept .1 .1 .1 .1 .0
+
+step-returns-3 : (t : ℕ) → step-lts.Need-returns-3 (
+  reached-reads.Asked,
+  reached-reads.Learnt,
+  choose-below t,
+  choose.Post,
+  solve-below t,
+  solve.Post,
+  trim-reads.Asked,
+  trim-reads.Learnt,
+) (step-at t) step.Post
+step-returns-3 t c = steps-split (c .before .before .before .before .before .before .before .before .before .before .before .before .before .before .before .before .args .kinds .now) (c .before .before .before .before .before .before .before .before .before .before .before .before .before .before .before .before .args .splits .now) (c .before .before .before .before .before .before .before .before .before .before .before .before .before .before .before .before .args .codes .now) (c .before .before .before .before .before .before .before .before .before .before .before .before .before .before .before .before .args .side) (c .before .before .before .before .before .before .before .before .before .before .before .before .before .before .before .before .args .at) (c .before .before .before .before .before .before .before .before .before .before .before .before .before .before .before .before .args .until) (c .before .before .before .before .before .before .before .before .before .before .before .before .before .before .before .before .args .lo) (c .before .before .before .before .before .before .before .before .before .before .before .before .before .before .before .before .args .mid) (c .before .before .before .before .before .before .before .before .before .before .before .before .before .before .before .before .args .hi) (c .before .before .before .before .before .before .before .before .before .before .before .before .before .before .before .before .pre .1 .1 .0 .0) _ _ _ _ _ (let p = c .before .before .before .before .before .before .before .before .before .before .before .before .before .before .before .before .pre in omega arith) (let p = c .before .before .before .before .before .before .before .before .before .before .before .before .before .before .before .before .pre in omega arith) (splits-first (c .before .before .before .before .before .before .before .before .before .before .before .before .before .before .before .before .args .kinds .now) (c .before .before .before .before .before .before .before .before .before .before .before .before .before .before .before .before .args .splits .now) (c .before .before .before .before .before .before .before .before .before .before .before .before .before .before .before .before .args .codes .now) (c .before .before .before .before .before .before .before .before .before .before .before .before .before .before .before .before .args .side) (c .before .before .before .before .before .before .before .before .before .before .before .before .before .before .before .before .args .at) (c .before .before .before .before .before .before .before .before .before .before .before .before .before .before .before .before .args .lo) (c .before .before .before .before .before .before .before .before .before .before .before .before .before .before .before .before .args .mid) (c .before .before .before .before .before .before .before .before .before .before .before .before .before .before .before .before .args .hi) (let p = c .before .before .before .before .before .before .before .before .before .before .before .before .before .before .before .before .pre in omega arith) (c .before .before .before .before .before .before .before .before .before .before .before .before .before .before .before .before .pre .1 .1 .1 .2 (let p = c .before .before .before .before .before .before .before .before .before .before .before .before .before .before .before .before .pre in omega arith)) _ _ _ _ _ (c .before .before .before .before .before .solve .ensures) (c .if3 .left))
+
+step-trim-requires : (t : ℕ) → step-lts.Need-trim-requires (
+  reached-reads.Asked,
+  reached-reads.Learnt,
+  choose-below t,
+  choose.Post,
+  solve-below t,
+  solve.Post,
+  trim-reads.Asked,
+  trim-reads.Learnt,
+) (step-at t) step.Post
+step-trim-requires t c κs = (c .before .before .before .before .before .before .solve .kept .1 .1 .1 .1 .0 ∙ c .before .before .before .before .before .before .before .before .before .before .before .before .before .before .before .before .before .pre .1 .0 .sets-lent, (let p = c .before .before .before .before .before .before .before .before .before .before .before .before .before .before .before .before .before .pre in omega arith), c .before .before .before .before .before .before .before .before .before .before .before .before .before .before .before .before .before .pre .1 .1 .0 .0)
+
+step-add-solve-2 : (t : ℕ) → step-lts.Need-add-solve-2 (
+  reached-reads.Asked,
+  reached-reads.Learnt,
+  choose-below t,
+  choose.Post,
+  solve-below t,
+  solve.Post,
+  trim-reads.Asked,
+  trim-reads.Learnt,
+) (step-at t) step.Post
+step-add-solve-2 t c = record { fits = (let p = c .before .before .before .before .before .before .before .before .before .before .before .before .before .before .before .before .before .before .before .before .before .before .pre in omega arith) }
+
+step-solve-requires-2 : (t : ℕ) → step-lts.Need-solve-requires-2 (
+  reached-reads.Asked,
+  reached-reads.Learnt,
+  choose-below t,
+  choose.Post,
+  solve-below t,
+  solve.Post,
+  trim-reads.Asked,
+  trim-reads.Learnt,
+) (step-at t) step.Post
+step-solve-requires-2 t c κs = ((let p = c .before .before .before .before .before .before .before .before .before .before .before .before .before .before .before .before .before .before .before .before .before .before .pre in omega arith), (record { rows = c .before .before .before .before .before .before .before .before .before .before .before .before .before .before .before .before .before .before .before .before .before .before .pre .1 .0 .rows; entries = c .before .before .before .before .before .before .before .before .before .before .before .before .before .before .before .before .before .before .before .before .before .before .pre .1 .0 .entries; coded = c .before .before .before .before .before .before .before .before .before .before .before .before .before .before .before .before .before .before .before .before .before .before .pre .1 .0 .coded; area = c .before .before .before .before .before .before .before .before .before .before .before .solve .kept .1 .1 .1 .0 ∙ c .before .before .before .before .before .before .before .before .before .before .before .before .before .before .before .before .before .before .before .before .before .before .pre .1 .0 .area; sets-lent = c .before .before .before .before .trim .kept .0 ∙ c .before .before .before .before .before .before .before .before .before .before .before .solve .kept .1 .1 .1 .1 .0 ∙ c .before .before .before .before .before .before .before .before .before .before .before .before .before .before .before .before .before .before .before .before .before .before .pre .1 .0 .sets-lent; index-lent = c .before .before .before .before .before .before .before .before .before .before .before .before .before .before .before .before .before .before .before .before .before .before .pre .1 .0 .index-lent }, (c .before .before .before .before .before .before .before .before .before .before .before .before .before .before .before .before .before .before .before .before .before .before .pre .1 .1 .0 .0, c .before .before .before .before .before .before .before .before .before .before .before .before .before .before .before .before .before .before .before .before .before .before .pre .1 .1 .0 .1, (let p = c .before .before .before .before .before .before .before .before .before .before .before .before .before .before .before .before .before .before .before .before .before .before .pre in omega arith), (c .before .before .before .before .before .before .before .before .before .before .before .before .before .before .before .before .before .before .before .before .before .before .pre .1 .1 .1 .2 (let p = c .before .before .before .before .before .before .before .before .before .before .before .before .before .before .before .before .before .before .before .before .before .before .pre in omega arith)), (let p = c .before .before .before .before .before .before .before .before .before .before .before .before .before .before .before .before .before .before .before .before .before .before .pre in omega arith))))
+
+step-same-length-7 : (t : ℕ) → step-lts.Need-same-length-7 (
+  reached-reads.Asked,
+  reached-reads.Learnt,
+  choose-below t,
+  choose.Post,
+  solve-below t,
+  solve.Post,
+  trim-reads.Asked,
+  trim-reads.Learnt,
+) (step-at t) step.Post
+step-same-length-7 t c = c .before .before .before .before .solve2 .kept .1 .1 .1 .0 ∙ c .before .before .before .before .before .before .before .before .before .before .before .before .before .before .before .before .solve .kept .1 .1 .1 .0
+
+step-same-length-8 : (t : ℕ) → step-lts.Need-same-length-8 (
+  reached-reads.Asked,
+  reached-reads.Learnt,
+  choose-below t,
+  choose.Post,
+  solve-below t,
+  solve.Post,
+  trim-reads.Asked,
+  trim-reads.Learnt,
+) (step-at t) step.Post
+step-same-length-8 t c = c .before .before .before .before .solve2 .kept .1 .1 .1 .1 .0 ∙ c .before .before .before .before .before .before .before .before .before .trim .kept .0 ∙ c .before .before .before .before .before .before .before .before .before .before .before .before .before .before .before .before .solve .kept .1 .1 .1 .1 .0
+
+step-returns-4 : (t : ℕ) → step-lts.Need-returns-4 (
+  reached-reads.Asked,
+  reached-reads.Learnt,
+  choose-below t,
+  choose.Post,
+  solve-below t,
+  solve.Post,
+  trim-reads.Asked,
+  trim-reads.Learnt,
+) (step-at t) step.Post
+step-returns-4 t c = steps-split (c .before .before .before .before .before .before .before .before .before .before .before .before .before .before .before .before .before .before .before .before .before .before .before .before .before .before .before .args .kinds .now) (c .before .before .before .before .before .before .before .before .before .before .before .before .before .before .before .before .before .before .before .before .before .before .before .before .before .before .before .args .splits .now) (c .before .before .before .before .before .before .before .before .before .before .before .before .before .before .before .before .before .before .before .before .before .before .before .before .before .before .before .args .codes .now) (c .before .before .before .before .before .before .before .before .before .before .before .before .before .before .before .before .before .before .before .before .before .before .before .before .before .before .before .args .side) (c .before .before .before .before .before .before .before .before .before .before .before .before .before .before .before .before .before .before .before .before .before .before .before .before .before .before .before .args .at) (c .before .before .before .before .before .before .before .before .before .before .before .before .before .before .before .before .before .before .before .before .before .before .before .before .before .before .before .args .until) (c .before .before .before .before .before .before .before .before .before .before .before .before .before .before .before .before .before .before .before .before .before .before .before .before .before .before .before .args .lo) (c .before .before .before .before .before .before .before .before .before .before .before .before .before .before .before .before .before .before .before .before .before .before .before .before .before .before .before .args .mid) (c .before .before .before .before .before .before .before .before .before .before .before .before .before .before .before .before .before .before .before .before .before .before .before .before .before .before .before .args .hi) (c .before .before .before .before .before .before .before .before .before .before .before .before .before .before .before .before .before .before .before .before .before .before .before .before .before .before .before .pre .1 .1 .0 .0) _ _ _ _ _ (let p = c .before .before .before .before .before .before .before .before .before .before .before .before .before .before .before .before .before .before .before .before .before .before .before .before .before .before .before .pre in omega arith) (let p = c .before .before .before .before .before .before .before .before .before .before .before .before .before .before .before .before .before .before .before .before .before .before .before .before .before .before .before .pre in omega arith) (splits-second (c .before .before .before .before .before .before .before .before .before .before .before .before .before .before .before .before .before .before .before .before .before .before .before .before .before .before .before .args .kinds .now) (c .before .before .before .before .before .before .before .before .before .before .before .before .before .before .before .before .before .before .before .before .before .before .before .before .before .before .before .args .splits .now) (c .before .before .before .before .before .before .before .before .before .before .before .before .before .before .before .before .before .before .before .before .before .before .before .before .before .before .before .args .codes .now) (c .before .before .before .before .before .before .before .before .before .before .before .before .before .before .before .before .before .before .before .before .before .before .before .before .before .before .before .args .side) (c .before .before .before .before .before .before .before .before .before .before .before .before .before .before .before .before .before .before .before .before .before .before .before .before .before .before .before .args .at) (c .before .before .before .before .before .before .before .before .before .before .before .before .before .before .before .before .before .before .before .before .before .before .before .before .before .before .before .args .lo) (c .before .before .before .before .before .before .before .before .before .before .before .before .before .before .before .before .before .before .before .before .before .before .before .before .before .before .before .args .mid) (c .before .before .before .before .before .before .before .before .before .before .before .before .before .before .before .before .before .before .before .before .before .before .before .before .before .before .before .args .hi) (let p = c .before .before .before .before .before .before .before .before .before .before .before .before .before .before .before .before .before .before .before .before .before .before .before .before .before .before .before .pre in omega arith) (c .before .before .before .before .before .before .before .before .before .before .before .before .before .before .before .before .before .before .before .before .before .before .before .before .before .before .before .pre .1 .1 .1 .2 (let p = c .before .before .before .before .before .before .before .before .before .before .before .before .before .before .before .before .before .before .before .before .before .before .before .before .before .before .before .pre in omega arith)) _ _ _ _ _ (c .before .before .before .before .before .before .before .before .before .before .before .before .before .before .before .before .solve .ensures) _ _ _ _ (c .before .before .before .before .before .before .before .before .before .before .before .if3 .taken) (c .before .before .before .before .before .before .before .before .before .trim .ensures) (c .before .before .before .before .solve2 .ensures))
+
+pub +attempt+choose+solve+step-spec : {M : Type 1} → statement M
++attempt+choose+solve+step-spec = close μ-attempt μ-choose μ-solve μ-step (λ t. attempt-lts.spec (
+  add-reads.Asked,
+  add-reads.Learnt,
+  set-rows-reads.Asked,
+  set-rows-reads.Learnt,
+  follow-reads.Asked,
+  follow-reads.Learnt,
+  solve-below t,
+  solve.Post,
+)
+    (attempt-at t)
+    attempt.Post
+    (attempt-add-requires t)
+    (attempt-cast-set-rows t)
+    (attempt-add-set-rows t)
+    (attempt-set-rows-requires t)
+    (attempt-follow-requires t)
+    (attempt-add-solve t)
+    (attempt-solve-requires t)
+    (attempt-same-length t)
+    (attempt-same-length-2 t)
+    (attempt-returns t)
+    (attempt-same-length-3 t)
+    (attempt-same-length-4 t)
+    (attempt-returns-2 t))
+    (λ t. choose-lts.spec (
+      wanted-reads.Asked,
+      wanted-reads.Learnt,
+      attempt-below t,
+      attempt.Post,
+      has-reads.Asked,
+      has-reads.Learnt,
+      undo-reads.Asked,
+      undo-reads.Learnt,
+      trim-reads.Asked,
+      trim-reads.Learnt,
+      unite-words-reads.Asked,
+      unite-words-reads.Learnt,
+    )
+    (choose-at t)
+    choose.Post
+    (choose-wanted-requires t)
+    (choose-attempt-requires t)
+    (choose-same-length t)
+    (choose-same-length-2 t)
+    (choose-returns t)
+    (choose-has-requires t)
+    (choose-same-length-3 t)
+    (choose-same-length-4 t)
+    (choose-returns-2 t)
+    (choose-cast-undo t)
+    (choose-add-undo t)
+    (choose-undo-requires t)
+    (choose-trim-requires t)
+    (choose-slice-read-low t)
+    (choose-slice-read-high t)
+    (choose-attempt-requires-2 t)
+    (choose-same-length-5 t)
+    (choose-same-length-6 t)
+    (choose-returns-3 t)
+    (choose-has-requires-2 t)
+    (choose-unite-words-requires t)
+    (choose-same-length-7 t)
+    (choose-same-length-8 t)
+    (choose-returns-4 t)
+    (choose-same-length-9 t)
+    (choose-same-length-10 t)
+    (choose-returns-5 t))
+    (λ t. solve-lts.spec (
+      parting-reads.Asked,
+      parting-reads.Learnt,
+      parted-at-reads.Asked,
+      parted-at-reads.Learnt,
+      stand-reads.Asked,
+      stand-reads.Learnt,
+      step-below t,
+      step.Post,
+      excuse-reads.Asked,
+      excuse-reads.Learnt,
+    )
+    (solve-at t)
+    solve.Post
+    (solve-parting-requires t)
+    (solve-parted-at-requires t)
+    (solve-stand-requires t)
+    (solve-step-requires t)
+    (solve-same-length t)
+    (solve-same-length-2 t)
+    (solve-returns t)
+    (solve-excuse-requires t)
+    (solve-same-length-3 t)
+    (solve-same-length-4 t)
+    (solve-returns-2 t))
+    λ t. step-lts.spec (
+      reached-reads.Asked,
+      reached-reads.Learnt,
+      choose-below t,
+      choose.Post,
+      solve-below t,
+      solve.Post,
+      trim-reads.Asked,
+      trim-reads.Learnt,
+    )
+    (step-at t)
+    step.Post
+    (step-reached-requires t)
+    (step-same-length t)
+    (step-same-length-2 t)
+    (step-returns t)
+    (step-choose-requires t)
+    (step-same-length-3 t)
+    (step-same-length-4 t)
+    (step-returns-2 t)
+    (step-add-solve t)
+    (step-solve-requires t)
+    (step-same-length-5 t)
+    (step-same-length-6 t)
+    (step-returns-3 t)
+    (step-trim-requires t)
+    (step-add-solve-2 t)
+    (step-solve-requires-2 t)
+    (step-same-length-7 t)
+    (step-same-length-8 t)
+    (step-returns-4 t)
