@@ -10,6 +10,7 @@ ghost use Rattle.search.specs.Masks.{SetsKept};
 ghost use Rattle.search.specs.Steps.{Settles, Looked, Blamed, CopyFrom, CopyTo, Lent};
 use super::clauses::begins;
 use super::clauses::position;
+use super::index::ANY;
 use super::sets;
 use super::sets::CHANGED;
 use super::sets::CUT;
@@ -32,47 +33,24 @@ pub(crate) fn survey(
     sets::empty(sets, CHANGED);
     let mut i = 0;
     while i < splits.len() {
-        if survey_row(splits, codes, work, sets, index, i) {} else {
+        if visit_row(
+            splits,
+            codes,
+            work,
+            sets,
+            index,
+            1,
+            0,
+            splits.len(),
+            ANY,
+            0,
+            i,
+        ) {} else {
             return false;
         }
         i += 1;
     }
     settle(splits, codes, work, sets, index, 1, 0, splits.len())
-}
-
-fn survey_row(
-    splits: &[u8],
-    codes: &[u16],
-    work: &mut [u8],
-    sets: &mut [u64],
-    index: &[u16],
-    i: usize,
-) -> bool
-    requires { ⌜ Lent (now splits) (now codes) (now work) (now sets) (now index) ⌝ }
-    requires { ⌜ i < length (now splits) ⌝ }
-    ensures { λ r. ⌜ Settles 0 (now (splits .entry)) (now (codes .entry)) 0 (length (now (splits .entry))) 1 (now (work .entry)) (now (work .exit)) (now (sets .entry)) (now (sets .exit)) r ⌝ }
-{
-    let mut start = 0;
-    while start < codes.len() {
-        if repeats(splits, codes, 0, i, start) {} else {
-            if touch(
-                splits,
-                codes,
-                work,
-                sets,
-                index,
-                1,
-                0,
-                splits.len(),
-                i,
-                start,
-            ) {} else {
-                return false;
-            }
-        }
-        start = past_clause(codes, start);
-    }
-    true
 }
 
 // Whether row i, of the rows from `from` on, has the same copies of the clause's unknowns as the row before it.
@@ -87,21 +65,6 @@ fn repeats(splits: &[u8], codes: &[u16], from: usize, i: usize, start: usize) ->
     } else {
         true
     }
-}
-
-// The entry behind the clause that begins at `start`.
-fn past_clause(codes: &[u16], start: usize) -> usize
-    requires { ⌜ start < length (now codes) ⌝ }
-    ensures { λ r. ⌜ start < r ⌝ }
-{
-    let mut e = start + 1;
-    while e < codes.len() {
-        if codes[e - 1] == 0 {
-            return e;
-        }
-        e += 1;
-    }
-    e
 }
 
 // What follows in the rows from lo to hi from the value that they just got at position k.
@@ -192,7 +155,7 @@ fn shortened(value: bool, k: usize) -> usize
     if value { 2 * k + 3 } else { 2 * k + 2 }
 }
 
-// Looks at the clauses with the code c in row i, but for those that repeat the row before it.
+// Looks at the clauses with the code c, or at all if it is ANY, in row i, but for those that repeat the row before it.
 fn visit_row(
     splits: &[u8],
     codes: &[u16],
@@ -207,7 +170,7 @@ fn visit_row(
     i: usize,
 ) -> bool
     requires { ⌜ Lent (now splits) (now codes) (now work) (now sets) (now index) ⌝ }
-    requires { ⌜ (lo ≤ i) × (i < hi) × (hi ≤ length (now splits)) × (2 ≤ c) × (c ≤ 257) ⌝ }
+    requires { ⌜ (lo ≤ i) × (i < hi) × (hi ≤ length (now splits)) × (1 ≤ c) × (c ≤ 257) ⌝ }
     ensures { λ r. ⌜ Settles 0 (now (splits .entry)) (now (codes .entry)) lo hi mark (now (work .entry)) (now (work .exit)) (now (sets .entry)) (now (sets .exit)) r ⌝ }
 {
     let end = lower(wide16(index[c]), index.len());

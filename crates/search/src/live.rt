@@ -19,13 +19,7 @@ use super::table;
 use super::width::wide16;
 
 // Whether each row from lo to hi has a live clause. False: CUT says by which decisions one has none.
-pub(crate) fn check(
-    codes: &[u16],
-    work: &[u8],
-    sets: &mut [u64],
-    lo: usize,
-    hi: usize,
-) -> bool
+pub(crate) fn check(codes: &[u16], work: &[u8], sets: &mut [u64], lo: usize, hi: usize) -> bool
     requires { ⌜ (length (now work) ≡ 65536) × (length (now sets) ≡ 516) × (lo ≤ hi) × (hi ≤ 256) × (length (now codes) ≤ 8192) × Coded 128 (now codes) ⌝ }
     ensures { λ r. ⌜ ((splits : List ℕ) (mark : ℕ) → Settles 1 splits (now (codes .entry)) lo hi mark (now (work .entry)) (now (work .entry)) (now (sets .entry)) (now (sets .exit)) r) ⌝ }
 {

@@ -20,19 +20,19 @@ empty-requires c κs = (omega arith, omega arith, omega arith)
 loop-holds : tie.Need-loop-holds Inv-loop μ-loop
 loop-holds c = going-start
 
-survey-row-requires : tie.Need-survey-row-requires Inv-loop μ-loop
-survey-row-requires c κs = (lent-still (c .before .before .before .loop .inv) (lent-noted (c .before .before .before .before .before .before .before .before .before .before .before .before .before .pre) (c .before .before .before .before .before .before .empty .kept .0)), omega arith)
+visit-row-requires : tie.Need-visit-row-requires Inv-loop μ-loop
+visit-row-requires c κs = (lent-still (c .before .before .before .loop .inv) (lent-noted (c .before .before .before .before .before .before .before .before .before .before .before .before .before .pre) (c .before .before .before .before .before .before .empty .kept .0)), (omega arith, omega arith, omega arith, omega arith, omega arith))
 
 same-length : tie.Need-same-length Inv-loop μ-loop
-same-length c = c .before .before .before .before .before .survey-row .kept .1 .1 .0 ∙ c .before .before .before .before .before .before .before .before .before .loop .inv .work
+same-length c = c .before .before .before .before .before .visit-row .kept .1 .1 .0 ∙ c .before .before .before .before .before .before .before .before .before .loop .inv .work
 
 same-length-2 : tie.Need-same-length-2 Inv-loop μ-loop
-same-length-2 c = c .before .before .before .before .before .survey-row .kept .1 .1 .1 .0 ∙ c .before .before .before .before .before .before .before .before .before .loop .inv .sets ∙ c .before .before .before .before .before .before .before .before .before .before .before .before .empty .kept .0
+same-length-2 c = c .before .before .before .before .before .visit-row .kept .1 .1 .1 .0 ∙ c .before .before .before .before .before .before .before .before .before .loop .inv .sets ∙ c .before .before .before .before .before .before .before .before .before .before .before .before .empty .kept .0
 
 returns : tie.Need-returns Inv-loop μ-loop
 returns c =
-    noted-first (c .before .before .before .before .before .before .before .before .before .before .before .before .before .before .before .before .before .before .before .args .splits .now) (c .before .before .before .before .before .before .before .before .before .before .before .before .before .before .before .before .before .before .before .args .codes .now) 0 (length (c .before .before .before .before .before .before .before .before .before .before .before .before .before .before .before .before .before .before .before .args .splits .now)) 1 (c .before .before .before .before .before .before .before .before .before .before .before .before .before .before .before .before .before .before .before .args .work .now) (c .before .before .before .before .before .survey-row .last .1 .1 .0) (c .before .before .before .before .before .before .before .before .before .before .before .before .before .before .before .before .before .before .before .args .sets .now) (c .before .before .before .before .before .before .before .before .before .before .before .before .empty .last .0) (c .before .before .before .before .before .survey-row .last .1 .1 .1 .0) false (c .before .before .before .before .before .before .before .before .before .before .before .before .empty .ensures)
-    (going-ends (c .before .before .before .before .before .before .before .before .before .loop .inv) (c .before .before .before .before .before .survey-row .last .1 .1 .0) (c .before .before .before .before .before .survey-row .last .1 .1 .1 .0) (c .before .before .before .before .before .survey-row .result) (c .before .before .before .before .before .survey-row .ensures) (c .if1 .left))
+    noted-first (c .before .before .before .before .before .before .before .before .before .before .before .before .before .before .before .before .before .before .before .args .splits .now) (c .before .before .before .before .before .before .before .before .before .before .before .before .before .before .before .before .before .before .before .args .codes .now) 0 (length (c .before .before .before .before .before .before .before .before .before .before .before .before .before .before .before .before .before .before .before .args .splits .now)) 1 (c .before .before .before .before .before .before .before .before .before .before .before .before .before .before .before .before .before .before .before .args .work .now) (c .before .before .before .before .before .visit-row .last .1 .1 .0) (c .before .before .before .before .before .before .before .before .before .before .before .before .before .before .before .before .before .before .before .args .sets .now) (c .before .before .before .before .before .before .before .before .before .before .before .before .empty .last .0) (c .before .before .before .before .before .visit-row .last .1 .1 .1 .0) false (c .before .before .before .before .before .before .before .before .before .before .before .before .empty .ensures)
+    (going-ends (c .before .before .before .before .before .before .before .before .before .loop .inv) (c .before .before .before .before .before .visit-row .last .1 .1 .0) (c .before .before .before .before .before .visit-row .last .1 .1 .1 .0) (c .before .before .before .before .before .visit-row .result) (c .before .before .before .before .before .visit-row .ensures) (c .if1 .left))
 
 add-i : tie.Need-add-i Inv-loop μ-loop
 add-i c = omega arith
@@ -41,7 +41,7 @@ loop-less : tie.Need-loop-less Inv-loop μ-loop
 loop-less c = omega arith
 
 loop-again : tie.Need-loop-again Inv-loop μ-loop
-loop-again c = going-then (c .before .before .before .before .before .before .before .before .before .loop .inv) (c .before .before .before .before .before .survey-row .result) (c .before .before .before .before .before .survey-row .ensures) (c .if1 .taken) (c .before .before .before .before .before .survey-row .kept .1 .1 .0) (c .before .before .before .before .before .survey-row .kept .1 .1 .1 .0)
+loop-again c = going-then (c .before .before .before .before .before .before .before .before .before .loop .inv) (c .before .before .before .before .before .visit-row .result) (c .before .before .before .before .before .visit-row .ensures) (c .if1 .taken) (c .before .before .before .before .before .visit-row .kept .1 .1 .0) (c .before .before .before .before .before .visit-row .kept .1 .1 .1 .0)
 
 settle-requires : tie.Need-settle-requires Inv-loop μ-loop
 settle-requires c κs = (lent-still (c .before .before .before .loop .inv) (lent-noted (c .before .before .before .before .before .before .before .before .before .before .before .before .before .pre) (c .before .before .before .before .before .before .empty .kept .0)), omega arith)
@@ -65,7 +65,7 @@ survey-spec =
     μ-loop
     empty-requires
     loop-holds
-    survey-row-requires
+    visit-row-requires
     same-length
     same-length-2
     returns
