@@ -12,7 +12,7 @@ use Rattle.expansion.proofs.Booleans.{true-or-false, never-both}
 use Rattle.expansion.proofs.Node.{Node, Won}
 use Rattle.search.specs.Cells.{cells, wants, CellsSet, CellsOpened}
 use Rattle.search.specs.Masks.{set-at, words, masks, cut, SetGrown, WordsUnited, Trimmed}
-use Rattle.search.specs.Steps.{Fits, Settled, Settles, Searched, Searches, with-value, Tried, Tries, Chooses, Steps, Excused, Parting, PartedAt, Stands, Reached, FromStart}
+use Rattle.search.specs.Steps.{Fits, Settled, Settles, Searched, Searches, with-value, Tried, Tries, Chooses, Retries, Steps, Excused, Parting, PartedAt, Stands, Reached, FromStart}
 use Rattle.search.proofs.StepLaws.{masks-grown}
 use Rattle.search.proofs.SolveLaws.{tried-node, tried-refuted, tried-searched, chosen-first, failed-without, second-node, second-wants, second-open, chosen-second, failed-both, failed-second, high-node, split-first, low-node, split-second, searched-leaf, stood-node, at-fits, stood-open, parted-other, stood-searched, stood-won}
 
@@ -54,6 +54,9 @@ module _ (kinds splits codes : List ℕ) (side k lo hi : ℕ) (kk : k < length k
     chooses-without e lacks P v F W A o z =
         let t : Tried P k lo hi v y w w1 s s1 r1 = first P v F W A o z in
         failed-without kinds splits codes side k lo hi below P v F w s W A (unknown P kinds splits codes side k F kk) o y wanted y w1 s1 (t .grown) (t .wanted) (t .masked) (t .failed e) lacks
+
+    pub chooses-retried : (u t : List ℕ) (r : Bool) → r1 ≡ false → Retries kinds splits codes side k lo hi y w1 u s1 t r → Chooses kinds splits codes side k lo hi w u s t r
+    chooses-retried u t r e retries = retries w s wanted (subst (λ (b : Bool). Tries kinds splits codes side k lo hi y w w1 s s1 b) e first)
 
     module _ (w2 w3 s2 s3 : List ℕ) (r : Bool) (e1 : r1 ≡ false) (opened : CellsOpened lo hi (k + 1) w1 w2) (trimmed : Trimmed k s1 s2) (second : Tries kinds splits codes side k lo hi (not y) w2 w3 s2 s3 r) where
       module _ (P : Problem) (v : ℕ → Bool) (F : Fits P kinds splits codes side) (W : (i j : ℕ) → i < P .count → j < P .n → P .own j ≡ true → wants w i j ≡ P .wanted i j) (A : Node P k lo hi v (cells w) (masks s)) (o : P .own k ≡ true) (z : cells w .level lo k ≡ 0) where

@@ -83,6 +83,12 @@ Chooses kinds splits codes side k lo hi w u s t r =
     → P .own k ≡ true → cells w .level lo k ≡ 0
     → Searched P k lo hi v w u s t r
 
+-- The other value at k, over what the trial of y, the wanted one, left when it failed.
+abbrev pub Retries : List ℕ → List ℕ → List ℕ → ℕ → ℕ → ℕ → ℕ → Bool → List ℕ → List ℕ → List ℕ → List ℕ → Bool → Type 0
+Retries kinds splits codes side k lo hi y w1 u s1 t r =
+    (w s : List ℕ) → wants w lo k ≡ y → Tries kinds splits codes side k lo hi y w w1 s s1 false
+    → Chooses kinds splits codes side k lo hi w u s t r
+
 -- For each position from k to `at` that the failure's set has, it takes in the set of that position.
 pub record Excused (k at : ℕ) (s t : List ℕ) : Type 0 where
   pub grown : SetGrown 128 s t

@@ -8,7 +8,7 @@ ghost use Rattle.expansion.proofs.ClauseCuts.{matrix-at};
 ghost use Rattle.search.specs.Cells.{cells};
 ghost use Rattle.search.specs.Codes.{code-true, code-clauses, code-goal, Coded, Ended};
 ghost use Rattle.search.specs.Masks.{set-at};
-ghost use Rattle.search.specs.Steps.{Lent, Settles, Searches, Tries, Chooses, Steps, Excused, Reached, Parting, PartedAt, Stands, FromStart};
+ghost use Rattle.search.specs.Steps.{Lent, Settles, Searches, Tries, Chooses, Retries, Steps, Excused, Reached, Parting, PartedAt, Stands, FromStart};
 use super::force;
 use super::index;
 use super::live;
@@ -218,6 +218,39 @@ fn choose(
     if sets::has(sets, CUT, k) {} else {
         return false;
     }
+    retry(
+        kinds,
+        splits,
+        codes,
+        work,
+        sets,
+        index,
+        side,
+        k,
+        lo,
+        hi,
+        wanted,
+    )
+}
+
+// After a failure of the value `tried` at the own position k, which names k: tries the other one.
+fn retry(
+    kinds: &[u8],
+    splits: &[u8],
+    codes: &[u16],
+    work: &mut [u8],
+    sets: &mut [u64],
+    index: &[u16],
+    side: u8,
+    k: usize,
+    lo: usize,
+    hi: usize,
+    tried: bool,
+) -> bool
+    requires { ⌜ Lent (now splits) (now codes) (now work) (now sets) (now index) ⌝ }
+    requires { ⌜ (length (now kinds) ≤ 128) × (side ≤ 1) × (k < length (now kinds)) × (lo < hi) × (hi ≤ length (now splits)) ⌝ }
+    ensures { λ r. ⌜ Retries (now (kinds .entry)) (now (splits .entry)) (now (codes .entry)) side k lo hi tried (now (work .entry)) (now (work .exit)) (now (sets .entry)) (now (sets .exit)) r ⌝ }
+{
     table::undo(work, lo, hi, k as u8 + 1);
     sets::trim(sets, k, kinds.len());
     let low = sets[256];
@@ -233,7 +266,7 @@ fn choose(
         k,
         lo,
         hi,
-        !wanted,
+        !tried,
     ) {
         return true;
     }

@@ -1,11 +1,12 @@
--- `solve`, `step`, `choose` and `attempt`, which call each other, meet their contracts. Assumes nothing.
+-- `solve`, `step`, `choose`, `retry` and `attempt`, which call each other, meet their contracts. Assumes nothing.
 use Prim.Native.Nat.{ℕ, _+_, _*_, _-_, _<_}
 use native.Mathlib.Omega.{arith}
 use borrow.Author.Needs.{needs}
 use mathlib.Core.Path.{refl, sym, _∙_}
+use mathlib.Core.Bool.{false}
 use lib.ListN.{length}
 use Rattle.search.specs.Masks.{cut}
-use Rattle.search.proofs.SearchSteps.{tries-refuted, tries-searched, chooses-first, chooses-without, chooses-second, chooses-last, chooses-neither, splits-first, splits-second, steps-reached, steps-split, steps-choose, searches-won, searches-failed}
+use Rattle.search.proofs.SearchSteps.{tries-refuted, tries-searched, chooses-first, chooses-without, chooses-retried, chooses-second, chooses-last, chooses-neither, splits-first, splits-second, steps-reached, steps-split, steps-choose, searches-won, searches-failed}
 use borrow.Fn.Kinds.{In}
 use borrow.Fn.PlainCycle.{Measures, is, falls, and}
 use Rattle.search.proofs.solve.attempt.Reads as attempt
@@ -29,24 +30,30 @@ use Rattle.search.proofs.solve.stand.Reads as stand-reads
 use Rattle.search.proofs.table.set_rows.Reads as set-rows-reads
 use Rattle.search.proofs.table.undo.Reads as undo-reads
 use Rattle.search.proofs.table.wanted.Reads as wanted-reads
-use Rattle.search.proofs.solve.+attempt+choose+solve+step.Lts-attempt as attempt-lts
-use Rattle.search.proofs.solve.+attempt+choose+solve+step.Lts-choose as choose-lts
-use Rattle.search.proofs.solve.+attempt+choose+solve+step.Lts-solve as solve-lts
-use Rattle.search.proofs.solve.+attempt+choose+solve+step.Lts-step as step-lts
-use Rattle.search.proofs.solve.+attempt+choose+solve+step.{statement}
-use Rattle.search.proofs.solve.+attempt+choose+solve+step.Tie.{close}
+use Rattle.search.proofs.solve.+attempt+choose+retry+solve+step.Lts-attempt as attempt-lts
+use Rattle.search.proofs.solve.+attempt+choose+retry+solve+step.Lts-choose as choose-lts
+use Rattle.search.proofs.solve.retry.Reads as retry
+use Rattle.search.proofs.solve.retry.Kinds as retry-kinds
+use Rattle.search.proofs.solve.+attempt+choose+retry+solve+step.Lts-retry as retry-lts
+use Rattle.search.proofs.solve.+attempt+choose+retry+solve+step.Lts-solve as solve-lts
+use Rattle.search.proofs.solve.+attempt+choose+retry+solve+step.Lts-step as step-lts
+use Rattle.search.proofs.solve.+attempt+choose+retry+solve+step.{statement}
+use Rattle.search.proofs.solve.+attempt+choose+retry+solve+step.Tie.{close}
 
 abbrev μ-attempt : Measures 6 attempt-kinds.ps ℕ
-μ-attempt κs a = 4 * (length (a .0 .now) - a .1 .1 .1 .1 .1 .1 .1 .0)
+μ-attempt κs a = 5 * (length (a .0 .now) - a .1 .1 .1 .1 .1 .1 .1 .0)
 
 abbrev μ-choose : Measures 6 choose-kinds.ps ℕ
-μ-choose κs a = 4 * (length (a .0 .now) - a .1 .1 .1 .1 .1 .1 .1 .0) + 1
+μ-choose κs a = 5 * (length (a .0 .now) - a .1 .1 .1 .1 .1 .1 .1 .0) + 2
+
+abbrev μ-retry : Measures 6 retry-kinds.ps ℕ
+μ-retry κs a = 5 * (length (a .0 .now) - a .1 .1 .1 .1 .1 .1 .1 .0) + 1
 
 abbrev μ-solve : Measures 6 solve-kinds.ps ℕ
-μ-solve κs a = 4 * (length (a .0 .now) - a .1 .1 .1 .1 .1 .1 .1 .0) + 3
+μ-solve κs a = 5 * (length (a .0 .now) - a .1 .1 .1 .1 .1 .1 .1 .0) + 4
 
 abbrev μ-step : Measures 6 step-kinds.ps ℕ
-μ-step κs a = 4 * (length (a .0 .now) - a .1 .1 .1 .1 .1 .1 .1 .0) + 2
+μ-step κs a = 5 * (length (a .0 .now) - a .1 .1 .1 .1 .1 .1 .1 .0) + 3
 
 abbrev attempt-at : ℕ → In 6 attempt-kinds.ps
 attempt-at t = and 6 attempt-kinds.ps (is 6 attempt-kinds.ps μ-attempt t) attempt.Pre
@@ -59,6 +66,12 @@ choose-at t = and 6 choose-kinds.ps (is 6 choose-kinds.ps μ-choose t) choose.Pr
 
 abbrev choose-below : ℕ → In 6 choose-kinds.ps
 choose-below t = and 6 choose-kinds.ps (falls 6 choose-kinds.ps _<_ μ-choose t) choose.Pre
+
+abbrev retry-at : ℕ → In 6 retry-kinds.ps
+retry-at t = and 6 retry-kinds.ps (is 6 retry-kinds.ps μ-retry t) retry.Pre
+
+abbrev retry-below : ℕ → In 6 retry-kinds.ps
+retry-below t = and 6 retry-kinds.ps (falls 6 retry-kinds.ps _<_ μ-retry t) retry.Pre
 
 abbrev solve-at : ℕ → In 6 solve-kinds.ps
 solve-at t = and 6 solve-kinds.ps (is 6 solve-kinds.ps μ-solve t) solve.Pre
@@ -235,12 +248,8 @@ choose-wanted-requires : (t : ℕ) → choose-lts.Need-wanted-requires (
   attempt.Post,
   has-reads.Asked,
   has-reads.Learnt,
-  undo-reads.Asked,
-  undo-reads.Learnt,
-  trim-reads.Asked,
-  trim-reads.Learnt,
-  unite-words-reads.Asked,
-  unite-words-reads.Learnt,
+  retry-below t,
+  retry.Post,
 ) (choose-at t) choose.Post
 choose-wanted-requires t c κs = search needs
 
@@ -251,12 +260,8 @@ choose-attempt-requires : (t : ℕ) → choose-lts.Need-attempt-requires (
   attempt.Post,
   has-reads.Asked,
   has-reads.Learnt,
-  undo-reads.Asked,
-  undo-reads.Learnt,
-  trim-reads.Asked,
-  trim-reads.Learnt,
-  unite-words-reads.Asked,
-  unite-words-reads.Learnt,
+  retry-below t,
+  retry.Post,
 ) (choose-at t) choose.Post
 choose-attempt-requires t c κs = search needs
 
@@ -267,12 +272,8 @@ choose-same-length : (t : ℕ) → choose-lts.Need-same-length (
   attempt.Post,
   has-reads.Asked,
   has-reads.Learnt,
-  undo-reads.Asked,
-  undo-reads.Learnt,
-  trim-reads.Asked,
-  trim-reads.Learnt,
-  unite-words-reads.Asked,
-  unite-words-reads.Learnt,
+  retry-below t,
+  retry.Post,
 ) (choose-at t) choose.Post
 choose-same-length t c = c .before .before .before .before .before .attempt .kept .1 .1 .1 .0
 
@@ -283,12 +284,8 @@ choose-same-length-2 : (t : ℕ) → choose-lts.Need-same-length-2 (
   attempt.Post,
   has-reads.Asked,
   has-reads.Learnt,
-  undo-reads.Asked,
-  undo-reads.Learnt,
-  trim-reads.Asked,
-  trim-reads.Learnt,
-  unite-words-reads.Asked,
-  unite-words-reads.Learnt,
+  retry-below t,
+  retry.Post,
 ) (choose-at t) choose.Post
 choose-same-length-2 t c = c .before .before .before .before .before .attempt .kept .1 .1 .1 .1 .0
 
@@ -299,12 +296,8 @@ choose-returns : (t : ℕ) → choose-lts.Need-returns (
   attempt.Post,
   has-reads.Asked,
   has-reads.Learnt,
-  undo-reads.Asked,
-  undo-reads.Learnt,
-  trim-reads.Asked,
-  trim-reads.Learnt,
-  unite-words-reads.Asked,
-  unite-words-reads.Learnt,
+  retry-below t,
+  retry.Post,
 ) (choose-at t) choose.Post
 choose-returns t c = chooses-first (c .before .before .before .before .before .before .before .before .before .before .before .before .before .before .before .before .args .kinds .now) (c .before .before .before .before .before .before .before .before .before .before .before .before .before .before .before .before .args .splits .now) (c .before .before .before .before .before .before .before .before .before .before .before .before .before .before .before .before .args .codes .now) (c .before .before .before .before .before .before .before .before .before .before .before .before .before .before .before .before .args .side) (c .before .before .before .before .before .before .before .before .before .before .before .before .before .before .before .before .args .k) (c .before .before .before .before .before .before .before .before .before .before .before .before .before .before .before .before .args .lo) (c .before .before .before .before .before .before .before .before .before .before .before .before .before .before .before .before .args .hi) (let p = c .before .before .before .before .before .before .before .before .before .before .before .before .before .before .before .before .pre in omega (arith)) (let p = c .before .before .before .before .before .before .before .before .before .before .before .before .before .before .before .before .pre in omega (arith)) (c .before .before .before .before .before .before .before .before .wanted .result) _ _ _ _ _ (sym (c .before .before .before .before .before .before .before .before .wanted .ensures)) (c .before .before .before .before .before .attempt .ensures) (c .if1 .taken)
 
@@ -315,12 +308,8 @@ choose-has-requires : (t : ℕ) → choose-lts.Need-has-requires (
   attempt.Post,
   has-reads.Asked,
   has-reads.Learnt,
-  undo-reads.Asked,
-  undo-reads.Learnt,
-  trim-reads.Asked,
-  trim-reads.Learnt,
-  unite-words-reads.Asked,
-  unite-words-reads.Learnt,
+  retry-below t,
+  retry.Post,
 ) (choose-at t) choose.Post
 choose-has-requires t c κs = search needs
 
@@ -331,12 +320,8 @@ choose-same-length-3 : (t : ℕ) → choose-lts.Need-same-length-3 (
   attempt.Post,
   has-reads.Asked,
   has-reads.Learnt,
-  undo-reads.Asked,
-  undo-reads.Learnt,
-  trim-reads.Asked,
-  trim-reads.Learnt,
-  unite-words-reads.Asked,
-  unite-words-reads.Learnt,
+  retry-below t,
+  retry.Post,
 ) (choose-at t) choose.Post
 choose-same-length-3 t c = c .before .before .before .before .before .before .before .before .attempt .kept .1 .1 .1 .0
 
@@ -347,12 +332,8 @@ choose-same-length-4 : (t : ℕ) → choose-lts.Need-same-length-4 (
   attempt.Post,
   has-reads.Asked,
   has-reads.Learnt,
-  undo-reads.Asked,
-  undo-reads.Learnt,
-  trim-reads.Asked,
-  trim-reads.Learnt,
-  unite-words-reads.Asked,
-  unite-words-reads.Learnt,
+  retry-below t,
+  retry.Post,
 ) (choose-at t) choose.Post
 choose-same-length-4 t c = c .before .before .before .before .before .before .before .before .attempt .kept .1 .1 .1 .1 .0
 
@@ -363,127 +344,23 @@ choose-returns-2 : (t : ℕ) → choose-lts.Need-returns-2 (
   attempt.Post,
   has-reads.Asked,
   has-reads.Learnt,
-  undo-reads.Asked,
-  undo-reads.Learnt,
-  trim-reads.Asked,
-  trim-reads.Learnt,
-  unite-words-reads.Asked,
-  unite-words-reads.Learnt,
+  retry-below t,
+  retry.Post,
 ) (choose-at t) choose.Post
 unfolding cut
 choose-returns-2 t c = chooses-without (c .before .before .before .before .before .before .before .before .before .before .before .before .before .before .before .before .before .before .before .args .kinds .now) (c .before .before .before .before .before .before .before .before .before .before .before .before .before .before .before .before .before .before .before .args .splits .now) (c .before .before .before .before .before .before .before .before .before .before .before .before .before .before .before .before .before .before .before .args .codes .now) (c .before .before .before .before .before .before .before .before .before .before .before .before .before .before .before .before .before .before .before .args .side) (c .before .before .before .before .before .before .before .before .before .before .before .before .before .before .before .before .before .before .before .args .k) (c .before .before .before .before .before .before .before .before .before .before .before .before .before .before .before .before .before .before .before .args .lo) (c .before .before .before .before .before .before .before .before .before .before .before .before .before .before .before .before .before .before .before .args .hi) (let p = c .before .before .before .before .before .before .before .before .before .before .before .before .before .before .before .before .before .before .before .pre in omega (arith)) (let p = c .before .before .before .before .before .before .before .before .before .before .before .before .before .before .before .before .before .before .before .pre in omega (arith)) (c .before .before .before .before .before .before .before .before .before .before .before .wanted .result) _ _ _ _ _ (sym (c .before .before .before .before .before .before .before .before .before .before .before .wanted .ensures)) (c .before .before .before .before .before .before .before .before .attempt .ensures) (c .before .before .before .if1 .left) (sym (c .before .has .ensures) ∙ c .if2 .left)
 
-choose-cast-undo : (t : ℕ) → choose-lts.Need-cast-undo (
+choose-retry-requires : (t : ℕ) → choose-lts.Need-retry-requires (
   wanted-reads.Asked,
   wanted-reads.Learnt,
   attempt-below t,
   attempt.Post,
   has-reads.Asked,
   has-reads.Learnt,
-  undo-reads.Asked,
-  undo-reads.Learnt,
-  trim-reads.Asked,
-  trim-reads.Learnt,
-  unite-words-reads.Asked,
-  unite-words-reads.Learnt,
+  retry-below t,
+  retry.Post,
 ) (choose-at t) choose.Post
-choose-cast-undo t c = search needs
-
-choose-add-undo : (t : ℕ) → choose-lts.Need-add-undo (
-  wanted-reads.Asked,
-  wanted-reads.Learnt,
-  attempt-below t,
-  attempt.Post,
-  has-reads.Asked,
-  has-reads.Learnt,
-  undo-reads.Asked,
-  undo-reads.Learnt,
-  trim-reads.Asked,
-  trim-reads.Learnt,
-  unite-words-reads.Asked,
-  unite-words-reads.Learnt,
-) (choose-at t) choose.Post
-choose-add-undo t c = search needs
-
-choose-undo-requires : (t : ℕ) → choose-lts.Need-undo-requires (
-  wanted-reads.Asked,
-  wanted-reads.Learnt,
-  attempt-below t,
-  attempt.Post,
-  has-reads.Asked,
-  has-reads.Learnt,
-  undo-reads.Asked,
-  undo-reads.Learnt,
-  trim-reads.Asked,
-  trim-reads.Learnt,
-  unite-words-reads.Asked,
-  unite-words-reads.Learnt,
-) (choose-at t) choose.Post
-choose-undo-requires t c κs = search needs
-
-choose-trim-requires : (t : ℕ) → choose-lts.Need-trim-requires (
-  wanted-reads.Asked,
-  wanted-reads.Learnt,
-  attempt-below t,
-  attempt.Post,
-  has-reads.Asked,
-  has-reads.Learnt,
-  undo-reads.Asked,
-  undo-reads.Learnt,
-  trim-reads.Asked,
-  trim-reads.Learnt,
-  unite-words-reads.Asked,
-  unite-words-reads.Learnt,
-) (choose-at t) choose.Post
-choose-trim-requires t c κs = (c .before .before .before .before .before .before .before .before .before .before .before .before .before .attempt .kept .1 .1 .1 .1 .0 ∙ c .before .before .before .before .before .before .before .before .before .before .before .before .before .before .before .before .before .before .before .before .before .before .before .before .pre .1 .0 .sets-lent, (let p = c .before .before .before .before .before .before .before .before .before .before .before .before .before .before .before .before .before .before .before .before .before .before .before .before .pre in omega arith), c .before .before .before .before .before .before .before .before .before .before .before .before .before .before .before .before .before .before .before .before .before .before .before .before .pre .1 .1 .0)
-
-choose-slice-read-low : (t : ℕ) → choose-lts.Need-slice-read-low (
-  wanted-reads.Asked,
-  wanted-reads.Learnt,
-  attempt-below t,
-  attempt.Post,
-  has-reads.Asked,
-  has-reads.Learnt,
-  undo-reads.Asked,
-  undo-reads.Learnt,
-  trim-reads.Asked,
-  trim-reads.Learnt,
-  unite-words-reads.Asked,
-  unite-words-reads.Learnt,
-) (choose-at t) choose.Post
-choose-slice-read-low t c = (let p = c .before .before .before .before .before .before .before .before .before .before .before .before .before .before .before .before .before .before .before .before .before .before .before .before .before .before .before .before .pre in omega (arith, c .before .before .before .before .before .before .before .before .before .before .before .before .before .before .before .before .before .attempt .kept .1 .1 .1 .1 .0, c .before .before .before .trim .kept .0))
-
-choose-slice-read-high : (t : ℕ) → choose-lts.Need-slice-read-high (
-  wanted-reads.Asked,
-  wanted-reads.Learnt,
-  attempt-below t,
-  attempt.Post,
-  has-reads.Asked,
-  has-reads.Learnt,
-  undo-reads.Asked,
-  undo-reads.Learnt,
-  trim-reads.Asked,
-  trim-reads.Learnt,
-  unite-words-reads.Asked,
-  unite-words-reads.Learnt,
-) (choose-at t) choose.Post
-choose-slice-read-high t c = (let p = c .before .before .before .before .before .before .before .before .before .before .before .before .before .before .before .before .before .before .before .before .before .before .before .before .before .before .before .before .before .pre in omega (arith, c .before .before .before .before .before .before .before .before .before .before .before .before .before .before .before .before .before .before .attempt .kept .1 .1 .1 .1 .0, c .before .before .before .before .trim .kept .0))
-
-choose-attempt-requires-2 : (t : ℕ) → choose-lts.Need-attempt-requires-2 (
-  wanted-reads.Asked,
-  wanted-reads.Learnt,
-  attempt-below t,
-  attempt.Post,
-  has-reads.Asked,
-  has-reads.Learnt,
-  undo-reads.Asked,
-  undo-reads.Learnt,
-  trim-reads.Asked,
-  trim-reads.Learnt,
-  unite-words-reads.Asked,
-  unite-words-reads.Learnt,
-) (choose-at t) choose.Post
-choose-attempt-requires-2 t c κs = ((let p = c .before .before .before .before .before .before .before .before .before .before .before .before .before .before .before .before .before .before .before .before .before .before .before .before .before .before .before .before .before .before .before .pre in omega arith), (record { rows = c .before .before .before .before .before .before .before .before .before .before .before .before .before .before .before .before .before .before .before .before .before .before .before .before .before .before .before .before .before .before .before .pre .1 .0 .rows; entries = c .before .before .before .before .before .before .before .before .before .before .before .before .before .before .before .before .before .before .before .before .before .before .before .before .before .before .before .before .before .before .before .pre .1 .0 .entries; coded = c .before .before .before .before .before .before .before .before .before .before .before .before .before .before .before .before .before .before .before .before .before .before .before .before .before .before .before .before .before .before .before .pre .1 .0 .coded; area = c .before .before .before .before .before .before .before .before .before .before .undo .kept .0 ∙ c .before .before .before .before .before .before .before .before .before .before .before .before .before .before .before .before .before .before .before .before .attempt .kept .1 .1 .1 .0 ∙ c .before .before .before .before .before .before .before .before .before .before .before .before .before .before .before .before .before .before .before .before .before .before .before .before .before .before .before .before .before .before .before .pre .1 .0 .area; sets-lent = c .before .before .before .before .before .before .trim .kept .0 ∙ c .before .before .before .before .before .before .before .before .before .before .before .before .before .before .before .before .before .before .before .before .attempt .kept .1 .1 .1 .1 .0 ∙ c .before .before .before .before .before .before .before .before .before .before .before .before .before .before .before .before .before .before .before .before .before .before .before .before .before .before .before .before .before .before .before .pre .1 .0 .sets-lent; index-lent = c .before .before .before .before .before .before .before .before .before .before .before .before .before .before .before .before .before .before .before .before .before .before .before .before .before .before .before .before .before .before .before .pre .1 .0 .index-lent }, (c .before .before .before .before .before .before .before .before .before .before .before .before .before .before .before .before .before .before .before .before .before .before .before .before .before .before .before .before .before .before .before .pre .1 .1 .0, c .before .before .before .before .before .before .before .before .before .before .before .before .before .before .before .before .before .before .before .before .before .before .before .before .before .before .before .before .before .before .before .pre .1 .1 .1, c .before .before .before .before .before .before .before .before .before .before .before .before .before .before .before .before .before .before .before .before .before .before .before .before .before .before .before .before .before .before .before .pre .1 .1 .2, c .before .before .before .before .before .before .before .before .before .before .before .before .before .before .before .before .before .before .before .before .before .before .before .before .before .before .before .before .before .before .before .pre .1 .1 .3, c .before .before .before .before .before .before .before .before .before .before .before .before .before .before .before .before .before .before .before .before .before .before .before .before .before .before .before .before .before .before .before .pre .1 .1 .4)))
+choose-retry-requires t c κs = ((let p = c .before .before .before .before .before .before .before .before .before .before .before .before .before .before .before .before .before .before .before .before .before .pre in omega arith), (record { rows = c .before .before .before .before .before .before .before .before .before .before .before .before .before .before .before .before .before .before .before .before .before .pre .1 .0 .rows; entries = c .before .before .before .before .before .before .before .before .before .before .before .before .before .before .before .before .before .before .before .before .before .pre .1 .0 .entries; coded = c .before .before .before .before .before .before .before .before .before .before .before .before .before .before .before .before .before .before .before .before .before .pre .1 .0 .coded; area = c .before .before .before .before .before .before .before .before .before .before .attempt .kept .1 .1 .1 .0 ∙ c .before .before .before .before .before .before .before .before .before .before .before .before .before .before .before .before .before .before .before .before .before .pre .1 .0 .area; sets-lent = c .before .before .before .before .before .before .before .before .before .before .attempt .kept .1 .1 .1 .1 .0 ∙ c .before .before .before .before .before .before .before .before .before .before .before .before .before .before .before .before .before .before .before .before .before .pre .1 .0 .sets-lent; index-lent = c .before .before .before .before .before .before .before .before .before .before .before .before .before .before .before .before .before .before .before .before .before .pre .1 .0 .index-lent }, (c .before .before .before .before .before .before .before .before .before .before .before .before .before .before .before .before .before .before .before .before .before .pre .1 .1 .0, c .before .before .before .before .before .before .before .before .before .before .before .before .before .before .before .before .before .before .before .before .before .pre .1 .1 .1, c .before .before .before .before .before .before .before .before .before .before .before .before .before .before .before .before .before .before .before .before .before .pre .1 .1 .2, c .before .before .before .before .before .before .before .before .before .before .before .before .before .before .before .before .before .before .before .before .before .pre .1 .1 .3, c .before .before .before .before .before .before .before .before .before .before .before .before .before .before .before .before .before .before .before .before .before .pre .1 .1 .4)))
 
 choose-same-length-5 : (t : ℕ) → choose-lts.Need-same-length-5 (
   wanted-reads.Asked,
@@ -492,14 +369,10 @@ choose-same-length-5 : (t : ℕ) → choose-lts.Need-same-length-5 (
   attempt.Post,
   has-reads.Asked,
   has-reads.Learnt,
-  undo-reads.Asked,
-  undo-reads.Learnt,
-  trim-reads.Asked,
-  trim-reads.Learnt,
-  unite-words-reads.Asked,
-  unite-words-reads.Learnt,
+  retry-below t,
+  retry.Post,
 ) (choose-at t) choose.Post
-choose-same-length-5 t c = c .before .before .before .before .before .attempt2 .kept .1 .1 .1 .0 ∙ c .before .before .before .before .before .before .before .before .before .before .before .before .before .before .before .before .undo .kept .0 ∙ c .before .before .before .before .before .before .before .before .before .before .before .before .before .before .before .before .before .before .before .before .before .before .before .before .before .before .attempt .kept .1 .1 .1 .0
+choose-same-length-5 t c = c .before .before .before .before .retry .kept .1 .1 .1 .0 ∙ c .before .before .before .before .before .before .before .before .before .before .before .before .before .before .before .attempt .kept .1 .1 .1 .0
 
 choose-same-length-6 : (t : ℕ) → choose-lts.Need-same-length-6 (
   wanted-reads.Asked,
@@ -508,14 +381,10 @@ choose-same-length-6 : (t : ℕ) → choose-lts.Need-same-length-6 (
   attempt.Post,
   has-reads.Asked,
   has-reads.Learnt,
-  undo-reads.Asked,
-  undo-reads.Learnt,
-  trim-reads.Asked,
-  trim-reads.Learnt,
-  unite-words-reads.Asked,
-  unite-words-reads.Learnt,
+  retry-below t,
+  retry.Post,
 ) (choose-at t) choose.Post
-choose-same-length-6 t c = c .before .before .before .before .before .attempt2 .kept .1 .1 .1 .1 .0 ∙ c .before .before .before .before .before .before .before .before .before .before .before .before .trim .kept .0 ∙ c .before .before .before .before .before .before .before .before .before .before .before .before .before .before .before .before .before .before .before .before .before .before .before .before .before .before .attempt .kept .1 .1 .1 .1 .0
+choose-same-length-6 t c = c .before .before .before .before .retry .kept .1 .1 .1 .1 .0 ∙ c .before .before .before .before .before .before .before .before .before .before .before .before .before .before .before .attempt .kept .1 .1 .1 .1 .0
 
 choose-returns-3 : (t : ℕ) → choose-lts.Need-returns-3 (
   wanted-reads.Asked,
@@ -524,143 +393,263 @@ choose-returns-3 : (t : ℕ) → choose-lts.Need-returns-3 (
   attempt.Post,
   has-reads.Asked,
   has-reads.Learnt,
+  retry-below t,
+  retry.Post,
+) (choose-at t) choose.Post
+choose-returns-3 t c = chooses-retried (c .before .before .before .before .before .before .before .before .before .before .before .before .before .before .before .before .before .before .before .before .before .before .before .before .before .before .args .kinds .now) (c .before .before .before .before .before .before .before .before .before .before .before .before .before .before .before .before .before .before .before .before .before .before .before .before .before .before .args .splits .now) (c .before .before .before .before .before .before .before .before .before .before .before .before .before .before .before .before .before .before .before .before .before .before .before .before .before .before .args .codes .now) (c .before .before .before .before .before .before .before .before .before .before .before .before .before .before .before .before .before .before .before .before .before .before .before .before .before .before .args .side) (c .before .before .before .before .before .before .before .before .before .before .before .before .before .before .before .before .before .before .before .before .before .before .before .before .before .before .args .k) (c .before .before .before .before .before .before .before .before .before .before .before .before .before .before .before .before .before .before .before .before .before .before .before .before .before .before .args .lo) (c .before .before .before .before .before .before .before .before .before .before .before .before .before .before .before .before .before .before .before .before .before .before .before .before .before .before .args .hi) (let p = c .before .before .before .before .before .before .before .before .before .before .before .before .before .before .before .before .before .before .before .before .before .before .before .before .before .before .pre in omega arith) (let p = c .before .before .before .before .before .before .before .before .before .before .before .before .before .before .before .before .before .before .before .before .before .before .before .before .before .before .pre in omega arith) (c .before .before .before .before .before .before .before .before .before .before .before .before .before .before .before .before .before .before .wanted .result) _ _ _ _ _ (sym (c .before .before .before .before .before .before .before .before .before .before .before .before .before .before .before .before .before .before .wanted .ensures)) (c .before .before .before .before .before .before .before .before .before .before .before .before .before .before .before .attempt .ensures) _ _ _ (c .before .before .before .before .before .before .before .before .before .before .if1 .left) (c .before .before .before .before .retry .ensures)
+
+retry-cast-undo : (t : ℕ) → retry-lts.Need-cast-undo (
   undo-reads.Asked,
   undo-reads.Learnt,
   trim-reads.Asked,
   trim-reads.Learnt,
-  unite-words-reads.Asked,
-  unite-words-reads.Learnt,
-) (choose-at t) choose.Post
-choose-returns-3 t c = chooses-second (c .before .before .before .before .before .before .before .before .before .before .before .before .before .before .before .before .before .before .before .before .before .before .before .before .before .before .before .before .before .before .before .before .before .before .before .before .before .args .kinds .now) (c .before .before .before .before .before .before .before .before .before .before .before .before .before .before .before .before .before .before .before .before .before .before .before .before .before .before .before .before .before .before .before .before .before .before .before .before .before .args .splits .now) (c .before .before .before .before .before .before .before .before .before .before .before .before .before .before .before .before .before .before .before .before .before .before .before .before .before .before .before .before .before .before .before .before .before .before .before .before .before .args .codes .now) (c .before .before .before .before .before .before .before .before .before .before .before .before .before .before .before .before .before .before .before .before .before .before .before .before .before .before .before .before .before .before .before .before .before .before .before .before .before .args .side) (c .before .before .before .before .before .before .before .before .before .before .before .before .before .before .before .before .before .before .before .before .before .before .before .before .before .before .before .before .before .before .before .before .before .before .before .before .before .args .k) (c .before .before .before .before .before .before .before .before .before .before .before .before .before .before .before .before .before .before .before .before .before .before .before .before .before .before .before .before .before .before .before .before .before .before .before .before .before .args .lo) (c .before .before .before .before .before .before .before .before .before .before .before .before .before .before .before .before .before .before .before .before .before .before .before .before .before .before .before .before .before .before .before .before .before .before .before .before .before .args .hi) (let p = c .before .before .before .before .before .before .before .before .before .before .before .before .before .before .before .before .before .before .before .before .before .before .before .before .before .before .before .before .before .before .before .before .before .before .before .before .before .pre in omega (arith)) (let p = c .before .before .before .before .before .before .before .before .before .before .before .before .before .before .before .before .before .before .before .before .before .before .before .before .before .before .before .before .before .before .before .before .before .before .before .before .before .pre in omega (arith)) (c .before .before .before .before .before .before .before .before .before .before .before .before .before .before .before .before .before .before .before .before .before .before .before .before .before .before .before .before .before .wanted .result) _ _ _ _ _ (sym (c .before .before .before .before .before .before .before .before .before .before .before .before .before .before .before .before .before .before .before .before .before .before .before .before .before .before .before .before .before .wanted .ensures)) (c .before .before .before .before .before .before .before .before .before .before .before .before .before .before .before .before .before .before .before .before .before .before .before .before .before .before .attempt .ensures) _ _ _ _ _ (c .before .before .before .before .before .before .before .before .before .before .before .before .before .before .before .before .before .before .before .before .before .if1 .left) (c .before .before .before .before .before .before .before .before .before .before .before .before .before .before .before .before .undo .ensures) (c .before .before .before .before .before .before .before .before .before .before .before .before .trim .ensures) (c .before .before .before .before .before .attempt2 .ensures) (c .if3 .taken)
-
-choose-has-requires-2 : (t : ℕ) → choose-lts.Need-has-requires-2 (
-  wanted-reads.Asked,
-  wanted-reads.Learnt,
   attempt-below t,
   attempt.Post,
   has-reads.Asked,
   has-reads.Learnt,
+  unite-words-reads.Asked,
+  unite-words-reads.Learnt,
+) (retry-at t) retry.Post
+retry-cast-undo t c = search needs
+
+retry-add-undo : (t : ℕ) → retry-lts.Need-add-undo (
   undo-reads.Asked,
   undo-reads.Learnt,
   trim-reads.Asked,
   trim-reads.Learnt,
-  unite-words-reads.Asked,
-  unite-words-reads.Learnt,
-) (choose-at t) choose.Post
-choose-has-requires-2 t c κs = (c .before .before .before .before .before .before .attempt2 .kept .1 .1 .1 .1 .0 ∙ c .before .before .before .before .before .before .before .before .before .before .before .before .before .trim .kept .0 ∙ c .before .before .before .before .before .before .before .before .before .before .before .before .before .before .before .before .before .before .before .before .before .before .before .before .before .before .before .attempt .kept .1 .1 .1 .1 .0 ∙ c .before .before .before .before .before .before .before .before .before .before .before .before .before .before .before .before .before .before .before .before .before .before .before .before .before .before .before .before .before .before .before .before .before .before .before .before .before .before .pre .1 .0 .sets-lent, omega arith, (let p = c .before .before .before .before .before .before .before .before .before .before .before .before .before .before .before .before .before .before .before .before .before .before .before .before .before .before .before .before .before .before .before .before .before .before .before .before .before .before .pre in omega arith))
-
-choose-unite-words-requires : (t : ℕ) → choose-lts.Need-unite-words-requires (
-  wanted-reads.Asked,
-  wanted-reads.Learnt,
   attempt-below t,
   attempt.Post,
   has-reads.Asked,
   has-reads.Learnt,
+  unite-words-reads.Asked,
+  unite-words-reads.Learnt,
+) (retry-at t) retry.Post
+retry-add-undo t c = search needs
+
+retry-undo-requires : (t : ℕ) → retry-lts.Need-undo-requires (
   undo-reads.Asked,
   undo-reads.Learnt,
   trim-reads.Asked,
   trim-reads.Learnt,
-  unite-words-reads.Asked,
-  unite-words-reads.Learnt,
-) (choose-at t) choose.Post
-choose-unite-words-requires t c κs = (c .before .before .before .before .before .before .before .before .before .attempt2 .kept .1 .1 .1 .1 .0 ∙ c .before .before .before .before .before .before .before .before .before .before .before .before .before .before .before .before .trim .kept .0 ∙ c .before .before .before .before .before .before .before .before .before .before .before .before .before .before .before .before .before .before .before .before .before .before .before .before .before .before .before .before .before .before .attempt .kept .1 .1 .1 .1 .0 ∙ c .before .before .before .before .before .before .before .before .before .before .before .before .before .before .before .before .before .before .before .before .before .before .before .before .before .before .before .before .before .before .before .before .before .before .before .before .before .before .before .before .before .pre .1 .0 .sets-lent, omega arith)
-
-choose-same-length-7 : (t : ℕ) → choose-lts.Need-same-length-7 (
-  wanted-reads.Asked,
-  wanted-reads.Learnt,
   attempt-below t,
   attempt.Post,
   has-reads.Asked,
   has-reads.Learnt,
+  unite-words-reads.Asked,
+  unite-words-reads.Learnt,
+) (retry-at t) retry.Post
+retry-undo-requires t c κs = search needs
+
+retry-trim-requires : (t : ℕ) → retry-lts.Need-trim-requires (
   undo-reads.Asked,
   undo-reads.Learnt,
   trim-reads.Asked,
   trim-reads.Learnt,
-  unite-words-reads.Asked,
-  unite-words-reads.Learnt,
-) (choose-at t) choose.Post
-choose-same-length-7 t c = c .before .before .before .before .before .before .before .before .before .before .before .before .attempt2 .kept .1 .1 .1 .0 ∙ c .before .before .before .before .before .before .before .before .before .before .before .before .before .before .before .before .before .before .before .before .before .before .before .undo .kept .0 ∙ c .before .before .before .before .before .before .before .before .before .before .before .before .before .before .before .before .before .before .before .before .before .before .before .before .before .before .before .before .before .before .before .before .before .attempt .kept .1 .1 .1 .0
-
-choose-same-length-8 : (t : ℕ) → choose-lts.Need-same-length-8 (
-  wanted-reads.Asked,
-  wanted-reads.Learnt,
   attempt-below t,
   attempt.Post,
   has-reads.Asked,
   has-reads.Learnt,
+  unite-words-reads.Asked,
+  unite-words-reads.Learnt,
+) (retry-at t) retry.Post
+retry-trim-requires t c κs = (c .before .before .before .before .before .before .before .before .before .before .before .pre .1 .0 .sets-lent, (let p = c .before .before .before .before .before .before .before .before .before .before .before .pre in omega arith), c .before .before .before .before .before .before .before .before .before .before .before .pre .1 .1 .0)
+
+retry-slice-read-low : (t : ℕ) → retry-lts.Need-slice-read-low (
   undo-reads.Asked,
   undo-reads.Learnt,
   trim-reads.Asked,
   trim-reads.Learnt,
-  unite-words-reads.Asked,
-  unite-words-reads.Learnt,
-) (choose-at t) choose.Post
-choose-same-length-8 t c = c .before .before .unite-words .kept .0 ∙ c .before .before .before .before .before .before .before .before .before .before .before .before .attempt2 .kept .1 .1 .1 .1 .0 ∙ c .before .before .before .before .before .before .before .before .before .before .before .before .before .before .before .before .before .before .before .trim .kept .0 ∙ c .before .before .before .before .before .before .before .before .before .before .before .before .before .before .before .before .before .before .before .before .before .before .before .before .before .before .before .before .before .before .before .before .before .attempt .kept .1 .1 .1 .1 .0
-
-choose-returns-4 : (t : ℕ) → choose-lts.Need-returns-4 (
-  wanted-reads.Asked,
-  wanted-reads.Learnt,
   attempt-below t,
   attempt.Post,
   has-reads.Asked,
   has-reads.Learnt,
+  unite-words-reads.Asked,
+  unite-words-reads.Learnt,
+) (retry-at t) retry.Post
+retry-slice-read-low t c = (let p = c .before .before .before .before .before .before .before .before .before .before .before .before .before .before .before .pre in omega (arith, c .before .before .before .trim .kept .0))
+
+retry-slice-read-high : (t : ℕ) → retry-lts.Need-slice-read-high (
   undo-reads.Asked,
   undo-reads.Learnt,
   trim-reads.Asked,
   trim-reads.Learnt,
-  unite-words-reads.Asked,
-  unite-words-reads.Learnt,
-) (choose-at t) choose.Post
-choose-returns-4 t c = chooses-neither (c .before .before .before .before .before .before .before .before .before .before .before .before .before .before .before .before .before .before .before .before .before .before .before .before .before .before .before .before .before .before .before .before .before .before .before .before .before .before .before .before .before .before .before .before .args .kinds .now) (c .before .before .before .before .before .before .before .before .before .before .before .before .before .before .before .before .before .before .before .before .before .before .before .before .before .before .before .before .before .before .before .before .before .before .before .before .before .before .before .before .before .before .before .before .args .splits .now) (c .before .before .before .before .before .before .before .before .before .before .before .before .before .before .before .before .before .before .before .before .before .before .before .before .before .before .before .before .before .before .before .before .before .before .before .before .before .before .before .before .before .before .before .before .args .codes .now) (c .before .before .before .before .before .before .before .before .before .before .before .before .before .before .before .before .before .before .before .before .before .before .before .before .before .before .before .before .before .before .before .before .before .before .before .before .before .before .before .before .before .before .before .before .args .side) (c .before .before .before .before .before .before .before .before .before .before .before .before .before .before .before .before .before .before .before .before .before .before .before .before .before .before .before .before .before .before .before .before .before .before .before .before .before .before .before .before .before .before .before .before .args .k) (c .before .before .before .before .before .before .before .before .before .before .before .before .before .before .before .before .before .before .before .before .before .before .before .before .before .before .before .before .before .before .before .before .before .before .before .before .before .before .before .before .before .before .before .before .args .lo) (c .before .before .before .before .before .before .before .before .before .before .before .before .before .before .before .before .before .before .before .before .before .before .before .before .before .before .before .before .before .before .before .before .before .before .before .before .before .before .before .before .before .before .before .before .args .hi) (let p = c .before .before .before .before .before .before .before .before .before .before .before .before .before .before .before .before .before .before .before .before .before .before .before .before .before .before .before .before .before .before .before .before .before .before .before .before .before .before .before .before .before .before .before .before .pre in omega (arith)) (let p = c .before .before .before .before .before .before .before .before .before .before .before .before .before .before .before .before .before .before .before .before .before .before .before .before .before .before .before .before .before .before .before .before .before .before .before .before .before .before .before .before .before .before .before .before .pre in omega (arith)) (c .before .before .before .before .before .before .before .before .before .before .before .before .before .before .before .before .before .before .before .before .before .before .before .before .before .before .before .before .before .before .before .before .before .before .before .before .wanted .result) _ _ _ _ _ (sym (c .before .before .before .before .before .before .before .before .before .before .before .before .before .before .before .before .before .before .before .before .before .before .before .before .before .before .before .before .before .before .before .before .before .before .before .before .wanted .ensures)) (c .before .before .before .before .before .before .before .before .before .before .before .before .before .before .before .before .before .before .before .before .before .before .before .before .before .before .before .before .before .before .before .before .before .attempt .ensures) _ _ _ _ _ (c .before .before .before .before .before .before .before .before .before .before .before .before .before .before .before .before .before .before .before .before .before .before .before .before .before .before .before .before .if1 .left) (c .before .before .before .before .before .before .before .before .before .before .before .before .before .before .before .before .before .before .before .before .before .before .before .undo .ensures) (c .before .before .before .before .before .before .before .before .before .before .before .before .before .before .before .before .before .before .before .trim .ensures) (c .before .before .before .before .before .before .before .before .before .before .before .before .attempt2 .ensures) _ (c .before .before .before .before .before .before .before .if3 .left) (c .before .before .unite-words .ensures)
-
-choose-same-length-9 : (t : ℕ) → choose-lts.Need-same-length-9 (
-  wanted-reads.Asked,
-  wanted-reads.Learnt,
   attempt-below t,
   attempt.Post,
   has-reads.Asked,
   has-reads.Learnt,
+  unite-words-reads.Asked,
+  unite-words-reads.Learnt,
+) (retry-at t) retry.Post
+retry-slice-read-high t c = (let p = c .before .before .before .before .before .before .before .before .before .before .before .before .before .before .before .before .pre in omega (arith, c .before .before .before .before .trim .kept .0))
+
+retry-attempt-requires : (t : ℕ) → retry-lts.Need-attempt-requires (
   undo-reads.Asked,
   undo-reads.Learnt,
   trim-reads.Asked,
   trim-reads.Learnt,
-  unite-words-reads.Asked,
-  unite-words-reads.Learnt,
-) (choose-at t) choose.Post
-choose-same-length-9 t c = c .before .before .before .before .before .before .before .before .attempt2 .kept .1 .1 .1 .0 ∙ c .before .before .before .before .before .before .before .before .before .before .before .before .before .before .before .before .before .before .before .undo .kept .0 ∙ c .before .before .before .before .before .before .before .before .before .before .before .before .before .before .before .before .before .before .before .before .before .before .before .before .before .before .before .before .before .attempt .kept .1 .1 .1 .0
-
-choose-same-length-10 : (t : ℕ) → choose-lts.Need-same-length-10 (
-  wanted-reads.Asked,
-  wanted-reads.Learnt,
   attempt-below t,
   attempt.Post,
   has-reads.Asked,
   has-reads.Learnt,
+  unite-words-reads.Asked,
+  unite-words-reads.Learnt,
+) (retry-at t) retry.Post
+retry-attempt-requires t c κs = ((let p = c .before .before .before .before .before .before .before .before .before .before .before .before .before .before .before .before .before .before .pre in omega arith), (record { rows = c .before .before .before .before .before .before .before .before .before .before .before .before .before .before .before .before .before .before .pre .1 .0 .rows; entries = c .before .before .before .before .before .before .before .before .before .before .before .before .before .before .before .before .before .before .pre .1 .0 .entries; coded = c .before .before .before .before .before .before .before .before .before .before .before .before .before .before .before .before .before .before .pre .1 .0 .coded; area = c .before .before .before .before .before .before .before .before .before .before .undo .kept .0 ∙ c .before .before .before .before .before .before .before .before .before .before .before .before .before .before .before .before .before .before .pre .1 .0 .area; sets-lent = c .before .before .before .before .before .before .trim .kept .0 ∙ c .before .before .before .before .before .before .before .before .before .before .before .before .before .before .before .before .before .before .pre .1 .0 .sets-lent; index-lent = c .before .before .before .before .before .before .before .before .before .before .before .before .before .before .before .before .before .before .pre .1 .0 .index-lent }, (c .before .before .before .before .before .before .before .before .before .before .before .before .before .before .before .before .before .before .pre .1 .1 .0, c .before .before .before .before .before .before .before .before .before .before .before .before .before .before .before .before .before .before .pre .1 .1 .1, c .before .before .before .before .before .before .before .before .before .before .before .before .before .before .before .before .before .before .pre .1 .1 .2, c .before .before .before .before .before .before .before .before .before .before .before .before .before .before .before .before .before .before .pre .1 .1 .3, c .before .before .before .before .before .before .before .before .before .before .before .before .before .before .before .before .before .before .pre .1 .1 .4)))
+
+retry-same-length : (t : ℕ) → retry-lts.Need-same-length (
   undo-reads.Asked,
   undo-reads.Learnt,
   trim-reads.Asked,
   trim-reads.Learnt,
-  unite-words-reads.Asked,
-  unite-words-reads.Learnt,
-) (choose-at t) choose.Post
-choose-same-length-10 t c = c .before .before .before .before .before .before .before .before .attempt2 .kept .1 .1 .1 .1 .0 ∙ c .before .before .before .before .before .before .before .before .before .before .before .before .before .before .before .trim .kept .0 ∙ c .before .before .before .before .before .before .before .before .before .before .before .before .before .before .before .before .before .before .before .before .before .before .before .before .before .before .before .before .before .attempt .kept .1 .1 .1 .1 .0
-
-choose-returns-5 : (t : ℕ) → choose-lts.Need-returns-5 (
-  wanted-reads.Asked,
-  wanted-reads.Learnt,
   attempt-below t,
   attempt.Post,
   has-reads.Asked,
   has-reads.Learnt,
+  unite-words-reads.Asked,
+  unite-words-reads.Learnt,
+) (retry-at t) retry.Post
+retry-same-length t c = c .before .before .before .before .before .attempt .kept .1 .1 .1 .0 ∙ c .before .before .before .before .before .before .before .before .before .before .before .before .before .before .before .before .undo .kept .0
+
+retry-same-length-2 : (t : ℕ) → retry-lts.Need-same-length-2 (
   undo-reads.Asked,
   undo-reads.Learnt,
   trim-reads.Asked,
   trim-reads.Learnt,
+  attempt-below t,
+  attempt.Post,
+  has-reads.Asked,
+  has-reads.Learnt,
   unite-words-reads.Asked,
   unite-words-reads.Learnt,
-) (choose-at t) choose.Post
+) (retry-at t) retry.Post
+retry-same-length-2 t c = c .before .before .before .before .before .attempt .kept .1 .1 .1 .1 .0 ∙ c .before .before .before .before .before .before .before .before .before .before .before .before .trim .kept .0
+
+retry-returns : (t : ℕ) → retry-lts.Need-returns (
+  undo-reads.Asked,
+  undo-reads.Learnt,
+  trim-reads.Asked,
+  trim-reads.Learnt,
+  attempt-below t,
+  attempt.Post,
+  has-reads.Asked,
+  has-reads.Learnt,
+  unite-words-reads.Asked,
+  unite-words-reads.Learnt,
+) (retry-at t) retry.Post
+retry-returns t c = λ w s wants first. chooses-second (c .before .before .before .before .before .before .before .before .before .before .before .before .before .before .before .before .before .before .before .before .before .before .before .before .args .kinds .now) (c .before .before .before .before .before .before .before .before .before .before .before .before .before .before .before .before .before .before .before .before .before .before .before .before .args .splits .now) (c .before .before .before .before .before .before .before .before .before .before .before .before .before .before .before .before .before .before .before .before .before .before .before .before .args .codes .now) (c .before .before .before .before .before .before .before .before .before .before .before .before .before .before .before .before .before .before .before .before .before .before .before .before .args .side) (c .before .before .before .before .before .before .before .before .before .before .before .before .before .before .before .before .before .before .before .before .before .before .before .before .args .k) (c .before .before .before .before .before .before .before .before .before .before .before .before .before .before .before .before .before .before .before .before .before .before .before .before .args .lo) (c .before .before .before .before .before .before .before .before .before .before .before .before .before .before .before .before .before .before .before .before .before .before .before .before .args .hi) (let p = c .before .before .before .before .before .before .before .before .before .before .before .before .before .before .before .before .before .before .before .before .before .before .before .before .pre in omega arith) (let p = c .before .before .before .before .before .before .before .before .before .before .before .before .before .before .before .before .before .before .before .before .before .before .before .before .pre in omega arith) (c .before .before .before .before .before .before .before .before .before .before .before .before .before .before .before .before .before .before .before .before .before .before .before .before .args .tried) w _ s _ false wants first _ _ _ _ _ refl (c .before .before .before .before .before .before .before .before .before .before .before .before .before .before .before .before .undo .ensures) (c .before .before .before .before .before .before .before .before .before .before .before .before .trim .ensures) (c .before .before .before .before .before .attempt .ensures) (c .if1 .taken)
+
+retry-has-requires : (t : ℕ) → retry-lts.Need-has-requires (
+  undo-reads.Asked,
+  undo-reads.Learnt,
+  trim-reads.Asked,
+  trim-reads.Learnt,
+  attempt-below t,
+  attempt.Post,
+  has-reads.Asked,
+  has-reads.Learnt,
+  unite-words-reads.Asked,
+  unite-words-reads.Learnt,
+) (retry-at t) retry.Post
+retry-has-requires t c κs = (c .before .before .before .before .before .before .attempt .kept .1 .1 .1 .1 .0 ∙ c .before .before .before .before .before .before .before .before .before .before .before .before .before .trim .kept .0 ∙ c .before .before .before .before .before .before .before .before .before .before .before .before .before .before .before .before .before .before .before .before .before .before .before .before .before .pre .1 .0 .sets-lent, omega arith, (let p = c .before .before .before .before .before .before .before .before .before .before .before .before .before .before .before .before .before .before .before .before .before .before .before .before .before .pre in omega arith))
+
+retry-unite-words-requires : (t : ℕ) → retry-lts.Need-unite-words-requires (
+  undo-reads.Asked,
+  undo-reads.Learnt,
+  trim-reads.Asked,
+  trim-reads.Learnt,
+  attempt-below t,
+  attempt.Post,
+  has-reads.Asked,
+  has-reads.Learnt,
+  unite-words-reads.Asked,
+  unite-words-reads.Learnt,
+) (retry-at t) retry.Post
+retry-unite-words-requires t c κs = (c .before .before .before .before .before .before .before .before .before .attempt .kept .1 .1 .1 .1 .0 ∙ c .before .before .before .before .before .before .before .before .before .before .before .before .before .before .before .before .trim .kept .0 ∙ c .before .before .before .before .before .before .before .before .before .before .before .before .before .before .before .before .before .before .before .before .before .before .before .before .before .before .before .before .pre .1 .0 .sets-lent, omega arith)
+
+retry-same-length-3 : (t : ℕ) → retry-lts.Need-same-length-3 (
+  undo-reads.Asked,
+  undo-reads.Learnt,
+  trim-reads.Asked,
+  trim-reads.Learnt,
+  attempt-below t,
+  attempt.Post,
+  has-reads.Asked,
+  has-reads.Learnt,
+  unite-words-reads.Asked,
+  unite-words-reads.Learnt,
+) (retry-at t) retry.Post
+retry-same-length-3 t c = c .before .before .before .before .before .before .before .before .before .before .before .before .attempt .kept .1 .1 .1 .0 ∙ c .before .before .before .before .before .before .before .before .before .before .before .before .before .before .before .before .before .before .before .before .before .before .before .undo .kept .0
+
+retry-same-length-4 : (t : ℕ) → retry-lts.Need-same-length-4 (
+  undo-reads.Asked,
+  undo-reads.Learnt,
+  trim-reads.Asked,
+  trim-reads.Learnt,
+  attempt-below t,
+  attempt.Post,
+  has-reads.Asked,
+  has-reads.Learnt,
+  unite-words-reads.Asked,
+  unite-words-reads.Learnt,
+) (retry-at t) retry.Post
+retry-same-length-4 t c = c .before .before .unite-words .kept .0 ∙ c .before .before .before .before .before .before .before .before .before .before .before .before .attempt .kept .1 .1 .1 .1 .0 ∙ c .before .before .before .before .before .before .before .before .before .before .before .before .before .before .before .before .before .before .before .trim .kept .0
+
+retry-returns-2 : (t : ℕ) → retry-lts.Need-returns-2 (
+  undo-reads.Asked,
+  undo-reads.Learnt,
+  trim-reads.Asked,
+  trim-reads.Learnt,
+  attempt-below t,
+  attempt.Post,
+  has-reads.Asked,
+  has-reads.Learnt,
+  unite-words-reads.Asked,
+  unite-words-reads.Learnt,
+) (retry-at t) retry.Post
+retry-returns-2 t c = λ w s wants first. chooses-neither (c .before .before .before .before .before .before .before .before .before .before .before .before .before .before .before .before .before .before .before .before .before .before .before .before .before .before .before .before .before .before .before .args .kinds .now) (c .before .before .before .before .before .before .before .before .before .before .before .before .before .before .before .before .before .before .before .before .before .before .before .before .before .before .before .before .before .before .before .args .splits .now) (c .before .before .before .before .before .before .before .before .before .before .before .before .before .before .before .before .before .before .before .before .before .before .before .before .before .before .before .before .before .before .before .args .codes .now) (c .before .before .before .before .before .before .before .before .before .before .before .before .before .before .before .before .before .before .before .before .before .before .before .before .before .before .before .before .before .before .before .args .side) (c .before .before .before .before .before .before .before .before .before .before .before .before .before .before .before .before .before .before .before .before .before .before .before .before .before .before .before .before .before .before .before .args .k) (c .before .before .before .before .before .before .before .before .before .before .before .before .before .before .before .before .before .before .before .before .before .before .before .before .before .before .before .before .before .before .before .args .lo) (c .before .before .before .before .before .before .before .before .before .before .before .before .before .before .before .before .before .before .before .before .before .before .before .before .before .before .before .before .before .before .before .args .hi) (let p = c .before .before .before .before .before .before .before .before .before .before .before .before .before .before .before .before .before .before .before .before .before .before .before .before .before .before .before .before .before .before .before .pre in omega arith) (let p = c .before .before .before .before .before .before .before .before .before .before .before .before .before .before .before .before .before .before .before .before .before .before .before .before .before .before .before .before .before .before .before .pre in omega arith) (c .before .before .before .before .before .before .before .before .before .before .before .before .before .before .before .before .before .before .before .before .before .before .before .before .before .before .before .before .before .before .before .args .tried) w _ s _ false wants first _ _ _ _ _ refl (c .before .before .before .before .before .before .before .before .before .before .before .before .before .before .before .before .before .before .before .before .before .before .before .undo .ensures) (c .before .before .before .before .before .before .before .before .before .before .before .before .before .before .before .before .before .before .before .trim .ensures) (c .before .before .before .before .before .before .before .before .before .before .before .before .attempt .ensures) _ (c .before .before .before .before .before .before .before .if1 .left) (c .before .before .unite-words .ensures)
+
+retry-same-length-5 : (t : ℕ) → retry-lts.Need-same-length-5 (
+  undo-reads.Asked,
+  undo-reads.Learnt,
+  trim-reads.Asked,
+  trim-reads.Learnt,
+  attempt-below t,
+  attempt.Post,
+  has-reads.Asked,
+  has-reads.Learnt,
+  unite-words-reads.Asked,
+  unite-words-reads.Learnt,
+) (retry-at t) retry.Post
+retry-same-length-5 t c = c .before .before .before .before .before .before .before .before .attempt .kept .1 .1 .1 .0 ∙ c .before .before .before .before .before .before .before .before .before .before .before .before .before .before .before .before .before .before .before .undo .kept .0
+
+retry-same-length-6 : (t : ℕ) → retry-lts.Need-same-length-6 (
+  undo-reads.Asked,
+  undo-reads.Learnt,
+  trim-reads.Asked,
+  trim-reads.Learnt,
+  attempt-below t,
+  attempt.Post,
+  has-reads.Asked,
+  has-reads.Learnt,
+  unite-words-reads.Asked,
+  unite-words-reads.Learnt,
+) (retry-at t) retry.Post
+retry-same-length-6 t c = c .before .before .before .before .before .before .before .before .attempt .kept .1 .1 .1 .1 .0 ∙ c .before .before .before .before .before .before .before .before .before .before .before .before .before .before .before .trim .kept .0
+
+retry-returns-3 : (t : ℕ) → retry-lts.Need-returns-3 (
+  undo-reads.Asked,
+  undo-reads.Learnt,
+  trim-reads.Asked,
+  trim-reads.Learnt,
+  attempt-below t,
+  attempt.Post,
+  has-reads.Asked,
+  has-reads.Learnt,
+  unite-words-reads.Asked,
+  unite-words-reads.Learnt,
+) (retry-at t) retry.Post
 unfolding cut
-choose-returns-5 t c = chooses-last (c .before .before .before .before .before .before .before .before .before .before .before .before .before .before .before .before .before .before .before .before .before .before .before .before .before .before .before .before .before .before .before .before .before .before .before .before .before .before .before .before .args .kinds .now) (c .before .before .before .before .before .before .before .before .before .before .before .before .before .before .before .before .before .before .before .before .before .before .before .before .before .before .before .before .before .before .before .before .before .before .before .before .before .before .before .before .args .splits .now) (c .before .before .before .before .before .before .before .before .before .before .before .before .before .before .before .before .before .before .before .before .before .before .before .before .before .before .before .before .before .before .before .before .before .before .before .before .before .before .before .before .args .codes .now) (c .before .before .before .before .before .before .before .before .before .before .before .before .before .before .before .before .before .before .before .before .before .before .before .before .before .before .before .before .before .before .before .before .before .before .before .before .before .before .before .before .args .side) (c .before .before .before .before .before .before .before .before .before .before .before .before .before .before .before .before .before .before .before .before .before .before .before .before .before .before .before .before .before .before .before .before .before .before .before .before .before .before .before .before .args .k) (c .before .before .before .before .before .before .before .before .before .before .before .before .before .before .before .before .before .before .before .before .before .before .before .before .before .before .before .before .before .before .before .before .before .before .before .before .before .before .before .before .args .lo) (c .before .before .before .before .before .before .before .before .before .before .before .before .before .before .before .before .before .before .before .before .before .before .before .before .before .before .before .before .before .before .before .before .before .before .before .before .before .before .before .before .args .hi) (let p = c .before .before .before .before .before .before .before .before .before .before .before .before .before .before .before .before .before .before .before .before .before .before .before .before .before .before .before .before .before .before .before .before .before .before .before .before .before .before .before .before .pre in omega (arith)) (let p = c .before .before .before .before .before .before .before .before .before .before .before .before .before .before .before .before .before .before .before .before .before .before .before .before .before .before .before .before .before .before .before .before .before .before .before .before .before .before .before .before .pre in omega (arith)) (c .before .before .before .before .before .before .before .before .before .before .before .before .before .before .before .before .before .before .before .before .before .before .before .before .before .before .before .before .before .before .before .before .wanted .result) _ _ _ _ _ (sym (c .before .before .before .before .before .before .before .before .before .before .before .before .before .before .before .before .before .before .before .before .before .before .before .before .before .before .before .before .before .before .before .before .wanted .ensures)) (c .before .before .before .before .before .before .before .before .before .before .before .before .before .before .before .before .before .before .before .before .before .before .before .before .before .before .before .before .before .attempt .ensures) _ _ _ _ _ (c .before .before .before .before .before .before .before .before .before .before .before .before .before .before .before .before .before .before .before .before .before .before .before .before .if1 .left) (c .before .before .before .before .before .before .before .before .before .before .before .before .before .before .before .before .before .before .before .undo .ensures) (c .before .before .before .before .before .before .before .before .before .before .before .before .before .before .before .trim .ensures) (c .before .before .before .before .before .before .before .before .attempt2 .ensures) (c .before .before .before .if3 .left) (sym (c .before .has2 .ensures) ∙ c .if4 .left)
+retry-returns-3 t c = λ w s wants first. chooses-last (c .before .before .before .before .before .before .before .before .before .before .before .before .before .before .before .before .before .before .before .before .before .before .before .before .before .before .before .args .kinds .now) (c .before .before .before .before .before .before .before .before .before .before .before .before .before .before .before .before .before .before .before .before .before .before .before .before .before .before .before .args .splits .now) (c .before .before .before .before .before .before .before .before .before .before .before .before .before .before .before .before .before .before .before .before .before .before .before .before .before .before .before .args .codes .now) (c .before .before .before .before .before .before .before .before .before .before .before .before .before .before .before .before .before .before .before .before .before .before .before .before .before .before .before .args .side) (c .before .before .before .before .before .before .before .before .before .before .before .before .before .before .before .before .before .before .before .before .before .before .before .before .before .before .before .args .k) (c .before .before .before .before .before .before .before .before .before .before .before .before .before .before .before .before .before .before .before .before .before .before .before .before .before .before .before .args .lo) (c .before .before .before .before .before .before .before .before .before .before .before .before .before .before .before .before .before .before .before .before .before .before .before .before .before .before .before .args .hi) (let p = c .before .before .before .before .before .before .before .before .before .before .before .before .before .before .before .before .before .before .before .before .before .before .before .before .before .before .before .pre in omega arith) (let p = c .before .before .before .before .before .before .before .before .before .before .before .before .before .before .before .before .before .before .before .before .before .before .before .before .before .before .before .pre in omega arith) (c .before .before .before .before .before .before .before .before .before .before .before .before .before .before .before .before .before .before .before .before .before .before .before .before .before .before .before .args .tried) w _ s _ false wants first _ _ _ _ _ refl (c .before .before .before .before .before .before .before .before .before .before .before .before .before .before .before .before .before .before .before .undo .ensures) (c .before .before .before .before .before .before .before .before .before .before .before .before .before .before .before .trim .ensures) (c .before .before .before .before .before .before .before .before .attempt .ensures) (c .before .before .before .if1 .left) (sym (c .before .has .ensures) ∙ c .if2 .left)
 
 solve-parting-requires : (t : ℕ) → solve-lts.Need-parting-requires (
   parting-reads.Asked,
@@ -1044,17 +1033,18 @@ step-returns-4 : (t : ℕ) → step-lts.Need-returns-4 (
 ) (step-at t) step.Post
 step-returns-4 t c = steps-split (c .before .before .before .before .before .before .before .before .before .before .before .before .before .before .before .before .before .before .before .before .before .before .before .before .before .before .before .args .kinds .now) (c .before .before .before .before .before .before .before .before .before .before .before .before .before .before .before .before .before .before .before .before .before .before .before .before .before .before .before .args .splits .now) (c .before .before .before .before .before .before .before .before .before .before .before .before .before .before .before .before .before .before .before .before .before .before .before .before .before .before .before .args .codes .now) (c .before .before .before .before .before .before .before .before .before .before .before .before .before .before .before .before .before .before .before .before .before .before .before .before .before .before .before .args .side) (c .before .before .before .before .before .before .before .before .before .before .before .before .before .before .before .before .before .before .before .before .before .before .before .before .before .before .before .args .at) (c .before .before .before .before .before .before .before .before .before .before .before .before .before .before .before .before .before .before .before .before .before .before .before .before .before .before .before .args .until) (c .before .before .before .before .before .before .before .before .before .before .before .before .before .before .before .before .before .before .before .before .before .before .before .before .before .before .before .args .lo) (c .before .before .before .before .before .before .before .before .before .before .before .before .before .before .before .before .before .before .before .before .before .before .before .before .before .before .before .args .mid) (c .before .before .before .before .before .before .before .before .before .before .before .before .before .before .before .before .before .before .before .before .before .before .before .before .before .before .before .args .hi) (c .before .before .before .before .before .before .before .before .before .before .before .before .before .before .before .before .before .before .before .before .before .before .before .before .before .before .before .pre .1 .1 .0 .0) _ _ _ _ _ (let p = c .before .before .before .before .before .before .before .before .before .before .before .before .before .before .before .before .before .before .before .before .before .before .before .before .before .before .before .pre in omega arith) (let p = c .before .before .before .before .before .before .before .before .before .before .before .before .before .before .before .before .before .before .before .before .before .before .before .before .before .before .before .pre in omega arith) (splits-second (c .before .before .before .before .before .before .before .before .before .before .before .before .before .before .before .before .before .before .before .before .before .before .before .before .before .before .before .args .kinds .now) (c .before .before .before .before .before .before .before .before .before .before .before .before .before .before .before .before .before .before .before .before .before .before .before .before .before .before .before .args .splits .now) (c .before .before .before .before .before .before .before .before .before .before .before .before .before .before .before .before .before .before .before .before .before .before .before .before .before .before .before .args .codes .now) (c .before .before .before .before .before .before .before .before .before .before .before .before .before .before .before .before .before .before .before .before .before .before .before .before .before .before .before .args .side) (c .before .before .before .before .before .before .before .before .before .before .before .before .before .before .before .before .before .before .before .before .before .before .before .before .before .before .before .args .at) (c .before .before .before .before .before .before .before .before .before .before .before .before .before .before .before .before .before .before .before .before .before .before .before .before .before .before .before .args .lo) (c .before .before .before .before .before .before .before .before .before .before .before .before .before .before .before .before .before .before .before .before .before .before .before .before .before .before .before .args .mid) (c .before .before .before .before .before .before .before .before .before .before .before .before .before .before .before .before .before .before .before .before .before .before .before .before .before .before .before .args .hi) (let p = c .before .before .before .before .before .before .before .before .before .before .before .before .before .before .before .before .before .before .before .before .before .before .before .before .before .before .before .pre in omega arith) (c .before .before .before .before .before .before .before .before .before .before .before .before .before .before .before .before .before .before .before .before .before .before .before .before .before .before .before .pre .1 .1 .1 .2 (let p = c .before .before .before .before .before .before .before .before .before .before .before .before .before .before .before .before .before .before .before .before .before .before .before .before .before .before .before .pre in omega arith)) _ _ _ _ _ (c .before .before .before .before .before .before .before .before .before .before .before .before .before .before .before .before .solve .ensures) _ _ _ _ (c .before .before .before .before .before .before .before .before .before .before .before .if3 .taken) (c .before .before .before .before .before .before .before .before .before .trim .ensures) (c .before .before .before .before .solve2 .ensures))
 
-pub +attempt+choose+solve+step-spec : {M : Type 1} → statement M
-+attempt+choose+solve+step-spec = close μ-attempt μ-choose μ-solve μ-step (λ t. attempt-lts.spec (
-  add-reads.Asked,
-  add-reads.Learnt,
-  set-rows-reads.Asked,
-  set-rows-reads.Learnt,
-  follow-reads.Asked,
-  follow-reads.Learnt,
-  solve-below t,
-  solve.Post,
-)
+pub +attempt+choose+retry+solve+step-spec : {M : Type 1} → statement M
++attempt+choose+retry+solve+step-spec =
+    close μ-attempt μ-choose μ-retry μ-solve μ-step (λ t. attempt-lts.spec (
+      add-reads.Asked,
+      add-reads.Learnt,
+      set-rows-reads.Asked,
+      set-rows-reads.Learnt,
+      follow-reads.Asked,
+      follow-reads.Learnt,
+      solve-below t,
+      solve.Post,
+    )
     (attempt-at t)
     attempt.Post
     (attempt-add-requires t)
@@ -1077,12 +1067,8 @@ pub +attempt+choose+solve+step-spec : {M : Type 1} → statement M
       attempt.Post,
       has-reads.Asked,
       has-reads.Learnt,
-      undo-reads.Asked,
-      undo-reads.Learnt,
-      trim-reads.Asked,
-      trim-reads.Learnt,
-      unite-words-reads.Asked,
-      unite-words-reads.Learnt,
+      retry-below t,
+      retry.Post,
     )
     (choose-at t)
     choose.Post
@@ -1095,24 +1081,42 @@ pub +attempt+choose+solve+step-spec : {M : Type 1} → statement M
     (choose-same-length-3 t)
     (choose-same-length-4 t)
     (choose-returns-2 t)
-    (choose-cast-undo t)
-    (choose-add-undo t)
-    (choose-undo-requires t)
-    (choose-trim-requires t)
-    (choose-slice-read-low t)
-    (choose-slice-read-high t)
-    (choose-attempt-requires-2 t)
+    (choose-retry-requires t)
     (choose-same-length-5 t)
     (choose-same-length-6 t)
-    (choose-returns-3 t)
-    (choose-has-requires-2 t)
-    (choose-unite-words-requires t)
-    (choose-same-length-7 t)
-    (choose-same-length-8 t)
-    (choose-returns-4 t)
-    (choose-same-length-9 t)
-    (choose-same-length-10 t)
-    (choose-returns-5 t))
+    (choose-returns-3 t))
+    (λ t. retry-lts.spec (
+      undo-reads.Asked,
+      undo-reads.Learnt,
+      trim-reads.Asked,
+      trim-reads.Learnt,
+      attempt-below t,
+      attempt.Post,
+      has-reads.Asked,
+      has-reads.Learnt,
+      unite-words-reads.Asked,
+      unite-words-reads.Learnt,
+    )
+    (retry-at t)
+    retry.Post
+    (retry-cast-undo t)
+    (retry-add-undo t)
+    (retry-undo-requires t)
+    (retry-trim-requires t)
+    (retry-slice-read-low t)
+    (retry-slice-read-high t)
+    (retry-attempt-requires t)
+    (retry-same-length t)
+    (retry-same-length-2 t)
+    (retry-returns t)
+    (retry-has-requires t)
+    (retry-unite-words-requires t)
+    (retry-same-length-3 t)
+    (retry-same-length-4 t)
+    (retry-returns-2 t)
+    (retry-same-length-5 t)
+    (retry-same-length-6 t)
+    (retry-returns-3 t))
     (λ t. solve-lts.spec (
       parting-reads.Asked,
       parting-reads.Learnt,
