@@ -1,4 +1,4 @@
-//! The engine's functions on tables that this test lends, compared with the paper's rules written apart: the number that is returned and every
+//! The engine's functions on tables that this test lends, compared with 01's rules written apart: the number that is returned and every
 //! entry of every table, with guard entries around each. Cases are drawn from a seed.
 //!
 //! usage: direct [TIMES [SEED]]

@@ -1,4 +1,4 @@
-//! The formula as the paper states it: kinds, clauses, the matrix, and the causes 1 to 3.
+//! The formula as 01 states it: kinds, clauses, the matrix, and the causes 1 to 3.
 
 /// Who moves: the existential side looks for a model over universal rows, the universal side over existential rows.
 #[derive(Clone, Copy, PartialEq, Eq, Debug)]

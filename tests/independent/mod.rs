@@ -1,4 +1,4 @@
-//! The paper's rules, written from its words apart from the engine: the formula, its meaning by brute force, preferences, rows, copies and the
+//! 01's rules, written from its words apart from the engine: the formula, its meaning by brute force, preferences, rows, copies and the
 //! first model, the run, the judge, the reader, and what the program prints and the C function returns. With them what the tests share: random
 //! cases, lent tables with guards, the count of cases, jobs on several threads.
 

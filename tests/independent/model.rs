@@ -1,6 +1,6 @@
 //! Copies, and the first model over a list of rows, found in three ways.
 //!
-//! `by_order` goes through all assignments of the copies in the paper's order and takes the first that is a model. `by_groups` recurses over
+//! `by_order` goes through all assignments of the copies in 01's order and takes the first that is a model. `by_groups` recurses over
 //! the positions with the rows that still agree. `by_parts` does so for each part of the clauses that shares no own unknown with the others.
 //! The last two serve larger cases, and are compared with the first on all small ones.
 

@@ -1,4 +1,4 @@
-//! The run, as the paper words it.
+//! The run, as 01 words it.
 
 use super::formula::{clauses, count_of, formula_cause, rows_fit, Side, WORK};
 use super::model::{Problem, Row, TooLong};

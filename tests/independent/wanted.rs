@@ -1,4 +1,4 @@
-//! What each function is to return and leave, by the paper's rules: the first cause that applies, or the answer.
+//! What each function is to return and leave, by 01's rules: the first cause that applies, or the answer.
 
 use super::formula::{clauses, count_of, formula_cause, rows_fit, Side, WORK};
 use super::model::{by_groups, by_order, by_parts, copies, Problem, Row, TooLong};

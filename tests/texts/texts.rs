@@ -1,5 +1,5 @@
 //! Texts through the C function, linked from its static library, and through the built program: numbers, printed lines and lent bytes are
-//! compared with the paper's rules written apart. Cases are drawn from a seed.
+//! compared with 01's rules written apart. Cases are drawn from a seed.
 //!
 //! usage: texts [TIMES [SEED]]
 
