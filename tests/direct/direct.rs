@@ -46,14 +46,9 @@ fn job(topic: Topic, times: usize, seed: u64) -> Job<Tally> {
 }
 
 fn main() {
-    let mut words = std::env::args().skip(1).map(|word| word.parse::<u64>().expect("a number"));
-    let times = words.next().unwrap_or(1) as usize;
-    let seed = words.next().unwrap_or(SEED);
-    println!("seed {}, {} times the gate's cases", seed, times);
+    let (times, seed) = tally::asked(SEED);
     let start = Instant::now();
     let jobs = topics().into_iter().enumerate().map(|(i, topic)| job(topic, times, seed.wrapping_mul(1000).wrapping_add(i as u64)));
     let tally = Tally::sum(jobs::run_all(jobs.collect()));
-    println!("{:.1} s", start.elapsed().as_secs_f64());
-    println!("{} passed, {} failed", tally.passed, tally.failed);
-    std::process::exit(i32::from(tally.failed > 0 || tally.passed == 0));
+    tally.end(start)
 }

@@ -164,10 +164,7 @@ fn look_for_all(way: Way, players: &[Player], tally: &mut Tally) {
 }
 
 fn main() {
-    let mut words = std::env::args().skip(1).map(|word| word.parse::<u64>().expect("a number"));
-    let times = words.next().unwrap_or(1) as usize;
-    let seed = words.next().unwrap_or(SEED);
-    println!("seed {}, {} times the gate's cases", seed, times);
+    let (times, seed) = tally::asked(SEED);
     let start = Instant::now();
     let mut jobs = Vec::new();
     for number in 0..SORTS.len() {
@@ -179,7 +176,5 @@ fn main() {
     look_for_all(Way::Door, &players, &mut found);
     look_for_all(Way::Program, &players, &mut found);
     let tally = Tally::sum(players.into_iter().map(|player| player.tally).chain([found]).collect());
-    println!("{:.1} s", start.elapsed().as_secs_f64());
-    println!("{} passed, {} failed", tally.passed, tally.failed);
-    std::process::exit(i32::from(tally.failed > 0 || tally.passed == 0));
+    tally.end(start)
 }

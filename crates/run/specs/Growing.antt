@@ -87,7 +87,7 @@ pub record Extended (kinds : List ℕ) (side : Kind) (t : Table) (h : Half) (fou
   pub holds : Holds kinds side (half-table t h) found found-marks row-part mark-part
   pub work-long : length work ≡ work-size
 
--- What `extend` makes of a table t that the lent bytes hold, whatever was found behind its rows.
+-- What a side's step makes of a table t that the lent bytes hold, whatever was found behind its rows.
 abbrev pub Extends : List ℕ → List ℤ → List ℕ → List ℕ → ℕ → Bool → List ℕ → List ℕ → ℕ → ℕ → List ℕ → Step → List ℕ → List ℕ → List ℕ → Type 0
 Extends kinds literals preferences others other-count side row-part mark-part n mark work result row-part′ mark-part′ work′ =
     (from t : Table) (from-found found found-marks : List ℕ)
