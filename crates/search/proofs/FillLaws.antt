@@ -10,8 +10,9 @@ use borrow.Author.Tests.{eq-eqb, ne-eqb}
 use Rattle.rows.specs.Row.{bit-of}
 use Rattle.rows.specs.Table.{row-at}
 use Rattle.expansion.proofs.Leading.{others-before}
-use Rattle.search.specs.Cells.{cells, owned, CellsSet, RowFilled, Filled}
-use Rattle.search.proofs.OwnedLaws.{owned-at, length-owned, others-before-own, others-before-other}
+use Rattle.cells.specs.Cells.{cells, owned}
+use Rattle.cells.specs.Changes.{CellsSet, RowFilled, Filled}
+use Rattle.cells.proofs.OwnedLaws.{owned-at, length-owned, others-before-own, others-before-other}
 
 abbrev SameAt : List ℕ → List ℕ → ℕ → ℕ → Type 0
 SameAt w u h k = (cells u .level h k ≡ cells w .level h k) × (cells u .value h k ≡ cells w .value h k)

@@ -14,7 +14,8 @@ use Rattle.expansion.proofs.Cuts.{Mask, Problem, Agree, Refuted, Implied, Withi
 use Rattle.expansion.proofs.Node.{Node, MasksWithin, grown-refl, grown-stored}
 use Rattle.expansion.proofs.Steps.{node-store}
 use Rattle.expansion.proofs.ClauseCuts.{Every, Rests, dead-clause, unit-clause, matrix-at}
-use Rattle.search.specs.Cells.{cells, CellsSet}
+use Rattle.cells.specs.Cells.{cells}
+use Rattle.cells.specs.Changes.{CellsSet}
 use Rattle.search.specs.Masks.{set-at, masks, cut, SetsKept}
 use Rattle.search.specs.Codes.{position, code-true, code-clauses, clause-of, code-goal, Begins, Coded}
 use Rattle.search.specs.Steps.{Fits, Settled, Settles, Lent, Looked, Blamed, CopyFrom, CopyTo}

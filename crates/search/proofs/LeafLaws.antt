@@ -13,7 +13,7 @@ use lib.ListN.{length, getD, drop, drop-of-length-le}
 use lib.Seq.{drop-cons}
 use Rattle.expansion.proofs.Booleans.{never-both}
 use Rattle.expansion.proofs.ClauseCuts.{clause-at, matrix-at}
-use Rattle.search.specs.Cells.{cells}
+use Rattle.cells.specs.Cells.{cells}
 use Rattle.search.specs.Masks.{set-at, SetGrown, SetsKept}
 use Rattle.search.specs.Codes.{code-true, code-onto, code-clauses, Ended, code-goal}
 use Rattle.search.specs.Steps.{Excused, Parting, Stands, Reached}

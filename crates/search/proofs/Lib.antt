@@ -1,7 +1,5 @@
-pub mod CellLaws
 pub mod OpenLaws
 pub mod ZeroLaws
-pub mod OwnedLaws
 pub mod FillLaws
 pub mod MaskLaws
 pub mod LiveLaws

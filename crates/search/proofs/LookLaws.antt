@@ -9,7 +9,7 @@ use borrow.Author.Tests.{ltb-true, ltb-false}
 use lib.Dec.{ltb}
 use lib.ListN.{length, getD, drop, drop-of-length-le}
 use Rattle.expansion.proofs.ClauseCuts.{Every, Some}
-use Rattle.search.specs.Cells.{cells}
+use Rattle.cells.specs.Cells.{cells}
 use Rattle.search.specs.Masks.{set-at, SetGrown, United}
 use Rattle.search.specs.Codes.{position, code-true, clause-of, HasEnd, Coded}
 use Rattle.search.specs.Steps.{IsAt, Looked, Blamed}

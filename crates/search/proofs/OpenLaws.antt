@@ -11,8 +11,9 @@ use lib.Dec.{leb}
 use lib.ListN.{length, getD, set, List·getD-eq-default}
 use lib.Seq.{getD-set-same, getD-set-other}
 use borrow.Author.Tests.{le-leb, lt-leb}
-use Rattle.search.specs.Cells.{spot, cells, CellsOpened}
-use Rattle.search.proofs.CellLaws.{flags, spot-cases, value-same, wants-same}
+use Rattle.cells.specs.Cells.{spot, cells}
+use Rattle.cells.specs.Changes.{CellsOpened}
+use Rattle.cells.proofs.CellLaws.{flags, spot-cases, value-same, wants-same}
 
 -- A mark that is at most the bound stays, another becomes 0.
 abbrev pub bounded : ℕ → ℕ → ℕ

@@ -22,9 +22,9 @@ use Rattle.rows.proofs.WriteLaws.{bit-set-inside, length-bit-set, bit-of-bit-se
 use Rattle.expansion.specs.Play.{first-value, later-values, part}
 use Rattle.expansion.proofs.LeadingPath.{first-at, later-at}
 use Rattle.expansion.proofs.Engine.{tabulate, tabulate-at}
-use Rattle.search.specs.Cells.{spot, cells, owned}
-use Rattle.search.proofs.CellLaws.{value-same}
-use Rattle.search.proofs.OwnedLaws.{owned-at, length-owned}
+use Rattle.cells.specs.Cells.{spot, cells, owned}
+use Rattle.cells.proofs.CellLaws.{value-same}
+use Rattle.cells.proofs.OwnedLaws.{owned-at, length-owned}
 
 -- ---- own values, position by position
 

@@ -10,7 +10,8 @@ use lib.ListN.{length, getD}
 use Rattle.expansion.proofs.Cuts.{Problem, Mask}
 use Rattle.expansion.proofs.Booleans.{true-or-false, never-both}
 use Rattle.expansion.proofs.Node.{Node, Won}
-use Rattle.search.specs.Cells.{cells, wants, CellsSet, CellsOpened}
+use Rattle.cells.specs.Cells.{cells, wants}
+use Rattle.cells.specs.Changes.{CellsSet, CellsOpened}
 use Rattle.search.specs.Masks.{set-at, words, masks, cut, SetGrown, WordsUnited, Trimmed}
 use Rattle.search.specs.Steps.{Fits, Settled, Settles, Searched, Searches, with-value, Tried, Tries, Chooses, Retries, Steps, Excused, Parting, PartedAt, Stands, Reached, FromStart}
 use Rattle.search.proofs.StepLaws.{masks-grown}

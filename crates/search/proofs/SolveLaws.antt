@@ -17,7 +17,8 @@ use Rattle.expansion.proofs.Node.{Cells, Node, Won, SameCell, Grown, MasksWithi
 use Rattle.expansion.proofs.Steps.{node-part, node-same, node-next, node-decide}
 use Rattle.expansion.proofs.Success.{past-kept, won-leaf, won-wanted, won-other, won-parts, won-kept}
 use Rattle.expansion.proofs.Stand.{node-stand, won-stand, refuted-stand}
-use Rattle.search.specs.Cells.{cells, wants, SameWants, CellsSet, CellsOpened}
+use Rattle.cells.specs.Cells.{cells, wants}
+use Rattle.cells.specs.Changes.{SameWants, CellsSet, CellsOpened}
 use Rattle.search.specs.Masks.{set-at, masks, cut, SetGrown, United, WordsUnited, Trimmed, words}
 use Rattle.search.specs.Codes.{Ended, code-goal}
 use Rattle.search.specs.Steps.{Fits, Settled, Settles, Searched, Searches, with-value, Tried, Tries, Chooses, Steps, Excused, Parting, PartedAt, Stands, Reached}

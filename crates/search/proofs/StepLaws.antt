@@ -15,7 +15,8 @@ use Rattle.expansion.proofs.Cuts.{Values, Mask, Problem, Agree, Sound, Refuted,
 use Rattle.expansion.proofs.Node.{Cells, Node, Won, SameCell, Grown, Stored, MasksWithin, grown-refl, grown-trans, grown-wider, grown-stored, grown-keeps, cleared-back}
 use Rattle.expansion.proofs.Steps.{node-part, node-same, node-next, node-decide}
 use Rattle.expansion.proofs.Success.{won-leaf, won-wanted, won-other, won-parts, won-kept}
-use Rattle.search.specs.Cells.{cells, wants, SameWants, CellsSet, CellsOpened}
+use Rattle.cells.specs.Cells.{cells, wants}
+use Rattle.cells.specs.Changes.{SameWants, CellsSet, CellsOpened}
 use Rattle.search.specs.Masks.{set-at, masks, cut, SetGrown, SetsKept, United, WordsUnited, Trimmed, words}
 use Rattle.search.specs.Codes.{Ended, code-goal}
 use Rattle.search.specs.Steps.{Fits, Settled, Settles, Searched, Searches, with-value, Tried, Tries, Chooses, Steps, Excused, Parting, PartedAt, Stands, Reached}

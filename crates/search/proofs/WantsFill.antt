@@ -14,10 +14,11 @@ use lib.Seq.{take-suc, length-take-le, length-front, getD-set-same, getD-set-oth
 use borrow.Author.Tests.{lt-ltb, le-ltb, eq-eqb, ne-eqb}
 use Rattle.preference.specs.Preference.{prefer}
 use Rattle.expansion.proofs.Booleans.{true-or-false, never-both, false-if-not-true}
-use Rattle.search.specs.Cells.{cells, wants, owned, WantSet}
+use Rattle.cells.specs.Cells.{cells, wants, owned}
+use Rattle.cells.specs.Changes.{WantSet}
 use Rattle.search.specs.Wants.{first-place, member, new-ones, index-of, copies-at, copies-before, copy-number}
 use Rattle.search.specs.Wants.{Grouped, firsts, mark, mark-at, Numbered, Written, FilledAt, WantsFilled}
-use Rattle.search.proofs.OwnedLaws.{owned-at}
+use Rattle.cells.proofs.OwnedLaws.{owned-at}
 use Rattle.search.proofs.NewOnes.{member-map, length-new-ones, member-new-ones, new-ones-met, new-ones-unmet}
 use Rattle.search.proofs.NewOnes.{index-of-end, member-end, index-of-append, member-append-other}
 

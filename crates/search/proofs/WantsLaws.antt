@@ -19,7 +19,7 @@ use Rattle.expansion.proofs.Booleans.{true-or-false, false-if-not-true}
 use Rattle.expansion.proofs.Membership.{same-refl, same-eq}
 use Rattle.expansion.proofs.CopyLaws.{Own}
 use Rattle.expansion.proofs.Leading.{number, wanted}
-use Rattle.search.specs.Cells.{wants, owned}
+use Rattle.cells.specs.Cells.{wants, owned}
 use Rattle.search.specs.Wants.{first-place, member, new-ones, index-of, copies-at, copies-before, copy-number, WantsFilled}
 use Rattle.search.proofs.WantsFill.{first-place-met}
 

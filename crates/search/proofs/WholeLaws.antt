@@ -26,12 +26,13 @@ use Rattle.expansion.proofs.Booleans.{true-or-false, never-both}
 use Rattle.expansion.proofs.Verdict.{search-none}
 use Rattle.expansion.proofs.Leading.{others-before}
 use Rattle.expansion.proofs.Engine.{tabulate, length-tabulate}
-use Rattle.search.specs.Cells.{cells, owned, spot, Filled}
+use Rattle.cells.specs.Cells.{cells, owned, spot}
+use Rattle.cells.specs.Changes.{Filled}
 use Rattle.search.specs.Order.{Sorted, FirstDifference}
 use Rattle.search.specs.Search.{left}
 use Rattle.search.specs.Steps.{FromStart}
 use Rattle.search.specs.Whole.{side-kind, Ready, Decided, FoundIs}
-use Rattle.search.proofs.OwnedLaws.{length-owned}
+use Rattle.cells.proofs.OwnedLaws.{length-owned}
 use Rattle.search.proofs.TopLaws.{searched-none, searched-some}
 
 -- ---- literals that end in 0

@@ -7,7 +7,7 @@ use lib.Dec.{eqb}
 use lib.ListN.{getD}
 use Rattle.formula.specs.Formula.{kind-of, prefix}
 use Rattle.expansion.specs.Side.{own, flags}
-use Rattle.search.specs.Cells.{owned}
+use Rattle.cells.specs.Cells.{owned}
 
 own-by-number : (kind side : ℕ) → kind ≤ 1 → side ≤ 1 → eqb kind side ≡ own (kind-of side) (kind-of kind)
 own-by-number zero zero low small = refl

@@ -6,7 +6,7 @@ use mathlib.Core.Bool.{Bool, true}
 use mathlib.Core.List.{List}
 use Rattle.expansion.proofs.Cuts.{Problem, Refuted}
 use Rattle.expansion.proofs.Node.{Node}
-use Rattle.search.specs.Cells.{cells}
+use Rattle.cells.specs.Cells.{cells}
 use Rattle.search.specs.Masks.{masks, cut, SetsKept}
 use Rattle.search.specs.Steps.{Fits}
 

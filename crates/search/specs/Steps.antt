@@ -10,7 +10,8 @@ use lib.ListN.{length, getD, drop}
 use Rattle.expansion.proofs.Cuts.{Values, Mask, Problem, Agree, Sound, Refuted}
 use Rattle.expansion.proofs.Node.{Cells, Node, Won, Grown, MasksWithin}
 use Rattle.expansion.proofs.ClauseCuts.{Every, Some}
-use Rattle.search.specs.Cells.{cells, wants, SameWants}
+use Rattle.cells.specs.Cells.{cells, wants}
+use Rattle.cells.specs.Changes.{SameWants}
 use Rattle.search.specs.Masks.{set-at, masks, cut, SetGrown, SetsKept}
 use Rattle.search.specs.Codes.{position, code-true, code-clauses, clause-of, HasEnd, Ended, code-goal, Coded}
 

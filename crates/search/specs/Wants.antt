@@ -7,7 +7,7 @@ use mathlib.Core.List.{List, [], _∷_, map}
 use lib.Dec.{eqb, ltb}
 use lib.ListN.{length, getD}
 use Rattle.preference.specs.Preference.{prefer}
-use Rattle.search.specs.Cells.{cells, wants, owned}
+use Rattle.cells.specs.Cells.{cells, wants, owned}
 
 -- The first place of the copy at position k that place i has: neighbours that differ before k have different copies.
 abbrev pub first-place : List ℕ → ℕ → ℕ → ℕ

@@ -7,7 +7,7 @@ ghost use mathlib.Core.Logic.{_⊎_};
 ghost use mathlib.Core.Bool.{true, _&&_};
 ghost use lib.ListN.{length};
 ghost use lib.Dec.{ltb};
-ghost use Rattle.search.specs.Cells.{cells};
+ghost use Rattle.cells.specs.Cells.{cells};
 ghost use Rattle.search.specs.Codes.{position, code-true, Coded};
 ghost use Rattle.search.specs.Steps.{Settles, IsAt, RowBlamed};
 ghost use Rattle.search.specs.Live.{RowDead};

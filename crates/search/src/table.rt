@@ -6,7 +6,8 @@ ghost use lib.ListN.{length, getD, take, drop, replicate};
 ghost use mathlib.Core.Bool.{cond};
 ghost use lib.Dec.{ltb, leb};
 ghost use Rattle.rows.specs.Row.{weight};
-ghost use Rattle.search.specs.Cells.{cells, wants, CellsSet, CellsOpened, WantSet, RowFilled, Filled};
+ghost use Rattle.cells.specs.Cells.{cells, wants};
+ghost use Rattle.cells.specs.Changes.{CellsSet, CellsOpened, WantSet, RowFilled, Filled};
 ghost use Rattle.search.specs.Codes.{position, code-true};
 use super::width::wide8;
 

@@ -8,7 +8,7 @@ ghost use Rattle.rows.specs.Row.{bytes-of};
 ghost use Rattle.rows.specs.Table.{table-of, placed, bit-set};
 ghost use Rattle.expansion.specs.Play.{part};
 ghost use Rattle.expansion.proofs.Engine.{tabulate};
-ghost use Rattle.search.specs.Cells.{cells, owned};
+ghost use Rattle.cells.specs.Cells.{cells, owned};
 use super::table;
 use super::width::wide8;
 

@@ -4,7 +4,7 @@ use mathlib.Core.Path.{sym, _∙_, ap, subst}
 use mathlib.Core.Logic.{⊎-elim}
 use native.Mathlib.Omega.{arith}
 use lib.ListN.{length, getD}
-use Rattle.search.specs.Cells.{cells}
+use Rattle.cells.specs.Cells.{cells}
 use Rattle.search.specs.Codes.{position, code-true}
 use Rattle.search.proofs.LookLaws.{Looking, is-at, is-open, looking-start, looking-false, looking-open, looked-end, looked-nothing}
 use Rattle.search.proofs.force.look.Statement.{statement}

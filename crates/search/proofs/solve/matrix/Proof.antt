@@ -4,7 +4,7 @@ use mathlib.Core.Path.{sym, ap, _∙_}
 use mathlib.Core.Bool.{Bool, true, _||_, or-true, or-false}
 use native.Mathlib.Omega.{arith}
 use lib.ListN.{length}
-use Rattle.search.specs.Cells.{cells}
+use Rattle.cells.specs.Cells.{cells}
 use Rattle.search.proofs.LiveLaws.{coded-at}
 use Rattle.search.proofs.LeafLaws.{Reading, reading-start, reading-clause, reading-literal, reading-false, reading-true}
 use Rattle.search.proofs.solve.matrix.Statement.{statement}

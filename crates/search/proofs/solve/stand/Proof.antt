@@ -4,7 +4,7 @@ use mathlib.Core.Path.{sym, _∙_}
 use mathlib.Core.Logic.{inl, inr}
 use native.Mathlib.Omega.{arith}
 use borrow.Author.Tests.{ltb-true, ltb-false, eq-eqb, ne-eqb}
-use Rattle.search.specs.Cells.{cells}
+use Rattle.cells.specs.Cells.{cells}
 use Rattle.search.proofs.LeafLaws.{StandsTo, stands-start, stands-on, stands-stop}
 use Rattle.search.proofs.solve.stand.Statement.{statement}
 use Rattle.search.proofs.solve.stand.Tie as tie

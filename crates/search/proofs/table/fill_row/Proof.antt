@@ -7,8 +7,8 @@ use native.Mathlib.Omega.{arith}
 use borrow.Author.Needs.{needs}
 use lib.ListN.{length}
 use Rattle.expansion.proofs.Leading.{others-before}
-use Rattle.search.specs.Cells.{owned}
-use Rattle.search.proofs.OwnedLaws.{others-before-most}
+use Rattle.cells.specs.Cells.{owned}
+use Rattle.cells.proofs.OwnedLaws.{others-before-most}
 use Rattle.search.proofs.FillLaws.{RowFilledBelow, row-filled-none, row-filled-whole, fill-other, fill-own}
 use Rattle.search.proofs.table.fill_row.Statement.{statement}
 use Rattle.search.proofs.table.fill_row.Tie as tie

@@ -2,7 +2,7 @@
 use Prim.Native.Nat.{_+_, _*_}
 use native.Mathlib.Omega.{arith}
 use lib.ListN.{length-set}
-use Rattle.search.proofs.CellLaws.{weight-small, cell-set}
+use Rattle.cells.proofs.CellLaws.{weight-small, cell-set}
 use borrow.Author.Needs.{needs}
 use Rattle.search.proofs.table.set.Statement.{statement}
 use Rattle.search.proofs.table.set.Tie as tie

@@ -3,8 +3,8 @@ use Prim.Native.Nat.{_-_, _≤_}
 use mathlib.Core.Path.{_≡_}
 use native.Mathlib.Omega.{arith}
 use lib.ListN.{length}
-use Rattle.search.specs.Cells.{CellsSet}
-use Rattle.search.proofs.CellLaws.{cells-set-none, cells-set-more}
+use Rattle.cells.specs.Changes.{CellsSet}
+use Rattle.cells.proofs.CellLaws.{cells-set-none, cells-set-more}
 use Rattle.search.proofs.table.set_rows.Statement.{statement}
 use Rattle.search.proofs.table.set_rows.Tie as tie
 

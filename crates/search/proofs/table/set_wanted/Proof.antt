@@ -1,6 +1,6 @@
 -- `table::set_wanted` meets its contract. Assumes nothing.
 use native.Mathlib.Omega.{arith}
-use Rattle.search.proofs.CellLaws.{weight-small, want-set}
+use Rattle.cells.proofs.CellLaws.{weight-small, want-set}
 use borrow.Author.Needs.{needs}
 use Rattle.search.proofs.table.set_wanted.Statement.{statement}
 use Rattle.search.proofs.table.set_wanted.Tie as tie

@@ -5,7 +5,7 @@ use mathlib.Core.Path.{_≡_, refl, ap, _∙_}
 use mathlib.Core.Logic.{⊎-elim}
 use native.Mathlib.Omega.{arith}
 use lib.ListN.{length}
-use Rattle.search.specs.Cells.{owned}
+use Rattle.cells.specs.Cells.{owned}
 use Rattle.search.specs.Wants.{copies-before}
 use Rattle.search.proofs.WantsFill.{WantsFilledBelow, copies-before-most, wants-none, wants-whole, wants-other, wants-own}
 use Rattle.search.proofs.wants.fill.Statement.{statement}

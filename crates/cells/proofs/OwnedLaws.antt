@@ -9,7 +9,7 @@ use native.Mathlib.Omega.{arith}
 use lib.Dec.{eqb}
 use lib.ListN.{length, getD}
 use Rattle.expansion.proofs.Leading.{others-before}
-use Rattle.search.specs.Cells.{owned}
+use Rattle.cells.specs.Cells.{owned}
 
 pub owned-at : (kinds : List ℕ) (side k : ℕ) → k < length kinds → getD (owned kinds side) k false ≡ eqb (getD kinds k 0) side
 owned-at [] side k h = absurd (not-suc-le-zero h)

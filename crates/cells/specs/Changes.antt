@@ -1,28 +1,15 @@
--- The table of cells in the work area: a cell for each row and position. The cell (i, k) is the byte 128·i + k, 0 if it is open, else its
--- level plus 1, and the byte 32,768 + 128·i + k, whose lowest bit is its value and whose next bit is the value that it wants.
+-- How tables of cells differ, as relations: for the laws of the definitions and the private contracts of the search. No public contract cites them.
 -- Assumes nothing.
-use Prim.Native.Nat.{ℕ, _+_, _*_, _/_, _≤_, _<_}
+use Prim.Native.Nat.{ℕ, _+_, _<_}
 use mathlib.Core.Path.{_≡_}
-use mathlib.Core.Bool.{Bool, true, false, _&&_, cond}
-use mathlib.Core.List.{List, map}
-use lib.Dec.{ltb, eqb}
+use mathlib.Core.Bool.{Bool, false}
+use mathlib.Core.List.{List}
 use lib.ListN.{length, getD}
-use Rattle.preference.specs.Preference.{odd}
 use Rattle.rows.specs.Row.{bit-of}
 use Rattle.rows.specs.Table.{row-at}
-use Rattle.expansion.proofs.Cuts.{Values}
 use Rattle.expansion.proofs.Leading.{others-before}
-use Rattle.expansion.proofs.Node.{Cells, Stored, Cleared}
-
--- The byte of a cell's level. What is no cell of the table has no byte in the area, so no two cells share one.
-abbrev pub spot : ℕ → ℕ → ℕ
-spot i k = cond (ltb i 256 && ltb k 128) (128 * i + k) 65536
-
-unfoldable pub cells : List ℕ → Cells
-cells w = record { level = λ i k. getD w (spot i k) 0; value = λ i k. odd (getD w (32768 + spot i k) 0) }
-
-unfoldable pub wants : List ℕ → Values
-wants w i k = odd (getD w (32768 + spot i k) 0 / 2)
+use Rattle.expansion.proofs.Node.{Stored, Cleared}
+use Rattle.cells.specs.Cells.{cells, wants, owned}
 
 -- What every cell wants stays as it is.
 abbrev pub SameWants : List ℕ → List ℕ → Type 0
@@ -43,10 +30,6 @@ pub record WantSet (i k : ℕ) (wanted : Bool) (w u : List ℕ) : Type 0 where
   pub there : wants u i k ≡ wanted
   pub elsewhere : (h j : ℕ) → ((h ≡ i) × (j ≡ k) → ⊥) → (wants u h j ≡ wants w h j) × (cells u .value h j ≡ cells w .value h j)
   pub levels : (h j : ℕ) → cells u .level h j ≡ cells w .level h j
-
--- Which unknowns are the side's own.
-abbrev pub owned : List ℕ → ℕ → List Bool
-owned kinds side = map (λ kind. eqb kind side) kinds
 
 -- Row `row` of the lent rows stands at place i: the cells of the other side's unknowns are set to its values, at level 0; the other cells
 -- of the table stay.

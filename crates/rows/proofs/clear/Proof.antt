@@ -1,4 +1,4 @@
--- `growth::clear` meets its contract. The loop's invariant: the first i bytes are 0, the others are as they were, and so is the length.
+-- `rows::clear` meets its contract. The loop's invariant: the first i bytes are 0, the others are as they were, and so is the length.
 -- Assumes nothing.
 use mathlib.Core.Path.{_≡_, refl, ap, _∙_}
 use mathlib.Core.List.{List, _++_, append-nil}
@@ -7,8 +7,8 @@ use native.Mathlib.Omega.{arith}
 use lib.ListN.{length, set, drop, replicate, length-set}
 use lib.Seq.{drop-length}
 use borrow.Author.Fill.{fill-more}
-use Rattle.growth.proofs.clear.Statement.{statement}
-use Rattle.growth.proofs.clear.Tie as tie
+use Rattle.rows.proofs.clear.Statement.{statement}
+use Rattle.rows.proofs.clear.Tie as tie
 
 abbrev Inv-loop : tie.InvT-loop
 Inv-loop area₀ i₀ i-end area i = (i ≤ i-end) × (area ≡ replicate i 0 ++ drop i area₀) × (length area ≡ length area₀)

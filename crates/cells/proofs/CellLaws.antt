@@ -12,7 +12,8 @@ use lib.Seq.{getD-set-same, getD-set-other}
 use borrow.Author.Tests.{lt-ltb, le-ltb, eq-eqb, ne-eqb}
 use Rattle.preference.specs.Preference.{odd}
 use Rattle.rows.specs.Row.{weight}
-use Rattle.search.specs.Cells.{spot, cells, wants, SameWants, CellsSet, WantSet}
+use Rattle.cells.specs.Cells.{spot, cells, wants}
+use Rattle.cells.specs.Changes.{SameWants, CellsSet, WantSet}
 
 -- The byte of a cell's value and wanted value.
 abbrev pub flags : List ℕ → ℕ → ℕ → ℕ
