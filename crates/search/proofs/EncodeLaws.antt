@@ -22,7 +22,7 @@ use Rattle.formula.proofs.Opposite.{bits-opposite, opposite-fits, natAbs-opposi
 use Rattle.formula.proofs.Places.{drop-front}
 use Rattle.expansion.proofs.ClauseCuts.{Every, every-map, clause-at, matrix-at}
 use Rattle.expansion.proofs.Engine.{literal-at}
-use Rattle.search.specs.Codes.{position, code-true, code-onto, code-clauses, HasEnd, Ended, Encoded}
+use Rattle.codes.specs.Codes.{position, code-true, code-onto, code-clauses, HasEnd, Ended, Encoded}
 use Rattle.search.specs.Clauses.{code-of, opposite, value-left, PastClause, IsLiteral, Joined, Added, Names, ClauseEncoded}
 
 -- ---- a code and its literal

@@ -17,11 +17,11 @@ use Rattle.expansion.proofs.ClauseCuts.{Every, Rests, dead-clause, unit-clause,
 use Rattle.cells.specs.Cells.{cells}
 use Rattle.cells.specs.Changes.{CellsSet}
 use Rattle.search.specs.Masks.{set-at, masks, cut, SetsKept}
-use Rattle.search.specs.Codes.{position, code-true, code-clauses, clause-of, code-goal, Begins, Coded}
+use Rattle.codes.specs.Codes.{position, code-true, code-clauses, clause-of, code-goal, Begins, Coded}
 use Rattle.search.specs.Steps.{Fits, Settled, Settles, Lent, Looked, Blamed, CopyFrom, CopyTo}
 use Rattle.search.proofs.StepLaws.{masks-below, masks-grown, masks-kept, within-refl, within-trans, settles-refl, settles-then}
 use Rattle.search.proofs.Rows.{agree-between, parted-apart}
-use Rattle.search.proofs.CodeLaws.{code-local, code-sign, clause-among, clause-coded, every-both, every-some}
+use Rattle.codes.proofs.CodeLaws.{code-local, code-sign, clause-among, clause-coded, every-both, every-some}
 use Rattle.search.proofs.LookLaws.{FalseBut, Takes}
 
 open-or-set : (n : ℕ) → (n ≡ 0) ⊎ (0 < n)

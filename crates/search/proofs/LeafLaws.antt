@@ -15,7 +15,7 @@ use Rattle.expansion.proofs.Booleans.{never-both}
 use Rattle.expansion.proofs.ClauseCuts.{clause-at, matrix-at}
 use Rattle.cells.specs.Cells.{cells}
 use Rattle.search.specs.Masks.{set-at, SetGrown, SetsKept}
-use Rattle.search.specs.Codes.{code-true, code-onto, code-clauses, Ended, code-goal}
+use Rattle.codes.specs.Codes.{code-true, code-onto, code-clauses, Ended, code-goal}
 use Rattle.search.specs.Steps.{Excused, Parting, Stands, Reached}
 use Rattle.search.proofs.LiveLaws.{clauses-some}
 

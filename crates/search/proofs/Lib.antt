@@ -10,7 +10,6 @@ pub mod StepLaws
 pub mod SolveLaws
 pub mod SearchSteps
 pub mod Rows
-pub mod CodeLaws
 pub mod LookLaws
 pub mod ForceLaws
 pub mod TopLaws

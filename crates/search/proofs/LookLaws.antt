@@ -11,9 +11,9 @@ use lib.ListN.{length, getD, drop, drop-of-length-le}
 use Rattle.expansion.proofs.ClauseCuts.{Every, Some}
 use Rattle.cells.specs.Cells.{cells}
 use Rattle.search.specs.Masks.{set-at, SetGrown, United}
-use Rattle.search.specs.Codes.{position, code-true, clause-of, HasEnd, Coded}
+use Rattle.codes.specs.Codes.{position, code-true, clause-of, HasEnd, Coded}
 use Rattle.search.specs.Steps.{IsAt, Looked, Blamed}
-use Rattle.search.proofs.CodeLaws.{clause-step, clause-stop, end-here, end-step}
+use Rattle.codes.proofs.CodeLaws.{clause-step, clause-stop, end-here, end-step}
 
 -- The code is the one found, or is false in row i.
 abbrev pub FalseBut : List ℕ → ℕ → ℕ → ℕ → Type 0

@@ -18,7 +18,7 @@ use Rattle.expansion.proofs.Success.{won-leaf, won-wanted, won-other, won-parts
 use Rattle.cells.specs.Cells.{cells, wants}
 use Rattle.cells.specs.Changes.{SameWants, CellsSet, CellsOpened}
 use Rattle.search.specs.Masks.{set-at, masks, cut, SetGrown, SetsKept, United, WordsUnited, Trimmed, words}
-use Rattle.search.specs.Codes.{Ended, code-goal}
+use Rattle.codes.specs.Codes.{Ended, code-goal}
 use Rattle.search.specs.Steps.{Fits, Settled, Settles, Searched, Searches, with-value, Tried, Tries, Chooses, Steps, Excused, Parting, PartedAt, Stands, Reached}
 
 -- ---- masks

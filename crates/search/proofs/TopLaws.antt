@@ -32,7 +32,7 @@ use Rattle.expansion.proofs.Leading.{wanted, others-before}
 use Rattle.expansion.proofs.Engine.{row-value, restriction-of-values, values-of-restriction, tabulate, literal-at, goal-at, Names, Places, problem, problem-sound, refuted-is-none, won-is-first}
 use Rattle.cells.specs.Cells.{cells, wants, owned}
 use Rattle.cells.specs.Changes.{Filled}
-use Rattle.search.specs.Codes.{Ended, Coded, code-true, code-clauses, code-goal, Encoded}
+use Rattle.codes.specs.Codes.{Ended, Coded, code-true, code-clauses, code-goal, Encoded}
 use Rattle.search.specs.Order.{up-to, bits, Sorted, FirstDifference}
 use Rattle.search.specs.Steps.{Fits, FromStart}
 use Rattle.search.specs.Whole.{side-kind}

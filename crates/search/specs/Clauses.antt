@@ -9,7 +9,7 @@ use lib.IntN.{ℤ, pos, negsuc, natAbs}
 use lib.ListN.{length, getD, take, drop}
 use Rattle.expansion.proofs.ClauseCuts.{Every, clause-at, matrix-at}
 use Rattle.expansion.proofs.Engine.{literal-at}
-use Rattle.search.specs.Codes.{position, code-true, code-clauses, Ended}
+use Rattle.codes.specs.Codes.{position, code-true, code-clauses, Ended}
 
 -- The code of a literal; of the zero behind a clause it is 0.
 abbrev pub code-of : ℤ → ℕ

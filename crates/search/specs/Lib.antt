@@ -2,7 +2,6 @@
 -- literals as codes, sorted rows, what the copies want, and a search's steps over them. The public contract cites Search alone.
 pub mod Search
 pub mod Masks
-pub mod Codes
 pub mod Order
 pub mod Wants
 pub mod Steps

@@ -13,7 +13,7 @@ use Rattle.expansion.proofs.ClauseCuts.{Every, Some}
 use Rattle.cells.specs.Cells.{cells, wants}
 use Rattle.cells.specs.Changes.{SameWants}
 use Rattle.search.specs.Masks.{set-at, masks, cut, SetGrown, SetsKept}
-use Rattle.search.specs.Codes.{position, code-true, code-clauses, clause-of, HasEnd, Ended, code-goal, Coded}
+use Rattle.codes.specs.Codes.{position, code-true, code-clauses, clause-of, HasEnd, Ended, code-goal, Coded}
 
 -- The sorted rows: entry i of `splits` is the first position where row i and the row before it have different values, or past the last.
 -- The codes are the clauses; the side is 0 or 1.

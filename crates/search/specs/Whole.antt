@@ -20,7 +20,7 @@ use Rattle.expansion.specs.Model.{search}
 use Rattle.search.specs.declared.Search.{Search}
 use Rattle.search.specs.declared.Search.the-variants.{Refused}
 use Rattle.search.specs.Search.{work-size, answer, left}
-use Rattle.search.specs.Codes.{Encoded}
+use Rattle.codes.specs.Codes.{Encoded}
 use Rattle.search.specs.Order.{FirstDifference}
 use Rattle.search.specs.Wants.{WantsFilled}
 use Rattle.search.specs.Steps.{FromStart}

@@ -6,7 +6,7 @@ ghost use mathlib.Core.Bool.{true};
 ghost use lib.IntN.{pos, natAbs};
 ghost use lib.ListN.{length, getD, take};
 ghost use Rattle.formula.specs.Causes.{ended};
-ghost use Rattle.search.specs.Codes.{Encoded, Begins, position as code-position};
+ghost use Rattle.codes.specs.Codes.{Encoded, Begins, position as code-position};
 ghost use Rattle.search.specs.Clauses.{code-of, opposite as code-opposite, Added, PastClause, ClauseEncoded};
 use super::width::wide16;
 

@@ -4,7 +4,7 @@
 ghost use mathlib.Core.Path.{_≡_};
 ghost use Prim.Native.Nat.{ℕ, _+_, _*_, _≤_, _<_};
 ghost use lib.ListN.{length, getD, drop};
-ghost use Rattle.search.specs.Codes.{position, clause-of, Begins, Coded};
+ghost use Rattle.codes.specs.Codes.{position, clause-of, Begins, Coded};
 ghost use mathlib.Core.Bool.{true};
 ghost use Rattle.search.specs.Masks.{SetsKept};
 ghost use Rattle.search.specs.Steps.{Settles, Looked, Blamed, CopyFrom, CopyTo, Lent};

@@ -8,7 +8,7 @@ ghost use mathlib.Core.Bool.{true, _&&_};
 ghost use lib.ListN.{length};
 ghost use lib.Dec.{ltb};
 ghost use Rattle.cells.specs.Cells.{cells};
-ghost use Rattle.search.specs.Codes.{position, code-true, Coded};
+ghost use Rattle.codes.specs.Codes.{position, code-true, Coded};
 ghost use Rattle.search.specs.Steps.{Settles, IsAt, RowBlamed};
 ghost use Rattle.search.specs.Live.{RowDead};
 use super::clauses::position;

@@ -6,7 +6,7 @@ ghost use mathlib.Core.Bool.{true, false};
 ghost use lib.ListN.{length, getD};
 ghost use Rattle.expansion.proofs.ClauseCuts.{matrix-at};
 ghost use Rattle.cells.specs.Cells.{cells};
-ghost use Rattle.search.specs.Codes.{code-true, code-clauses, code-goal, Coded, Ended};
+ghost use Rattle.codes.specs.Codes.{code-true, code-clauses, code-goal, Coded, Ended};
 ghost use Rattle.search.specs.Masks.{set-at};
 ghost use Rattle.search.specs.Steps.{Lent, Settles, Searches, Tries, Chooses, Retries, Steps, Excused, Reached, Parting, PartedAt, Stands, FromStart};
 use super::force;

@@ -8,7 +8,7 @@ ghost use lib.Dec.{ltb, leb};
 ghost use Rattle.rows.specs.Row.{weight};
 ghost use Rattle.cells.specs.Cells.{cells, wants};
 ghost use Rattle.cells.specs.Changes.{CellsSet, CellsOpened, WantSet, RowFilled, Filled};
-ghost use Rattle.search.specs.Codes.{position, code-true};
+ghost use Rattle.codes.specs.Codes.{position, code-true};
 use super::width::wide8;
 
 pub(crate) fn is_set(work: &[u8], i: usize, k: usize) -> bool

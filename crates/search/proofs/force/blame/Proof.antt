@@ -6,7 +6,7 @@ use mathlib.Core.List.{List}
 use native.Mathlib.Omega.{arith}
 use lib.ListN.{length, getD}
 use Rattle.search.specs.Masks.{United}
-use Rattle.search.specs.Codes.{position}
+use Rattle.codes.specs.Codes.{position}
 use Rattle.search.proofs.LookLaws.{Blaming, blaming-start, blaming-same, blaming-united, blamed-end, blamed-all}
 use Rattle.search.proofs.force.blame.Statement.{statement}
 use Rattle.search.proofs.force.blame.Tie as tie

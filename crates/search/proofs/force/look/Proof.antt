@@ -5,7 +5,7 @@ use mathlib.Core.Logic.{⊎-elim}
 use native.Mathlib.Omega.{arith}
 use lib.ListN.{length, getD}
 use Rattle.cells.specs.Cells.{cells}
-use Rattle.search.specs.Codes.{position, code-true}
+use Rattle.codes.specs.Codes.{position, code-true}
 use Rattle.search.proofs.LookLaws.{Looking, is-at, is-open, looking-start, looking-false, looking-open, looked-end, looked-nothing}
 use Rattle.search.proofs.force.look.Statement.{statement}
 use Rattle.search.proofs.force.look.Tie as tie

@@ -1,0 +1,1 @@
+// Literals as 16-bit codes.
