@@ -1,7 +1,8 @@
 -- How tables of cells differ, as relations: for the laws of the definitions and the private contracts of the search. No public contract cites them.
 -- Assumes nothing.
-use Prim.Native.Nat.{ℕ, _+_, _<_}
+use Prim.Native.Nat.{ℕ, _+_, _≤_, _<_}
 use mathlib.Core.Path.{_≡_}
+use mathlib.Core.Logic.{_≢_}
 use mathlib.Core.Bool.{Bool, false}
 use mathlib.Core.List.{List}
 use lib.ListN.{length, getD}
@@ -48,3 +49,10 @@ pub record Filled (kinds rows place : List ℕ) (side : ℕ) (w u : List ℕ) : 
       → (cells u .level h k ≡ cells w .level h k) × (cells u .value h k ≡ cells w .value h k)
   pub unplaced : (h k : ℕ) → ((row : ℕ) → row < length place → h ≡ getD place row 0 → ⊥)
       → (cells u .level h k ≡ cells w .level h k) × (cells u .value h k ≡ cells w .value h k)
+
+-- d is the first position of the other side where the rows i and i + 1 of the table have different values; the number of unknowns if there is none.
+pub record FirstDifference (kinds : List ℕ) (side : ℕ) (w : List ℕ) (i d : ℕ) : Type 0 where
+  pub most : d ≤ length kinds
+  pub same : (j : ℕ) → j < d → getD (owned kinds side) j false ≡ false → cells w .value i j ≡ cells w .value (i + 1) j
+  pub other : d < length kinds → getD (owned kinds side) d false ≡ false
+  pub unlike : d < length kinds → cells w .value i d ≢ cells w .value (i + 1) d

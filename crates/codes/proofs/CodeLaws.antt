@@ -11,7 +11,7 @@ use lib.Dec.{eqb}
 use lib.ListN.{length, getD, drop, length-drop}
 use lib.Seq.{drop-cons, getD-drop}
 use Rattle.expansion.proofs.ClauseCuts.{Every, Some}
-use Rattle.codes.specs.Codes.{position, code-true, code-onto, code-clauses, clause-of, HasEnd, Begins, Coded}
+use Rattle.codes.specs.Clauses.{position, code-true, code-onto, code-clauses, clause-of, HasEnd, Begins, Coded}
 
 -- ---- literals
 

@@ -1,66 +1,68 @@
--- Literals as codes: 0 ends a clause, 2v stands for the literal v and 2v + 1 for -v.
+-- The literals of a formula as codes, clause by clause: 0 ends a clause, 2v stands for the literal v and 2v + 1 for -v.
 -- Assumes nothing.
-use Prim.Native.Nat.{ℕ, zero, suc, _-_, _/_, _%_, _≤_, _<_}
-use mathlib.Core.Path.{_≡_}
-use mathlib.Core.Logic.{_⊎_}
-use mathlib.Core.Bool.{Bool, true, false, not, cond}
-use mathlib.Core.List.{List, [], _∷_}
-use lib.Dec.{eqb}
-use lib.IntN.{ℤ, pos, natAbs}
-use lib.ListN.{length, getD}
-use Rattle.formula.specs.Formula.{clauses}
-use Rattle.expansion.proofs.ClauseCuts.{matrix-at}
-use Rattle.expansion.proofs.Engine.{literal-at}
+use Prim.Native.Nat.{ℕ, zero, suc, _+_, _*_, _-_, _%_}
+use mathlib.Core.Bool.{Bool, cond, _||_}
+use mathlib.Core.List.{List, [], _∷_, _++_}
+use lib.Dec.{eqb, ltb}
+use lib.IntN.{ℤ, pos, negsuc}
+use lib.ListN.{length, replicate}
+use Rattle.formula.specs.Formula.{max-unknowns}
+use Rattle.formula.specs.Causes.{any, beyond}
 
--- The position of a code's unknown, and the value of its literal under values by position.
-abbrev pub position : ℕ → ℕ
-position c = c / 2 - 1
+-- The code of a literal; of the zero behind a clause it is 0.
+abbrev pub code-of : ℤ → ℕ
+code-of (pos v) = 2 * v
+code-of (negsuc v) = 2 * suc v + 1
 
-unfoldable pub code-true : (ℕ → Bool) → ℕ → Bool
-code-true f c = cond (eqb (c % 2) 0) (f (position c)) (not (f (position c)))
+-- The code of the same unknown with the other sign.
+unfoldable pub opposite : ℕ → ℕ
+opposite c = cond (eqb (c % 2) 0) (c + 1) (c - 1)
 
-abbrev pub code-onto : ℕ → List (List ℕ) → List (List ℕ)
-code-onto c [] = (c ∷ []) ∷ []
-code-onto c (x ∷ xs) = (c ∷ x) ∷ xs
+-- Whether a clause has a code.
+abbrev pub has : ℕ → List ℕ → Bool
+has c clause = any (eqb c) clause
 
--- The clauses, cut at zeros.
-abbrev pub code-clauses : List ℕ → List (List ℕ)
-code-clauses [] = []
-code-clauses (zero ∷ cs) = [] ∷ code-clauses cs
-code-clauses (suc c ∷ cs) = code-onto (suc c) (code-clauses cs)
+-- A clause with one code more, at its end. The largest code stands first: a first one that is smaller makes room, and goes to the end.
+unfoldable pub with-code : ℕ → List ℕ → List ℕ
+with-code c [] = c ∷ []
+with-code c (first ∷ rest) = cond (ltb first c) (c ∷ rest ++ (first ∷ [])) (first ∷ rest ++ (c ∷ []))
 
--- The codes up to the first zero: the clause that begins here.
-abbrev pub clause-of : List ℕ → List ℕ
-clause-of [] = []
-clause-of (zero ∷ cs) = []
-clause-of (suc c ∷ cs) = suc c ∷ clause-of cs
+-- A clause as far as it is read: its codes, or that it is always true, since it has a literal and its opposite.
+pub data Reading : Type 0 where
+  so-far : List ℕ → Reading
+  always-true : Reading
 
--- A zero follows: the clause that begins here has its end.
-abbrev pub HasEnd : List ℕ → Type 0
-HasEnd [] = ⊥
-HasEnd (zero ∷ cs) = Unit {0}
-HasEnd (suc c ∷ cs) = HasEnd cs
+-- One literal more is read. A clause names each once.
+abbrev pub read-code : ℕ → Reading → Reading
+read-code c always-true = always-true
+read-code c (so-far clause) =
+    cond (has (opposite c) clause) always-true (cond (has c clause) (so-far clause) (so-far (with-code c clause)))
 
--- Every clause has its end.
-abbrev pub Ended : List ℕ → Type 0
-Ended [] = Unit {0}
-Ended (c ∷ cs) = HasEnd (c ∷ cs) × Ended cs
+-- What is written of a clause at its end.
+abbrev pub closed : Reading → List ℕ
+closed (so-far clause) = clause ++ (0 ∷ [])
+closed always-true = []
 
--- The side's goal over values by position: side 0 is the existential one, 1 the universal one.
-unfoldable pub code-goal : ℕ → List ℕ → (ℕ → Bool) → Bool
-code-goal zero codes f = matrix-at code-true (code-clauses codes) f
-code-goal (suc side) codes f = not (matrix-at code-true (code-clauses codes) f)
+-- What is written from here on, after the first literals of a clause. A clause that no zero ends is left out.
+abbrev pub encoding-from : Reading → List ℤ → List ℕ
+encoding-from r [] = []
+encoding-from r (pos zero ∷ zs) = closed r ++ encoding-from (so-far []) zs
+encoding-from r (pos (suc v) ∷ zs) = encoding-from (read-code (code-of (pos (suc v))) r) zs
+encoding-from r (negsuc v ∷ zs) = encoding-from (read-code (code-of (negsuc v)) r) zs
 
--- A clause begins at `start`.
-abbrev pub Begins : List ℕ → ℕ → Type 0
-Begins codes start = (start ≡ 0) ⊎ (getD codes (start - 1) 0 ≡ 0)
+-- What is written of all literals.
+unfoldable pub encoding : List ℤ → List ℕ
+encoding literals = encoding-from (so-far []) literals
 
--- Each code is a zero or a literal of one of n unknowns.
-abbrev pub Coded : ℕ → List ℕ → Type 0
-Coded n codes = (e : ℕ) → e < length codes → 0 < getD codes e 0 → (2 ≤ getD codes e 0) × (position (getD codes e 0) < n)
+-- There are more literals than places for codes, or a literal names an unknown above the last.
+unfoldable pub refused : List ℤ → ℕ → Bool
+refused literals places = ltb places (length literals) || any (beyond max-unknowns) literals
 
--- The codes stand for the literals: the matrix has the same value under all values of the unknowns.
-pub record Encoded (literals : List ℤ) (codes : List ℕ) : Type 0 where
-  pub same : (f : ℕ → Bool) → matrix-at literal-at (clauses literals) f ≡ matrix-at code-true (code-clauses codes) f
-  pub ended : Ended codes
-  pub coded : (n : ℕ) → ((i : ℕ) → i < length literals → natAbs (getD literals i (pos 0)) ≤ n) → Coded n codes
+-- The number of entries used.
+abbrev pub used : List ℤ → ℕ → ℕ
+used literals places = cond (refused literals places) 0 (length (encoding literals))
+
+-- The table: the encoding and zeros behind it, or what it was.
+abbrev pub filled : List ℤ → List ℕ → List ℕ
+filled literals codes =
+    cond (refused literals (length codes)) codes (encoding literals ++ replicate (length codes - length (encoding literals)) 0)

@@ -16,13 +16,22 @@ use Rattle.expansion.proofs.Steps.{node-store}
 use Rattle.expansion.proofs.ClauseCuts.{Every, Rests, dead-clause, unit-clause, matrix-at}
 use Rattle.cells.specs.Cells.{cells}
 use Rattle.cells.specs.Changes.{CellsSet}
-use Rattle.search.specs.Masks.{set-at, masks, cut, SetsKept}
-use Rattle.codes.specs.Codes.{position, code-true, code-clauses, clause-of, code-goal, Begins, Coded}
-use Rattle.search.specs.Steps.{Fits, Settled, Settles, Lent, Looked, Blamed, CopyFrom, CopyTo}
+use Rattle.sets.specs.Masks.{set-at, masks, cut, SetsKept, Blamed}
+use Rattle.codes.specs.Clauses.{position, code-true, code-clauses, clause-of, code-goal, Begins, Coded}
+use Rattle.search.specs.Steps.{Fits, Settled, Settles, Lent}
+use Rattle.evaluation.specs.Looked.{IsAt, Looked}
+use Rattle.groups.specs.Parts.{CopyFrom, CopyTo}
 use Rattle.search.proofs.StepLaws.{masks-below, masks-grown, masks-kept, within-refl, within-trans, settles-refl, settles-then}
 use Rattle.search.proofs.Rows.{agree-between, parted-apart}
 use Rattle.codes.proofs.CodeLaws.{code-local, code-sign, clause-among, clause-coded, every-both, every-some}
-use Rattle.search.proofs.LookLaws.{FalseBut, Takes}
+
+-- The code is the one found, or is false in row i.
+abbrev FalseBut : List ℕ → ℕ → ℕ → ℕ → Type 0
+FalseBut w i found c = (c ≡ found) ⊎ IsAt w i false c
+
+-- The code's position is `to`, or its set in s is in the set at `to` of t.
+abbrev Takes : List ℕ → List ℕ → ℕ → ℕ → Type 0
+Takes s t to c = (position c ≡ to) ⊎ ((l : ℕ) → set-at s (position c) l ≡ true → set-at t to l ≡ true)
 
 open-or-set : (n : ℕ) → (n ≡ 0) ⊎ (0 < n)
 open-or-set zero = inl refl

@@ -19,9 +19,10 @@ use Rattle.expansion.proofs.Success.{past-kept, won-leaf, won-wanted, won-other
 use Rattle.expansion.proofs.Stand.{node-stand, won-stand, refuted-stand}
 use Rattle.cells.specs.Cells.{cells, wants}
 use Rattle.cells.specs.Changes.{SameWants, CellsSet, CellsOpened}
-use Rattle.search.specs.Masks.{set-at, masks, cut, SetGrown, United, WordsUnited, Trimmed, words}
-use Rattle.codes.specs.Codes.{Ended, code-goal}
-use Rattle.search.specs.Steps.{Fits, Settled, Settles, Searched, Searches, with-value, Tried, Tries, Chooses, Steps, Excused, Parting, PartedAt, Stands, Reached}
+use Rattle.sets.specs.Masks.{set-at, masks, cut, SetGrown, United, WordsUnited, Trimmed, words, Excused}
+use Rattle.codes.specs.Clauses.{Ended, code-goal}
+use Rattle.search.specs.Steps.{Fits, Settled, Settles, Searched, Searches, with-value, Tried, Tries, Chooses, Steps, Reached}
+use Rattle.groups.specs.Parts.{Parting, PartedAt, Stands}
 use Rattle.search.proofs.Rows.{agree-group, parted-apart}
 use Rattle.search.proofs.StepLaws.{masks-below, masks-within, within-refl, within-trans, within-shorter, masks-grown, wants-trans}
 

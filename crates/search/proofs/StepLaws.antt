@@ -17,9 +17,10 @@ use Rattle.expansion.proofs.Steps.{node-part, node-same, node-next, node-decide
 use Rattle.expansion.proofs.Success.{won-leaf, won-wanted, won-other, won-parts, won-kept}
 use Rattle.cells.specs.Cells.{cells, wants}
 use Rattle.cells.specs.Changes.{SameWants, CellsSet, CellsOpened}
-use Rattle.search.specs.Masks.{set-at, masks, cut, SetGrown, SetsKept, United, WordsUnited, Trimmed, words}
-use Rattle.codes.specs.Codes.{Ended, code-goal}
-use Rattle.search.specs.Steps.{Fits, Settled, Settles, Searched, Searches, with-value, Tried, Tries, Chooses, Steps, Excused, Parting, PartedAt, Stands, Reached}
+use Rattle.sets.specs.Masks.{set-at, masks, cut, SetGrown, SetsKept, United, WordsUnited, Trimmed, words, Excused}
+use Rattle.codes.specs.Clauses.{Ended, code-goal}
+use Rattle.search.specs.Steps.{Fits, Settled, Settles, Searched, Searches, with-value, Tried, Tries, Chooses, Steps, Reached}
+use Rattle.groups.specs.Parts.{Parting, PartedAt, Stands}
 
 -- ---- masks
 

@@ -31,15 +31,15 @@ use Rattle.expansion.proofs.ClauseCuts.{Every, matrix-at}
 use Rattle.expansion.proofs.Leading.{wanted, others-before}
 use Rattle.expansion.proofs.Engine.{row-value, restriction-of-values, values-of-restriction, tabulate, literal-at, goal-at, Names, Places, problem, problem-sound, refuted-is-none, won-is-first}
 use Rattle.cells.specs.Cells.{cells, wants, owned}
-use Rattle.cells.specs.Changes.{Filled}
-use Rattle.codes.specs.Codes.{Ended, Coded, code-true, code-clauses, code-goal, Encoded}
-use Rattle.search.specs.Order.{up-to, bits, Sorted, FirstDifference}
+use Rattle.cells.specs.Changes.{Filled, FirstDifference}
+use Rattle.codes.specs.Clauses.{Ended, Coded, code-true, code-clauses, code-goal, Encoded}
+use Rattle.order.specs.Sorted.{up-to, bits, Sorted}
 use Rattle.search.specs.Steps.{Fits, FromStart}
 use Rattle.search.specs.Whole.{side-kind}
-use Rattle.search.specs.Wants.{WantsFilled}
+use Rattle.numbering.specs.Wants.{WantsFilled}
 use Rattle.cells.proofs.OwnedLaws.{owned-at, length-owned}
-use Rattle.search.proofs.OrderLaws.{sandwich}
-use Rattle.search.proofs.WantsLaws.{Placed, wants-of-copies}
+use Rattle.order.proofs.BetweenLaws.{sandwich}
+use Rattle.numbering.proofs.WantsLaws.{Placed, wants-of-copies}
 
 -- ---- the literals name the formula's unknowns
 

@@ -51,7 +51,7 @@ wide16-requires-3 : tie.Need-wide16-requires-3 Inv-loop μ-loop
 wide16-requires-3 c κs = tt
 
 repeats-requires : tie.Need-repeats-requires Inv-loop μ-loop
-repeats-requires c κs = omega arith
+repeats-requires c κs = tt
 
 touch-requires : tie.Need-touch-requires Inv-loop μ-loop
 touch-requires c κs = (lent-still (c .before .before .before .before .before .before .before .loop .inv .1) (c .before .before .before .before .before .before .before .before .before .before .before .before .before .before .before .before .before .before .pre .0), (omega arith, omega arith, omega arith))
