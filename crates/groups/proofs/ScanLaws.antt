@@ -11,7 +11,7 @@ use lib.ListN.{length, getD, List·getD-eq-default}
 use borrow.Author.Tests.{ltb-true, leb-true, eqb-true, eqb-false, not-true, lt-ltb, le-ltb, le-leb, lt-leb, eq-eqb, ne-eqb}
 use Rattle.expansion.proofs.Booleans.{never-both, false-if-not-true}
 use Rattle.cells.proofs.CellLaws.{level-at}
-use Rattle.groups.specs.Groups.{differ-before, are-rows, last-behind, first-from, copy-start, copy-end, is-repeated, parts-at, parted-at, earlier, earliest, parting-row, is-open, have-cells, open-position}
+use Rattle.groups.specs.Groups.{differ-before, are-rows, last-behind, first-from, copy-start, copy-end, agreement-of, is-repeated, parts-at, parted-at, earlier, earliest, parting-row, is-open, have-cells, open-position}
 
 -- ---- what is asked is in the tables, or not
 
@@ -21,13 +21,6 @@ both false b e = absurd (never-both e refl)
 
 unless : (b : Bool) (x y : ℕ) → (b ≡ true → ⊥) → y ≡ cond b x y
 unless b x y n = sym (ap (λ (t : Bool). cond t x y) (false-if-not-true b n))
-
-not-over : (a b : ℕ) → leb a b ≡ not (ltb b a)
-not-over a b = go (decLt b a)
-  where
-    go : Dec (b < a) → leb a b ≡ not (ltb b a)
-    go (yes lt) = rw (lt-ltb b a lt) (lt-leb a b lt)
-    go (no ge) = let le : a ≤ b = omega arith in rw (le-ltb b a le) (le-leb a b le)
 
 module _ (splits : List ℕ) where
   -- x if there are such rows, else y
@@ -94,24 +87,25 @@ module _ (kinds work : List ℕ) (side k i until : ℕ) where
   open-position-is area few within row =
       rw (eq-eqb (length work) 65536 area, le-leb (length kinds) 128 few, le-leb until (length kinds) within, lt-ltb i 256 row)
 
-module _ (splits codes : List ℕ) (from i start : ℕ) where
-  pub is-repeated-not : (i < length splits → (i ≡ from → ⊥) → ⊥) → false ≡ is-repeated splits codes from i start
-  unfolding is-repeated
-  is-repeated-not out = sym (false-if-not-true _ (λ e.
-      let a = both (ltb i (length splits) && not (eqb i from)) (not (differ-before splits (getD codes start 0 / 2) i)) e in
-      let b = both (ltb i (length splits)) (not (eqb i from)) (a .0) in
+module _ (splits : List ℕ) (from i : ℕ) where
+  pub agreement-none : (i < length splits → (i ≡ from → ⊥) → ⊥) → 0 ≡ agreement-of splits from i
+  unfolding agreement-of
+  agreement-none out = rw (false-if-not-true (ltb i (length splits) && not (eqb i from)) (λ e.
+      let b = both (ltb i (length splits)) (not (eqb i from)) e in
       out (ltb-true i (length splits) (b .0)) (eqb-false i from (not-true (eqb i from) (b .1)))))
 
-  pub is-repeated-is : i < length splits → (i ≡ from → ⊥) → leb (getD codes start 0 / 2) (getD splits i 0) ≡ is-repeated splits codes from i start
-  unfolding is-repeated
-  is-repeated-is high other =
-      rw (lt-ltb i (length splits) high, ne-eqb i from other) (not-over (getD codes start 0 / 2) (getD splits i 0))
+  pub agreement-is : i < length splits → (i ≡ from → ⊥) → getD splits i 0 + 1 ≡ agreement-of splits from i
+  unfolding agreement-of
+  agreement-is high other = rw (lt-ltb i (length splits) high, ne-eqb i from other)
 
-  pub is-repeated-past : i < length splits → (i ≡ from → ⊥) → length codes ≤ start → true ≡ is-repeated splits codes from i start
-  is-repeated-past high other past =
-      sym (le-leb 0 (getD splits i 0) (omega arith))
-      ∙ sym (ap (λ (c : ℕ). leb (c / 2) (getD splits i 0)) (List·getD-eq-default codes 0 past))
-      ∙ is-repeated-is high other
+module _ (codes : List ℕ) (start agreement : ℕ) where
+  pub is-repeated-past : length codes ≤ start → true ≡ is-repeated codes start agreement
+  unfolding is-repeated
+  is-repeated-past past = rw (le-ltb start (length codes) past)
+
+  pub is-repeated-is : start < length codes → ltb (getD codes start 0 / 2) agreement ≡ is-repeated codes start agreement
+  unfolding is-repeated
+  is-repeated-is high = rw (lt-ltb start (length codes) high)
 
 module _ (kinds work : List ℕ) (side i j : ℕ) where
   pub is-open-own : getD kinds j 0 ≡ side → i < 256 → j < 128 → eqb (getD work (128 * i + j) 0) 0 ≡ is-open kinds work side i j

@@ -2,7 +2,7 @@
 -- values, at least the number of unknowns if there is none. The rows from lo to hi are those before hi.
 -- Assumes nothing.
 use Prim.Native.Nat.{ℕ, zero, suc, _+_, _-_, _/_, min}
-use mathlib.Core.Bool.{Bool, not, _&&_, cond}
+use mathlib.Core.Bool.{Bool, true, not, _&&_, cond}
 use mathlib.Core.List.{List}
 use lib.Dec.{leb, ltb, eqb}
 use lib.ListN.{length, getD}
@@ -36,11 +36,14 @@ copy-start splits k lo i = cond (are-rows splits lo (i + 1)) (last-behind (diffe
 unfoldable pub copy-end : List ℕ → ℕ → ℕ → ℕ → ℕ
 copy-end splits k i hi = cond (are-rows splits i hi) (first-from (differ-before splits k) (i + 1) (hi - (i + 1))) i
 
--- Row i of the table is not `from`, the first row looked at, and does not differ from the row before it at any of the clause's unknowns: the
--- clause's first code c is its largest, and stands for the unknown at c / 2 - 1. Past the codes' end there is no unknown.
-unfoldable pub is-repeated : List ℕ → List ℕ → ℕ → ℕ → ℕ → Bool
-is-repeated splits codes from i start =
-    ltb i (length splits) && not (eqb i from) && not (differ-before splits (getD codes start 0 / 2) i)
+-- Up to which position row i has the values of the row before it, plus 1; 0 if it is `from`, the first row looked at, or no row of the table.
+unfoldable pub agreement-of : List ℕ → ℕ → ℕ → ℕ
+agreement-of splits from i = cond (ltb i (length splits) && not (eqb i from)) (getD splits i 0 + 1) 0
+
+-- A row with that agreement does not differ from the row before it at any of the clause's unknowns: the clause's first code c is its largest,
+-- and stands for the unknown at c / 2 - 1. Past the codes' end there is no unknown.
+unfoldable pub is-repeated : List ℕ → ℕ → ℕ → Bool
+is-repeated codes start agreement = cond (ltb start (length codes)) (ltb (getD codes start 0 / 2) agreement) true
 
 -- The position before n at which row mid parts from the row before it; n if there is none, or if mid is not behind lo.
 abbrev pub parts-at : List ℕ → ℕ → ℕ → ℕ → ℕ

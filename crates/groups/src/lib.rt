@@ -5,7 +5,7 @@
 ghost use mathlib.Core.Path.{_≡_};
 ghost use Prim.Native.Nat.{_<_};
 ghost use lib.ListN.{length};
-ghost use Rattle.groups.specs.Groups.{copy-start, copy-end, is-repeated, parting-row, parted-at, is-open, open-position};
+ghost use Rattle.groups.specs.Groups.{copy-start, copy-end, agreement-of, is-repeated, parting-row, parted-at, is-open, open-position};
 
 // The work area: its bytes, and the rows and positions that have a cell in it.
 const AREA: usize = 65_536;
@@ -54,21 +54,28 @@ pub fn copy_end(splits: &[u8], k: usize, i: usize, hi: usize) -> usize
     to
 }
 
-// Whether row i, of the rows from `from` on, has the same copies of the unknowns of the clause at `start` as the row before it. The clause's
-// largest code stands first.
-pub fn repeats(splits: &[u8], codes: &[u16], from: usize, i: usize, start: usize) -> bool
-    ensures { λ r. ⌜ r ≡ is-repeated (now (splits .entry)) (now (codes .entry)) from i start ⌝ }
+// How many positions row i surely shares with the row before it, plus 1: 0 for `from`, the first row looked at, and for what is no row.
+pub fn agreement(splits: &[u8], from: usize, i: usize) -> usize
+    ensures { λ r. ⌜ r ≡ agreement-of (now (splits .entry)) from i ⌝ }
 {
     if splits.len() <= i {
-        return false;
+        return 0;
     }
     if i == from {
-        return false;
+        return 0;
     }
+    splits[i] as usize + 1
+}
+
+// Whether a row with that agreement has the same values and copies of the unknowns of the clause at `start` as the row before it. The clause's
+// largest code stands first.
+pub fn repeats(codes: &[u16], start: usize, agreement: usize) -> bool
+    ensures { λ r. ⌜ r ≡ is-repeated (now (codes .entry)) start agreement ⌝ }
+{
     if codes.len() <= start {
         return true;
     }
-    codes[start] as usize / 2 <= splits[i] as usize
+    codes[start] as usize / 2 < agreement
 }
 
 // The row behind lo at which the rows from lo to hi part first; lo if none parts from the one before it, or if these are not rows of the

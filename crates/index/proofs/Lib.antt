@@ -3,3 +3,4 @@ pub mod CountLaws
 pub mod FitLaws
 pub mod PassLaws
 pub mod ListLaws
+pub mod StartLaws

@@ -1,11 +1,12 @@
 -- What the functions of the crates below leave, by the relations that the search's steps speak of. Assumes nothing.
-use Prim.Native.Nat.{ℕ, _+_, _≤_, _<_}
-use mathlib.Core.Path.{_≡_, sym, _∙_, ap₂, subst}
+use Prim.Native.Nat.{ℕ, zero, suc, _+_, _≤_, _<_}
+use mathlib.Core.Path.{_≡_, refl, sym, _∙_, ap₂, subst}
 use mathlib.Core.Bool.{Bool, true}
-use mathlib.Core.List.{List}
+use mathlib.Core.List.{List, [], _∷_}
 use native.Mathlib.Omega.{arith}
+use borrow.Author.Tests.{le-leb, eq-eqb, ne-eqb}
 use lib.IntN.{ℤ}
-use lib.ListN.{length, getD, take, drop}
+use lib.ListN.{length, getD, take, drop, replicate}
 use Rattle.formula.specs.Causes.{ended}
 use Rattle.expansion.proofs.ClauseCuts.{matrix-at}
 use Rattle.cells.specs.Cells.{cells}
@@ -23,6 +24,8 @@ use Rattle.numbering.proofs.WantsFill.{wants-filled}
 use Rattle.codes.specs.Codes.{used as entries-used, filled as written-codes}
 use Rattle.codes.specs.Clauses.{code-true, code-clauses, clause-of, Ended, Coded, Names, Encoded}
 use Rattle.codes.proofs.EncodeLaws.{accepted as encodable, used-length, filled-encoded}
+use Rattle.index.specs.Index.{all-codes, codes-fit, index-of, filled as indexed}
+use Rattle.index.proofs.StartLaws.{listed-start}
 use Rattle.sets.specs.Sets.{united, united-words, added, has, emptied, filled, trimmed, excused, blamed}
 use Rattle.sets.specs.Masks.{set-at, SetGrown, SetsKept, United, WordsUnited, Trimmed, Excused, Blamed}
 use Rattle.sets.proofs.SetLaws.{unite-unites, words-unite, add-grows, add-adds, has-is, empty-keeps, fill-keeps, fill-fills, trim-trims, excuse-excuses, blame-blames}
@@ -32,6 +35,7 @@ use Rattle.evaluation.proofs.LookLaws.{look-looked}
 use Rattle.evaluation.proofs.MatrixLaws.{matrix-is}
 use Rattle.groups.specs.Groups.{copy-start, copy-end, parting-row, parted-at, open-position}
 use Rattle.groups.specs.Parts.{CopyFrom, CopyTo, Parting, PartedAt, Stands}
+use Rattle.search.specs.Steps.{Listed}
 use Rattle.groups.proofs.PartLaws.{copy-start-from, copy-end-to, parting-row-parts, parted-at-there, open-position-stands}
 
 -- ---- sets of positions
@@ -134,3 +138,28 @@ module _ (literals : List ℤ) (before : List ℕ) (short : length literals ≤ 
       → Encoded literals (take used codes)
   encodes end e f =
       subst (λ (l : List ℕ). Encoded literals l) (ap₂ take (sym e) (sym f)) (filled-encoded literals before (encodable literals (length before) short names) end)
+
+all-are-codes : (codes : List ℕ) → Coded 128 codes → all-codes codes ≡ true
+all-are-codes [] coded = refl
+all-are-codes (zero ∷ codes) coded = all-are-codes codes (λ e less. coded (suc e) (omega arith))
+all-are-codes (suc c ∷ codes) coded =
+    let here = coded 0 (omega arith) (omega arith) in
+    rw (le-leb (suc c) 257 (omega arith), ne-eqb (suc c) 1 (λ e. omega arith)) (all-are-codes codes (λ e less. coded (suc e) (omega arith)))
+
+pub lists : (codes before : List ℕ) {index : List ℕ} → length codes ≤ 8192 → Coded 128 codes → length before ≡ 8451 → index ≡ indexed codes before → Listed codes index
+unfolding indexed codes-fit
+lists codes before few coded size e =
+    subst (λ (x : List ℕ). Listed codes x) (sym (e ∙ whole)) (listed-start codes)
+  where
+    whole : indexed codes before ≡ index-of codes
+    whole = rw (le-leb (length codes) 8192 few, eq-eqb (length before) 8451 size, all-are-codes codes coded)
+
+-- A table of zeros has 0 at every place, and past its end.
+pub zero-at : (n x : ℕ) → _≡_ {A = ℕ} (getD (replicate n 0) x 0) 0
+zero-at zero x = refl
+zero-at (suc n) zero = refl
+zero-at (suc n) (suc x) = zero-at n x
+
+-- In an index of zeros nothing stands between two bounds.
+pub lists-nothing : (codes index : List ℕ) → ((x : ℕ) → getD index x 0 ≡ 0) → Listed codes index
+lists-nothing codes index zeros c at one most low high = absurd (omega (arith, zeros c))

@@ -266,6 +266,7 @@ lent-noted lent a = record {
   area = lent .area;
   sets-lent = a ∙ lent .sets-lent;
   index-lent = lent .index-lent;
+  listed = lent .listed;
 }
 
 pub going-start : {splits codes : List ℕ} {lo hi mark : ℕ} {w s : List ℕ} → Going splits codes lo hi mark w w s s
@@ -280,6 +281,7 @@ module _ {splits codes : List ℕ} {lo hi mark : ℕ} {w u s t : List ℕ} (so-f
     area = so-far .work ∙ lent .area;
     sets-lent = so-far .sets ∙ lent .sets-lent;
     index-lent = lent .index-lent;
+    listed = lent .listed;
   }
 
   pub going-noted : {y : List ℕ} → SetsKept t y → length y ≡ length t → Going splits codes lo hi mark w u s y

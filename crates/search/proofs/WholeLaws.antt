@@ -36,6 +36,7 @@ use Rattle.search.specs.Search.{left}
 use Rattle.search.specs.Steps.{FromStart}
 use Rattle.search.specs.Whole.{side-kind, Ready, Arranged, Decided, OverPlaces, FoundIs}
 use Rattle.cells.proofs.OwnedLaws.{length-owned}
+use Rattle.search.proofs.CallLaws.{zero-at}
 use Rattle.search.proofs.TopLaws.{searched-none, searched-some}
 
 -- ---- literals that end in 0
@@ -113,11 +114,6 @@ arranged kinds literals rows lent others side w₀ place z ready some-row long s
 }
 
 -- ---- cleared areas
-
-zero-at : (n x : ℕ) → _≡_ {A = ℕ} (getD (replicate n 0) x 0) 0
-zero-at zero x = refl
-zero-at (suc n) zero = refl
-zero-at (suc n) (suc x) = zero-at n x
 
 cleared-levels : (w z : List ℕ) → z ≡ replicate (length w) 0 → (i j : ℕ) → cells z .level i j ≡ 0
 unfolding cells

@@ -1,6 +1,6 @@
 -- What the steps of the search promise, over every problem that the lent tables fit.
 -- Assumes nothing.
-use Prim.Native.Nat.{ℕ, _+_, _≤_, _<_}
+use Prim.Native.Nat.{ℕ, _+_, _-_, _≤_, _<_}
 use mathlib.Core.Path.{_≡_}
 use mathlib.Core.Logic.{_↔_}
 use mathlib.Core.Bool.{Bool, true, false, cond}
@@ -13,7 +13,7 @@ use Rattle.expansion.proofs.ClauseCuts.{Every, Some}
 use Rattle.cells.specs.Cells.{cells, wants}
 use Rattle.cells.specs.Changes.{SameWants}
 use Rattle.sets.specs.Masks.{set-at, masks, cut, SetGrown, SetsKept}
-use Rattle.codes.specs.Clauses.{position, code-clauses, Ended, code-goal, Coded}
+use Rattle.codes.specs.Clauses.{position, code-clauses, Ended, code-goal, Begins, Coded}
 use Rattle.evaluation.specs.Looked.{IsAt}
 use Rattle.groups.specs.Parts.{Parting, PartedAt}
 
@@ -117,7 +117,11 @@ FromStart kinds splits codes side w u r =
     → ((i j : ℕ) → ((i < P .count) × (j < P .n) × (P .own j ≡ false) → ⊥) → cells w .level i j ≡ 0)
     → (r ≡ true → Won P 0 0 (P .count) (cells u)) × (r ≡ false → (v : ℕ → Bool) → (D : Mask) × Refuted P 0 v D 0)
 
--- The sizes of what the steps are lent.
+-- What the index lists between the bounds of a code are starts of clauses.
+abbrev pub Listed : List ℕ → List ℕ → Type 0
+Listed codes index = (c at : ℕ) → 1 ≤ c → c ≤ 257 → getD index (c - 1) 0 ≤ at → at < getD index c 0 → Begins codes (getD index at 0)
+
+-- The sizes of what the steps are lent, and what they rest on.
 pub record Lent (splits codes work sets index : List ℕ) : Type 0 where
   pub rows : length splits ≤ 256
   pub entries : length codes ≤ 8192
@@ -125,6 +129,7 @@ pub record Lent (splits codes work sets index : List ℕ) : Type 0 where
   pub area : length work ≡ 65536
   pub sets-lent : length sets ≡ 516
   pub index-lent : length index ≡ 8451
+  pub listed : Listed codes index
 
 -- In row i every clause has a true literal, whose position's set is taken in at 128.
 pub record RowBlamed (codes w : List ℕ) (i : ℕ) (s t : List ℕ) (r : Bool) : Type 0 where

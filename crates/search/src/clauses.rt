@@ -1,8 +1,7 @@
-// Single codes of the clauses: a code's position, and where a clause begins.
+// Single codes of the clauses.
 ghost use mathlib.Core.Path.{_≡_};
 ghost use Prim.Native.Nat.{_≤_};
-ghost use mathlib.Core.Bool.{true};
-ghost use Rattle.codes.specs.Clauses.{Begins, position as code-position};
+ghost use Rattle.codes.specs.Clauses.{position as code-position};
 
 // The position of a code's unknown.
 pub(crate) fn position(c: usize) -> usize
@@ -10,18 +9,4 @@ pub(crate) fn position(c: usize) -> usize
     ensures { λ r. ⌜ r ≡ code-position c ⌝ }
 {
     c / 2 - 1
-}
-
-// Whether a clause begins at an entry.
-pub(crate) fn begins(codes: &[u16], start: usize) -> bool
-    ensures { λ r. ⌜ (r ≡ true → Begins (now (codes .entry)) start) ⌝ }
-{
-    if start == 0 {
-        return true;
-    }
-    if start < codes.len() {
-        codes[start - 1] == 0
-    } else {
-        false
-    }
 }

@@ -1,6 +1,6 @@
 // The existential side's consequences of a value: a clause whose literals are all false but one open one forces that one (unit
-// propagation), and a clause whose literals are all false ends the branch. What is looked at, and when, is a hint: the index of the clauses,
-// the changed positions and their rows may hold anything.
+// propagation), and a clause whose literals are all false ends the branch. What is looked at, and when, is a hint: the changed positions and
+// their rows may hold anything. Of the index it is known that it lists starts of clauses.
 ghost use mathlib.Core.Path.{_≡_};
 ghost use Prim.Native.Nat.{_+_, _≤_, _<_};
 ghost use lib.ListN.{length};
@@ -9,7 +9,6 @@ ghost use mathlib.Core.Bool.{true};
 ghost use Rattle.sets.specs.Masks.{SetsKept};
 ghost use Rattle.evaluation.specs.Looked.{Looked};
 ghost use Rattle.search.specs.Steps.{Settles, Lent};
-use super::clauses::begins;
 use super::clauses::position;
 use super::hints;
 use super::hints::CHANGED;
@@ -162,10 +161,11 @@ fn visit_row(
     ensures { λ r. ⌜ Settles 0 (now (splits .entry)) (now (codes .entry)) lo hi mark (now (work .entry)) (now (work .exit)) (now (sets .entry)) (now (sets .exit)) r ⌝ }
 {
     let end = lower(wide16(index[c]), index.len());
+    let agreement = groups::agreement(splits, from, i);
     let mut at = wide16(index[c - 1]);
     while at < end {
         let start = wide16(index[at]);
-        if groups::repeats(splits, codes, from, i, start) {} else {
+        if groups::repeats(codes, start, agreement) {} else {
             if touch(splits, codes, work, sets, index, mark, lo, hi, i, start) {} else {
                 return false;
             }
@@ -201,12 +201,9 @@ fn touch(
     start: usize,
 ) -> bool
     requires { ⌜ Lent (now splits) (now codes) (now work) (now sets) (now index) ⌝ }
-    requires { ⌜ (lo ≤ i) × (i < hi) × (hi ≤ length (now splits)) ⌝ }
+    requires { ⌜ (lo ≤ i) × (i < hi) × (hi ≤ length (now splits)) × Begins (now codes) start ⌝ }
     ensures { λ r. ⌜ Settles 0 (now (splits .entry)) (now (codes .entry)) lo hi mark (now (work .entry)) (now (work .exit)) (now (sets .entry)) (now (sets .exit)) r ⌝ }
 {
-    if begins(codes, start) {} else {
-        return true;
-    }
     let c = evaluation::look(codes, work, i, start);
     if c == 1 {
         return true;

@@ -1,10 +1,10 @@
 // The search: positions in prefix order, with the group of rows whose other values agree before the position. Rows are parted where their
 // values differ, an own position gets the wanted value first, and a failure goes back to the last decision that it was reached by.
 ghost use mathlib.Core.Path.{_≡_};
-ghost use Prim.Native.Nat.{_+_, _≤_, _<_};
-ghost use lib.ListN.{length};
+ghost use Prim.Native.Nat.{ℕ, _+_, _≤_, _<_};
+ghost use lib.ListN.{length, getD};
 ghost use Rattle.codes.specs.Clauses.{Coded};
-ghost use Rattle.search.specs.Steps.{Lent, Settles, Searches, Tries, Chooses, Retries, Steps, Reached, FromStart};
+ghost use Rattle.search.specs.Steps.{Lent, Listed, Settles, Searches, Tries, Chooses, Retries, Steps, Reached, FromStart};
 use super::force;
 use super::hints::CUT;
 use super::live;
@@ -44,7 +44,10 @@ pub(crate) fn from_start(
 }
 
 // The existential side finds a code's clauses through the index; the universal side doesn't look them up.
-fn list_codes(codes: &[u16], side: u8, index: &mut [u16]) {
+fn list_codes(codes: &[u16], side: u8, index: &mut [u16])
+    requires { ⌜ (length (now codes) ≤ 8192) × Coded 128 (now codes) × (length (now index) ≡ 8451) × ((x : ℕ) → getD (now index) x 0 ≡ 0) ⌝ }
+    ensures { λ _. ⌜ Listed (now (codes .entry)) (now (index .exit)) ⌝ }
+{
     if side == 0 {
         index::fill(codes, index);
     }
@@ -106,7 +109,7 @@ fn solve(
     ) {
         return true;
     }
-    sets::excuse(sets, CUT, k, at);
+    sets::excuse(sets, CUT, k, at); // what stands was reached by what its own sets say
     false
 }
 
