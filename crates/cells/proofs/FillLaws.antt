@@ -222,8 +222,5 @@ module _ (kinds rows place : List ℕ) (side : ℕ) (w : List ℕ) (area : lengt
         (steps-reach (row-step kinds rows place side) RowsBelow 0 (length place) (λ n u low less p. rows-more n u less p) w (omega arith)
         (area, filled-none kinds rows place side w))
 
-    pub length-rows-filled : length (rows-filled kinds rows place side w) ≡ 65536
-    length-rows-filled = rows-given .0
-
     pub rows-are-filled : Filled kinds rows place side w (rows-filled kinds rows place side w)
     rows-are-filled = filled-whole kinds rows place side w (rows-filled kinds rows place side w) (rows-given .1)

@@ -105,8 +105,5 @@ module _ (lo hi bound : ℕ) (w : List ℕ) (area : length w ≡ 65536) (most : 
         let long = p .0 in (length-set u at (bounded bound (getD u at 0)) ∙ p .0, bytes-bounded-more bound (128 * lo) at w u low (omega arith) (p .1)))
         w (omega arith) (area, bytes-bounded-none bound (128 * lo) w))
 
-    pub length-rows-opened : length (rows-opened lo hi bound w) ≡ 65536
-    length-rows-opened = all-bounded .0
-
     pub rows-are-opened : CellsOpened lo hi bound w (rows-opened lo hi bound w)
     rows-are-opened = cells-opened bound lo hi w (rows-opened lo hi bound w) most area (all-bounded .1)

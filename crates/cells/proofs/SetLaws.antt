@@ -47,8 +47,5 @@ module _ (k lo hi mark : ℕ) (value : Bool) (w : List ℕ) (area : length w ≡
         (length-with-cell i k mark value u ∙ p .0, cells-set-more k lo i mark value w u (with-cell i k mark value u) low (p .1) (cells-set-one i k mark value u (omega arith) small (p .0))))
         w order (area, cells-set-none k lo mark value w))
 
-    pub length-rows-set : length (rows-set k lo hi mark value w) ≡ 65536
-    length-rows-set = all-set .0
-
     pub rows-are-set : CellsSet k lo hi mark value w (rows-set k lo hi mark value w)
     rows-are-set = all-set .1

@@ -89,16 +89,6 @@ module _ (codes : List ℕ) (e : ℕ) (inside : e < length codes) where
   pub clause-stop : getD codes e 0 ≡ 0 → clause-of (drop e codes) ≡ []
   clause-stop z = ap clause-of (drop-next ∙ ap (λ (n : ℕ). n ∷ drop (e + 1) codes) z)
 
-  pub end-here : getD codes e 0 ≡ 0 → HasEnd (drop e codes)
-  end-here z = subst HasEnd (sym (drop-next ∙ ap (λ (n : ℕ). n ∷ drop (e + 1) codes) z)) tt
-
-  end-more : (c : ℕ) (cs : List ℕ) → HasEnd cs → HasEnd (c ∷ cs)
-  end-more zero cs h = tt
-  end-more (suc c) cs h = h
-
-  pub end-step : HasEnd (drop (e + 1) codes) → HasEnd (drop e codes)
-  end-step h = subst HasEnd (sym drop-next) (end-more (getD codes e 0) (drop (e + 1) codes) h)
-
 clause-coded-all : (n : ℕ) (codes : List ℕ) → Coded n codes → Every (λ c. (2 ≤ c) × (position c < n)) (clause-of codes)
 clause-coded-all n [] coded = tt
 clause-coded-all n (zero ∷ codes) coded = tt

@@ -7,8 +7,8 @@ use mathlib.Core.List.{List}
 use native.Mathlib.Omega.{arith}
 use native.Mathlib.Decide.{decLt}
 use lib.Dec.{leb, ltb, eqb}
-use lib.ListN.{length, getD, List·getD-eq-default}
-use borrow.Author.Tests.{ltb-true, leb-true, eqb-true, eqb-false, not-true, lt-ltb, le-ltb, le-leb, lt-leb, eq-eqb, ne-eqb}
+use lib.ListN.{length, getD}
+use borrow.Author.Tests.{ltb-true, leb-true, eqb-true, eqb-false, not-true, lt-ltb, le-ltb, le-leb, eq-eqb, ne-eqb}
 use Rattle.expansion.proofs.Booleans.{never-both, false-if-not-true}
 use Rattle.cells.proofs.CellLaws.{level-at}
 use Rattle.groups.specs.Groups.{differ-before, are-rows, last-behind, first-from, copy-start, copy-end, agreement-of, is-repeated, parts-at, parted-at, earlier, earliest, parting-row, is-open, have-cells, open-position}

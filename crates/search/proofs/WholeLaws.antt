@@ -1,17 +1,14 @@
 -- What the search as a whole returns and leaves. Assumes nothing.
 use Prim.Native.Nat.{ℕ, zero, suc, _+_, _-_, _*_, _≤_, _<_}
 use mathlib.Core.Path.{_≡_, refl, sym, _∙_, ap, subst}
-use mathlib.Core.Logic.{_⊎_, inl, inr, ⊎-elim}
-use mathlib.Core.Bool.{Bool, true, false, not, cond, true≢false}
-use mathlib.Core.List.{List, [], _∷_, _++_, append-nil}
+use mathlib.Core.Bool.{Bool, true, false, true≢false}
+use mathlib.Core.List.{List, [], _∷_, _++_}
 use mathlib.Core.Option.{Option, none, some}
 use native.Mathlib.Omega.{arith}
-use native.Mathlib.Decide.{decLt}
-use lib.Dec.{eqb, ltb}
-use lib.IntN.{ℤ, pos, negsuc, natAbs}
-use lib.ListN.{length, getD, take, drop, replicate, length-append, length-map, length-replicate}
-use lib.Seq.{getD-take, length-take-le, drop-length}
-use Rattle.formula.specs.Formula.{Kind, existential, universal, kind-of, prefix, clauses}
+use lib.IntN.{ℤ}
+use lib.ListN.{length, getD, take, replicate, length-append, length-replicate}
+use lib.Seq.{getD-take, length-take-le}
+use Rattle.formula.specs.Formula.{prefix, clauses}
 use Rattle.formula.specs.Meaning.{matrix}
 use Rattle.formula.specs.Causes.{count, ended, is-zero}
 use Rattle.formula.proofs.Accepted.{Accepted}
@@ -22,17 +19,15 @@ use Rattle.rows.proofs.RowLaws.{length-bytes-of}
 use Rattle.expansion.specs.Side.{other, flags, goal}
 use Rattle.expansion.specs.Play.{Row, part}
 use Rattle.expansion.specs.Model.{search, first-model, yielded}
-use Rattle.expansion.proofs.Booleans.{true-or-false, never-both}
 use Rattle.expansion.proofs.Verdict.{search-none}
 use Rattle.expansion.proofs.Leading.{others-before}
 use Rattle.expansion.proofs.Engine.{tabulate, length-tabulate}
 use Rattle.cells.specs.Cells.{cells, owned, spot}
 use Rattle.cells.specs.Changes.{Filled, FirstDifference}
 use Rattle.order.specs.Sorted.{Sorted}
-use Rattle.cells.specs.Steps.{rows-filled, packed}
+use Rattle.cells.specs.Steps.{rows-filled}
 use Rattle.cells.proofs.FillLaws.{rows-are-filled}
 use Rattle.cells.proofs.PackLaws.{packed-inside}
-use Rattle.search.specs.Search.{left}
 use Rattle.search.specs.Steps.{FromStart}
 use Rattle.search.specs.Whole.{side-kind, Ready, Arranged, Decided, OverPlaces, FoundIs}
 use Rattle.cells.proofs.OwnedLaws.{length-owned}

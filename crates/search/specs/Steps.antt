@@ -7,8 +7,8 @@ use mathlib.Core.Bool.{Bool, true, false, cond}
 use mathlib.Core.List.{List}
 use lib.Dec.{eqb}
 use lib.ListN.{length, getD}
-use Rattle.expansion.proofs.Cuts.{Values, Mask, Problem, Agree, Sound, Refuted}
-use Rattle.expansion.proofs.Node.{Cells, Node, Won, Grown, MasksWithin}
+use Rattle.expansion.proofs.Cuts.{Mask, Problem, Agree, Sound, Refuted}
+use Rattle.expansion.proofs.Node.{Node, Won, Grown, MasksWithin}
 use Rattle.expansion.proofs.ClauseCuts.{Every, Some}
 use Rattle.cells.specs.Cells.{cells, wants}
 use Rattle.cells.specs.Changes.{SameWants}
