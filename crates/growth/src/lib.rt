@@ -4,8 +4,7 @@
 use preference::preference;
 use rows::Found;
 ghost use mathlib.Core.Path.{_≡_};
-ghost use Prim.Native.Nat.{_≤_};
-ghost use lib.ListN.{length, replicate};
+ghost use lib.ListN.{replicate};
 ghost use Rattle.preference.specs.Preference.{prefer};
 ghost use Rattle.rows.specs.Table.{first-place, rows-written, marks-written};
 ghost use Rattle.growth.specs.Growth.{is-absent, is-new, is-added, count-below, all-fit, bytes, with-new-row, with-new-rows, grown, growth, with-preferred};
@@ -50,14 +49,6 @@ pub fn write_start(preferences: &[u8], universals: usize, rows: &mut [u8], marks
         }
     }
     rows::write(rows, marks, 0, &row, 0, 0);
-}
-
-pub fn clear(area: &mut [u8])
-    ensures { λ _. ⌜ now (area .exit) ≡ replicate (length (now (area .entry))) 0 ⌝ }
-{
-    for i in 0..area.len() {
-        area[i] = 0;
-    }
 }
 
 // There is room for all that are new.

@@ -4,7 +4,7 @@
 // Looking for a model is left to `search`.
 ghost use mathlib.Core.Path.{_≡_};
 ghost use mathlib.Core.Bool.{cond};
-ghost use lib.ListN.{length, replicate};
+ghost use lib.ListN.{length};
 ghost use Rattle.formula.specs.Meaning.{verdict, bit};
 ghost use Rattle.judge.specs.declared.Judgement.the-variants.{Accepted};
 ghost use Rattle.judge.specs.Judge.{other-claim, outcome, work-after, number, outcome-number};
@@ -34,7 +34,7 @@ pub fn judge(
     let lent = counted(rows, claim, count);
     match search::first_model(kinds, literals, b"", rows, lent, claim == 1, work) {
         Search::Found => {
-            clear(work);
+            rows::clear(work);
             Judgement::NotBorneOut
         }
         Search::NoModel => Judgement::Accepted,
@@ -47,12 +47,4 @@ fn counted(rows: &[u8], claim: u8, count: usize) -> usize
     ensures { λ r. ⌜ r ≡ cond (other-claim claim) (length (now (rows .entry))) count ⌝ }
 {
     if claim > 1 { rows.len() } else { count }
-}
-
-fn clear(work: &mut [u8])
-    ensures { λ _. ⌜ now (work .exit) ≡ replicate (length (now (work .entry))) 0 ⌝ }
-{
-    for i in 0..work.len() {
-        work[i] = 0;
-    }
 }

@@ -4,7 +4,7 @@
 use formula::Formula;
 ghost use mathlib.Core.Path.{_≡_};
 ghost use Prim.Native.Nat.{_+_, _≤_, min};
-ghost use lib.ListN.{length, take, drop};
+ghost use lib.ListN.{length, take, drop, replicate};
 ghost use lib.Seq.{paste};
 ghost use Rattle.rows.specs.Row.{bit-of, stray};
 ghost use Rattle.rows.specs.Table.{row-at, room, table-fits, marks-fit, handed-back, bit-set, same-bytes, equal-rows, first-place, rows-written, marks-written, stray-rows};
@@ -145,6 +145,15 @@ pub fn stray_bit(rows: &[u8], count: usize, m: usize) -> bool
         }
     }
     false
+}
+
+// Every byte becomes 0.
+pub fn clear(area: &mut [u8])
+    ensures { λ _. ⌜ now (area .exit) ≡ replicate (length (now (area .entry))) 0 ⌝ }
+{
+    for i in 0..area.len() {
+        area[i] = 0;
+    }
 }
 
 // The rows below the count that are wholly inside the table.

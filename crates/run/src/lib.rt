@@ -95,7 +95,7 @@ pub fn run(
         universals,
         limit,
     );
-    growth::clear(work);
+    rows::clear(work);
     end
 }
 

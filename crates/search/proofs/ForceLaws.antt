@@ -14,14 +14,24 @@ use Rattle.expansion.proofs.Cuts.{Mask, Problem, Agree, Refuted, Implied, Withi
 use Rattle.expansion.proofs.Node.{Node, MasksWithin, grown-refl, grown-stored}
 use Rattle.expansion.proofs.Steps.{node-store}
 use Rattle.expansion.proofs.ClauseCuts.{Every, Rests, dead-clause, unit-clause, matrix-at}
-use Rattle.search.specs.Cells.{cells, CellsSet}
-use Rattle.search.specs.Masks.{set-at, masks, cut, SetsKept}
-use Rattle.search.specs.Codes.{position, code-true, code-clauses, clause-of, code-goal, Begins, Coded}
-use Rattle.search.specs.Steps.{Fits, Settled, Settles, Lent, Looked, Blamed, CopyFrom, CopyTo}
+use Rattle.cells.specs.Cells.{cells}
+use Rattle.cells.specs.Changes.{CellsSet}
+use Rattle.sets.specs.Masks.{set-at, masks, cut, SetsKept, Blamed}
+use Rattle.codes.specs.Clauses.{position, code-true, code-clauses, clause-of, code-goal, Begins, Coded}
+use Rattle.search.specs.Steps.{Fits, Settled, Settles, Lent}
+use Rattle.evaluation.specs.Looked.{IsAt, Looked}
+use Rattle.groups.specs.Parts.{CopyFrom, CopyTo}
 use Rattle.search.proofs.StepLaws.{masks-below, masks-grown, masks-kept, within-refl, within-trans, settles-refl, settles-then}
 use Rattle.search.proofs.Rows.{agree-between, parted-apart}
-use Rattle.search.proofs.CodeLaws.{code-local, code-sign, clause-among, clause-coded, every-both, every-some}
-use Rattle.search.proofs.LookLaws.{FalseBut, Takes}
+use Rattle.codes.proofs.CodeLaws.{code-local, code-sign, clause-among, clause-coded, every-both, every-some}
+
+-- The code is the one found, or is false in row i.
+abbrev FalseBut : List ℕ → ℕ → ℕ → ℕ → Type 0
+FalseBut w i found c = (c ≡ found) ⊎ IsAt w i false c
+
+-- The code's position is `to`, or its set in s is in the set at `to` of t.
+abbrev Takes : List ℕ → List ℕ → ℕ → ℕ → Type 0
+Takes s t to c = (position c ≡ to) ⊎ ((l : ℕ) → set-at s (position c) l ≡ true → set-at t to l ≡ true)
 
 open-or-set : (n : ℕ) → (n ≡ 0) ⊎ (0 < n)
 open-or-set zero = inl refl
@@ -256,6 +266,7 @@ lent-noted lent a = record {
   area = lent .area;
   sets-lent = a ∙ lent .sets-lent;
   index-lent = lent .index-lent;
+  listed = lent .listed;
 }
 
 pub going-start : {splits codes : List ℕ} {lo hi mark : ℕ} {w s : List ℕ} → Going splits codes lo hi mark w w s s
@@ -270,6 +281,7 @@ module _ {splits codes : List ℕ} {lo hi mark : ℕ} {w u s t : List ℕ} (so-f
     area = so-far .work ∙ lent .area;
     sets-lent = so-far .sets ∙ lent .sets-lent;
     index-lent = lent .index-lent;
+    listed = lent .listed;
   }
 
   pub going-noted : {y : List ℕ} → SetsKept t y → length y ≡ length t → Going splits codes lo hi mark w u s y

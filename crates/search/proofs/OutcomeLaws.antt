@@ -1,32 +1,30 @@
 -- The causes in order, and the outcome: what is answered for an accepted formula is the outcome of the whole. Assumes nothing.
-use Prim.Native.Nat.{ℕ, zero, suc, _+_, _-_, _*_, _/_, _%_, _≤_, _<_}
-use mathlib.Core.Path.{_≡_, refl, sym, _∙_, ap, subst}
-use mathlib.Core.Logic.{_⊎_, inl, inr, ⊎-elim}
-use mathlib.Core.Bool.{Bool, true, false, not, cond, _&&_, and-eq-true-iff}
+use Prim.Native.Nat.{ℕ, zero, suc, _+_, _-_, _*_, _%_, _≤_, _<_}
+use mathlib.Core.Path.{_≡_, refl, sym, _∙_, ap}
+use mathlib.Core.Bool.{Bool, true, false, cond, _&&_, and-eq-true-iff}
 use mathlib.Core.List.{List, [], _∷_}
 use mathlib.Core.Option.{Option, none, some}
 use native.Mathlib.Omega.{arith}
 use borrow.Author.Tests.{eq-eqb, ne-eqb, lt-ltb, le-ltb, leb-true}
-use lib.Dec.{eqb, ltb, leb}
+use lib.Dec.{eqb, leb}
 use lib.IntN.{ℤ}
 use lib.ListN.{length, length-map}
 use Rattle.formula.specs.Formula.{Kind, existential, universal, kind-of, prefix, clauses, max-rows}
 use Rattle.formula.specs.Meaning.{matrix}
-use Rattle.formula.specs.Causes.{count, checked, number, refused-if, cause-1, cause-2, cause-3, sizes}
-use Rattle.formula.specs.declared.Check.{Check}
+use Rattle.formula.specs.Causes.{count, checked, refused-if, cause-1, cause-2, cause-3, sizes}
 use Rattle.formula.specs.declared.Check.the-variants.{Accepted as Passed, Refused as Turned}
 use Rattle.formula.specs.declared.Formula.{Formula}
-use Rattle.formula.proofs.Accepted.{Accepted, accepted, accepted-sizes}
+use Rattle.formula.proofs.Accepted.{accepted, accepted-sizes}
 use Rattle.preference.specs.Preference.{prefer}
 use Rattle.rows.specs.Table.{rows-of, room, table-fits, stray-rows}
 use Rattle.expansion.specs.Side.{other}
 use Rattle.expansion.specs.Play.{Row}
 use Rattle.expansion.specs.Model.{search}
-use Rattle.expansion.proofs.Booleans.{true-or-false, never-both}
+use Rattle.expansion.proofs.Booleans.{never-both}
 use Rattle.search.specs.declared.Search.{Search}
 use Rattle.search.specs.declared.Search.the-variants.{Found, NoModel, Refused}
-use Rattle.search.specs.Search.{work-size, side-of, lent-rows, cause, found, answer, left, outcome, work-after}
-use Rattle.search.specs.Whole.{side-kind, Ready, Accepting, FoundIs, later-cause, Answered}
+use Rattle.search.specs.Search.{side-of, lent-rows, cause, found, answer, left, outcome, work-after}
+use Rattle.search.specs.Whole.{side-kind, Accepting, FoundIs, later-cause, Answered}
 
 -- ---- the causes behind the formula's
 

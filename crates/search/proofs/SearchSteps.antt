@@ -1,18 +1,20 @@
 -- What each function of the search returns, over every problem, from what its calls return. Assumes nothing.
 use Prim.Native.Nat.{ℕ, _+_, _≤_, _<_}
-use mathlib.Core.Path.{_≡_, refl, sym, _∙_, ap, subst}
+use mathlib.Core.Path.{_≡_, refl, sym, _∙_, subst}
 use mathlib.Core.Bool.{Bool, true, false, not}
 use mathlib.Core.List.{List}
 use mathlib.Core.Logic.{_⊎_, inl, inr, ⊎-elim}
 use native.Mathlib.Omega.{arith}
 use native.Mathlib.Decide.{decLt}
 use lib.ListN.{length, getD}
-use Rattle.expansion.proofs.Cuts.{Problem, Mask}
+use Rattle.expansion.proofs.Cuts.{Problem}
 use Rattle.expansion.proofs.Booleans.{true-or-false, never-both}
 use Rattle.expansion.proofs.Node.{Node, Won}
-use Rattle.search.specs.Cells.{cells, wants, CellsSet, CellsOpened}
-use Rattle.search.specs.Masks.{set-at, words, masks, cut, SetGrown, WordsUnited, Trimmed}
-use Rattle.search.specs.Steps.{Fits, Settled, Settles, Searched, Searches, with-value, Tried, Tries, Chooses, Retries, Steps, Excused, Parting, PartedAt, Stands, Reached, FromStart}
+use Rattle.cells.specs.Cells.{cells, wants}
+use Rattle.cells.specs.Changes.{CellsSet, CellsOpened}
+use Rattle.sets.specs.Masks.{set-at, masks, cut, SetGrown, WordsUnited, Trimmed, Excused}
+use Rattle.search.specs.Steps.{Fits, Settled, Settles, Searched, Searches, with-value, Tried, Tries, Chooses, Retries, Steps, Reached, FromStart}
+use Rattle.groups.specs.Parts.{Parting, PartedAt, Stands}
 use Rattle.search.proofs.StepLaws.{masks-grown}
 use Rattle.search.proofs.SolveLaws.{tried-node, tried-refuted, tried-searched, chosen-first, failed-without, second-node, second-wants, second-open, chosen-second, failed-both, failed-second, high-node, split-first, low-node, split-second, searched-leaf, stood-node, at-fits, stood-open, parted-other, stood-searched, stood-won}
 

@@ -2,25 +2,24 @@
 -- Assumes nothing.
 use Prim.Native.Nat.{ℕ, zero, suc, _+_, _-_, _≤_, _<_}
 use mathlib.Core.Path.{_≡_, refl, sym, _∙_, ap, subst}
-use mathlib.Core.Logic.{_⊎_, inl, inr, ⊎-elim, _≢_}
+use mathlib.Core.Logic.{_⊎_, inl, inr, ⊎-elim}
 use mathlib.Core.Bool.{Bool, true, false, not, cond}
 use mathlib.Core.List.{List}
 use native.Mathlib.Omega.{arith}
-use native.Mathlib.Nat.{add-zero}
 use native.Mathlib.Decide.{ℕ-discrete, decLt}
-use borrow.Author.Tests.{lt-ltb, le-ltb, eq-eqb, ne-eqb}
-use lib.Dec.{eqb, ltb}
+use borrow.Author.Tests.{eq-eqb, ne-eqb}
 use lib.ListN.{length, getD}
 use Rattle.expansion.proofs.Booleans.{true-or-false, never-both}
-use Rattle.expansion.proofs.Cuts.{Values, Mask, Problem, Agree, Sound, Model, Heeds, Refuted, Within, SameBelow, agree-own, agree-given, agree-trans, agree-sym, agree-shorter, refuted-larger, refuted-without, refuted-both, refuted-row, refuted-given}
-use Rattle.expansion.proofs.Node.{Cells, Node, Won, SameCell, Grown, MasksWithin, grown-outside, grown-refl, grown-trans, grown-wider, grown-stored, grown-keeps, cleared-back}
+use Rattle.expansion.proofs.Cuts.{Mask, Problem, Agree, Refuted, Within, SameBelow, agree-own, agree-given, agree-shorter, refuted-without, refuted-both, refuted-row, refuted-given}
+use Rattle.expansion.proofs.Node.{Node, SameCell, Grown, MasksWithin, grown-outside, grown-refl, grown-trans, grown-wider, grown-stored, grown-keeps, cleared-back}
 use Rattle.expansion.proofs.Steps.{node-part, node-same, node-next, node-decide}
 use Rattle.expansion.proofs.Success.{past-kept, won-leaf, won-wanted, won-other, won-parts, won-kept}
 use Rattle.expansion.proofs.Stand.{node-stand, won-stand, refuted-stand}
-use Rattle.search.specs.Cells.{cells, wants, SameWants, CellsSet, CellsOpened}
-use Rattle.search.specs.Masks.{set-at, masks, cut, SetGrown, United, WordsUnited, Trimmed, words}
-use Rattle.search.specs.Codes.{Ended, code-goal}
-use Rattle.search.specs.Steps.{Fits, Settled, Settles, Searched, Searches, with-value, Tried, Tries, Chooses, Steps, Excused, Parting, PartedAt, Stands, Reached}
+use Rattle.cells.specs.Cells.{cells, wants}
+use Rattle.cells.specs.Changes.{SameWants, CellsSet, CellsOpened}
+use Rattle.sets.specs.Masks.{set-at, masks, cut, SetGrown, Trimmed, Excused}
+use Rattle.search.specs.Steps.{Fits, Settled, Searched, with-value, Tried, Reached}
+use Rattle.groups.specs.Parts.{Parting, PartedAt, Stands}
 use Rattle.search.proofs.Rows.{agree-group, parted-apart}
 use Rattle.search.proofs.StepLaws.{masks-below, masks-within, within-refl, within-trans, within-shorter, masks-grown, wants-trans}
 

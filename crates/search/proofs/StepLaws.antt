@@ -1,24 +1,20 @@
 -- Steps of a search follow one another: settled after settled, and the pieces of which a search of a group is made.
 -- Assumes nothing.
-use Prim.Native.Nat.{ℕ, zero, suc, _+_, _≤_, _<_}
+use Prim.Native.Nat.{ℕ, _≤_, _<_}
 use mathlib.Core.Path.{_≡_, refl, sym, _∙_, ap, subst}
-use mathlib.Core.Logic.{_⊎_, inl, inr, ⊎-elim, _≢_}
-use mathlib.Core.Bool.{Bool, true, false, not, cond}
+use mathlib.Core.Bool.{Bool, true, false, cond}
 use mathlib.Core.List.{List}
 use native.Mathlib.Omega.{arith}
 use native.Mathlib.Decide.{ℕ-discrete, decLt}
-use borrow.Author.Tests.{lt-ltb, le-ltb, eq-eqb, ne-eqb}
-use lib.Dec.{eqb, ltb}
-use lib.ListN.{length, getD}
-use Rattle.expansion.proofs.Booleans.{true-or-false, never-both}
-use Rattle.expansion.proofs.Cuts.{Values, Mask, Problem, Agree, Sound, Refuted, Within, SameBelow, refuted-larger, refuted-without, refuted-both, refuted-row, refuted-given}
-use Rattle.expansion.proofs.Node.{Cells, Node, Won, SameCell, Grown, Stored, MasksWithin, grown-refl, grown-trans, grown-wider, grown-stored, grown-keeps, cleared-back}
-use Rattle.expansion.proofs.Steps.{node-part, node-same, node-next, node-decide}
-use Rattle.expansion.proofs.Success.{won-leaf, won-wanted, won-other, won-parts, won-kept}
-use Rattle.search.specs.Cells.{cells, wants, SameWants, CellsSet, CellsOpened}
-use Rattle.search.specs.Masks.{set-at, masks, cut, SetGrown, SetsKept, United, WordsUnited, Trimmed, words}
-use Rattle.search.specs.Codes.{Ended, code-goal}
-use Rattle.search.specs.Steps.{Fits, Settled, Settles, Searched, Searches, with-value, Tried, Tries, Chooses, Steps, Excused, Parting, PartedAt, Stands, Reached}
+use borrow.Author.Tests.{lt-ltb, le-ltb}
+use Rattle.expansion.proofs.Booleans.{never-both}
+use Rattle.expansion.proofs.Cuts.{Mask, Problem}
+use Rattle.expansion.proofs.Node.{Node, MasksWithin, grown-refl, grown-trans}
+use Rattle.expansion.proofs.Steps.{node-same}
+use Rattle.cells.specs.Cells.{cells}
+use Rattle.cells.specs.Changes.{SameWants}
+use Rattle.sets.specs.Masks.{set-at, masks, SetGrown, SetsKept}
+use Rattle.search.specs.Steps.{Settled, Settles, Steps}
 
 -- ---- masks
 

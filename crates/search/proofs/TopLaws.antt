@@ -1,44 +1,43 @@
 -- The search as a whole: rows sorted into a filled table with wanted values make a problem that the tables fit; what the search then returns is
 -- the first model's rows, or none. Assumes nothing.
-use Prim.Native.Nat.{ℕ, zero, suc, _+_, _-_, _*_, _/_, _≤_, _<_}
+use Prim.Native.Nat.{ℕ, zero, suc, _+_, _-_, _≤_, _<_}
 use mathlib.Core.Path.{_≡_, refl, sym, _∙_, ap, ap₂, subst}
-use mathlib.Core.Logic.{_⊎_, inl, inr, ⊎-elim, _↔_, _≢_}
-use mathlib.Core.Bool.{Bool, true, false, not, cond}
-use mathlib.Core.List.{List, [], _∷_, map}
-use mathlib.Core.Option.{Option, none, some}
+use mathlib.Core.Logic.{_⊎_, inl, inr, _↔_}
+use mathlib.Core.Bool.{Bool, true, false, not}
+use mathlib.Core.List.{List, [], _∷_}
+use mathlib.Core.Option.{none, some}
 use native.Mathlib.Omega.{arith}
-use native.Mathlib.Decide.{decLt, ℕ-discrete}
-use borrow.Author.Tests.{eq-eqb, ne-eqb, eqb-true}
-use lib.Dec.{eqb, ltb}
+use native.Mathlib.Decide.{decLt}
+use borrow.Author.Tests.{eq-eqb, ne-eqb}
+use lib.Dec.{eqb}
 use lib.IntN.{ℤ, pos, negsuc, natAbs}
-use lib.ListN.{length, getD, take, length-map}
-use lib.Seq.{getD-take, length-take-le}
-use Rattle.formula.specs.Formula.{Kind, existential, universal, kind-of, prefix, Clause, onto, with-entry, clauses}
+use lib.ListN.{length, getD, length-map}
+use Rattle.formula.specs.Formula.{kind-of, prefix, Clause, onto, clauses}
 use Rattle.formula.specs.Meaning.{matrix}
 use Rattle.formula.proofs.Accepted.{Accepted}
 use Rattle.preference.specs.Preference.{prefer}
-use Rattle.rows.specs.Row.{bit-of, row-of}
+use Rattle.rows.specs.Row.{row-of}
 use Rattle.rows.specs.Table.{row-at, rows-of, room}
-use Rattle.rows.proofs.RowLaws.{getD-row-of, length-row-of}
+use Rattle.rows.proofs.RowLaws.{getD-row-of}
 use Rattle.rows.proofs.TableLaws.{getD-rows-of, length-rows-of}
 use Rattle.expansion.specs.Side.{own, flags}
 use Rattle.expansion.specs.Play.{Row, restriction, part}
 use Rattle.expansion.specs.Model.{search}
 use Rattle.expansion.proofs.Booleans.{true-or-false, never-both}
-use Rattle.expansion.proofs.Cuts.{Problem, Agree, Mask, Sound, Refuted}
-use Rattle.expansion.proofs.Node.{Won}
+use Rattle.expansion.proofs.Cuts.{Problem, Agree, Mask, Refuted}
 use Rattle.expansion.proofs.ClauseCuts.{Every, matrix-at}
 use Rattle.expansion.proofs.Leading.{wanted, others-before}
-use Rattle.expansion.proofs.Engine.{row-value, restriction-of-values, values-of-restriction, tabulate, literal-at, goal-at, Names, Places, problem, problem-sound, refuted-is-none, won-is-first}
-use Rattle.search.specs.Cells.{cells, wants, owned, Filled}
-use Rattle.search.specs.Codes.{Ended, Coded, code-true, code-clauses, code-goal, Encoded}
-use Rattle.search.specs.Order.{up-to, bits, Sorted, FirstDifference}
+use Rattle.expansion.proofs.Engine.{restriction-of-values, values-of-restriction, tabulate, literal-at, goal-at, Names, Places, problem, problem-sound, refuted-is-none, won-is-first}
+use Rattle.cells.specs.Cells.{cells, wants, owned}
+use Rattle.cells.specs.Changes.{Filled, FirstDifference}
+use Rattle.codes.specs.Clauses.{Coded, code-true, code-clauses, code-goal, Encoded}
+use Rattle.order.specs.Sorted.{up-to, Sorted}
 use Rattle.search.specs.Steps.{Fits, FromStart}
 use Rattle.search.specs.Whole.{side-kind}
-use Rattle.search.specs.Wants.{WantsFilled}
-use Rattle.search.proofs.OwnedLaws.{owned-at, length-owned}
-use Rattle.search.proofs.OrderLaws.{sandwich}
-use Rattle.search.proofs.WantsLaws.{Placed, wants-of-copies}
+use Rattle.numbering.specs.Wants.{WantsFilled}
+use Rattle.cells.proofs.OwnedLaws.{owned-at, length-owned}
+use Rattle.order.proofs.BetweenLaws.{sandwich}
+use Rattle.numbering.proofs.WantsLaws.{Placed, wants-of-copies}
 
 -- ---- the literals name the formula's unknowns
 

@@ -1,17 +1,14 @@
 -- What the search as a whole returns and leaves. Assumes nothing.
 use Prim.Native.Nat.{ℕ, zero, suc, _+_, _-_, _*_, _≤_, _<_}
 use mathlib.Core.Path.{_≡_, refl, sym, _∙_, ap, subst}
-use mathlib.Core.Logic.{_⊎_, inl, inr, ⊎-elim}
-use mathlib.Core.Bool.{Bool, true, false, not, cond, true≢false}
-use mathlib.Core.List.{List, [], _∷_, _++_, append-nil}
+use mathlib.Core.Bool.{Bool, true, false, true≢false}
+use mathlib.Core.List.{List, [], _∷_, _++_}
 use mathlib.Core.Option.{Option, none, some}
 use native.Mathlib.Omega.{arith}
-use native.Mathlib.Decide.{decLt}
-use lib.Dec.{eqb, ltb}
-use lib.IntN.{ℤ, pos, negsuc, natAbs}
-use lib.ListN.{length, getD, take, drop, replicate, length-append, length-map}
-use lib.Seq.{getD-take, length-take-le, drop-length}
-use Rattle.formula.specs.Formula.{Kind, existential, universal, kind-of, prefix, clauses}
+use lib.IntN.{ℤ}
+use lib.ListN.{length, getD, take, replicate, length-append, length-replicate}
+use lib.Seq.{getD-take, length-take-le}
+use Rattle.formula.specs.Formula.{prefix, clauses}
 use Rattle.formula.specs.Meaning.{matrix}
 use Rattle.formula.specs.Causes.{count, ended, is-zero}
 use Rattle.formula.proofs.Accepted.{Accepted}
@@ -22,16 +19,19 @@ use Rattle.rows.proofs.RowLaws.{length-bytes-of}
 use Rattle.expansion.specs.Side.{other, flags, goal}
 use Rattle.expansion.specs.Play.{Row, part}
 use Rattle.expansion.specs.Model.{search, first-model, yielded}
-use Rattle.expansion.proofs.Booleans.{true-or-false, never-both}
 use Rattle.expansion.proofs.Verdict.{search-none}
 use Rattle.expansion.proofs.Leading.{others-before}
 use Rattle.expansion.proofs.Engine.{tabulate, length-tabulate}
-use Rattle.search.specs.Cells.{cells, owned, spot, Filled}
-use Rattle.search.specs.Order.{Sorted, FirstDifference}
-use Rattle.search.specs.Search.{left}
+use Rattle.cells.specs.Cells.{cells, owned, spot}
+use Rattle.cells.specs.Changes.{Filled, FirstDifference}
+use Rattle.order.specs.Sorted.{Sorted}
+use Rattle.cells.specs.Steps.{rows-filled}
+use Rattle.cells.proofs.FillLaws.{rows-are-filled}
+use Rattle.cells.proofs.PackLaws.{packed-inside}
 use Rattle.search.specs.Steps.{FromStart}
-use Rattle.search.specs.Whole.{side-kind, Ready, Decided, FoundIs}
-use Rattle.search.proofs.OwnedLaws.{length-owned}
+use Rattle.search.specs.Whole.{side-kind, Ready, Arranged, Decided, OverPlaces, FoundIs}
+use Rattle.cells.proofs.OwnedLaws.{length-owned}
+use Rattle.search.proofs.CallLaws.{zero-at}
 use Rattle.search.proofs.TopLaws.{searched-none, searched-some}
 
 -- ---- literals that end in 0
@@ -82,51 +82,39 @@ module _ (rows : List ℕ) (lent m : ℕ) (place : List ℕ) (long : lent ≤ le
   cut-sorted : Sorted rows lent m (take lent place)
   cut-sorted = sorted-take rows lent m place sorted
 
-  pub places-differ : (r q : ℕ) → r < length (take lent place) → q < length (take lent place) → getD (take lent place) r 0 ≡ getD (take lent place) q 0 → r ≡ q
+  places-differ : (r q : ℕ) → r < length (take lent place) → q < length (take lent place) → getD (take lent place) r 0 ≡ getD (take lent place) q 0 → r ≡ q
   places-differ r q lr lq e =
       sym (cut-sorted .row-of-place r (omega (arith, cut-length))) ∙ ap (cut-sorted .row) e ∙ cut-sorted .row-of-place q (omega (arith, cut-length))
 
-  pub place-met : (i : ℕ) → i < length (take lent place) → (r : ℕ) × (r < length (take lent place)) × (getD (take lent place) r 0 ≡ i)
+  place-met : (i : ℕ) → i < length (take lent place) → (r : ℕ) × (r < length (take lent place)) × (getD (take lent place) r 0 ≡ i)
   place-met i lt = (
     cut-sorted .row i,
     subst (λ (x : ℕ). cut-sorted .row i < x) (sym cut-length) (cut-sorted .row-below i (omega (arith, cut-length))),
     cut-sorted .place-of-row i (omega (arith, cut-length)),
   )
 
-  pub place-inside : (r : ℕ) → r < length (take lent place) → getD (take lent place) r 0 < length (take lent place)
+  place-inside : (r : ℕ) → r < length (take lent place) → getD (take lent place) r 0 < length (take lent place)
   place-inside r lt = subst (λ (x : ℕ). getD (take lent place) r 0 < x) (sym cut-length) (cut-sorted .place-below r (omega (arith, cut-length)))
 
-count-most : (k : Kind) (ks : List Kind) → count k ks ≤ length ks
-count-most k [] = omega arith
-count-most existential (existential ∷ ks) = let r : count existential ks ≤ length ks = count-most existential ks in omega arith
-count-most existential (universal ∷ ks) = let r : count existential ks ≤ length ks = count-most existential ks in omega arith
-count-most universal (existential ∷ ks) = let r : count universal ks ≤ length ks = count-most universal ks in omega arith
-count-most universal (universal ∷ ks) = let r : count universal ks ≤ length ks = count-most universal ks in omega arith
-
-pub others-few : (kinds : List ℕ) (literals : List ℤ) (rows : List ℕ) (lent others side : ℕ) (work : List ℕ) → Ready kinds literals rows lent others side work → others ≤ 128
-others-few kinds literals rows lent others side work ready =
-    let a : count (other (side-kind side)) (prefix kinds) ≤ length (prefix kinds) = count-most (other (side-kind side)) (prefix kinds) in
-    let b : length (prefix kinds) ≡ length kinds = length-map kinds kind-of in
-    let c : length kinds ≤ 128 = ready .accepted .few-unknowns in
-    let d : others ≡ count (other (side-kind side)) (prefix kinds) = ready .others-known in
-    omega arith
+pub arranged : (kinds : List ℕ) (literals : List ℤ) (rows : List ℕ) (lent others side : ℕ) (w₀ place z : List ℕ) → Ready kinds literals rows lent others side w₀ → 0 < lent → lent ≤ length place
+    → Sorted rows lent others place → length z ≡ length w₀ → Arranged kinds literals (take lent place) side z
+arranged kinds literals rows lent others side w₀ place z ready some-row long sorted same = record {
+  accepted = ready .accepted;
+  side-fits = ready .side-fits;
+  some-row = omega (arith, cut-length rows lent others place long sorted);
+  few = omega (arith, cut-length rows lent others place long sorted, ready .inside, ready .few);
+  inside = place-inside rows lent others place long sorted;
+  met = place-met rows lent others place long sorted;
+  area = same ∙ ready .area;
+}
 
 -- ---- cleared areas
 
-zero-at : (n x : ℕ) → _≡_ {A = ℕ} (getD (replicate n 0) x 0) 0
-zero-at zero x = refl
-zero-at (suc n) zero = refl
-zero-at (suc n) (suc x) = zero-at n x
-
-pub cleared-whole : (w u : List ℕ) (end : ℕ) → end ≡ length w → u ≡ take 0 w ++ (replicate (end - 0) 0 ++ drop end w) → u ≡ replicate (length w) 0
-cleared-whole w u end e h =
-    h ∙ ap (λ (x : ℕ). replicate (x - 0) 0 ++ drop x w) e ∙ ap (λ (l : List ℕ). replicate (length w - 0) 0 ++ l) (drop-length w) ∙ append-nil (replicate (length w - 0) 0) ∙ ap (λ (x : ℕ). replicate x 0) (let q : length w - 0 ≡ length w = omega arith in q)
-
-pub cleared-levels : (w z : List ℕ) → z ≡ replicate (length w) 0 → (i j : ℕ) → cells z .level i j ≡ 0
+cleared-levels : (w z : List ℕ) → z ≡ replicate (length w) 0 → (i j : ℕ) → cells z .level i j ≡ 0
 unfolding cells
 cleared-levels w z e i j = ap (λ (l : List ℕ). getD l (spot i j) 0) e ∙ zero-at (length w) (spot i j)
 
-pub length-table-of : (ys : List Row) → length (table-of ys) ≡ 16 * length ys
+length-table-of : (ys : List Row) → length (table-of ys) ≡ 16 * length ys
 length-table-of [] = refl
 length-table-of (y ∷ ys) =
     let a : length (bytes-of y ++ table-of ys) ≡ length (bytes-of y) + length (table-of ys) = length-append (bytes-of y) (table-of ys) in
@@ -144,8 +132,27 @@ module _ (kinds : List ℕ) (literals : List ℤ) (preferences rows : List ℕ) 
   abbrev result : Option (List Row)
   result = search (prefer preferences) (side-kind side) (prefix kinds) (matrix (clauses literals)) (rows-of others lent rows)
 
-  module _ (w₀ place z w u : List ℕ) (ready : Ready kinds literals rows lent others side w₀) (some-row : 0 < lent) (long : lent ≤ length place) (sorted : Sorted rows lent others place)
-      (cleared : z ≡ replicate (length w₀) 0) (filled : Filled kinds rows (take lent place) side z w) (r : Bool) (decided : Decided kinds literals preferences (take lent place) side w u r) where
+  module _ (w₀ place z x : List ℕ) (ready : Ready kinds literals rows lent others side w₀) (some-row : 0 < lent) (long : lent ≤ length place) (sorted : Sorted rows lent others place)
+      (cleared : z ≡ replicate (length w₀) 0) (r : Bool) (over : OverPlaces kinds literals preferences rows (take lent place) side z x r) where
+    abbrev decided : Decided kinds literals preferences (take lent place) side (rows-filled kinds rows (take lent place) side z) (over .searched) r
+    decided = over .decided
+
+    abbrev w : List ℕ
+    w = rows-filled kinds rows (take lent place) side z
+
+    abbrev u : List ℕ
+    u = over .searched
+
+    cleared-area : length z ≡ 65536
+    cleared-area = ap length cleared ∙ length-replicate (length w₀) 0 ∙ ready .area
+
+    few-places : length (take lent place) ≤ 256
+    few-places = omega (arith, length-take-le lent place long, ready .inside, ready .few)
+
+    filled : Filled kinds rows (take lent place) side z w
+    filled = rows-are-filled kinds rows (take lent place) side z cleared-area (ready .accepted .few-unknowns) few-places
+        (λ q lt. omega (arith, place-inside rows lent others place long sorted q lt, few-places)) (places-differ rows lent others place long sorted)
+
     placed : length (take lent place) ≡ lent
     placed = length-take-le lent place long
 
@@ -167,15 +174,15 @@ module _ (kinds : List ℕ) (literals : List ℤ) (preferences rows : List ℕ) 
     split-length : length (take (length (take lent place)) (decided .all)) ≡ lent
     split-length = length-take-le (length (take lent place)) (decided .all) (decided .long) ∙ placed
 
-    pub found-none : r ≡ false → (x : List ℕ) → x ≡ replicate (length w₀) 0 → FoundIs result false x
-    found-none e x h =
+    found-none : r ≡ false → x ≡ replicate (length w₀) 0 → FoundIs result false x
+    found-none e h =
         subst (λ (o : Option (List Row)). FoundIs o false x)
         (sym (searched-none kinds literals preferences rows (take lent place) (decided .all) (take (length (take lent place)) (decided .all)) (decided .codes) side lent others (ready .side-fits) (ready .accepted) (ready .inside) some-row (sorted-take rows lent others place sorted) others-fit (decided .encoded) placed split-length z w (decided .wanting-area) filled (cleared-levels w₀ z cleared) differences (decided .wanting) same-splits u
         (subst (λ (b : Bool). FromStart kinds (take (length (take lent place)) (decided .all)) (decided .codes) side (decided .wanting-area) u b) e (decided .from))))
         (refl, h ∙ ap (λ (n : ℕ). replicate n 0) (ready .area))
 
-    pub found-some : r ≡ true → (x : List ℕ) → x ≡ table-of (tabulate (length (take lent place)) (λ q. part (owned kinds side) (tabulate (length kinds) (cells u .value (getD (take lent place) q 0))))) ++ replicate (65536 - 16 * length (take lent place)) 0 → FoundIs result true x
-    found-some e x h =
+    found-some : r ≡ true → x ≡ table-of (tabulate (length (take lent place)) (λ q. part (owned kinds side) (tabulate (length kinds) (cells u .value (getD (take lent place) q 0))))) ++ replicate (65536 - 16 * length (take lent place)) 0 → FoundIs result true x
+    found-some e h =
         subst (λ (o : Option (List Row)). FoundIs o true x)
         (sym (searched-some kinds literals preferences rows (take lent place) (decided .all) (take (length (take lent place)) (decided .all)) (decided .codes) side lent others (ready .side-fits) (ready .accepted) (ready .inside) some-row (sorted-take rows lent others place sorted) others-fit (decided .encoded) placed split-length z w (decided .wanting-area) filled (cleared-levels w₀ z cleared) differences (decided .wanting) same-splits u
         (subst (λ (b : Bool). FromStart kinds (take (length (take lent place)) (decided .all)) (decided .codes) side (decided .wanting-area) u b) e (decided .from))))
@@ -186,6 +193,18 @@ module _ (kinds : List ℕ) (literals : List ℤ) (preferences rows : List ℕ) 
 
         yields : ℕ → List Row
         yields n = tabulate n one
+
+    -- what is found over the sorted rows is what the definition gives
+    pub found-over : FoundIs result r x
+    found-over = go r refl
+      where
+        go : (b : Bool) → r ≡ b → FoundIs result r x
+        go true e =
+            subst (λ (b : Bool). FoundIs result b x) (sym e)
+            (found-some e (over .yields e ∙ packed-inside kinds (take lent place) side u (over .sized ∙ cleared-area) (ready .accepted .few-unknowns) few-places))
+        go false e =
+            subst (λ (b : Bool). FoundIs result b x) (sym e)
+            (found-none e (over .clears e ∙ ap (λ (n : ℕ). replicate n 0) (ap length cleared ∙ length-replicate (length w₀) 0)))
 
   -- over no rows there is a model, which yields none
   pub found-empty : (w₀ x : List ℕ) → length w₀ ≡ 65536 → lent ≡ 0 → x ≡ replicate (length w₀) 0 → FoundIs result true x

@@ -1,18 +1,21 @@
 -- What the steps of the search promise, over every problem that the lent tables fit.
 -- Assumes nothing.
-use Prim.Native.Nat.{ℕ, zero, suc, _+_, _-_, _/_, _≤_, _<_}
+use Prim.Native.Nat.{ℕ, _+_, _-_, _≤_, _<_}
 use mathlib.Core.Path.{_≡_}
-use mathlib.Core.Logic.{_⊎_, _↔_, _≢_}
+use mathlib.Core.Logic.{_↔_}
 use mathlib.Core.Bool.{Bool, true, false, cond}
 use mathlib.Core.List.{List}
 use lib.Dec.{eqb}
-use lib.ListN.{length, getD, drop}
-use Rattle.expansion.proofs.Cuts.{Values, Mask, Problem, Agree, Sound, Refuted}
-use Rattle.expansion.proofs.Node.{Cells, Node, Won, Grown, MasksWithin}
+use lib.ListN.{length, getD}
+use Rattle.expansion.proofs.Cuts.{Mask, Problem, Agree, Sound, Refuted}
+use Rattle.expansion.proofs.Node.{Node, Won, Grown, MasksWithin}
 use Rattle.expansion.proofs.ClauseCuts.{Every, Some}
-use Rattle.search.specs.Cells.{cells, wants, SameWants}
-use Rattle.search.specs.Masks.{set-at, masks, cut, SetGrown, SetsKept}
-use Rattle.search.specs.Codes.{position, code-true, code-clauses, clause-of, HasEnd, Ended, code-goal, Coded}
+use Rattle.cells.specs.Cells.{cells, wants}
+use Rattle.cells.specs.Changes.{SameWants}
+use Rattle.sets.specs.Masks.{set-at, masks, cut, SetGrown, SetsKept}
+use Rattle.codes.specs.Clauses.{position, code-clauses, Ended, code-goal, Begins, Coded}
+use Rattle.evaluation.specs.Looked.{IsAt}
+use Rattle.groups.specs.Parts.{Parting, PartedAt}
 
 -- The sorted rows: entry i of `splits` is the first position where row i and the row before it have different values, or past the last.
 -- The codes are the clauses; the side is 0 or 1.
@@ -89,33 +92,6 @@ Retries kinds splits codes side k lo hi y w1 u s1 t r =
     (w s : List ℕ) → wants w lo k ≡ y → Tries kinds splits codes side k lo hi y w w1 s s1 false
     → Chooses kinds splits codes side k lo hi w u s t r
 
--- For each position from k to `at` that the failure's set has, it takes in the set of that position.
-pub record Excused (k at : ℕ) (s t : List ℕ) : Type 0 where
-  pub grown : SetGrown 128 s t
-  pub takes : (p : ℕ) → k ≤ p → p < at → set-at s 128 p ≡ true → (l : ℕ) → set-at s p l ≡ true → set-at t 128 l ≡ true
-
--- The rows from lo to hi part first at row mid; at lo if none parts from the one before it.
-pub record Parting (splits : List ℕ) (lo hi mid : ℕ) : Type 0 where
-  pub low : lo ≤ mid
-  pub high : mid < hi
-  pub before : (h : ℕ) → lo < h → h < mid → getD splits mid 0 < getD splits h 0
-  pub behind : lo < mid → (h : ℕ) → mid < h → h < hi → getD splits mid 0 ≤ getD splits h 0
-  pub alone : mid ≡ lo → (h : ℕ) → lo < h → h < hi → 255 ≤ getD splits h 0
-
--- The positions from k to `at` are the other side's, or set in row lo; `at` is `until`, or is an own position that is open there.
-pub record Stands (kinds w : List ℕ) (side k lo until at : ℕ) : Type 0 where
-  pub low : k ≤ at
-  pub most : at ≤ length kinds
-  pub high : k ≤ until → at ≤ until
-  pub passed : (j : ℕ) → k ≤ j → j < at → (eqb (getD kinds j 0) side ≡ false) ⊎ (0 < cells w .level lo j)
-  pub stops : at < until → (eqb (getD kinds at 0) side ≡ true) × (cells w .level lo at ≡ 0)
-
--- The position at which the rows part at mid; n if they do not part before that.
-pub record PartedAt (splits : List ℕ) (lo mid n at : ℕ) : Type 0 where
-  pub most : at ≤ n
-  pub first : lo < mid → at ≤ getD splits mid 0
-  pub there : at < n → (lo < mid) × (getD splits mid 0 ≡ at)
-
 -- The search at the position behind those that stand.
 abbrev pub Steps : List ℕ → List ℕ → List ℕ → ℕ → ℕ → ℕ → ℕ → ℕ → ℕ → List ℕ → List ℕ → List ℕ → List ℕ → Bool → Type 0
 Steps kinds splits codes side at until lo mid hi w u s t r =
@@ -141,9 +117,11 @@ FromStart kinds splits codes side w u r =
     → ((i j : ℕ) → ((i < P .count) × (j < P .n) × (P .own j ≡ false) → ⊥) → cells w .level i j ≡ 0)
     → (r ≡ true → Won P 0 0 (P .count) (cells u)) × (r ≡ false → (v : ℕ → Bool) → (D : Mask) × Refuted P 0 v D 0)
 
--- ---- what is lent, and looking at one clause in one row
+-- What the index lists between the bounds of a code are starts of clauses.
+abbrev pub Listed : List ℕ → List ℕ → Type 0
+Listed codes index = (c at : ℕ) → 1 ≤ c → c ≤ 257 → getD index (c - 1) 0 ≤ at → at < getD index c 0 → Begins codes (getD index at 0)
 
--- The sizes of what the steps are lent.
+-- The sizes of what the steps are lent, and what they rest on.
 pub record Lent (splits codes work sets index : List ℕ) : Type 0 where
   pub rows : length splits ≤ 256
   pub entries : length codes ≤ 8192
@@ -151,40 +129,9 @@ pub record Lent (splits codes work sets index : List ℕ) : Type 0 where
   pub area : length work ≡ 65536
   pub sets-lent : length sets ≡ 516
   pub index-lent : length index ≡ 8451
-
--- The code's cell is set in row i, and its literal is y there.
-pub record IsAt (w : List ℕ) (i : ℕ) (y : Bool) (c : ℕ) : Type 0 where
-  pub set : 0 < cells w .level i (position c)
-  pub is : code-true (cells w .value i) c ≡ y
-
--- What a look at the clause that begins at `start` finds: 1 for nothing; else each of its literals is false or is the one found, which is open.
-pub record Looked (codes w : List ℕ) (i start found : ℕ) : Type 0 where
-  pub ends : (found ≡ 1 → ⊥) → HasEnd (drop start codes)
-  pub rest : (found ≡ 1 → ⊥) → Every (λ c. (c ≡ found) ⊎ IsAt w i false c) (clause-of (drop start codes))
-  pub named : 2 ≤ found → Some (λ c. c ≡ found) (clause-of (drop start codes))
-  pub unset : 2 ≤ found → cells w .level i (position found) ≡ 0
-  pub fits : 2 ≤ found → position found < 128
-
--- The sets of a clause's positions are united at `to`.
-pub record Blamed (clause : List ℕ) (to : ℕ) (s t : List ℕ) : Type 0 where
-  pub grown : SetGrown to s t
-  pub takes : Every (λ c. (position c ≡ to) ⊎ ((l : ℕ) → set-at s (position c) l ≡ true → set-at t to l ≡ true)) clause
+  pub listed : Listed codes index
 
 -- In row i every clause has a true literal, whose position's set is taken in at 128.
 pub record RowBlamed (codes w : List ℕ) (i : ℕ) (s t : List ℕ) (r : Bool) : Type 0 where
   pub grown : SetGrown 128 s t
   pub dead : r ≡ true → Ended codes → Every (Some (λ c. IsAt w i true c × ((l : ℕ) → set-at s (position c) l ≡ true → set-at t 128 l ≡ true))) (code-clauses codes)
-
--- The rows from `from` up to i have one copy at position k, and the row before does not, unless it is before lo.
-pub record CopyFrom (splits : List ℕ) (k lo i from : ℕ) : Type 0 where
-  pub low : lo ≤ from
-  pub high : from ≤ i
-  pub shared : (h : ℕ) → from < h → h ≤ i → k ≤ getD splits h 0
-  pub first : lo < from → getD splits from 0 < k
-
--- The rows from i to `to` have one copy at position k, and the next one does not, unless it is hi.
-pub record CopyTo (splits : List ℕ) (k i hi to : ℕ) : Type 0 where
-  pub low : i < to
-  pub high : to ≤ hi
-  pub shared : (h : ℕ) → i < h → h < to → k ≤ getD splits h 0
-  pub last : to < hi → getD splits to 0 < k

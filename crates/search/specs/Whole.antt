@@ -7,7 +7,7 @@ use lib.Dec.{eqb, ltb}
 use mathlib.Core.List.{List}
 use mathlib.Core.Option.{Option, none, some}
 use lib.IntN.{ℤ}
-use lib.ListN.{length, getD, take}
+use lib.ListN.{length, getD, take, replicate}
 use Rattle.formula.specs.Formula.{Kind, existential, universal, prefix, clauses}
 use Rattle.formula.specs.Meaning.{matrix}
 use Rattle.preference.specs.Preference.{prefer}
@@ -20,9 +20,10 @@ use Rattle.expansion.specs.Model.{search}
 use Rattle.search.specs.declared.Search.{Search}
 use Rattle.search.specs.declared.Search.the-variants.{Refused}
 use Rattle.search.specs.Search.{work-size, answer, left}
-use Rattle.search.specs.Codes.{Encoded}
-use Rattle.search.specs.Order.{FirstDifference}
-use Rattle.search.specs.Wants.{WantsFilled}
+use Rattle.codes.specs.Clauses.{Encoded}
+use Rattle.cells.specs.Changes.{FirstDifference}
+use Rattle.cells.specs.Steps.{rows-filled, packed}
+use Rattle.numbering.specs.Wants.{WantsFilled}
 use Rattle.search.specs.Steps.{FromStart}
 
 -- The side as a number: 0 existential, 1 universal.
@@ -39,6 +40,16 @@ pub record Ready (kinds : List ℕ) (literals : List ℤ) (rows : List ℕ) (len
   pub side-fits : side ≤ 1
   pub area : length work ≡ 65536
 
+-- What is rested on once the rows are sorted: entry r of `place` is the sorted place of lent row r.
+pub record Arranged (kinds : List ℕ) (literals : List ℤ) (place : List ℕ) (side : ℕ) (work : List ℕ) : Type 0 where
+  pub accepted : Accepted kinds literals
+  pub side-fits : side ≤ 1
+  pub some-row : 0 < length place
+  pub few : length place ≤ 256
+  pub inside : (r : ℕ) → r < length place → getD place r 0 < length place
+  pub met : (i : ℕ) → i < length place → (r : ℕ) × (r < length place) × (getD place r 0 ≡ i)
+  pub area : length work ≡ 65536
+
 -- The search over a filled table w of the sorted rows: where neighbours differ, what the copies want, the codes, and what is left.
 pub record Decided (kinds : List ℕ) (literals : List ℤ) (preferences place : List ℕ) (side : ℕ) (w u : List ℕ) (r : Bool) : Type 0 where
   pub all : List ℕ
@@ -49,6 +60,14 @@ pub record Decided (kinds : List ℕ) (literals : List ℤ) (preferences place :
   pub wanting : WantsFilled kinds preferences place all side w wanting-area
   pub encoded : Encoded literals codes
   pub from : FromStart kinds (take (length place) all) codes side wanting-area u r
+
+-- The search over rows at their sorted places, from the area w to x: the table is filled and searched, and its rows are packed, or it is cleared.
+pub record OverPlaces (kinds : List ℕ) (literals : List ℤ) (preferences rows place : List ℕ) (side : ℕ) (w x : List ℕ) (r : Bool) : Type 0 where
+  pub searched : List ℕ
+  pub sized : length searched ≡ length w
+  pub decided : Decided kinds literals preferences place side (rows-filled kinds rows place side w) searched r
+  pub yields : r ≡ true → x ≡ packed kinds place side searched
+  pub clears : r ≡ false → x ≡ replicate (length w) 0
 
 -- What is found, said by a flag and the work area.
 abbrev pub FoundIs : Option (List Row) → Bool → List ℕ → Type 0

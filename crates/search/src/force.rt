@@ -1,23 +1,24 @@
 // The existential side's consequences of a value: a clause whose literals are all false but one open one forces that one (unit
-// propagation), and a clause whose literals are all false ends the branch. What is looked at, and when, is a hint: the index of the clauses,
-// the changed positions and their rows may hold anything.
+// propagation), and a clause whose literals are all false ends the branch. What is looked at, and when, is a hint: the changed positions and
+// their rows may hold anything. Of the index it is known that it lists starts of clauses.
 ghost use mathlib.Core.Path.{_≡_};
-ghost use Prim.Native.Nat.{ℕ, _+_, _*_, _≤_, _<_};
-ghost use lib.ListN.{length, getD, drop};
-ghost use Rattle.search.specs.Codes.{position, clause-of, Begins, Coded};
+ghost use Prim.Native.Nat.{_+_, _≤_, _<_};
+ghost use lib.ListN.{length};
+ghost use Rattle.codes.specs.Clauses.{position, Begins};
 ghost use mathlib.Core.Bool.{true};
-ghost use Rattle.search.specs.Masks.{SetsKept};
-ghost use Rattle.search.specs.Steps.{Settles, Looked, Blamed, CopyFrom, CopyTo, Lent};
-use super::clauses::begins;
+ghost use Rattle.sets.specs.Masks.{SetsKept};
+ghost use Rattle.evaluation.specs.Looked.{Looked};
+ghost use Rattle.search.specs.Steps.{Settles, Lent};
 use super::clauses::position;
-use super::index::ANY;
-use super::sets;
-use super::sets::CHANGED;
-use super::sets::CUT;
-use super::sets::HINTS;
+use super::hints;
+use super::hints::CHANGED;
+use super::hints::CUT;
+use super::hints::HINTS;
 use super::table;
-use super::width::wide8;
 use super::width::wide16;
+
+// The code under which the index lists every clause.
+const ANY: usize = 1;
 
 // Looks at every clause in every row, and at what follows. False: there is no model, and CUT says by which decisions.
 pub(crate) fn survey(
@@ -51,20 +52,6 @@ pub(crate) fn survey(
         i += 1;
     }
     settle(splits, codes, work, sets, index, 1, 0, splits.len())
-}
-
-// Whether row i, of the rows from `from` on, has the same copies of the clause's unknowns as the row before it.
-fn repeats(splits: &[u8], codes: &[u16], from: usize, i: usize, start: usize) -> bool
-    requires { ⌜ i < length (now splits) ⌝ }
-{
-    if i == from {
-        return false;
-    }
-    if start < codes.len() {
-        wide16(codes[start]) / 2 <= wide8(splits[i])
-    } else {
-        true
-    }
 }
 
 // What follows in the rows from lo to hi from the value that they just got at position k.
@@ -104,7 +91,7 @@ fn settle(
 {
     let mut left = 32_768usize;
     while left > 0 {
-        let k = sets::take_lowest(sets, CHANGED);
+        let k = hints::take_lowest(sets, CHANGED);
         if k < CUT {} else {
             return true;
         }
@@ -174,10 +161,11 @@ fn visit_row(
     ensures { λ r. ⌜ Settles 0 (now (splits .entry)) (now (codes .entry)) lo hi mark (now (work .entry)) (now (work .exit)) (now (sets .entry)) (now (sets .exit)) r ⌝ }
 {
     let end = lower(wide16(index[c]), index.len());
+    let agreement = groups::agreement(splits, from, i);
     let mut at = wide16(index[c - 1]);
     while at < end {
         let start = wide16(index[at]);
-        if repeats(splits, codes, from, i, start) {} else {
+        if groups::repeats(codes, start, agreement) {} else {
             if touch(splits, codes, work, sets, index, mark, lo, hi, i, start) {} else {
                 return false;
             }
@@ -213,19 +201,16 @@ fn touch(
     start: usize,
 ) -> bool
     requires { ⌜ Lent (now splits) (now codes) (now work) (now sets) (now index) ⌝ }
-    requires { ⌜ (lo ≤ i) × (i < hi) × (hi ≤ length (now splits)) ⌝ }
+    requires { ⌜ (lo ≤ i) × (i < hi) × (hi ≤ length (now splits)) × Begins (now codes) start ⌝ }
     ensures { λ r. ⌜ Settles 0 (now (splits .entry)) (now (codes .entry)) lo hi mark (now (work .entry)) (now (work .exit)) (now (sets .entry)) (now (sets .exit)) r ⌝ }
 {
-    if begins(codes, start) {} else {
-        return true;
-    }
-    let c = look(codes, work, i, start);
+    let c = evaluation::look(codes, work, i, start);
     if c == 1 {
         return true;
     }
     if c == 0 {
         sets::empty(sets, CUT);
-        blame(codes, sets, start, CUT);
+        sets::blame(codes, sets, start, CUT);
         return false;
     }
     force(splits, codes, work, sets, index, mark, lo, hi, i, start, c);
@@ -251,87 +236,11 @@ fn force(
     ensures { λ _. ⌜ (Begins (now (codes .entry)) start → Looked (now (codes .entry)) (now (work .entry)) i start c → Settles 0 (now (splits .entry)) (now (codes .entry)) lo hi mark (now (work .entry)) (now (work .exit)) (now (sets .entry)) (now (sets .exit)) true) ⌝ }
 {
     let k = position(c);
-    blame(codes, sets, start, k);
-    let from = copy_start(splits, k, lo, i);
-    let to = copy_end(splits, k, i, hi);
-    table::set_rows(work, k, from, to, mark, c % 2 == 0);
+    sets::blame(codes, sets, start, k);
+    let from = groups::copy_start(splits, k, lo, i);
+    let to = groups::copy_end(splits, k, i, hi);
+    cells::set_rows(work, k, from, to, mark, c % 2 == 0);
     note(sets, k, from, to);
-}
-
-// The clause at `start` in row i: 0 if all its literals are false, the code of its one open literal if all others are false, else 1.
-fn look(codes: &[u16], work: &[u8], i: usize, start: usize) -> usize
-    requires { ⌜ (length (now work) ≡ 65536) × (i < 256) × Coded 128 (now codes) ⌝ }
-    ensures { λ r. ⌜ Looked (now (codes .entry)) (now (work .entry)) i start r ⌝ }
-{
-    let mut unit = 0;
-    let mut e = start;
-    while e < codes.len() {
-        let c = wide16(codes[e]);
-        if c == 0 {
-            return unit;
-        }
-        if table::is_set(work, i, position(c)) {
-            if table::is_true(work, i, c) {
-                return 1;
-            }
-        } else {
-            if unit != 0 {
-                return 1;
-            }
-            unit = c;
-        }
-        e += 1;
-    }
-    1
-}
-
-// Unites, at `to`, the sets of the clause's positions other than `to`.
-fn blame(codes: &[u16], sets: &mut [u64], start: usize, to: usize)
-    requires { ⌜ (length (now sets) ≡ 516) × (to < 130) × Coded 128 (now codes) ⌝ }
-    ensures { λ _. ⌜ Blamed (clause-of (drop start (now (codes .entry)))) to (now (sets .entry)) (now (sets .exit)) ⌝ }
-{
-    let mut e = start;
-    while e < codes.len() {
-        let c = wide16(codes[e]);
-        if c == 0 {
-            return;
-        }
-        let k = position(c);
-        if k != to {
-            sets::unite(sets, to, k);
-        }
-        e += 1;
-    }
-}
-
-// The first row from lo on, up to i, that has row i's copy at position k.
-fn copy_start(splits: &[u8], k: usize, lo: usize, i: usize) -> usize
-    requires { ⌜ (lo ≤ i) × (i < length (now splits)) ⌝ }
-    ensures { λ r. ⌜ CopyFrom (now (splits .entry)) k lo i r ⌝ }
-{
-    let mut from = i;
-    while from > lo {
-        if wide8(splits[from]) < k {
-            return from;
-        }
-        from -= 1;
-    }
-    from
-}
-
-// The row behind the last one before hi that has row i's copy at position k.
-fn copy_end(splits: &[u8], k: usize, i: usize, hi: usize) -> usize
-    requires { ⌜ (i < hi) × (hi ≤ length (now splits)) ⌝ }
-    ensures { λ r. ⌜ CopyTo (now (splits .entry)) k i hi r ⌝ }
-{
-    let mut to = i + 1;
-    while to < hi {
-        if wide8(splits[to]) < k {
-            return to;
-        }
-        to += 1;
-    }
-    to
 }
 
 // Position k has changes in the rows from lo to hi.

@@ -1,35 +1,27 @@
 // The first model of one side over lent rows of the other (01, 'Copies and models'). Promised, for all that is lent: found, none or
 // the number of the first cause that applies; found leaves in the work area the rows that the model yields, none leaves zeros, and a
 // refusal leaves it as it was.
-// Below: clauses (literals as codes), order (rows sorted), table (cells in the work area), wants (what each copy prefers), sets (of
-// positions), index (where each code stands), force and live (each side's consequences of a value), solve (the search), yields (its rows).
+// The crates below sort the rows (order), keep a table of cells in the work area (cells), number the copies (numbering), write the clauses
+// as codes (codes) and look them up (index, evaluation), and keep groups of rows and sets of positions (groups, sets). Here stand the steps
+// of the search: force and live (each side's consequences of a value), and solve.
 ghost use mathlib.Core.Path.{_≡_};
-ghost use Prim.Native.Nat.{ℕ, _≤_, _<_};
-ghost use mathlib.Core.Bool.{true};
-ghost use lib.IntN.{pos, natAbs};
-ghost use lib.ListN.{length, getD};
 ghost use Rattle.formula.specs.Formula.{prefix, clauses};
 ghost use Rattle.formula.specs.Meaning.{matrix};
-ghost use Rattle.formula.specs.Causes.{ended};
 ghost use Rattle.preference.specs.Preference.{prefer};
 ghost use Rattle.rows.specs.Table.{rows-of};
 ghost use Rattle.expansion.specs.Model.{search};
 ghost use Rattle.search.specs.Search.{outcome, work-after};
-ghost use Rattle.search.specs.Whole.{side-kind, Ready, Accepting, Decided, FoundIs, Answered};
+ghost use Rattle.search.specs.Whole.{side-kind, Ready, Accepting, Arranged, Decided, OverPlaces, FoundIs, Answered};
 use formula::Check;
 use formula::Formula;
 
 mod clauses;
 mod force;
-mod index;
+mod hints;
 mod live;
-mod order;
-mod sets;
 mod solve;
 mod table;
-mod wants;
 mod width;
-mod yields;
 
 pub enum Search {
     Found,
@@ -129,19 +121,42 @@ fn find(
     requires { ⌜ Ready (now kinds) (now literals) (now rows) count others side (now work) ⌝ }
     ensures { λ r. ⌜ FoundIs (search (prefer (now (preferences .entry))) (side-kind side) (prefix (now (kinds .entry))) (matrix (clauses (now (literals .entry)))) (rows-of others count (now (rows .entry)))) r (now (work .exit)) ⌝ }
 {
-    let end = work.len();
-    table::clear(work, 0, end);
+    rows::clear(work);
     if count == 0 {
         return true;
     }
     let mut place = [0u8; Formula::ROWS];
     order::sort(rows, count, others, &mut place);
-    table::fill(kinds, rows, &place[..count], side, work);
-    if decide(kinds, literals, preferences, &place[..count], side, work) {
-        yields::pack(kinds, &place[..count], side, work);
+    over_places(
+        kinds,
+        literals,
+        preferences,
+        rows,
+        &place[..count],
+        side,
+        work,
+    )
+}
+
+// The search over rows whose sorted places are known.
+fn over_places(
+    kinds: &[u8],
+    literals: &[i32],
+    preferences: &[u8],
+    rows: &[u8],
+    place: &[u8],
+    side: u8,
+    work: &mut [u8],
+) -> bool
+    requires { ⌜ Arranged (now kinds) (now literals) (now place) side (now work) ⌝ }
+    ensures { λ r. ⌜ OverPlaces (now (kinds .entry)) (now (literals .entry)) (now (preferences .entry)) (now (rows .entry)) (now (place .entry)) side (now (work .entry)) (now (work .exit)) r ⌝ }
+{
+    cells::fill(kinds, rows, place, side, work);
+    if decide(kinds, literals, preferences, place, side, work) {
+        cells::pack(kinds, place, side, work);
         true
     } else {
-        table::clear(work, 0, end);
+        rows::clear(work);
         false
     }
 }
@@ -155,17 +170,14 @@ fn decide(
     side: u8,
     work: &mut [u8],
 ) -> bool
-    requires { ⌜ (length (now kinds) ≤ 128) × (length (now literals) ≤ 8192) × (ended (now literals) ≡ true) × (side ≤ 1) × (0 < length (now place)) × (length (now place) ≤ 256) × (length (now work) ≡ 65536) ⌝ }
-    requires { ⌜ ((i : ℕ) → i < length (now literals) → natAbs (getD (now literals) i (pos 0)) ≤ length (now kinds)) ⌝ }
-    requires { ⌜ ((r : ℕ) → r < length (now place) → getD (now place) r 0 < length (now place)) ⌝ }
-    requires { ⌜ ((i : ℕ) → i < length (now place) → (r : ℕ) × (r < length (now place)) × (getD (now place) r 0 ≡ i)) ⌝ }
+    requires { ⌜ Arranged (now kinds) (now literals) (now place) side (now work) ⌝ }
     ensures { λ r. ⌜ Decided (now (kinds .entry)) (now (literals .entry)) (now (preferences .entry)) (now (place .entry)) side (now (work .entry)) (now (work .exit)) r ⌝ }
 {
     let count = place.len();
     let mut splits = [0u8; Formula::ROWS];
-    order::compare(kinds, work, count, side, &mut splits);
-    wants::fill(kinds, preferences, place, &splits, side, work);
+    cells::compare(kinds, work, count, side, &mut splits);
+    numbering::fill(kinds, preferences, place, &splits, side, work);
     let mut codes = [0u16; Formula::ENTRIES];
-    let used = clauses::encode(literals, &mut codes);
+    let used = codes::encode(literals, &mut codes);
     solve::from_start(kinds, &splits[..count], &codes[..used], side, work)
 }

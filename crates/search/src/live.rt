@@ -7,14 +7,14 @@ ghost use mathlib.Core.Logic.{_⊎_};
 ghost use mathlib.Core.Bool.{true, _&&_};
 ghost use lib.ListN.{length};
 ghost use lib.Dec.{ltb};
-ghost use Rattle.search.specs.Cells.{cells};
-ghost use Rattle.search.specs.Codes.{position, code-true, Coded};
-ghost use Rattle.search.specs.Steps.{Settles, IsAt, RowBlamed};
+ghost use Rattle.cells.specs.Cells.{cells};
+ghost use Rattle.codes.specs.Clauses.{position, code-true, Coded};
+ghost use Rattle.evaluation.specs.Looked.{IsAt};
+ghost use Rattle.search.specs.Steps.{Settles, RowBlamed};
 ghost use Rattle.search.specs.Live.{RowDead};
 use super::clauses::position;
-use super::sets;
-use super::sets::CUT;
-use super::sets::HINTS;
+use super::hints::CUT;
+use super::hints::HINTS;
 use super::table;
 use super::width::wide16;
 
@@ -38,7 +38,7 @@ fn dead(codes: &[u16], work: &[u8], sets: &mut [u64], i: usize) -> bool
     requires { ⌜ (length (now work) ≡ 65536) × (length (now sets) ≡ 516) × (i < 256) × (length (now codes) ≤ 8192) × Coded 128 (now codes) ⌝ }
     ensures { λ r. ⌜ RowDead (now (codes .entry)) (now (work .entry)) i (now (sets .entry)) (now (sets .exit)) r ⌝ }
 {
-    if lives(codes, work, i, live_clause(sets, i)) {
+    if evaluation::lives(codes, work, i, live_clause(sets, i)) {
         return false;
     }
     let start = other_live(codes, work, sets, i);
@@ -57,24 +57,6 @@ fn live_clause(sets: &[u64], i: usize) -> usize
     sets[HINTS + i] as usize
 }
 
-// Whether the entries from `start` to the end of a clause have no true literal in row i.
-fn lives(codes: &[u16], work: &[u8], i: usize, start: usize) -> bool
-    requires { ⌜ (length (now work) ≡ 65536) × (i < 256) × Coded 128 (now codes) ⌝ }
-{
-    let mut e = start;
-    while e < codes.len() {
-        let c = wide16(codes[e]);
-        if c == 0 {
-            return true;
-        }
-        if holds(work, i, c) {
-            return false;
-        }
-        e += 1;
-    }
-    false
-}
-
 // Whether the literal of code c is set and true in row i.
 fn holds(work: &[u8], i: usize, c: usize) -> bool
     requires { ⌜ (length (now work) ≡ 65536) × (i < 256) × (2 ≤ c) × (position c < 128) ⌝ }
@@ -90,43 +72,19 @@ fn holds(work: &[u8], i: usize, c: usize) -> bool
 // The start of another clause without a true literal in row i: that of the row before, the next one behind row i's, or the first one. At
 // least the number of entries if there is none.
 fn other_live(codes: &[u16], work: &[u8], sets: &[u64], i: usize) -> usize
-    requires { ⌜ (length (now work) ≡ 65536) × (length (now sets) ≡ 516) × (i < 256) × Coded 128 (now codes) ⌝ }
+    requires { ⌜ (length (now sets) ≡ 516) × (i < 256) ⌝ }
 {
     if i > 0 {
         let near = live_clause(sets, i - 1);
-        if lives(codes, work, i, near) {
+        if evaluation::lives(codes, work, i, near) {
             return near;
         }
     }
-    let next = next_live(codes, work, i, live_clause(sets, i));
+    let next = evaluation::next_live(codes, work, i, live_clause(sets, i));
     if next < codes.len() {
         return next;
     }
-    next_live(codes, work, i, 0)
-}
-
-// The start of the first clause from `from` on without a true literal in row i; at least the number of entries if there is none.
-fn next_live(codes: &[u16], work: &[u8], i: usize, from: usize) -> usize
-    requires { ⌜ (length (now work) ≡ 65536) × (i < 256) × Coded 128 (now codes) ⌝ }
-{
-    let mut start = from;
-    let mut dead = false;
-    let mut e = from;
-    while e < codes.len() {
-        let c = wide16(codes[e]);
-        e += 1;
-        if c == 0 {
-            if dead {
-                start = e;
-                dead = false;
-            } else {
-                return start;
-            }
-        } else if dead {} else if holds(work, i, c) {
-            dead = true;
-        }
-    }
-    e
+    evaluation::next_live(codes, work, i, 0)
 }
 
 // Unites, at CUT, for each clause the set of its earliest true literal in row i. False: a clause has none.

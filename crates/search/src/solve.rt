@@ -1,22 +1,14 @@
 // The search: positions in prefix order, with the group of rows whose other values agree before the position. Rows are parted where their
 // values differ, an own position gets the wanted value first, and a failure goes back to the last decision that it was reached by.
 ghost use mathlib.Core.Path.{_≡_};
-ghost use Prim.Native.Nat.{ℕ, _+_, _*_, _≤_, _<_};
-ghost use mathlib.Core.Bool.{true, false};
+ghost use Prim.Native.Nat.{ℕ, _+_, _≤_, _<_};
 ghost use lib.ListN.{length, getD};
-ghost use Rattle.expansion.proofs.ClauseCuts.{matrix-at};
-ghost use Rattle.search.specs.Cells.{cells};
-ghost use Rattle.search.specs.Codes.{code-true, code-clauses, code-goal, Coded, Ended};
-ghost use Rattle.search.specs.Masks.{set-at};
-ghost use Rattle.search.specs.Steps.{Lent, Settles, Searches, Tries, Chooses, Retries, Steps, Excused, Reached, Parting, PartedAt, Stands, FromStart};
+ghost use Rattle.codes.specs.Clauses.{Coded};
+ghost use Rattle.search.specs.Steps.{Lent, Listed, Settles, Searches, Tries, Chooses, Retries, Steps, Reached, FromStart};
 use super::force;
-use super::index;
+use super::hints::CUT;
 use super::live;
-use super::sets;
-use super::sets::CUT;
 use super::table;
-use super::width::wide8;
-use super::width::wide16;
 
 // The search over a filled table of at least one row. False: there is no model.
 pub(crate) fn from_start(
@@ -31,7 +23,7 @@ pub(crate) fn from_start(
 {
     let mut sets = [0u64; 516];
     let mut index = [0u16; 8_451];
-    index::fill(codes, side, &mut index);
+    list_codes(codes, side, &mut index);
     if look_around(splits, codes, work, &mut sets, &index, side) {
         let hi = splits.len();
         solve(
@@ -48,6 +40,16 @@ pub(crate) fn from_start(
         )
     } else {
         false
+    }
+}
+
+// The existential side finds a code's clauses through the index; the universal side doesn't look them up.
+fn list_codes(codes: &[u16], side: u8, index: &mut [u16])
+    requires { ⌜ (length (now codes) ≤ 8192) × Coded 128 (now codes) × (length (now index) ≡ 8451) × ((x : ℕ) → getD (now index) x 0 ≡ 0) ⌝ }
+    ensures { λ _. ⌜ Listed (now (codes .entry)) (now (index .exit)) ⌝ }
+{
+    if side == 0 {
+        index::fill(codes, index);
     }
 }
 
@@ -88,9 +90,9 @@ fn solve(
     requires { ⌜ (length (now kinds) ≤ 128) × (side ≤ 1) × (k ≤ length (now kinds)) × (lo < hi) × (hi ≤ length (now splits)) ⌝ }
     ensures { λ r. ⌜ Searches (now (kinds .entry)) (now (splits .entry)) (now (codes .entry)) side k lo hi (now (work .entry)) (now (work .exit)) (now (sets .entry)) (now (sets .exit)) r ⌝ }
 {
-    let mid = parting(splits, lo, hi);
-    let until = parted_at(splits, lo, mid, kinds.len());
-    let at = stand(kinds, work, side, k, lo, until);
+    let mid = groups::parting(splits, lo, hi);
+    let until = groups::parted_at(splits, lo, mid, kinds.len());
+    let at = groups::stand(kinds, work, side, k, lo, until);
     if step(
         kinds,
         splits,
@@ -107,7 +109,7 @@ fn solve(
     ) {
         return true;
     }
-    excuse(sets, k, at);
+    sets::excuse(sets, CUT, k, at); // what stands was reached by what its own sets say
     false
 }
 
@@ -165,21 +167,6 @@ fn step(
         lo, // the other part: from lo
         mid, // to mid
     )
-}
-
-// Where a failure was reached by values that stand from k to `at`, it was reached by what they were reached by.
-fn excuse(sets: &mut [u64], k: usize, at: usize)
-    requires { ⌜ (length (now sets) ≡ 516) × (at ≤ 128) ⌝ }
-    ensures { λ _. ⌜ Excused k at (now (sets .entry)) (now (sets .exit)) ⌝ }
-{
-    let mut p = k;
-    while p < at {
-        let q = p;
-        p += 1;
-        if sets::has(sets, CUT, q) {
-            sets::unite(sets, CUT, q);
-        }
-    }
 }
 
 // Tries the wanted value at the open own position k, and the other one if a failure was reached by that.
@@ -251,7 +238,7 @@ fn retry(
     requires { ⌜ (length (now kinds) ≤ 128) × (side ≤ 1) × (k < length (now kinds)) × (lo < hi) × (hi ≤ length (now splits)) ⌝ }
     ensures { λ r. ⌜ Retries (now (kinds .entry)) (now (splits .entry)) (now (codes .entry)) side k lo hi tried (now (work .entry)) (now (work .exit)) (now (sets .entry)) (now (sets .exit)) r ⌝ }
 {
-    table::undo(work, lo, hi, k as u8 + 1);
+    cells::undo(work, lo, hi, k as u8 + 1);
     sets::trim(sets, k, kinds.len());
     let low = sets[256];
     let high = sets[257];
@@ -295,7 +282,7 @@ fn attempt(
     ensures { λ r. ⌜ Tries (now (kinds .entry)) (now (splits .entry)) (now (codes .entry)) side k lo hi value (now (work .entry)) (now (work .exit)) (now (sets .entry)) (now (sets .exit)) r ⌝ }
 {
     sets::add(sets, k, k);
-    table::set_rows(work, k, lo, hi, k as u8 + 2, value);
+    cells::set_rows(work, k, lo, hi, k as u8 + 2, value);
     if follow(splits, codes, work, sets, index, side, k, lo, hi) {
         solve(kinds, splits, codes, work, sets, index, side, k + 1, lo, hi)
     } else {
@@ -326,64 +313,12 @@ fn follow(
     }
 }
 
-// The row behind lo at which the rows from lo to hi part first; lo if none parts from the one before it.
-fn parting(splits: &[u8], lo: usize, hi: usize) -> usize
-    requires { ⌜ (lo < hi) × (hi ≤ length (now splits)) ⌝ }
-    ensures { λ r. ⌜ Parting (now (splits .entry)) lo hi r ⌝ }
-{
-    let mut mid = lo;
-    let mut least = 255;
-    let mut i = lo + 1;
-    while i < hi {
-        let h = i;
-        let at = splits[h];
-        i += 1;
-        if at < least {
-            least = at;
-            mid = h;
-        }
-    }
-    mid
-}
-
-// The position at which they part there; n if they do not part before that.
-fn parted_at(splits: &[u8], lo: usize, mid: usize, n: usize) -> usize
-    requires { ⌜ mid < length (now splits) ⌝ }
-    ensures { λ r. ⌜ PartedAt (now (splits .entry)) lo mid n r ⌝ }
-{
-    if lo < mid {
-        let at = wide8(splits[mid]);
-        if at < n {
-            return at;
-        }
-    }
-    n
-}
-
-// The first position from k on, up to `until`, that is an own one and open in row lo; `until` if there is none.
-fn stand(kinds: &[u8], work: &[u8], side: u8, k: usize, lo: usize, until: usize) -> usize
-    requires { ⌜ (length (now work) ≡ 65536) × (length (now kinds) ≤ 128) × (until ≤ length (now kinds)) × (k ≤ length (now kinds)) × (lo < 256) ⌝ }
-    ensures { λ r. ⌜ Stands (now (kinds .entry)) (now (work .entry)) side k lo until r ⌝ }
-{
-    let mut at = k;
-    while at < until {
-        let j = at;
-        at += 1;
-        if kinds[j] == side {
-            if table::is_set(work, lo, j) {} else {
-                return j;
-            }
-        }
-    }
-    at
-}
-
 // Whether the values of row i reach the side's goal. Where they do not, every position is to blame.
 fn reached(codes: &[u16], work: &[u8], sets: &mut [u64], side: u8, i: usize) -> bool
     requires { ⌜ (length (now work) ≡ 65536) × (length (now sets) ≡ 516) × (i < 256) × (side ≤ 1) × Coded 128 (now codes) ⌝ }
     ensures { λ r. ⌜ Reached (now (codes .entry)) side (now (work .entry)) i (now (sets .entry)) (now (sets .exit)) r ⌝ }
 {
-    let all = matrix(codes, work, i);
+    let all = evaluation::matrix(codes, work, i);
     if side == 0 {
         if all {
             return true;
@@ -395,26 +330,4 @@ fn reached(codes: &[u16], work: &[u8], sets: &mut [u64], side: u8, i: usize) -> 
     }
     sets::fill(sets, CUT);
     false
-}
-
-// Whether every clause has a true literal in row i.
-fn matrix(codes: &[u16], work: &[u8], i: usize) -> bool
-    requires { ⌜ (length (now work) ≡ 65536) × (i < 256) × Coded 128 (now codes) ⌝ }
-    ensures { λ r. ⌜ (Ended (now (codes .entry)) → r ≡ matrix-at code-true (code-clauses (now (codes .entry))) (cells (now (work .entry)) .value i)) ⌝ }
-{
-    let mut clause = false;
-    let mut e = 0;
-    while e < codes.len() {
-        let c = wide16(codes[e]);
-        e += 1;
-        if c == 0 {
-            if clause {} else {
-                return false;
-            }
-            clause = false;
-        } else if table::is_true(work, i, c) {
-            clause = true;
-        }
-    }
-    true
 }

@@ -1,15 +1,11 @@
 use borrow.Author.Needs.{needs}
 use Prim.Native.Nat.{_-_}
-use mathlib.Core.Path.{refl, sym, _∙_, ap}
+use mathlib.Core.Path.{sym, _∙_, ap}
 use lib.ListN.{length}
 use Rattle.search.specs.Search.{side-of}
 use Rattle.search.proofs.OutcomeLaws.{refused-outcome, refused-work, answered-outcome, answered-work, universals-most, accepting-existential, accepting-universal}
 use Rattle.search.proofs.first_model.Statement.{statement}
 use Rattle.search.proofs.first_model.Tie as tie
-use Rattle.search.proofs.first_model.Reads as reads
-use Rattle.search.proofs.first_model.Lts as lts
-use Rattle.formula.proofs.Formula.check.Reads as check-reads
-use Rattle.search.proofs.over_rows.Reads as over-rows-reads
 
 -- src/lib.rt:49:11
 check-requires : tie.Need-check-requires

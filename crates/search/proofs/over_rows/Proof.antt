@@ -3,11 +3,6 @@ use mathlib.Core.Path.{sym, _∙_}
 use Rattle.search.proofs.OutcomeLaws.{cause-table, cause-area, cause-count, cause-stray, no-cause, fits-few, answered-refused, answered-found, answered-none}
 use Rattle.search.proofs.over_rows.Statement.{statement}
 use Rattle.search.proofs.over_rows.Tie as tie
-use Rattle.search.proofs.over_rows.Reads as reads
-use Rattle.search.proofs.over_rows.Lts as lts
-use Rattle.rows.proofs.stray_bit.Reads as stray-bit-reads
-use Rattle.rows.proofs.table_fits.Reads as table-fits-reads
-use Rattle.search.proofs.find.Reads as find-reads
 
 -- src/lib.rt:77:8
 table-fits-requires : tie.Need-table-fits-requires

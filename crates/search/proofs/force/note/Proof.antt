@@ -1,8 +1,9 @@
 -- `force::note` meets its contract. Assumes nothing.
 use native.Mathlib.Omega.{arith}
 use lib.ListN.{length-set}
-use Rattle.search.proofs.MaskLaws.{store-behind, kept-trans, kept-grown}
+use Rattle.sets.proofs.MaskLaws.{store-behind, kept-trans, kept-grown}
 use borrow.Author.Needs.{needs}
+use Rattle.search.proofs.CallLaws.{grows}
 use Rattle.search.proofs.force.note.Statement.{statement}
 use Rattle.search.proofs.force.note.Tie as tie
 
@@ -13,7 +14,7 @@ add-at : tie.Need-add-at
 add-at c = search needs
 
 has-requires : tie.Need-has-requires
-has-requires c κs = search needs
+has-requires c κs = tt
 
 mul-lower : tie.Need-mul-lower
 mul-lower c = search needs
@@ -37,7 +38,7 @@ higher-requires : tie.Need-higher-requires
 higher-requires c κs = search needs
 
 add-requires : tie.Need-add-requires
-add-requires c κs = search needs
+add-requires c κs = tt
 
 mul-sets : tie.Need-mul-sets
 mul-sets c = search needs
@@ -58,7 +59,7 @@ same-length : tie.Need-same-length
 same-length c = search needs
 
 returns : tie.Need-returns
-returns c = kept-trans (kept-grown (omega arith) (c .before .before .add .ensures .0)) (kept-trans (store-behind _ _ _ (omega arith)) (store-behind _ _ _ (omega arith)))
+returns c = kept-trans (kept-grown (omega arith) (grows _ (c .before .before .before .before .before .before .before .before .pre .0) 129 (c .before .before .before .before .before .before .before .before .args .k) (omega arith) (omega arith) (c .before .before .add .ensures))) (kept-trans (store-behind _ _ _ (omega arith)) (store-behind _ _ _ (omega arith)))
 
 pub note-spec : {M : Type 1} → statement M
 note-spec =

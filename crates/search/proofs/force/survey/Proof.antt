@@ -1,9 +1,10 @@
 -- `force::survey` meets its contract. The invariant: no look has failed. Assumes nothing.
 use Prim.Native.Nat.{_-_}
-use mathlib.Core.Path.{refl, _∙_}
+use mathlib.Core.Path.{_∙_}
 use mathlib.Core.Bool.{false}
 use native.Mathlib.Omega.{arith}
 use lib.ListN.{length}
+use Rattle.search.proofs.CallLaws.{empties}
 use Rattle.search.proofs.ForceLaws.{Going, going-start, going-then, going-last, going-ends, noted-first, lent-noted, lent-still}
 use Rattle.search.proofs.force.survey.Statement.{statement}
 use Rattle.search.proofs.force.survey.Tie as tie
@@ -15,7 +16,7 @@ abbrev μ-loop : tie.MeasureT-loop
 μ-loop splits codes work₀ sets₀ index i₀ work sets i = length splits - i
 
 empty-requires : tie.Need-empty-requires Inv-loop μ-loop
-empty-requires c κs = (omega arith, omega arith, omega arith)
+empty-requires c κs = tt
 
 loop-holds : tie.Need-loop-holds Inv-loop μ-loop
 loop-holds c = going-start
@@ -31,7 +32,7 @@ same-length-2 c = c .before .before .before .before .before .visit-row .kept .1 
 
 returns : tie.Need-returns Inv-loop μ-loop
 returns c =
-    noted-first (c .before .before .before .before .before .before .before .before .before .before .before .before .before .before .before .before .before .before .before .args .splits .now) (c .before .before .before .before .before .before .before .before .before .before .before .before .before .before .before .before .before .before .before .args .codes .now) 0 (length (c .before .before .before .before .before .before .before .before .before .before .before .before .before .before .before .before .before .before .before .args .splits .now)) 1 (c .before .before .before .before .before .before .before .before .before .before .before .before .before .before .before .before .before .before .before .args .work .now) (c .before .before .before .before .before .visit-row .last .1 .1 .0) (c .before .before .before .before .before .before .before .before .before .before .before .before .before .before .before .before .before .before .before .args .sets .now) (c .before .before .before .before .before .before .before .before .before .before .before .before .empty .last .0) (c .before .before .before .before .before .visit-row .last .1 .1 .1 .0) false (c .before .before .before .before .before .before .before .before .before .before .before .before .empty .ensures)
+    noted-first (c .before .before .before .before .before .before .before .before .before .before .before .before .before .before .before .before .before .before .before .args .splits .now) (c .before .before .before .before .before .before .before .before .before .before .before .before .before .before .before .before .before .before .before .args .codes .now) 0 (length (c .before .before .before .before .before .before .before .before .before .before .before .before .before .before .before .before .before .before .before .args .splits .now)) 1 (c .before .before .before .before .before .before .before .before .before .before .before .before .before .before .before .before .before .before .before .args .work .now) (c .before .before .before .before .before .visit-row .last .1 .1 .0) (c .before .before .before .before .before .before .before .before .before .before .before .before .before .before .before .before .before .before .before .args .sets .now) (c .before .before .before .before .before .before .before .before .before .before .before .before .empty .last .0) (c .before .before .before .before .before .visit-row .last .1 .1 .1 .0) false (empties _ (c .before .before .before .before .before .before .before .before .before .before .before .before .before .before .before .before .before .before .before .pre .sets-lent) 129 (omega arith) (omega arith) (c .before .before .before .before .before .before .before .before .before .before .before .before .empty .ensures))
     (going-ends (c .before .before .before .before .before .before .before .before .before .loop .inv) (c .before .before .before .before .before .visit-row .last .1 .1 .0) (c .before .before .before .before .before .visit-row .last .1 .1 .1 .0) (c .before .before .before .before .before .visit-row .result) (c .before .before .before .before .before .visit-row .ensures) (c .if1 .left))
 
 add-i : tie.Need-add-i Inv-loop μ-loop
@@ -54,7 +55,7 @@ same-length-4 c = c .before .before .before .before .settle .kept .1 .1 .1 .0 �
 
 returns-2 : tie.Need-returns-2 Inv-loop μ-loop
 returns-2 c =
-    noted-first (c .before .before .before .before .before .before .before .before .before .before .before .before .before .before .before .before .before .before .args .splits .now) (c .before .before .before .before .before .before .before .before .before .before .before .before .before .before .before .before .before .before .args .codes .now) 0 (length (c .before .before .before .before .before .before .before .before .before .before .before .before .before .before .before .before .before .before .args .splits .now)) 1 (c .before .before .before .before .before .before .before .before .before .before .before .before .before .before .before .before .before .before .args .work .now) (c .before .before .before .before .settle .last .1 .1 .0) (c .before .before .before .before .before .before .before .before .before .before .before .before .before .before .before .before .before .before .args .sets .now) (c .before .before .before .before .before .before .before .before .before .before .before .empty .last .0) (c .before .before .before .before .settle .last .1 .1 .1 .0) (c .before .before .before .before .settle .result) (c .before .before .before .before .before .before .before .before .before .before .before .empty .ensures)
+    noted-first (c .before .before .before .before .before .before .before .before .before .before .before .before .before .before .before .before .before .before .args .splits .now) (c .before .before .before .before .before .before .before .before .before .before .before .before .before .before .before .before .before .before .args .codes .now) 0 (length (c .before .before .before .before .before .before .before .before .before .before .before .before .before .before .before .before .before .before .args .splits .now)) 1 (c .before .before .before .before .before .before .before .before .before .before .before .before .before .before .before .before .before .before .args .work .now) (c .before .before .before .before .settle .last .1 .1 .0) (c .before .before .before .before .before .before .before .before .before .before .before .before .before .before .before .before .before .before .args .sets .now) (c .before .before .before .before .before .before .before .before .before .before .before .empty .last .0) (c .before .before .before .before .settle .last .1 .1 .1 .0) (c .before .before .before .before .settle .result) (empties _ (c .before .before .before .before .before .before .before .before .before .before .before .before .before .before .before .before .before .before .pre .sets-lent) 129 (omega arith) (omega arith) (c .before .before .before .before .before .before .before .before .before .before .before .empty .ensures))
     (going-last (c .before .before .before .before .before .before .before .before .loop .inv) (c .before .before .before .before .settle .last .1 .1 .0) (c .before .before .before .before .settle .last .1 .1 .1 .0) (c .before .before .before .before .settle .result) (c .before .before .before .before .settle .ensures))
 
 pub survey-spec : {M : Type 1} → statement M

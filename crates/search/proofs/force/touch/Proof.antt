@@ -1,30 +1,25 @@
 -- `force::touch` meets its contract: nothing follows, or the group is refuted, or a value is forced. Assumes nothing.
 use mathlib.Core.Path.{refl, _∙_}
 use native.Mathlib.Omega.{arith}
+use Rattle.search.proofs.CallLaws.{looks, empties, blames}
 use Rattle.search.proofs.ForceLaws.{settles-nothing, settles-dead}
 use Rattle.search.proofs.force.touch.Statement.{statement}
 use Rattle.search.proofs.force.touch.Tie as tie
 
-begins-requires : tie.Need-begins-requires
-begins-requires c κs = tt
-
-returns : tie.Need-returns
-returns c = settles-nothing (c .before .before .before .before .before .before .before .args .splits .now) (c .before .before .before .before .before .before .before .args .codes .now) (c .before .before .before .before .before .before .before .args .lo) (c .before .before .before .before .before .before .before .args .hi) (c .before .before .before .before .before .before .before .args .mark) (c .before .before .before .before .before .before .before .args .work .now) (c .before .before .before .before .before .before .before .args .sets .now)
-
 look-requires : tie.Need-look-requires
-look-requires c κs = (omega arith, omega arith, c .before .before .before .before .before .before .before .before .pre .0 .coded)
+look-requires c κs = tt
 
 same-length : tie.Need-same-length
 same-length c = refl
 
-returns-2 : tie.Need-returns-2
-returns-2 c = settles-nothing (c .before .before .before .before .before .before .before .before .before .before .args .splits .now) (c .before .before .before .before .before .before .before .before .before .before .args .codes .now) (c .before .before .before .before .before .before .before .before .before .before .args .lo) (c .before .before .before .before .before .before .before .before .before .before .args .hi) (c .before .before .before .before .before .before .before .before .before .before .args .mark) (c .before .before .before .before .before .before .before .before .before .before .args .work .now) (c .before .before .before .before .before .before .before .before .before .before .args .sets .now)
+returns : tie.Need-returns
+returns c = settles-nothing (c .before .before .before .before .before .before .before .before .args .splits .now) (c .before .before .before .before .before .before .before .before .args .codes .now) (c .before .before .before .before .before .before .before .before .args .lo) (c .before .before .before .before .before .before .before .before .args .hi) (c .before .before .before .before .before .before .before .before .args .mark) (c .before .before .before .before .before .before .before .before .args .work .now) (c .before .before .before .before .before .before .before .before .args .sets .now)
 
 empty-requires : tie.Need-empty-requires
-empty-requires c κs = (omega arith, omega arith, omega arith)
+empty-requires c κs = tt
 
 blame-requires : tie.Need-blame-requires
-blame-requires c κs = (omega arith, omega arith, c .before .before .before .before .before .before .before .before .before .before .before .before .before .before .before .before .pre .0 .coded)
+blame-requires c κs = tt
 
 same-length-2 : tie.Need-same-length-2
 same-length-2 c = refl
@@ -32,13 +27,12 @@ same-length-2 c = refl
 same-length-3 : tie.Need-same-length-3
 same-length-3 c = c .before .before .blame .kept .1 .0 ∙ c .before .before .before .before .before .before .empty .kept .0
 
-returns-3 : tie.Need-returns-3
-returns-3 c =
-    settles-dead (c .before .before .before .before .before .before .before .before .before .before .before .before .before .before .before .before .before .before .before .args .splits .now) (c .before .before .before .before .before .before .before .before .before .before .before .before .before .before .before .before .before .before .before .args .codes .now) (c .before .before .before .before .before .before .before .before .before .before .before .before .before .before .before .before .before .before .before .pre .0 .coded) (c .before .before .before .before .before .before .before .before .before .before .before .before .before .before .before .before .before .before .before .args .lo) (c .before .before .before .before .before .before .before .before .before .before .before .before .before .before .before .before .before .before .before .args .hi) (c .before .before .before .before .before .before .before .before .before .before .before .before .before .before .before .before .before .before .before .args .mark) (c .before .before .before .before .before .before .before .before .before .before .before .before .before .before .before .before .before .before .before .args .work .now) (c .before .before .before .before .before .before .before .before .before .before .before .before .before .before .before .before .before .before .before .args .sets .now) (c .before .before .before .before .before .before .before .before .before .before .before .before .before .before .before .before .before .before .before .args .i) (c .before .before .before .before .before .before .before .before .before .before .before .before .before .before .before .before .before .before .before .args .start) (c .before .before .before .before .before .before .before .before .before .before .before .before .before .before .before .before .before .before .before .pre .1 .0) (c .before .before .before .before .before .before .before .before .before .before .before .before .before .before .before .before .before .before .before .pre .1 .1) (c .before .before .before .before .before .before .before .before .before .before .before .before .before .begins .ensures (c .before .before .before .before .before .before .before .before .before .before .before .before .if1 .taken))
-    (c .before .before .before .before .before .before .before .before .before .before .look .result) (omega arith) (c .before .before .before .before .before .before .before .before .before .before .look .ensures) (c .before .before .before .before .before .before .empty .last .0) (c .before .before .blame .last .1 .0) (c .before .before .before .before .before .before .empty .ensures) (c .before .before .blame .ensures)
+returns-2 : tie.Need-returns-2
+returns-2 c = settles-dead (c .before .before .before .before .before .before .before .before .before .before .before .before .before .before .before .before .before .args .splits .now) (c .before .before .before .before .before .before .before .before .before .before .before .before .before .before .before .before .before .args .codes .now) (c .before .before .before .before .before .before .before .before .before .before .before .before .before .before .before .before .before .pre .0 .coded) (c .before .before .before .before .before .before .before .before .before .before .before .before .before .before .before .before .before .args .lo) (c .before .before .before .before .before .before .before .before .before .before .before .before .before .before .before .before .before .args .hi) (c .before .before .before .before .before .before .before .before .before .before .before .before .before .before .before .before .before .args .mark) (c .before .before .before .before .before .before .before .before .before .before .before .before .before .before .before .before .before .args .work .now) (c .before .before .before .before .before .before .before .before .before .before .before .before .before .before .before .before .before .args .sets .now) (c .before .before .before .before .before .before .before .before .before .before .before .before .before .before .before .before .before .args .i) (c .before .before .before .before .before .before .before .before .before .before .before .before .before .before .before .before .before .args .start) (c .before .before .before .before .before .before .before .before .before .before .before .before .before .before .before .before .before .pre .1 .0) (c .before .before .before .before .before .before .before .before .before .before .before .before .before .before .before .before .before .pre .1 .1) (c .before .before .before .before .before .before .before .before .before .before .before .before .before .before .before .before .before .pre .1 .3)
+    (c .before .before .before .before .before .before .before .before .before .before .look .result) (omega arith) (looks (c .before .before .before .before .before .before .before .before .before .before .before .before .before .before .before .before .before .args .codes .now) (c .before .before .before .before .before .before .before .before .before .before .before .before .before .before .before .before .before .args .work .now) (c .before .before .before .before .before .before .before .before .before .before .before .before .before .before .before .before .before .args .i) (c .before .before .before .before .before .before .before .before .before .before .before .before .before .before .before .before .before .pre .0 .area) (omega arith) (c .before .before .before .before .before .before .before .before .before .before .before .before .before .before .before .before .before .pre .0 .coded) (c .before .before .before .before .before .before .before .before .before .before .before .before .before .before .before .before .before .args .start) (c .before .before .before .before .before .before .before .before .before .before .look .ensures)) (c .before .before .before .before .before .before .empty .last .0) (c .before .before .blame .last .1 .0) (empties _ (c .before .before .before .before .before .before .before .before .before .before .before .before .before .before .before .before .before .pre .0 .sets-lent) 128 (omega arith) (omega arith) (c .before .before .before .before .before .before .empty .ensures)) (blames _ (c .before .before .before .before .before .before .empty .kept .0 ∙ c .before .before .before .before .before .before .before .before .before .before .before .before .before .before .before .before .before .pre .0 .sets-lent) (c .before .before .before .before .before .before .before .before .before .before .before .before .before .before .before .before .before .args .codes .now) (c .before .before .before .before .before .before .before .before .before .before .before .before .before .before .before .before .before .args .start) 128 (omega arith) (c .before .before .before .before .before .before .before .before .before .before .before .before .before .before .before .before .before .pre .0 .coded) (c .before .before .blame .ensures))
 
 force-requires : tie.Need-force-requires
-force-requires c κs = (c .before .before .before .before .before .before .before .before .before .before .before .before .before .pre .0, (c .before .before .before .before .before .before .before .before .before .before .before .before .before .pre .1 .0, c .before .before .before .before .before .before .before .before .before .before .before .before .before .pre .1 .1, c .before .before .before .before .before .before .before .before .before .before .before .before .before .pre .1 .2, omega arith, c .before .before .before .before .look .ensures .fits (omega arith)))
+force-requires c κs = (c .before .before .before .before .before .before .before .before .before .before .before .pre .0, (c .before .before .before .before .before .before .before .before .before .before .before .pre .1 .0, c .before .before .before .before .before .before .before .before .before .before .before .pre .1 .1, c .before .before .before .before .before .before .before .before .before .before .before .pre .1 .2, omega arith, (looks (c .before .before .before .before .before .before .before .before .before .before .before .args .codes .now) (c .before .before .before .before .before .before .before .before .before .before .before .args .work .now) (c .before .before .before .before .before .before .before .before .before .before .before .args .i) (c .before .before .before .before .before .before .before .before .before .before .before .pre .0 .area) (omega arith) (c .before .before .before .before .before .before .before .before .before .before .before .pre .0 .coded) (c .before .before .before .before .before .before .before .before .before .before .before .args .start) (c .before .before .before .before .look .ensures)) .fits (omega arith)))
 
 same-length-4 : tie.Need-same-length-4
 same-length-4 c = c .before .before .before .before .force .kept .1 .1 .0
@@ -46,24 +40,22 @@ same-length-4 c = c .before .before .before .before .force .kept .1 .1 .0
 same-length-5 : tie.Need-same-length-5
 same-length-5 c = c .before .before .before .before .force .kept .1 .1 .1 .0
 
-returns-4 : tie.Need-returns-4
-returns-4 c = c .before .before .before .before .force .ensures (c .before .before .before .before .before .before .before .before .before .before .before .before .begins .ensures (c .before .before .before .before .before .before .before .before .before .before .before .if1 .taken)) (c .before .before .before .before .before .before .before .before .before .look .ensures)
+returns-3 : tie.Need-returns-3
+returns-3 c = c .before .before .before .before .force .ensures (c .before .before .before .before .before .before .before .before .before .before .before .before .before .before .before .before .pre .1 .3) (looks (c .before .before .before .before .before .before .before .before .before .before .before .before .before .before .before .before .args .codes .now) (c .before .before .before .before .before .before .before .before .before .before .before .before .before .before .before .before .args .work .now) (c .before .before .before .before .before .before .before .before .before .before .before .before .before .before .before .before .args .i) (c .before .before .before .before .before .before .before .before .before .before .before .before .before .before .before .before .pre .0 .area) (omega arith) (c .before .before .before .before .before .before .before .before .before .before .before .before .before .before .before .before .pre .0 .coded) (c .before .before .before .before .before .before .before .before .before .before .before .before .before .before .before .before .args .start) (c .before .before .before .before .before .before .before .before .before .look .ensures))
 
 pub touch-spec : {M : Type 1} → statement M
 touch-spec =
     tie.close
     (tie.spec
-    begins-requires
-    returns
     look-requires
     same-length
-    returns-2
+    returns
     empty-requires
     blame-requires
     same-length-2
     same-length-3
-    returns-3
+    returns-2
     force-requires
     same-length-4
     same-length-5
-    returns-4)
+    returns-3)

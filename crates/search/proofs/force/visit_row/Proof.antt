@@ -1,18 +1,20 @@
 -- `force::visit_row` meets its contract. The invariant: no look has failed. Assumes nothing.
-use Prim.Native.Nat.{_≤_, _-_}
-use mathlib.Core.Path.{_∙_}
+use Prim.Native.Nat.{ℕ, _≤_, _-_}
+use mathlib.Core.Path.{sym, _∙_, subst}
 use mathlib.Core.Logic.{⊎-elim}
 use native.Mathlib.Omega.{arith}
-use lib.ListN.{length}
+use lib.ListN.{length, getD}
+use Rattle.codes.specs.Clauses.{Begins}
 use Rattle.search.proofs.ForceLaws.{Going, going-start, going-then, going-at, going-ends, lent-still}
 use Rattle.search.proofs.force.visit_row.Statement.{statement}
 use Rattle.search.proofs.force.visit_row.Tie as tie
 
 abbrev Inv-loop : tie.InvT-loop
-Inv-loop splits codes work₀ sets₀ index mark lo hi c from i end at₀ work sets at = (end ≤ length index) × Going splits codes lo hi mark work₀ work sets₀ sets
+Inv-loop splits codes work₀ sets₀ index mark lo hi c from i end agreement at₀ work sets at =
+    (end ≤ length index) × (end ≤ getD index c 0) × (getD index (c - 1) 0 ≤ at) × Going splits codes lo hi mark work₀ work sets₀ sets
 
 abbrev μ-loop : tie.MeasureT-loop
-μ-loop splits codes work₀ sets₀ index mark lo hi c from i end at₀ work sets at = end - at
+μ-loop splits codes work₀ sets₀ index mark lo hi c from i end agreement at₀ work sets at = end - at
 
 mul-wide16 : tie.Need-mul-wide16 Inv-loop μ-loop
 mul-wide16 c = omega arith
@@ -25,6 +27,9 @@ wide16-requires c κs = tt
 
 lower-requires : tie.Need-lower-requires Inv-loop μ-loop
 lower-requires c κs = tt
+
+agreement-requires : tie.Need-agreement-requires Inv-loop μ-loop
+agreement-requires c κs = tt
 
 sub-wide16 : tie.Need-sub-wide16 Inv-loop μ-loop
 sub-wide16 c = omega arith
@@ -39,7 +44,7 @@ wide16-requires-2 : tie.Need-wide16-requires-2 Inv-loop μ-loop
 wide16-requires-2 c κs = tt
 
 loop-holds : tie.Need-loop-holds Inv-loop μ-loop
-loop-holds c = (omega arith, going-start)
+loop-holds c = (omega (arith, c .before .before .before .lower .ensures .1), omega (arith, c .before .before .before .lower .ensures .0, c .before .before .before .before .wide16 .ensures), omega arith, going-start)
 
 mul-wide16-3 : tie.Need-mul-wide16-3 Inv-loop μ-loop
 mul-wide16-3 c = omega arith
@@ -51,19 +56,19 @@ wide16-requires-3 : tie.Need-wide16-requires-3 Inv-loop μ-loop
 wide16-requires-3 c κs = tt
 
 repeats-requires : tie.Need-repeats-requires Inv-loop μ-loop
-repeats-requires c κs = omega arith
+repeats-requires c κs = tt
 
 touch-requires : tie.Need-touch-requires Inv-loop μ-loop
-touch-requires c κs = (lent-still (c .before .before .before .before .before .before .before .loop .inv .1) (c .before .before .before .before .before .before .before .before .before .before .before .before .before .before .before .before .before .before .pre .0), (omega arith, omega arith, omega arith))
+touch-requires c κs = (lent-still (c .before .before .before .before .before .before .before .loop .inv .3) (c .before .before .before .before .before .before .before .before .before .before .before .before .before .before .before .before .before .before .before .pre .0), (omega arith, omega arith, omega arith, subst (λ (x : ℕ). Begins (c .before .before .before .before .before .before .before .before .before .before .before .before .before .before .before .before .before .before .before .args .codes .now) x) (sym (c .before .before .before .before .wide163 .ensures)) (c .before .before .before .before .before .before .before .before .before .before .before .before .before .before .before .before .before .before .before .pre .0 .listed (c .before .before .before .before .before .before .before .before .before .before .before .before .before .before .before .before .before .before .before .args .c) (c .before .before .before .before .before .before .before .loop .at) (c .before .before .before .before .before .before .before .before .before .before .before .before .before .before .before .before .before .before .before .pre .1 .3) (c .before .before .before .before .before .before .before .before .before .before .before .before .before .before .before .before .before .before .before .pre .1 .4) (c .before .before .before .before .before .before .before .loop .inv .2) (omega (arith, c .before .before .before .before .before .before .before .loop .inv .1)))))
 
 same-length : tie.Need-same-length Inv-loop μ-loop
-same-length c = c .before .before .before .before .before .touch .kept .1 .1 .0 ∙ c .before .before .before .before .before .before .before .before .before .before .before .before .before .loop .inv .1 .work
+same-length c = c .before .before .before .before .before .touch .kept .1 .1 .0 ∙ c .before .before .before .before .before .before .before .before .before .before .before .before .before .loop .inv .3 .work
 
 same-length-2 : tie.Need-same-length-2 Inv-loop μ-loop
-same-length-2 c = c .before .before .before .before .before .touch .kept .1 .1 .1 .0 ∙ c .before .before .before .before .before .before .before .before .before .before .before .before .before .loop .inv .1 .sets
+same-length-2 c = c .before .before .before .before .before .touch .kept .1 .1 .1 .0 ∙ c .before .before .before .before .before .before .before .before .before .before .before .before .before .loop .inv .3 .sets
 
 returns : tie.Need-returns Inv-loop μ-loop
-returns c = going-ends (c .before .before .before .before .before .before .before .before .before .before .before .before .before .loop .inv .1) (c .before .before .before .before .before .touch .last .1 .1 .0) (c .before .before .before .before .before .touch .last .1 .1 .1 .0) (c .before .before .before .before .before .touch .result) (c .before .before .before .before .before .touch .ensures) (c .if2 .left)
+returns c = going-ends (c .before .before .before .before .before .before .before .before .before .before .before .before .before .loop .inv .3) (c .before .before .before .before .before .touch .last .1 .1 .0) (c .before .before .before .before .before .touch .last .1 .1 .1 .0) (c .before .before .before .before .before .touch .result) (c .before .before .before .before .before .touch .ensures) (c .if2 .left)
 
 add-at : tie.Need-add-at Inv-loop μ-loop
 add-at c = omega arith
@@ -74,20 +79,22 @@ loop-less c = omega arith
 loop-again : tie.Need-loop-again Inv-loop μ-loop
 loop-again c = (
   omega arith,
+  omega arith,
+  omega arith,
   ⊎-elim
-      (λ w. going-at (c .before .before .before .before .before .loop .inv .1) (w .1) (w .2))
-      (λ w. going-at (going-then (c .before .before .before .before .before .loop .inv .1) (w .3 .result) (w .3 .ensures) (w .8 .taken) (w .3 .kept .1 .1 .0) (w .3 .kept .1 .1 .1 .0)) (w .9) (w .10))
+      (λ w. going-at (c .before .before .before .before .before .loop .inv .3) (w .1) (w .2))
+      (λ w. going-at (going-then (c .before .before .before .before .before .loop .inv .3) (w .3 .result) (w .3 .ensures) (w .8 .taken) (w .3 .kept .1 .1 .0) (w .3 .kept .1 .1 .1 .0)) (w .9) (w .10))
       (c .if1 .came),
 )
 
 same-length-3 : tie.Need-same-length-3 Inv-loop μ-loop
-same-length-3 c = c .before .loop .inv .1 .work
+same-length-3 c = c .before .loop .inv .3 .work
 
 same-length-4 : tie.Need-same-length-4 Inv-loop μ-loop
-same-length-4 c = c .before .loop .inv .1 .sets
+same-length-4 c = c .before .loop .inv .3 .sets
 
 returns-2 : tie.Need-returns-2 Inv-loop μ-loop
-returns-2 c = c .before .loop .inv .1 .settles
+returns-2 c = c .before .loop .inv .3 .settles
 
 pub visit-row-spec : {M : Type 1} → statement M
 visit-row-spec =
@@ -99,6 +106,7 @@ visit-row-spec =
     shared-slice-read-wide16
     wide16-requires
     lower-requires
+    agreement-requires
     sub-wide16
     mul-wide16-2
     shared-slice-read-wide16-2

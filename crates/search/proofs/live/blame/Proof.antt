@@ -3,6 +3,7 @@ use mathlib.Core.Path.{_≡_, sym, _∙_}
 use Prim.Native.Nat.{_-_, _≤_}
 use native.Mathlib.Omega.{arith}
 use lib.ListN.{length}
+use Rattle.search.proofs.CallLaws.{unites}
 use Rattle.search.proofs.LiveLaws.{coded-at, Blaming, blaming-start, blaming-clause, blaming-literal, blaming-end, blaming-left}
 use Rattle.search.proofs.live.blame.Statement.{statement}
 use Rattle.search.proofs.live.blame.Tie as tie
@@ -35,7 +36,7 @@ returns : tie.Need-returns Inv-loop μ-loop
 returns c = blaming-left (c .before .before .before .before .before .before .before .before .before .args .codes .now) (c .before .before .before .before .before .before .before .before .before .args .work .now) (c .before .before .before .before .before .before .before .before .before .args .i) (c .before .before .before .before .before .before .before .before .before .args .sets .now) (c .before .before .before .before .before .loop .e) (c .before .before .before .before .before .loop .best) (c .before .before .before .before .before .loop .sets) (c .before .before .before .before .before .loop .inv .2)
 
 unite-requires : tie.Need-unite-requires Inv-loop μ-loop
-unite-requires c κs = (c .before .before .before .before .before .before .loop .inv .0, omega arith, omega (arith, c .before .before .before .before .before .before .loop .inv .2 .most))
+unite-requires c κs = tt
 
 loop-less : tie.Need-loop-less Inv-loop μ-loop
 loop-less c = omega arith
@@ -44,7 +45,7 @@ loop-again : tie.Need-loop-again Inv-loop μ-loop
 loop-again c = (
   omega (arith, c .before .before .unite .kept .0),
   omega arith,
-  blaming-clause (c .before .before .before .before .before .before .before .before .before .before .before .before .before .args .codes .now) (c .before .before .before .before .before .before .before .before .before .before .before .before .before .args .work .now) (c .before .before .before .before .before .before .before .before .before .before .before .before .before .args .i) (c .before .before .before .before .before .before .before .before .before .before .before .before .before .args .sets .now) (c .before .before .before .before .before .before .before .before .before .loop .e) (c .before .before .before .before .before .before .before .before .before .loop .best) (c .before .before .before .before .before .before .before .before .before .loop .sets) _ (c .before .before .before .before .before .before .before .before .loop-test .taken) (sym (c .before .before .before .before .before .before .wide16 .ensures) ∙ c .before .before .before .before .before .if1 .taken) (c .before .before .before .before .if2 .left) (c .before .before .before .before .before .before .before .before .before .loop .inv .2) (c .before .before .unite .ensures),
+  blaming-clause (c .before .before .before .before .before .before .before .before .before .before .before .before .before .args .codes .now) (c .before .before .before .before .before .before .before .before .before .before .before .before .before .args .work .now) (c .before .before .before .before .before .before .before .before .before .before .before .before .before .args .i) (c .before .before .before .before .before .before .before .before .before .before .before .before .before .args .sets .now) (c .before .before .before .before .before .before .before .before .before .loop .e) (c .before .before .before .before .before .before .before .before .before .loop .best) (c .before .before .before .before .before .before .before .before .before .loop .sets) _ (c .before .before .before .before .before .before .before .before .loop-test .taken) (sym (c .before .before .before .before .before .before .wide16 .ensures) ∙ c .before .before .before .before .before .if1 .taken) (c .before .before .before .before .if2 .left) (c .before .before .before .before .before .before .before .before .before .loop .inv .2) (unites _ (c .before .before .before .before .before .before .before .before .before .loop .inv .0) 128 (c .before .before .before .before .before .before .before .before .before .loop .best) (omega arith) (omega (arith, c .before .before .before .before .before .before .before .before .before .loop .inv .2 .most)) (c .before .before .unite .ensures)),
 )
 
 better-requires : tie.Need-better-requires Inv-loop μ-loop

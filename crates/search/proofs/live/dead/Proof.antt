@@ -1,7 +1,8 @@
 -- `live::dead` meets its contract. Assumes nothing.
 use native.Mathlib.Omega.{arith}
+use Rattle.search.proofs.CallLaws.{empties}
 use Rattle.search.proofs.LiveLaws.{row-dead, row-lives, row-lives-noted}
-use Rattle.search.proofs.MaskLaws.{store-behind}
+use Rattle.sets.proofs.MaskLaws.{store-behind}
 use borrow.Author.Needs.{needs}
 use Rattle.search.proofs.live.dead.Statement.{statement}
 use Rattle.search.proofs.live.dead.Tie as tie
@@ -10,7 +11,7 @@ live-clause-requires : tie.Need-live-clause-requires
 live-clause-requires c κs = search needs
 
 lives-requires : tie.Need-lives-requires
-lives-requires c κs = search needs
+lives-requires c κs = tt
 
 same-length : tie.Need-same-length
 same-length c = search needs
@@ -37,7 +38,7 @@ returns-2 : tie.Need-returns-2
 returns-2 c = row-lives-noted (c .before .before .before .before .before .before .before .before .before .before .args .codes .now) (c .before .before .before .before .before .before .before .before .before .before .args .work .now) (c .before .before .before .before .before .before .before .before .before .before .args .i) (c .before .before .before .before .before .before .before .before .before .before .args .sets .now) _ (store-behind _ _ _ (omega arith))
 
 empty-requires : tie.Need-empty-requires
-empty-requires c κs = search needs
+empty-requires c κs = tt
 
 blame-requires : tie.Need-blame-requires
 blame-requires c κs = search needs
@@ -46,7 +47,7 @@ same-length-3 : tie.Need-same-length-3
 same-length-3 c = search needs
 
 returns-3 : tie.Need-returns-3
-returns-3 c = row-dead (c .before .before .before .before .before .before .before .before .before .before .before .before .before .before .before .before .before .before .args .codes .now) (c .before .before .before .before .before .before .before .before .before .before .before .before .before .before .before .before .before .before .args .work .now) (c .before .before .before .before .before .before .before .before .before .before .before .before .before .before .before .before .before .before .args .i) (c .before .before .before .before .before .before .before .before .before .before .before .before .before .before .before .before .before .before .args .sets .now) _ _ _ (c .before .before .before .before .before .before .empty .ensures) (c .before .before .blame .ensures)
+returns-3 c = row-dead (c .before .before .before .before .before .before .before .before .before .before .before .before .before .before .before .before .before .before .args .codes .now) (c .before .before .before .before .before .before .before .before .before .before .before .before .before .before .before .before .before .before .args .work .now) (c .before .before .before .before .before .before .before .before .before .before .before .before .before .before .before .before .before .before .args .i) (c .before .before .before .before .before .before .before .before .before .before .before .before .before .before .before .before .before .before .args .sets .now) _ _ _ (empties _ (c .before .before .before .before .before .before .before .before .before .before .before .before .before .before .before .before .before .before .pre .1) 128 (omega arith) (omega arith) (c .before .before .before .before .before .before .empty .ensures)) (c .before .before .blame .ensures)
 
 pub dead-spec : {M : Type 1} → statement M
 dead-spec =

@@ -1,15 +1,17 @@
 -- `solve::from_start` meets its contract. Assumes nothing.
 use borrow.Author.Needs.{needs}
 use native.Mathlib.Omega.{arith}
+use mathlib.Core.Path.{refl, _∙_}
+use Rattle.search.proofs.CallLaws.{zero-at}
 use Rattle.search.proofs.SearchSteps.{start-searched, start-refuted}
 use Rattle.search.proofs.solve.from_start.Statement.{statement}
 use Rattle.search.proofs.solve.from_start.Tie as tie
 
-slice-aggregate-fill : tie.Need-slice-aggregate-fill
-slice-aggregate-fill c = search needs
+slice-aggregate-list-codes : tie.Need-slice-aggregate-list-codes
+slice-aggregate-list-codes c = search needs
 
-fill-requires : tie.Need-fill-requires
-fill-requires c κs = search needs
+list-codes-requires : tie.Need-list-codes-requires
+list-codes-requires c κs = (c .before .before .before .before .before .pre .3, c .before .before .before .before .before .pre .4, refl, zero-at 8451)
 
 slice-aggregate-look-around : tie.Need-slice-aggregate-look-around
 slice-aggregate-look-around c = search needs
@@ -18,7 +20,7 @@ slice-aggregate-look-around-2 : tie.Need-slice-aggregate-look-around-2
 slice-aggregate-look-around-2 c = search needs
 
 look-around-requires : tie.Need-look-around-requires
-look-around-requires c κs = search needs
+look-around-requires c κs = (record { rows = c .before .before .before .before .before .before .before .before .before .before .pre .2; entries = c .before .before .before .before .before .before .before .before .before .before .pre .3; coded = c .before .before .before .before .before .before .before .before .before .before .pre .4; area = c .before .before .before .before .before .before .before .before .before .before .pre .6; sets-lent = refl; index-lent = c .before .before .before .before .list-codes .kept .1 .1 .0; listed = c .before .before .before .before .list-codes .ensures }, c .before .before .before .before .before .before .before .before .before .before .pre .5)
 
 slice-aggregate-solve : tie.Need-slice-aggregate-solve
 slice-aggregate-solve c = search needs
@@ -27,7 +29,7 @@ slice-aggregate-solve-2 : tie.Need-slice-aggregate-solve-2
 slice-aggregate-solve-2 c = search needs
 
 solve-requires : tie.Need-solve-requires
-solve-requires c κs = (record { rows = (let p = c .before .before .before .before .before .before .before .before .before .before .before .before .before .before .before .before .before .before .pre in omega (arith, c .before .before .before .before .before .before .before .look-around .kept .1 .1 .0, c .before .before .before .before .before .before .before .look-around .kept .1 .1 .1 .0, c .before .before .before .before .before .before .before .before .before .before .before .before .fill .kept .1 .1 .0)); entries = (let p = c .before .before .before .before .before .before .before .before .before .before .before .before .before .before .before .before .before .before .pre in omega (arith, c .before .before .before .before .before .before .before .look-around .kept .1 .1 .0, c .before .before .before .before .before .before .before .look-around .kept .1 .1 .1 .0, c .before .before .before .before .before .before .before .before .before .before .before .before .fill .kept .1 .1 .0)); coded = c .before .before .before .before .before .before .before .before .before .before .before .before .before .before .before .before .before .before .pre .4; area = (let p = c .before .before .before .before .before .before .before .before .before .before .before .before .before .before .before .before .before .before .pre in omega (arith, c .before .before .before .before .before .before .before .look-around .kept .1 .1 .0, c .before .before .before .before .before .before .before .look-around .kept .1 .1 .1 .0, c .before .before .before .before .before .before .before .before .before .before .before .before .fill .kept .1 .1 .0)); sets-lent = (let p = c .before .before .before .before .before .before .before .before .before .before .before .before .before .before .before .before .before .before .pre in omega (arith, c .before .before .before .before .before .before .before .look-around .kept .1 .1 .0, c .before .before .before .before .before .before .before .look-around .kept .1 .1 .1 .0, c .before .before .before .before .before .before .before .before .before .before .before .before .fill .kept .1 .1 .0)); index-lent = (let p = c .before .before .before .before .before .before .before .before .before .before .before .before .before .before .before .before .before .before .pre in omega (arith, c .before .before .before .before .before .before .before .look-around .kept .1 .1 .0, c .before .before .before .before .before .before .before .look-around .kept .1 .1 .1 .0, c .before .before .before .before .before .before .before .before .before .before .before .before .fill .kept .1 .1 .0)) }, ((let p = c .before .before .before .before .before .before .before .before .before .before .before .before .before .before .before .before .before .before .pre in omega (arith, c .before .before .before .before .before .before .before .look-around .kept .1 .1 .0, c .before .before .before .before .before .before .before .look-around .kept .1 .1 .1 .0, c .before .before .before .before .before .before .before .before .before .before .before .before .fill .kept .1 .1 .0)), (let p = c .before .before .before .before .before .before .before .before .before .before .before .before .before .before .before .before .before .before .pre in omega (arith, c .before .before .before .before .before .before .before .look-around .kept .1 .1 .0, c .before .before .before .before .before .before .before .look-around .kept .1 .1 .1 .0, c .before .before .before .before .before .before .before .before .before .before .before .before .fill .kept .1 .1 .0)), (let p = c .before .before .before .before .before .before .before .before .before .before .before .before .before .before .before .before .before .before .pre in omega (arith, c .before .before .before .before .before .before .before .look-around .kept .1 .1 .0, c .before .before .before .before .before .before .before .look-around .kept .1 .1 .1 .0, c .before .before .before .before .before .before .before .before .before .before .before .before .fill .kept .1 .1 .0)), (let p = c .before .before .before .before .before .before .before .before .before .before .before .before .before .before .before .before .before .before .pre in omega (arith, c .before .before .before .before .before .before .before .look-around .kept .1 .1 .0, c .before .before .before .before .before .before .before .look-around .kept .1 .1 .1 .0, c .before .before .before .before .before .before .before .before .before .before .before .before .fill .kept .1 .1 .0)), (let p = c .before .before .before .before .before .before .before .before .before .before .before .before .before .before .before .before .before .before .pre in omega (arith, c .before .before .before .before .before .before .before .look-around .kept .1 .1 .0, c .before .before .before .before .before .before .before .look-around .kept .1 .1 .1 .0, c .before .before .before .before .before .before .before .before .before .before .before .before .fill .kept .1 .1 .0))))
+solve-requires c κs = (record { rows = c .before .before .before .before .before .before .before .before .before .before .before .before .before .before .before .before .before .before .pre .2; entries = c .before .before .before .before .before .before .before .before .before .before .before .before .before .before .before .before .before .before .pre .3; coded = c .before .before .before .before .before .before .before .before .before .before .before .before .before .before .before .before .before .before .pre .4; area = c .before .before .before .before .before .before .before .look-around .kept .1 .1 .0 ∙ c .before .before .before .before .before .before .before .before .before .before .before .before .before .before .before .before .before .before .pre .6; sets-lent = c .before .before .before .before .before .before .before .look-around .kept .1 .1 .1 .0; index-lent = c .before .before .before .before .before .before .before .before .before .before .before .before .list-codes .kept .1 .1 .0; listed = c .before .before .before .before .before .before .before .before .before .before .before .before .list-codes .ensures }, (c .before .before .before .before .before .before .before .before .before .before .before .before .before .before .before .before .before .before .pre .0, c .before .before .before .before .before .before .before .before .before .before .before .before .before .before .before .before .before .before .pre .5, (omega arith), c .before .before .before .before .before .before .before .before .before .before .before .before .before .before .before .before .before .before .pre .1, (omega arith)))
 
 same-length : tie.Need-same-length
 same-length c = search needs
@@ -45,8 +47,8 @@ pub from-start-spec : {M : Type 1} → statement M
 from-start-spec =
     tie.close
     (tie.spec
-    slice-aggregate-fill
-    fill-requires
+    slice-aggregate-list-codes
+    list-codes-requires
     slice-aggregate-look-around
     slice-aggregate-look-around-2
     look-around-requires

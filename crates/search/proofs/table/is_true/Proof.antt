@@ -3,7 +3,7 @@ use mathlib.Core.Path.{ap}
 use mathlib.Core.Bool.{not}
 use Prim.Native.Nat.{_%_}
 use borrow.Author.Tests.{eq-eqb, ne-eqb}
-use Rattle.search.specs.Codes.{code-true}
+use Rattle.codes.specs.Clauses.{code-true}
 use borrow.Author.Needs.{needs}
 use Rattle.search.proofs.table.is_true.Statement.{statement}
 use Rattle.search.proofs.table.is_true.Tie as tie

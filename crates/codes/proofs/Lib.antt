@@ -1,0 +1,5 @@
+-- The laws of the definitions in `specs/`.
+pub mod CodeLaws
+pub mod EncodeLaws
+pub mod Words
+pub mod ReadLaws

@@ -1,0 +1,165 @@
+-- What the functions of the crates below leave, by the relations that the search's steps speak of. Assumes nothing.
+use Prim.Native.Nat.{ℕ, zero, suc, _+_, _≤_, _<_}
+use mathlib.Core.Path.{_≡_, refl, sym, _∙_, ap₂, subst}
+use mathlib.Core.Bool.{Bool, true}
+use mathlib.Core.List.{List, [], _∷_}
+use native.Mathlib.Omega.{arith}
+use borrow.Author.Tests.{le-leb, eq-eqb, ne-eqb}
+use lib.IntN.{ℤ}
+use lib.ListN.{length, getD, take, drop, replicate}
+use Rattle.formula.specs.Causes.{ended}
+use Rattle.expansion.proofs.ClauseCuts.{matrix-at}
+use Rattle.cells.specs.Cells.{cells}
+use Rattle.cells.specs.Changes.{CellsSet, CellsOpened, FirstDifference}
+use Rattle.cells.specs.Steps.{rows-set, rows-opened, rows-compared}
+use Rattle.cells.proofs.SetLaws.{rows-are-set}
+use Rattle.cells.proofs.OpenLaws.{rows-are-opened}
+use Rattle.cells.proofs.DifferenceLaws.{rows-are-compared}
+use Rattle.order.specs.Order.{places}
+use Rattle.order.specs.Sorted.{Sorted}
+use Rattle.order.proofs.PlaceLaws.{places-sorted}
+use Rattle.numbering.specs.Numbering.{filled as numbered}
+use Rattle.numbering.specs.Wants.{WantsFilled}
+use Rattle.numbering.proofs.WantsFill.{wants-filled}
+use Rattle.codes.specs.Codes.{used as entries-used, filled as written-codes}
+use Rattle.codes.specs.Clauses.{code-true, code-clauses, clause-of, Ended, Coded, Names, Encoded}
+use Rattle.codes.proofs.EncodeLaws.{accepted as encodable, used-length, filled-encoded}
+use Rattle.index.specs.Index.{all-codes, codes-fit, index-of, filled as indexed}
+use Rattle.index.proofs.StartLaws.{listed-start}
+use Rattle.sets.specs.Sets.{united, united-words, added, has, emptied, filled, trimmed, excused, blamed}
+use Rattle.sets.specs.Masks.{set-at, SetGrown, SetsKept, United, WordsUnited, Trimmed, Excused, Blamed}
+use Rattle.sets.proofs.SetLaws.{unite-unites, words-unite, add-grows, add-adds, has-is, empty-keeps, fill-keeps, fill-fills, trim-trims, excuse-excuses, blame-blames}
+use Rattle.evaluation.specs.Evaluation.{look-at, matrix-in}
+use Rattle.evaluation.specs.Looked.{Looked}
+use Rattle.evaluation.proofs.LookLaws.{look-looked}
+use Rattle.evaluation.proofs.MatrixLaws.{matrix-is}
+use Rattle.groups.specs.Groups.{copy-start, copy-end, parting-row, parted-at, open-position}
+use Rattle.groups.specs.Parts.{CopyFrom, CopyTo, Parting, PartedAt, Stands}
+use Rattle.search.specs.Steps.{Listed}
+use Rattle.groups.proofs.PartLaws.{copy-start-from, copy-end-to, parting-row-parts, parted-at-there, open-position-stands}
+
+-- ---- sets of positions
+
+module _ (s : List ℕ) {t : List ℕ} (size : length s ≡ 516) where
+  pub unites : (to from : ℕ) → to < 130 → from < 130 → t ≡ united s to from → United to from s t
+  unites to from place other e = subst (λ (x : List ℕ). United to from s x) (sym e) (unite-unites s size to from place other)
+
+  pub unites-words : (to low high : ℕ) → to < 130 → t ≡ united-words s to low high → WordsUnited to low high s t
+  unites-words to low high place e = subst (λ (x : List ℕ). WordsUnited to low high s x) (sym e) (words-unite s size to low high place)
+
+  pub grows : (to p : ℕ) → to < 130 → p < 128 → t ≡ added s to p → SetGrown to s t
+  grows to p place below e = subst (λ (x : List ℕ). SetGrown to s x) (sym e) (add-grows s size to p place below)
+
+  pub adds : (to p : ℕ) → to < 130 → p < 128 → t ≡ added s to p → set-at t to p ≡ true
+  adds to p place below e = subst (λ (x : List ℕ). set-at x to p ≡ true) (sym e) (add-adds s size to p place below)
+
+  pub empties : (to : ℕ) → 128 ≤ to → to < 130 → t ≡ emptied s to → SetsKept s t
+  empties to behind place e = subst (λ (x : List ℕ). SetsKept s x) (sym e) (empty-keeps s size to behind place)
+
+  pub fills-kept : (to : ℕ) → 128 ≤ to → to < 130 → t ≡ filled s to → SetsKept s t
+  fills-kept to behind place e = subst (λ (x : List ℕ). SetsKept s x) (sym e) (fill-keeps s size to behind place)
+
+  pub fills : (to : ℕ) → to < 130 → t ≡ filled s to → (l : ℕ) → l < 128 → set-at t to l ≡ true
+  fills to place e l below = subst (λ (x : List ℕ). set-at x to l ≡ true) (sym e) (fill-fills s size to place l below)
+
+  pub trims : (k n : ℕ) → k ≤ n → n ≤ 128 → t ≡ trimmed s k n → Trimmed k s t
+  trims k n low high e = subst (λ (x : List ℕ). Trimmed k s x) (sym e) (trim-trims s size k n low high)
+
+  pub excuses : (k at : ℕ) → at ≤ 128 → t ≡ excused s 128 k at → Excused k at s t
+  excuses k at high e = subst (λ (x : List ℕ). Excused k at s x) (sym e) (excuse-excuses s size k at high)
+
+  pub blames : (codes : List ℕ) (start to : ℕ) → to < 130 → Coded 128 codes → t ≡ blamed codes s start to → Blamed (clause-of (drop start codes)) to s t
+  blames codes start to place coded e =
+      subst (λ (x : List ℕ). Blamed (clause-of (drop start codes)) to s x) (sym e) (blame-blames s size codes start to place coded)
+
+pub has-at : (s : List ℕ) → length s ≡ 516 → (of p : ℕ) {r : Bool} → of < 130 → p < 128 → r ≡ has s of p → r ≡ set-at s of p
+has-at s size of p place below e = e ∙ has-is s size of p place below
+
+-- ---- clauses in a row
+
+module _ (codes w : List ℕ) (i : ℕ) (area : length w ≡ 65536) (row : i < 256) (coded : Coded 128 codes) where
+  pub looks : (start : ℕ) {r : ℕ} → r ≡ look-at codes w i start → Looked codes w i start r
+  looks start e = subst (λ (x : ℕ). Looked codes w i start x) (sym e) (look-looked codes w i start area row coded)
+
+  pub matrix-of : {r : Bool} → r ≡ matrix-in codes w i → Ended codes → r ≡ matrix-at code-true (code-clauses codes) (cells w .value i)
+  matrix-of e ended = e ∙ matrix-is codes w i area row coded ended
+
+-- ---- groups of rows
+
+module _ (splits : List ℕ) where
+  pub copy-from : (k lo i : ℕ) {r : ℕ} → lo ≤ i → i < length splits → r ≡ copy-start splits k lo i → CopyFrom splits k lo i r
+  copy-from k lo i low high e = subst (λ (x : ℕ). CopyFrom splits k lo i x) (sym e) (copy-start-from splits k lo i low high)
+
+  pub copy-to : (k i hi : ℕ) {r : ℕ} → i < hi → hi ≤ length splits → r ≡ copy-end splits k i hi → CopyTo splits k i hi r
+  copy-to k i hi low high e = subst (λ (x : ℕ). CopyTo splits k i hi x) (sym e) (copy-end-to splits k i hi low high)
+
+  pub parts : (lo hi : ℕ) {r : ℕ} → lo < hi → hi ≤ length splits → r ≡ parting-row splits lo hi → Parting splits lo hi r
+  parts lo hi low high e = subst (λ (x : ℕ). Parting splits lo hi x) (sym e) (parting-row-parts splits lo hi low high)
+
+  pub parts-there : (lo mid n : ℕ) {r : ℕ} → mid < length splits → r ≡ parted-at splits lo mid n → PartedAt splits lo mid n r
+  parts-there lo mid n high e = subst (λ (x : ℕ). PartedAt splits lo mid n x) (sym e) (parted-at-there splits lo mid n high)
+
+pub stands : (kinds w : List ℕ) (side k lo until : ℕ) {r : ℕ} → length w ≡ 65536 → length kinds ≤ 128 → until ≤ length kinds → k ≤ length kinds → lo < 256
+    → r ≡ open-position kinds w side k lo until → Stands kinds w side k lo until r
+stands kinds w side k lo until area few within known row e =
+    subst (λ (x : ℕ). Stands kinds w side k lo until x) (sym e) (open-position-stands kinds w side k lo until area few within known row)
+
+-- ---- cells
+
+module _ {w u : List ℕ} (area : length w ≡ 65536) where
+  pub sets-rows : (k lo hi mark : ℕ) (value : Bool) → k < 128 → lo ≤ hi → hi ≤ 256 → u ≡ rows-set k lo hi mark value w → CellsSet k lo hi mark value w u
+  sets-rows k lo hi mark value small low high e = subst (λ (x : List ℕ). CellsSet k lo hi mark value w x) (sym e) (rows-are-set k lo hi mark value w area small high low)
+
+  pub opens-rows : (lo hi bound : ℕ) → lo ≤ hi → hi ≤ 256 → u ≡ rows-opened lo hi bound w → CellsOpened lo hi bound w u
+  opens-rows lo hi bound low high e = subst (λ (x : List ℕ). CellsOpened lo hi bound w x) (sym e) (rows-are-opened lo hi bound w area high low)
+
+-- ---- the tables that a search begins with
+
+pub sorts : (rows : List ℕ) (count m : ℕ) (before : List ℕ) {place : List ℕ} → count ≤ 256 → count ≤ length before → place ≡ places rows count m before
+    → Sorted rows count m place
+sorts rows count m before few fits e = subst (λ (x : List ℕ). Sorted rows count m x) (sym e) (places-sorted rows count m before few fits)
+
+pub compares : (kinds w : List ℕ) (count side : ℕ) (before : List ℕ) {splits : List ℕ} → length w ≡ 65536 → length kinds ≤ 128 → count ≤ 256 → length before ≡ 256
+    → splits ≡ rows-compared kinds w count side before → (i : ℕ) → i + 1 < count → FirstDifference kinds side w i (getD splits (i + 1) 0)
+compares kinds w count side before area few most room e i less =
+    subst (λ (x : List ℕ). FirstDifference kinds side w i (getD x (i + 1) 0)) (sym e) (rows-are-compared kinds w count side before area few most room i less)
+
+pub numbers : (kinds preferences place splits : List ℕ) (side : ℕ) {w u : List ℕ} → length kinds ≤ 128 → length place ≤ 256
+    → ((i : ℕ) → i < length place → (r : ℕ) × (r < length place) × (getD place r 0 ≡ i)) → length splits ≡ 256 → length w ≡ 65536
+    → u ≡ numbered kinds preferences place splits side w → WantsFilled kinds preferences place splits side w u
+numbers kinds preferences place splits side {w} few most met room area e =
+    subst (λ (x : List ℕ). WantsFilled kinds preferences place splits side w x) (sym e) (wants-filled kinds preferences place splits side w few most met room area)
+
+module _ (literals : List ℤ) (before : List ℕ) (short : length literals ≤ length before) (names : Names 128 literals) where
+  pub encodes-few : {used : ℕ} → used ≡ entries-used literals (length before) → used ≤ length literals
+  encodes-few e = omega (arith, used-length literals before (encodable literals (length before) short names))
+
+  pub encodes : {used : ℕ} {codes : List ℕ} → ended literals ≡ true → used ≡ entries-used literals (length before) → codes ≡ written-codes literals before
+      → Encoded literals (take used codes)
+  encodes end e f =
+      subst (λ (l : List ℕ). Encoded literals l) (ap₂ take (sym e) (sym f)) (filled-encoded literals before (encodable literals (length before) short names) end)
+
+all-are-codes : (codes : List ℕ) → Coded 128 codes → all-codes codes ≡ true
+all-are-codes [] coded = refl
+all-are-codes (zero ∷ codes) coded = all-are-codes codes (λ e less. coded (suc e) (omega arith))
+all-are-codes (suc c ∷ codes) coded =
+    let here = coded 0 (omega arith) (omega arith) in
+    rw (le-leb (suc c) 257 (omega arith), ne-eqb (suc c) 1 (λ e. omega arith)) (all-are-codes codes (λ e less. coded (suc e) (omega arith)))
+
+pub lists : (codes before : List ℕ) {index : List ℕ} → length codes ≤ 8192 → Coded 128 codes → length before ≡ 8451 → index ≡ indexed codes before → Listed codes index
+unfolding indexed codes-fit
+lists codes before few coded size e =
+    subst (λ (x : List ℕ). Listed codes x) (sym (e ∙ whole)) (listed-start codes)
+  where
+    whole : indexed codes before ≡ index-of codes
+    whole = rw (le-leb (length codes) 8192 few, eq-eqb (length before) 8451 size, all-are-codes codes coded)
+
+-- A table of zeros has 0 at every place, and past its end.
+pub zero-at : (n x : ℕ) → _≡_ {A = ℕ} (getD (replicate n 0) x 0) 0
+zero-at zero x = refl
+zero-at (suc n) zero = refl
+zero-at (suc n) (suc x) = zero-at n x
+
+-- In an index of zeros nothing stands between two bounds.
+pub lists-nothing : (codes index : List ℕ) → ((x : ℕ) → getD index x 0 ≡ 0) → Listed codes index
+lists-nothing codes index zeros c at one most low high = absurd (omega (arith, zeros c))

@@ -1,0 +1,34 @@
+// What the table of sets holds: at a position k the decisions by which its values were reached, at CUT those by which the last failure was
+// reached, at CHANGED the positions whose changes were not looked at. From HINTS on stand the hints of either side.
+ghost use mathlib.Core.Path.{_≡_};
+ghost use Prim.Native.Nat.{_≤_, _<_};
+ghost use lib.ListN.{length};
+ghost use Rattle.sets.specs.Masks.{SetsKept};
+
+// The place behind the positions.
+pub(crate) const CUT: usize = 128;
+
+// The place of the positions whose changes were not looked at.
+pub(crate) const CHANGED: usize = 129;
+
+// The first word behind the sets. On the existential side words 2 k and 2 k + 1 from here bound the rows in which position k changed; on
+// the universal side word i names a clause that was live in row i. Nothing rests on them.
+pub(crate) const HINTS: usize = 260;
+
+// Takes out the lowest position of the set at `of`, behind those of the positions, and returns it; CUT if there is none.
+pub(crate) fn take_lowest(sets: &mut [u64], of: usize) -> usize
+    requires { ⌜ (length (now sets) ≡ 516) × (128 ≤ of) × (of < 130) ⌝ }
+    ensures { λ _. ⌜ SetsKept (now (sets .entry)) (now (sets .exit)) ⌝ }
+{
+    let low = sets[2 * of];
+    if low != 0 {
+        sets[2 * of] = low & (low - 1);
+        return u64::trailing_zeros(low) as usize;
+    }
+    let high = sets[2 * of + 1];
+    if high != 0 {
+        sets[2 * of + 1] = high & (high - 1);
+        return 64 + u64::trailing_zeros(high) as usize;
+    }
+    CUT
+}
