@@ -2,7 +2,7 @@
 -- that of its position, turned by its sign. Assumes nothing.
 use Prim.Native.Nat.{ℕ, zero, suc, _+_, _-_, _%_, _≤_, _<_}
 use mathlib.Core.Path.{_≡_, refl, sym, _∙_, ap, subst}
-use mathlib.Core.Logic.{inl, inr}
+use mathlib.Core.Logic.{_≢_, inl, inr}
 use mathlib.Core.Bool.{Bool, true, false, not, cond}
 use mathlib.Core.List.{List, [], _∷_}
 use native.Mathlib.Omega.{arith}
@@ -11,6 +11,7 @@ use lib.Dec.{eqb}
 use lib.ListN.{length, getD, drop, length-drop}
 use lib.Seq.{drop-cons, getD-drop}
 use Rattle.expansion.proofs.ClauseCuts.{Every, Some}
+use Rattle.codes.specs.Codes.{row-position}
 use Rattle.codes.specs.Clauses.{position, code-true, code-onto, code-clauses, clause-of, HasEnd, Begins, Coded}
 
 -- ---- literals
@@ -115,3 +116,17 @@ module _ {A : Type 0} where
   pub every-some : (Q R : A → Type 0) (B : Type 0) → ((x : A) → Q x → R x → B) → (xs : List A) → Every Q xs → Some R xs → B
   every-some Q R B f (x ∷ xs) a (inl r) = f x (a .0) r
   every-some Q R B f (x ∷ xs) a (inr s) = every-some Q R B f xs (a .1) s
+
+-- ---- positions and ends
+
+pub row-position-is : (c : ℕ) → 2 ≤ c → position c < 128 → row-position c ≡ position c
+row-position-is c two below = omega arith
+
+onto-some : (c : ℕ) (xs : List (List ℕ)) → code-onto c xs ≢ []
+onto-some c [] e = let z : _≡_ {A = ℕ} 0 1 = cc in omega arith
+onto-some c (x ∷ xs) e = let z : _≡_ {A = ℕ} 0 1 = cc in omega arith
+
+-- Where a clause has its end, there is a clause.
+pub clauses-some : (cs : List ℕ) → HasEnd cs → code-clauses cs ≢ []
+clauses-some (zero ∷ cs) h e = let z : _≡_ {A = ℕ} 0 1 = cc in omega arith
+clauses-some (suc c ∷ cs) h e = onto-some (suc c) (code-clauses cs) e

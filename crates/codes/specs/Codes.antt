@@ -1,6 +1,6 @@
 -- The literals of a formula as codes, clause by clause: 0 ends a clause, 2v stands for the literal v and 2v + 1 for -v.
 -- Assumes nothing.
-use Prim.Native.Nat.{ℕ, zero, suc, _+_, _*_, _-_, _%_}
+use Prim.Native.Nat.{ℕ, zero, suc, _+_, _*_, _-_, _/_, _%_}
 use mathlib.Core.Bool.{Bool, cond, _||_}
 use mathlib.Core.List.{List, [], _∷_, _++_}
 use lib.Dec.{eqb, ltb}
@@ -17,6 +17,10 @@ code-of (negsuc v) = 2 * suc v + 1
 -- The code of the same unknown with the other sign.
 unfoldable pub opposite : ℕ → ℕ
 opposite c = cond (eqb (c % 2) 0) (c + 1) (c - 1)
+
+-- The position of a code's unknown: c / 2 - 1 for the codes 2 to 257, which stand for literals, and one of the 128 for any other number.
+abbrev pub row-position : ℕ → ℕ
+row-position c = (c / 2 + 127) % 128
 
 -- Whether a clause has a code.
 abbrev pub has : ℕ → List ℕ → Bool

@@ -9,7 +9,8 @@ use borrow.Author.Tests.{ltb-true, eqb-true}
 use Rattle.preference.specs.Preference.{odd}
 use Rattle.cells.specs.Cells.{cells}
 use Rattle.cells.proofs.CellLaws.{level-at, value-at}
-use Rattle.evaluation.specs.Evaluation.{has-row, row-position, is-set}
+use Rattle.codes.specs.Codes.{row-position}
+use Rattle.evaluation.specs.Evaluation.{has-row, is-set}
 
 pub row-given : (w : List ℕ) (i : ℕ) → has-row w i ≡ true → (length w ≡ 65536) × (i < 256)
 row-given w i e =

@@ -9,7 +9,9 @@ use lib.Dec.{ltb, eqb}
 use lib.ListN.{length}
 use Rattle.cells.specs.Cells.{cells}
 use Rattle.codes.specs.Clauses.{position, code-true}
-use Rattle.evaluation.specs.Evaluation.{has-row, row-position, is-set, is-true}
+use Rattle.codes.specs.Codes.{row-position}
+use Rattle.codes.proofs.CodeLaws.{row-position-is}
+use Rattle.evaluation.specs.Evaluation.{has-row, is-set, is-true}
 use Rattle.evaluation.specs.Looked.{IsAt}
 
 -- Each code of a literal: none but these stand in codes that are `Coded 128`.
@@ -21,7 +23,7 @@ has-this-row w i area row = rw (eq-eqb (length w) 65536 area, lt-ltb i 256 row)
 
 module _ (w : List ℕ) (i c : ℕ) (literal : IsLiteral c) where
   same-position : row-position c ≡ position c
-  same-position = let low = literal .0 in let high = literal .1 in omega arith
+  same-position = row-position-is c (literal .0) (literal .1)
 
   pub true-is : is-true w i c ≡ code-true (cells w .value i) c
   unfolding is-true code-true

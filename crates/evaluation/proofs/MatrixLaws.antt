@@ -8,18 +8,10 @@ use native.Mathlib.Omega.{arith}
 use lib.ListN.{length}
 use Rattle.expansion.proofs.ClauseCuts.{clause-at, matrix-at}
 use Rattle.cells.specs.Cells.{cells}
-use Rattle.codes.specs.Clauses.{code-true, code-onto, code-clauses, HasEnd, Ended, Coded}
+use Rattle.codes.specs.Clauses.{code-true, code-onto, code-clauses, Ended, Coded}
+use Rattle.codes.proofs.CodeLaws.{clauses-some}
 use Rattle.evaluation.specs.Evaluation.{is-true, matrix-on, matrix-in}
 use Rattle.evaluation.proofs.LiteralLaws.{has-this-row, true-is}
-
-onto-some : (c : ℕ) (xs : List (List ℕ)) → code-onto c xs ≢ []
-onto-some c [] e = let z : _≡_ {A = ℕ} 0 1 = cc in omega arith
-onto-some c (x ∷ xs) e = let z : _≡_ {A = ℕ} 0 1 = cc in omega arith
-
--- Where a clause has its end, there is a clause.
-clauses-some : (cs : List ℕ) → HasEnd cs → code-clauses cs ≢ []
-clauses-some (zero ∷ cs) h e = let z : _≡_ {A = ℕ} 0 1 = cc in omega arith
-clauses-some (suc c ∷ cs) h e = onto-some (suc c) (code-clauses cs) e
 
 -- The matrix of the clauses, where `met` says that the first has a true literal before those that it lists.
 abbrev matrix-from : (ℕ → Bool) → Bool → List (List ℕ) → Bool

@@ -1,19 +1,16 @@
 -- What clauses, as codes, are worth in one row of the table of cells. A literal whose cell is set is true or false; any other is open.
 -- Assumes nothing.
-use Prim.Native.Nat.{ℕ, zero, suc, _+_, _/_, _%_}
+use Prim.Native.Nat.{ℕ, zero, suc, _+_, _%_}
 use mathlib.Core.Bool.{Bool, true, false, not, _&&_, _||_, cond}
 use mathlib.Core.List.{List, [], _∷_}
 use lib.Dec.{ltb, eqb}
 use lib.ListN.{length, drop}
 use Rattle.cells.specs.Cells.{cells}
+use Rattle.codes.specs.Codes.{row-position}
 
 -- The area is as long as the table, which has row i.
 abbrev pub has-row : List ℕ → ℕ → Bool
 has-row w i = eqb (length w) 65536 && ltb i 256
-
--- The position of a code's unknown: c / 2 - 1 for the codes 2 to 257, which stand for literals, and inside the row for all others.
-abbrev pub row-position : ℕ → ℕ
-row-position c = (c / 2 + 127) % 128
 
 -- The literal of code c is set in row i.
 unfoldable pub is-set : List ℕ → ℕ → ℕ → Bool

@@ -5,7 +5,8 @@ ghost use mathlib.Core.Path.{_≡_};
 ghost use Prim.Native.Nat.{_<_};
 ghost use mathlib.Core.Bool.{false};
 ghost use lib.ListN.{length, drop};
-ghost use Rattle.evaluation.specs.Evaluation.{has-row, row-position, is-set, is-true, is-satisfied, look-on, look-at, lives-on, lives-at, next-live-on, next-live-at, matrix-on, matrix-in};
+ghost use Rattle.codes.specs.Codes.{row-position};
+ghost use Rattle.evaluation.specs.Evaluation.{has-row, is-set, is-true, is-satisfied, look-on, look-at, lives-on, lives-at, next-live-on, next-live-at, matrix-on, matrix-in};
 
 const AREA: usize = 65_536;
 

@@ -17,8 +17,9 @@ use Rattle.expansion.proofs.Node.{Node, grown-refl}
 use Rattle.expansion.proofs.ClauseCuts.{Every, Some, Rests, matrix-at, every-map, some-map, dead-row}
 use Rattle.cells.specs.Cells.{cells}
 use Rattle.sets.specs.Masks.{set-at, masks, cut, SetGrown, SetsKept, United}
-use Rattle.codes.specs.Clauses.{position, code-true, code-onto, code-clauses, HasEnd, Ended, code-goal, Coded}
+use Rattle.codes.specs.Clauses.{position, code-true, code-onto, code-clauses, Ended, code-goal, Coded}
 use Rattle.search.specs.Steps.{Fits, Settles, RowBlamed}
+use Rattle.codes.proofs.CodeLaws.{clauses-some}
 use Rattle.evaluation.specs.Looked.{IsAt}
 use Rattle.search.specs.Live.{RowDead}
 use Rattle.search.proofs.StepLaws.{masks-kept, settles-refl}
@@ -85,15 +86,6 @@ covered-onto : (Q : ℕ → Type 0) (A : Type 0) (c : ℕ) (xs : List (List ℕ)
 covered-onto Q A c [] some h = absurd (some refl)
 covered-onto Q A c (x ∷ xs) some h =
     (⊎-elim (⊎-elim (λ a. inl a) (λ q. inr (inl q))) (λ s. inr (inr s)) (h .0), h .1)
-
-onto-some : (c : ℕ) (xs : List (List ℕ)) → code-onto c xs ≢ []
-onto-some c [] e = let z : _≡_ {A = ℕ} 0 1 = cc in omega arith
-onto-some c (x ∷ xs) e = let z : _≡_ {A = ℕ} 0 1 = cc in omega arith
-
--- Where a clause has its end, there is a clause.
-pub clauses-some : (cs : List ℕ) → HasEnd cs → code-clauses cs ≢ []
-clauses-some (zero ∷ cs) h e = let z : _≡_ {A = ℕ} 0 1 = cc in omega arith
-clauses-some (suc c ∷ cs) h e = onto-some (suc c) (code-clauses cs) e
 
 handled-covered : (Q : ℕ → Type 0) (A : Type 0) (cs : List ℕ) → Ended cs → Handled Q A cs → Covered Q A (code-clauses cs)
 handled-covered Q A [] ended h = tt

@@ -5,7 +5,8 @@ use mathlib.Core.Bool.{Bool, true, false, cond}
 use mathlib.Core.List.{List}
 use lib.Dec.{eqb}
 use lib.ListN.{length, length-set}
-use Rattle.sets.specs.Sets.{words-put, words-joined, words-met, set-joined, bit-at, each-from, followed, code-place, code-joined}
+use Rattle.codes.specs.Codes.{row-position}
+use Rattle.sets.specs.Sets.{words-put, words-joined, words-met, set-joined, bit-at, each-from, followed, code-joined}
 
 -- ---- sets at places that are there
 
@@ -34,7 +35,7 @@ pub length-followed : (of : ℕ) (s : List ℕ) (p : ℕ) → length (followed o
 length-followed of s p = length-if (bit-at s of p) (set-joined s of p) s (length-set-joined s of p) refl
 
 pub length-code-joined : (to : ℕ) (s : List ℕ) (c : ℕ) → length (code-joined to s c) ≡ length s
-length-code-joined to s c = length-if (eqb (code-place c) to) s (set-joined s to (code-place c)) refl (length-set-joined s to (code-place c))
+length-code-joined to s c = length-if (eqb (row-position c) to) s (set-joined s to (row-position c)) refl (length-set-joined s to (row-position c))
 
 pub length-each : (change : List ℕ → ℕ → List ℕ) → ((t : List ℕ) (p : ℕ) → length (change t p) ≡ length t)
     → (k m : ℕ) (s : List ℕ) → length (each-from change k m s) ≡ length s

@@ -9,7 +9,8 @@ use borrow.Author.Tests.{eq-eqb, ne-eqb}
 use lib.ListN.{length, getD, drop, drop-of-length-le}
 use Rattle.codes.specs.Clauses.{clause-of}
 use Rattle.codes.proofs.CodeLaws.{clause-step, clause-stop}
-use Rattle.sets.specs.Sets.{set-joined, bit-at, each-from, followed, code-place, code-joined, codes-joined}
+use Rattle.codes.specs.Codes.{row-position}
+use Rattle.sets.specs.Sets.{set-joined, bit-at, each-from, followed, code-joined, codes-joined}
 
 -- ---- positions, one after the other
 
@@ -36,13 +37,13 @@ module _ (of p : ℕ) (t : List ℕ) {r : Bool} (found : r ≡ bit-at t of p) wh
 -- ---- codes, up to the end of the clause
 
 module _ (to c : ℕ) (t : List ℕ) (r : ℕ) (read : r ≡ c) where
-  pub code-itself : code-place r ≡ to → t ≡ code-joined to t c
-  code-itself same = rw (eq-eqb (code-place c) to (sym (ap code-place read) ∙ same))
+  pub code-itself : row-position r ≡ to → t ≡ code-joined to t c
+  code-itself same = rw (eq-eqb (row-position c) to (sym (ap row-position read) ∙ same))
 
-  pub code-other : (u : List ℕ) → code-place r ≢ to → u ≡ set-joined t to (code-place r) → u ≡ code-joined to t c
+  pub code-other : (u : List ℕ) → row-position r ≢ to → u ≡ set-joined t to (row-position r) → u ≡ code-joined to t c
   code-other u other e =
-      rw (ne-eqb (code-place c) to (λ same. other (ap code-place read ∙ same)))
-      (e ∙ ap (λ (x : ℕ). set-joined t to (code-place x)) read)
+      rw (ne-eqb (row-position c) to (λ same. other (ap row-position read ∙ same)))
+      (e ∙ ap (λ (x : ℕ). set-joined t to (row-position x)) read)
 
 module _ (codes : List ℕ) (to e : ℕ) (t : List ℕ) where
   pub codes-more : e < length codes → 0 < getD codes e 0 → (u : List ℕ) → u ≡ code-joined to t (getD codes e 0)

@@ -11,8 +11,9 @@ use lib.ListN.{length, drop}
 use Rattle.expansion.proofs.Booleans.{never-both}
 use Rattle.expansion.proofs.ClauseCuts.{Every, every-map}
 use Rattle.codes.specs.Clauses.{position, clause-of, Coded}
-use Rattle.codes.proofs.CodeLaws.{clause-coded}
-use Rattle.sets.specs.Sets.{words-put, words-joined, words-met, set-joined, bit-added, bit-at, ones, each-from, cut-at, followed, code-place, code-joined, codes-joined, united, united-words, added, has, emptied, filled, trimmed, excused, blamed}
+use Rattle.codes.proofs.CodeLaws.{clause-coded, row-position-is}
+use Rattle.codes.specs.Codes.{row-position}
+use Rattle.sets.specs.Sets.{words-put, words-joined, words-met, set-joined, bit-added, bit-at, ones, each-from, cut-at, followed, code-joined, codes-joined, united, united-words, added, has, emptied, filled, trimmed, excused, blamed}
 use Rattle.sets.specs.Masks.{set-at, SetGrown, SetsKept, Put, United, WordsUnited, Trimmed, Excused, Blamed}
 use Rattle.sets.proofs.TestLaws.{place-true, numbers-true}
 use Rattle.sets.proofs.LengthLaws.{length-met, length-followed, length-code-joined, length-each}
@@ -84,27 +85,24 @@ excused-each k (suc m) s size fits =
 
 -- ---- a code after the other
 
-place-position : (c : ℕ) → 2 ≤ c → position c < 128 → code-place c ≡ position c
-place-position c two below = omega arith
-
 code-grown : (s : List ℕ) → length s ≡ 516 → (to c : ℕ) → to < 130 → SetGrown to s (code-joined to s c)
-code-grown s size to c place = go (ℕ-discrete (code-place c) to)
+code-grown s size to c place = go (ℕ-discrete (row-position c) to)
   where
-    go : Dec (code-place c ≡ to) → SetGrown to s (code-joined to s c)
-    go (yes same) = rw (eq-eqb (code-place c) to same) set-grown-refl
-    go (no other) = rw (ne-eqb (code-place c) to other) (set-joined-united s size to place (code-place c) .grown)
+    go : Dec (row-position c ≡ to) → SetGrown to s (code-joined to s c)
+    go (yes same) = rw (eq-eqb (row-position c) to same) set-grown-refl
+    go (no other) = rw (ne-eqb (row-position c) to other) (set-joined-united s size to place (row-position c) .grown)
 
 code-taken : (s : List ℕ) → length s ≡ 516 → (to c : ℕ) → to < 130 → 2 ≤ c → position c < 128
     → (position c ≡ to) ⊎ ((l : ℕ) → set-at s (position c) l ≡ true → set-at (code-joined to s c) to l ≡ true)
-code-taken s size to c place two below = go (ℕ-discrete (code-place c) to)
+code-taken s size to c place two below = go (ℕ-discrete (row-position c) to)
   where
-    go : Dec (code-place c ≡ to) → (position c ≡ to) ⊎ ((l : ℕ) → set-at s (position c) l ≡ true → set-at (code-joined to s c) to l ≡ true)
-    go (yes same) = inl (sym (place-position c two below) ∙ same)
+    go : Dec (row-position c ≡ to) → (position c ≡ to) ⊎ ((l : ℕ) → set-at s (position c) l ≡ true → set-at (code-joined to s c) to l ≡ true)
+    go (yes same) = inl (sym (row-position-is c two below) ∙ same)
     go (no other) =
         inr
         (λ l h.
-        rw (ne-eqb (code-place c) to other)
-        (set-joined-united s size to place (code-place c) .takes l (subst (λ (p : ℕ). set-at s p l ≡ true) (sym (place-position c two below)) h)))
+        rw (ne-eqb (row-position c) to other)
+        (set-joined-united s size to place (row-position c) .takes l (subst (λ (p : ℕ). set-at s p l ≡ true) (sym (row-position-is c two below)) h)))
 
 blamed-all : (to : ℕ) → to < 130 → (cs : List ℕ) → Every (λ c. (2 ≤ c) × (position c < 128)) cs
     → (s : List ℕ) → length s ≡ 516 → Blamed cs to s (codes-joined to cs s)

@@ -7,6 +7,7 @@ use lib.Bits.{bitAnd, bitOr}
 use lib.Dec.{eqb, ltb}
 use lib.ListN.{length, getD, set, drop}
 use Rattle.preference.specs.Preference.{odd}
+use Rattle.codes.specs.Codes.{row-position}
 use Rattle.codes.specs.Clauses.{clause-of}
 
 -- ---- sets at places that are there
@@ -52,13 +53,9 @@ cut-at k s p = words-met s p (ones k) (ones (k - 64))
 abbrev pub followed : ℕ → List ℕ → ℕ → List ℕ
 followed of s p = cond (bit-at s of p) (set-joined s of p) s
 
--- The position of a code: c / 2 - 1 for the codes 2 to 257.
-abbrev pub code-place : ℕ → ℕ
-code-place c = (c / 2 + 127) % 128
-
 -- The set at `to` takes in that of the code's position, if this is another.
 abbrev pub code-joined : ℕ → List ℕ → ℕ → List ℕ
-code-joined to s c = cond (eqb (code-place c) to) s (set-joined s to (code-place c))
+code-joined to s c = cond (eqb (row-position c) to) s (set-joined s to (row-position c))
 
 -- The same for each code in turn.
 abbrev pub codes-joined : ℕ → List ℕ → List ℕ → List ℕ
