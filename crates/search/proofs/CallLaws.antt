@@ -9,34 +9,34 @@ use lib.IntN.{ℤ}
 use lib.ListN.{length, getD, take, drop, replicate}
 use Rattle.formula.specs.Causes.{ended}
 use Rattle.expansion.proofs.ClauseCuts.{matrix-at}
-use Rattle.cells.specs.Cells.{cells}
-use Rattle.cells.specs.Changes.{CellsSet, CellsOpened, FirstDifference}
-use Rattle.cells.specs.Steps.{rows-set, rows-opened, rows-compared}
-use Rattle.cells.proofs.SetLaws.{rows-are-set}
-use Rattle.cells.proofs.OpenLaws.{rows-are-opened}
-use Rattle.cells.proofs.DifferenceLaws.{rows-are-compared}
-use Rattle.order.specs.Order.{places}
-use Rattle.order.specs.Sorted.{Sorted}
-use Rattle.order.proofs.PlaceLaws.{places-sorted}
-use Rattle.numbering.specs.Numbering.{filled as numbered}
-use Rattle.numbering.specs.Wants.{WantsFilled}
-use Rattle.numbering.proofs.WantsFill.{wants-filled}
+use Rattle.search_cells.specs.Cells.{cells}
+use Rattle.search_cells.specs.Changes.{CellsSet, CellsOpened, FirstDifference}
+use Rattle.search_cells.specs.Steps.{rows-set, rows-opened, rows-compared}
+use Rattle.search_cells.proofs.SetLaws.{rows-are-set}
+use Rattle.search_cells.proofs.OpenLaws.{rows-are-opened}
+use Rattle.search_cells.proofs.DifferenceLaws.{rows-are-compared}
+use Rattle.search_order.specs.Order.{places}
+use Rattle.search_order.specs.Sorted.{Sorted}
+use Rattle.search_order.proofs.PlaceLaws.{places-sorted}
+use Rattle.search_numbering.specs.Numbering.{filled as numbered}
+use Rattle.search_numbering.specs.Wants.{WantsFilled}
+use Rattle.search_numbering.proofs.WantsFill.{wants-filled}
 use Rattle.codes.specs.Codes.{used as entries-used, filled as written-codes}
 use Rattle.codes.specs.Clauses.{code-true, code-clauses, clause-of, Ended, Coded, Names, Encoded}
 use Rattle.codes.proofs.EncodeLaws.{accepted as encodable, used-length, filled-encoded}
 use Rattle.index.specs.Index.{all-codes, codes-fit, index-of, filled as indexed}
 use Rattle.index.proofs.StartLaws.{listed-start}
-use Rattle.sets.specs.Sets.{united, united-words, added, has, emptied, filled, trimmed, excused, blamed}
-use Rattle.sets.specs.Masks.{set-at, SetGrown, SetsKept, United, WordsUnited, Trimmed, Excused, Blamed}
-use Rattle.sets.proofs.SetLaws.{unite-unites, words-unite, add-grows, add-adds, has-is, empty-keeps, fill-keeps, fill-fills, trim-trims, excuse-excuses, blame-blames}
-use Rattle.evaluation.specs.Evaluation.{look-at, matrix-in}
-use Rattle.evaluation.specs.Looked.{Looked}
-use Rattle.evaluation.proofs.LookLaws.{look-looked}
-use Rattle.evaluation.proofs.MatrixLaws.{matrix-is}
-use Rattle.groups.specs.Groups.{copy-start, copy-end, parting-row, parted-at, open-position}
-use Rattle.groups.specs.Parts.{CopyFrom, CopyTo, Parting, PartedAt, Stands}
+use Rattle.search_sets.specs.Sets.{united, united-words, added, has, emptied, filled, trimmed, excused, blamed}
+use Rattle.search_sets.specs.Masks.{set-at, SetGrown, SetsKept, United, WordsUnited, Trimmed, Excused, Blamed}
+use Rattle.search_sets.proofs.SetLaws.{unite-unites, words-unite, add-grows, add-adds, has-is, empty-keeps, fill-keeps, fill-fills, trim-trims, excuse-excuses, blame-blames}
+use Rattle.search_evaluation.specs.Evaluation.{look-at, matrix-in}
+use Rattle.search_evaluation.specs.Looked.{Looked}
+use Rattle.search_evaluation.proofs.LookLaws.{look-looked}
+use Rattle.search_evaluation.proofs.MatrixLaws.{matrix-is}
+use Rattle.search_groups.specs.Groups.{copy-start, copy-end, parting-row, parted-at, open-position}
+use Rattle.search_groups.specs.Parts.{CopyFrom, CopyTo, Parting, PartedAt, Stands}
 use Rattle.search.specs.Steps.{Listed}
-use Rattle.groups.proofs.PartLaws.{copy-start-from, copy-end-to, parting-row-parts, parted-at-there, open-position-stands}
+use Rattle.search_groups.proofs.PartLaws.{copy-start-from, copy-end-to, parting-row-parts, parted-at-there, open-position-stands}
 
 -- ---- sets of positions
 

@@ -14,13 +14,13 @@ use Rattle.expansion.proofs.Cuts.{Mask, Problem, Agree, Refuted, Implied, Withi
 use Rattle.expansion.proofs.Node.{Node, MasksWithin, grown-refl, grown-stored}
 use Rattle.expansion.proofs.Steps.{node-store}
 use Rattle.expansion.proofs.ClauseCuts.{Every, Rests, dead-clause, unit-clause, matrix-at}
-use Rattle.cells.specs.Cells.{cells}
-use Rattle.cells.specs.Changes.{CellsSet}
-use Rattle.sets.specs.Masks.{set-at, masks, cut, SetsKept, Blamed}
+use Rattle.search_cells.specs.Cells.{cells}
+use Rattle.search_cells.specs.Changes.{CellsSet}
+use Rattle.search_sets.specs.Masks.{set-at, masks, cut, SetsKept, Blamed}
 use Rattle.codes.specs.Clauses.{position, code-true, code-clauses, clause-of, code-goal, Begins, Coded}
 use Rattle.search.specs.Steps.{Fits, Settled, Settles, Lent}
-use Rattle.evaluation.specs.Looked.{IsAt, Looked}
-use Rattle.groups.specs.Parts.{CopyFrom, CopyTo}
+use Rattle.search_evaluation.specs.Looked.{IsAt, Looked}
+use Rattle.search_groups.specs.Parts.{CopyFrom, CopyTo}
 use Rattle.search.proofs.StepLaws.{masks-below, masks-grown, masks-kept, within-refl, within-trans, settles-refl, settles-then}
 use Rattle.search.proofs.Rows.{agree-between, parted-apart}
 use Rattle.codes.proofs.CodeLaws.{code-local, code-sign, clause-among, clause-coded, every-both, every-some}

@@ -7,9 +7,9 @@ use mathlib.Core.List.{List}
 use native.Mathlib.Omega.{arith}
 use Rattle.expansion.proofs.Booleans.{never-both}
 use Rattle.expansion.proofs.ClauseCuts.{matrix-at}
-use Rattle.cells.specs.Cells.{cells}
+use Rattle.search_cells.specs.Cells.{cells}
 use Rattle.codes.specs.Clauses.{code-true, code-clauses, Ended, code-goal}
-use Rattle.sets.specs.Masks.{set-at, SetsKept}
+use Rattle.search_sets.specs.Masks.{set-at, SetsKept}
 use Rattle.search.specs.Steps.{Reached}
 
 -- The side's goal is the matrix on the existential side, and its opposite on the other.

@@ -15,12 +15,12 @@ use Rattle.expansion.proofs.Booleans.{never-both}
 use Rattle.expansion.proofs.Cuts.{Mask, Problem, Refuted, refuted-row}
 use Rattle.expansion.proofs.Node.{Node, grown-refl}
 use Rattle.expansion.proofs.ClauseCuts.{Every, Some, Rests, matrix-at, every-map, some-map, dead-row}
-use Rattle.cells.specs.Cells.{cells}
-use Rattle.sets.specs.Masks.{set-at, masks, cut, SetGrown, SetsKept, United}
+use Rattle.search_cells.specs.Cells.{cells}
+use Rattle.search_sets.specs.Masks.{set-at, masks, cut, SetGrown, SetsKept, United}
 use Rattle.codes.specs.Clauses.{position, code-true, code-onto, code-clauses, Ended, code-goal, Coded}
 use Rattle.search.specs.Steps.{Fits, Settles, RowBlamed}
 use Rattle.codes.proofs.CodeLaws.{clauses-some}
-use Rattle.evaluation.specs.Looked.{IsAt}
+use Rattle.search_evaluation.specs.Looked.{IsAt}
 use Rattle.search.specs.Live.{RowDead}
 use Rattle.search.proofs.StepLaws.{masks-kept, settles-refl}
 

@@ -10,11 +10,11 @@ use lib.ListN.{length, getD}
 use Rattle.expansion.proofs.Cuts.{Problem}
 use Rattle.expansion.proofs.Booleans.{true-or-false, never-both}
 use Rattle.expansion.proofs.Node.{Node, Won}
-use Rattle.cells.specs.Cells.{cells, wants}
-use Rattle.cells.specs.Changes.{CellsSet, CellsOpened}
-use Rattle.sets.specs.Masks.{set-at, masks, cut, SetGrown, WordsUnited, Trimmed, Excused}
+use Rattle.search_cells.specs.Cells.{cells, wants}
+use Rattle.search_cells.specs.Changes.{CellsSet, CellsOpened}
+use Rattle.search_sets.specs.Masks.{set-at, masks, cut, SetGrown, WordsUnited, Trimmed, Excused}
 use Rattle.search.specs.Steps.{Fits, Settled, Settles, Searched, Searches, with-value, Tried, Tries, Chooses, Retries, Steps, Reached, FromStart}
-use Rattle.groups.specs.Parts.{Parting, PartedAt, Stands}
+use Rattle.search_groups.specs.Parts.{Parting, PartedAt, Stands}
 use Rattle.search.proofs.StepLaws.{masks-grown}
 use Rattle.search.proofs.SolveLaws.{tried-node, tried-refuted, tried-searched, chosen-first, failed-without, second-node, second-wants, second-open, chosen-second, failed-both, failed-second, high-node, split-first, low-node, split-second, searched-leaf, stood-node, at-fits, stood-open, parted-other, stood-searched, stood-won}
 

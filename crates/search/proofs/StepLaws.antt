@@ -11,9 +11,9 @@ use Rattle.expansion.proofs.Booleans.{never-both}
 use Rattle.expansion.proofs.Cuts.{Mask, Problem}
 use Rattle.expansion.proofs.Node.{Node, MasksWithin, grown-refl, grown-trans}
 use Rattle.expansion.proofs.Steps.{node-same}
-use Rattle.cells.specs.Cells.{cells}
-use Rattle.cells.specs.Changes.{SameWants}
-use Rattle.sets.specs.Masks.{set-at, masks, SetGrown, SetsKept}
+use Rattle.search_cells.specs.Cells.{cells}
+use Rattle.search_cells.specs.Changes.{SameWants}
+use Rattle.search_sets.specs.Masks.{set-at, masks, SetGrown, SetsKept}
 use Rattle.search.specs.Steps.{Settled, Settles, Steps}
 
 -- ---- masks

@@ -28,16 +28,16 @@ use Rattle.expansion.proofs.Cuts.{Problem, Agree, Mask, Refuted}
 use Rattle.expansion.proofs.ClauseCuts.{Every, matrix-at}
 use Rattle.expansion.proofs.Leading.{wanted, others-before}
 use Rattle.expansion.proofs.Engine.{restriction-of-values, values-of-restriction, tabulate, literal-at, goal-at, Names, Places, problem, problem-sound, refuted-is-none, won-is-first}
-use Rattle.cells.specs.Cells.{cells, wants, owned}
-use Rattle.cells.specs.Changes.{Filled, FirstDifference}
+use Rattle.search_cells.specs.Cells.{cells, wants, owned}
+use Rattle.search_cells.specs.Changes.{Filled, FirstDifference}
 use Rattle.codes.specs.Clauses.{Coded, code-true, code-clauses, code-goal, Encoded}
-use Rattle.order.specs.Sorted.{up-to, Sorted}
+use Rattle.search_order.specs.Sorted.{up-to, Sorted}
 use Rattle.search.specs.Steps.{Fits, FromStart}
 use Rattle.search.specs.Whole.{side-kind}
-use Rattle.numbering.specs.Wants.{WantsFilled}
-use Rattle.cells.proofs.OwnedLaws.{owned-at, length-owned}
-use Rattle.order.proofs.BetweenLaws.{sandwich}
-use Rattle.numbering.proofs.WantsLaws.{Placed, wants-of-copies}
+use Rattle.search_numbering.specs.Wants.{WantsFilled}
+use Rattle.search_cells.proofs.OwnedLaws.{owned-at, length-owned}
+use Rattle.search_order.proofs.BetweenLaws.{sandwich}
+use Rattle.search_numbering.proofs.WantsLaws.{Placed, wants-of-copies}
 
 -- ---- the literals name the formula's unknowns
 

@@ -22,15 +22,15 @@ use Rattle.expansion.specs.Model.{search, first-model, yielded}
 use Rattle.expansion.proofs.Verdict.{search-none}
 use Rattle.expansion.proofs.Leading.{others-before}
 use Rattle.expansion.proofs.Engine.{tabulate, length-tabulate}
-use Rattle.cells.specs.Cells.{cells, owned, spot}
-use Rattle.cells.specs.Changes.{Filled, FirstDifference}
-use Rattle.order.specs.Sorted.{Sorted}
-use Rattle.cells.specs.Steps.{rows-filled}
-use Rattle.cells.proofs.FillLaws.{rows-are-filled}
-use Rattle.cells.proofs.PackLaws.{packed-inside}
+use Rattle.search_cells.specs.Cells.{cells, owned, spot}
+use Rattle.search_cells.specs.Changes.{Filled, FirstDifference}
+use Rattle.search_order.specs.Sorted.{Sorted}
+use Rattle.search_cells.specs.Steps.{rows-filled}
+use Rattle.search_cells.proofs.FillLaws.{rows-are-filled}
+use Rattle.search_cells.proofs.PackLaws.{packed-inside}
 use Rattle.search.specs.Steps.{FromStart}
 use Rattle.search.specs.Whole.{side-kind, Ready, Arranged, Decided, OverPlaces, FoundIs}
-use Rattle.cells.proofs.OwnedLaws.{length-owned}
+use Rattle.search_cells.proofs.OwnedLaws.{length-owned}
 use Rattle.search.proofs.CallLaws.{zero-at}
 use Rattle.search.proofs.TopLaws.{searched-none, searched-some}
 

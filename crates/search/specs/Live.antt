@@ -6,8 +6,8 @@ use mathlib.Core.Bool.{Bool, true}
 use mathlib.Core.List.{List}
 use Rattle.expansion.proofs.Cuts.{Problem, Refuted}
 use Rattle.expansion.proofs.Node.{Node}
-use Rattle.cells.specs.Cells.{cells}
-use Rattle.sets.specs.Masks.{masks, cut, SetsKept}
+use Rattle.search_cells.specs.Cells.{cells}
+use Rattle.search_sets.specs.Masks.{masks, cut, SetsKept}
 use Rattle.search.specs.Steps.{Fits}
 
 -- The sets of the positions stay. If the answer is yes, row i is refuted by it in every group that has the row.

@@ -10,12 +10,12 @@ use lib.ListN.{length, getD}
 use Rattle.expansion.proofs.Cuts.{Mask, Problem, Agree, Sound, Refuted}
 use Rattle.expansion.proofs.Node.{Node, Won, Grown, MasksWithin}
 use Rattle.expansion.proofs.ClauseCuts.{Every, Some}
-use Rattle.cells.specs.Cells.{cells, wants}
-use Rattle.cells.specs.Changes.{SameWants}
-use Rattle.sets.specs.Masks.{set-at, masks, cut, SetGrown, SetsKept}
+use Rattle.search_cells.specs.Cells.{cells, wants}
+use Rattle.search_cells.specs.Changes.{SameWants}
+use Rattle.search_sets.specs.Masks.{set-at, masks, cut, SetGrown, SetsKept}
 use Rattle.codes.specs.Clauses.{position, code-clauses, Ended, code-goal, Begins, Coded}
-use Rattle.evaluation.specs.Looked.{IsAt}
-use Rattle.groups.specs.Parts.{Parting, PartedAt}
+use Rattle.search_evaluation.specs.Looked.{IsAt}
+use Rattle.search_groups.specs.Parts.{Parting, PartedAt}
 
 -- The sorted rows: entry i of `splits` is the first position where row i and the row before it have different values, or past the last.
 -- The codes are the clauses; the side is 0 or 1.

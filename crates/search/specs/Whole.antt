@@ -21,9 +21,9 @@ use Rattle.search.specs.declared.Search.{Search}
 use Rattle.search.specs.declared.Search.the-variants.{Refused}
 use Rattle.search.specs.Search.{work-size, answer, left}
 use Rattle.codes.specs.Clauses.{Encoded}
-use Rattle.cells.specs.Changes.{FirstDifference}
-use Rattle.cells.specs.Steps.{rows-filled, packed}
-use Rattle.numbering.specs.Wants.{WantsFilled}
+use Rattle.search_cells.specs.Changes.{FirstDifference}
+use Rattle.search_cells.specs.Steps.{rows-filled, packed}
+use Rattle.search_numbering.specs.Wants.{WantsFilled}
 use Rattle.search.specs.Steps.{FromStart}
 
 -- The side as a number: 0 existential, 1 universal.

@@ -6,8 +6,8 @@ ghost use Prim.Native.Nat.{_+_, _≤_, _<_};
 ghost use lib.ListN.{length};
 ghost use Rattle.codes.specs.Clauses.{position, Begins};
 ghost use mathlib.Core.Bool.{true};
-ghost use Rattle.sets.specs.Masks.{SetsKept};
-ghost use Rattle.evaluation.specs.Looked.{Looked};
+ghost use Rattle.search_sets.specs.Masks.{SetsKept};
+ghost use Rattle.search_evaluation.specs.Looked.{Looked};
 ghost use Rattle.search.specs.Steps.{Settles, Lent};
 use super::clauses::position;
 use super::hints;
@@ -31,7 +31,7 @@ pub(crate) fn survey(
     requires { ⌜ Lent (now splits) (now codes) (now work) (now sets) (now index) ⌝ }
     ensures { λ r. ⌜ Settles 0 (now (splits .entry)) (now (codes .entry)) 0 (length (now (splits .entry))) 1 (now (work .entry)) (now (work .exit)) (now (sets .entry)) (now (sets .exit)) r ⌝ }
 {
-    sets::empty(sets, CHANGED);
+    search_sets::empty(sets, CHANGED);
     let mut i = 0;
     while i < splits.len() {
         if visit_row(
@@ -69,7 +69,7 @@ pub(crate) fn propagate(
     requires { ⌜ (k < 128) × (lo < hi) × (hi ≤ length (now splits)) ⌝ }
     ensures { λ r. ⌜ Settles 0 (now (splits .entry)) (now (codes .entry)) lo hi (k + 2) (now (work .entry)) (now (work .exit)) (now (sets .entry)) (now (sets .exit)) r ⌝ }
 {
-    sets::empty(sets, CHANGED);
+    search_sets::empty(sets, CHANGED);
     note(sets, k, lo, hi);
     settle(splits, codes, work, sets, index, k as u8 + 2, lo, hi)
 }
@@ -161,11 +161,11 @@ fn visit_row(
     ensures { λ r. ⌜ Settles 0 (now (splits .entry)) (now (codes .entry)) lo hi mark (now (work .entry)) (now (work .exit)) (now (sets .entry)) (now (sets .exit)) r ⌝ }
 {
     let end = lower(wide16(index[c]), index.len());
-    let agreement = groups::agreement(splits, from, i);
+    let agreement = search_groups::agreement(splits, from, i);
     let mut at = wide16(index[c - 1]);
     while at < end {
         let start = wide16(index[at]);
-        if groups::repeats(codes, start, agreement) {} else {
+        if search_groups::repeats(codes, start, agreement) {} else {
             if touch(splits, codes, work, sets, index, mark, lo, hi, i, start) {} else {
                 return false;
             }
@@ -204,13 +204,13 @@ fn touch(
     requires { ⌜ (lo ≤ i) × (i < hi) × (hi ≤ length (now splits)) × Begins (now codes) start ⌝ }
     ensures { λ r. ⌜ Settles 0 (now (splits .entry)) (now (codes .entry)) lo hi mark (now (work .entry)) (now (work .exit)) (now (sets .entry)) (now (sets .exit)) r ⌝ }
 {
-    let c = evaluation::look(codes, work, i, start);
+    let c = search_evaluation::look(codes, work, i, start);
     if c == 1 {
         return true;
     }
     if c == 0 {
-        sets::empty(sets, CUT);
-        sets::blame(codes, sets, start, CUT);
+        search_sets::empty(sets, CUT);
+        search_sets::blame(codes, sets, start, CUT);
         return false;
     }
     force(splits, codes, work, sets, index, mark, lo, hi, i, start, c);
@@ -236,10 +236,10 @@ fn force(
     ensures { λ _. ⌜ (Begins (now (codes .entry)) start → Looked (now (codes .entry)) (now (work .entry)) i start c → Settles 0 (now (splits .entry)) (now (codes .entry)) lo hi mark (now (work .entry)) (now (work .exit)) (now (sets .entry)) (now (sets .exit)) true) ⌝ }
 {
     let k = position(c);
-    sets::blame(codes, sets, start, k);
-    let from = groups::copy_start(splits, k, lo, i);
-    let to = groups::copy_end(splits, k, i, hi);
-    cells::set_rows(work, k, from, to, mark, c % 2 == 0);
+    search_sets::blame(codes, sets, start, k);
+    let from = search_groups::copy_start(splits, k, lo, i);
+    let to = search_groups::copy_end(splits, k, i, hi);
+    search_cells::set_rows(work, k, from, to, mark, c % 2 == 0);
     note(sets, k, from, to);
 }
 
@@ -251,11 +251,11 @@ fn note(sets: &mut [u64], k: usize, lo: usize, hi: usize)
     let at = HINTS + 2 * k;
     let mut from = lo;
     let mut to = hi;
-    if sets::has(sets, CHANGED, k) {
+    if search_sets::has(sets, CHANGED, k) {
         from = lower(sets[at] as usize, lo);
         to = higher(sets[at + 1] as usize, hi);
     }
-    sets::add(sets, CHANGED, k);
+    search_sets::add(sets, CHANGED, k);
     sets[at] = from as u64;
     sets[at + 1] = to as u64;
 }

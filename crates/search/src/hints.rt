@@ -3,7 +3,7 @@
 ghost use mathlib.Core.Path.{_≡_};
 ghost use Prim.Native.Nat.{_≤_, _<_};
 ghost use lib.ListN.{length};
-ghost use Rattle.sets.specs.Masks.{SetsKept};
+ghost use Rattle.search_sets.specs.Masks.{SetsKept};
 
 // The place behind the positions.
 pub(crate) const CUT: usize = 128;

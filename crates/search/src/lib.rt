@@ -126,7 +126,7 @@ fn find(
         return true;
     }
     let mut place = [0u8; Formula::ROWS];
-    order::sort(rows, count, others, &mut place);
+    search_order::sort(rows, count, others, &mut place);
     over_places(
         kinds,
         literals,
@@ -151,9 +151,9 @@ fn over_places(
     requires { ⌜ Arranged (now kinds) (now literals) (now place) side (now work) ⌝ }
     ensures { λ r. ⌜ OverPlaces (now (kinds .entry)) (now (literals .entry)) (now (preferences .entry)) (now (rows .entry)) (now (place .entry)) side (now (work .entry)) (now (work .exit)) r ⌝ }
 {
-    cells::fill(kinds, rows, place, side, work);
+    search_cells::fill(kinds, rows, place, side, work);
     if decide(kinds, literals, preferences, place, side, work) {
-        cells::pack(kinds, place, side, work);
+        search_cells::pack(kinds, place, side, work);
         true
     } else {
         rows::clear(work);
@@ -175,8 +175,8 @@ fn decide(
 {
     let count = place.len();
     let mut splits = [0u8; Formula::ROWS];
-    cells::compare(kinds, work, count, side, &mut splits);
-    numbering::fill(kinds, preferences, place, &splits, side, work);
+    search_cells::compare(kinds, work, count, side, &mut splits);
+    search_numbering::fill(kinds, preferences, place, &splits, side, work);
     let mut codes = [0u16; Formula::ENTRIES];
     let used = codes::encode(literals, &mut codes);
     solve::from_start(kinds, &splits[..count], &codes[..used], side, work)

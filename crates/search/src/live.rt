@@ -7,9 +7,9 @@ ghost use mathlib.Core.Logic.{_⊎_};
 ghost use mathlib.Core.Bool.{true, _&&_};
 ghost use lib.ListN.{length};
 ghost use lib.Dec.{ltb};
-ghost use Rattle.cells.specs.Cells.{cells};
+ghost use Rattle.search_cells.specs.Cells.{cells};
 ghost use Rattle.codes.specs.Clauses.{position, code-true, Coded};
-ghost use Rattle.evaluation.specs.Looked.{IsAt};
+ghost use Rattle.search_evaluation.specs.Looked.{IsAt};
 ghost use Rattle.search.specs.Steps.{Settles, RowBlamed};
 ghost use Rattle.search.specs.Live.{RowDead};
 use super::clauses::position;
@@ -38,7 +38,7 @@ fn dead(codes: &[u16], work: &[u8], sets: &mut [u64], i: usize) -> bool
     requires { ⌜ (length (now work) ≡ 65536) × (length (now sets) ≡ 516) × (i < 256) × (length (now codes) ≤ 8192) × Coded 128 (now codes) ⌝ }
     ensures { λ r. ⌜ RowDead (now (codes .entry)) (now (work .entry)) i (now (sets .entry)) (now (sets .exit)) r ⌝ }
 {
-    if evaluation::lives(codes, work, i, live_clause(sets, i)) {
+    if search_evaluation::lives(codes, work, i, live_clause(sets, i)) {
         return false;
     }
     let start = other_live(codes, work, sets, i);
@@ -46,7 +46,7 @@ fn dead(codes: &[u16], work: &[u8], sets: &mut [u64], i: usize) -> bool
         sets[HINTS + i] = start as u64;
         return false;
     }
-    sets::empty(sets, CUT);
+    search_sets::empty(sets, CUT);
     blame(codes, work, sets, i)
 }
 
@@ -76,15 +76,15 @@ fn other_live(codes: &[u16], work: &[u8], sets: &[u64], i: usize) -> usize
 {
     if i > 0 {
         let near = live_clause(sets, i - 1);
-        if evaluation::lives(codes, work, i, near) {
+        if search_evaluation::lives(codes, work, i, near) {
             return near;
         }
     }
-    let next = evaluation::next_live(codes, work, i, live_clause(sets, i));
+    let next = search_evaluation::next_live(codes, work, i, live_clause(sets, i));
     if next < codes.len() {
         return next;
     }
-    evaluation::next_live(codes, work, i, 0)
+    search_evaluation::next_live(codes, work, i, 0)
 }
 
 // Unites, at CUT, for each clause the set of its earliest true literal in row i. False: a clause has none.
@@ -101,7 +101,7 @@ fn blame(codes: &[u16], work: &[u8], sets: &mut [u64], i: usize) -> bool
             if best == CUT {
                 return false;
             }
-            sets::unite(sets, CUT, best);
+            search_sets::unite(sets, CUT, best);
             best = CUT;
         } else {
             best = better(work, i, best, c);

@@ -90,9 +90,9 @@ fn solve(
     requires { ⌜ (length (now kinds) ≤ 128) × (side ≤ 1) × (k ≤ length (now kinds)) × (lo < hi) × (hi ≤ length (now splits)) ⌝ }
     ensures { λ r. ⌜ Searches (now (kinds .entry)) (now (splits .entry)) (now (codes .entry)) side k lo hi (now (work .entry)) (now (work .exit)) (now (sets .entry)) (now (sets .exit)) r ⌝ }
 {
-    let mid = groups::parting(splits, lo, hi);
-    let until = groups::parted_at(splits, lo, mid, kinds.len());
-    let at = groups::stand(kinds, work, side, k, lo, until);
+    let mid = search_groups::parting(splits, lo, hi);
+    let until = search_groups::parted_at(splits, lo, mid, kinds.len());
+    let at = search_groups::stand(kinds, work, side, k, lo, until);
     if step(
         kinds,
         splits,
@@ -109,7 +109,7 @@ fn solve(
     ) {
         return true;
     }
-    sets::excuse(sets, CUT, k, at); // what stands was reached by what its own sets say
+    search_sets::excuse(sets, CUT, k, at); // what stands was reached by what its own sets say
     false
 }
 
@@ -154,7 +154,7 @@ fn step(
     ) {} else {
         return false;
     }
-    sets::trim(sets, at, kinds.len()); // no choice of one part stands in the other
+    search_sets::trim(sets, at, kinds.len()); // no choice of one part stands in the other
     solve(
         kinds,
         splits,
@@ -202,7 +202,7 @@ fn choose(
     ) {
         return true;
     }
-    if sets::has(sets, CUT, k) {} else {
+    if search_sets::has(sets, CUT, k) {} else {
         return false;
     }
     retry(
@@ -238,8 +238,8 @@ fn retry(
     requires { ⌜ (length (now kinds) ≤ 128) × (side ≤ 1) × (k < length (now kinds)) × (lo < hi) × (hi ≤ length (now splits)) ⌝ }
     ensures { λ r. ⌜ Retries (now (kinds .entry)) (now (splits .entry)) (now (codes .entry)) side k lo hi tried (now (work .entry)) (now (work .exit)) (now (sets .entry)) (now (sets .exit)) r ⌝ }
 {
-    cells::undo(work, lo, hi, k as u8 + 1);
-    sets::trim(sets, k, kinds.len());
+    search_cells::undo(work, lo, hi, k as u8 + 1);
+    search_sets::trim(sets, k, kinds.len());
     let low = sets[256];
     let high = sets[257];
     if attempt(
@@ -257,8 +257,8 @@ fn retry(
     ) {
         return true;
     }
-    if sets::has(sets, CUT, k) {
-        sets::unite_words(sets, CUT, low, high);
+    if search_sets::has(sets, CUT, k) {
+        search_sets::unite_words(sets, CUT, low, high);
     }
     false
 }
@@ -281,8 +281,8 @@ fn attempt(
     requires { ⌜ (length (now kinds) ≤ 128) × (side ≤ 1) × (k < length (now kinds)) × (lo < hi) × (hi ≤ length (now splits)) ⌝ }
     ensures { λ r. ⌜ Tries (now (kinds .entry)) (now (splits .entry)) (now (codes .entry)) side k lo hi value (now (work .entry)) (now (work .exit)) (now (sets .entry)) (now (sets .exit)) r ⌝ }
 {
-    sets::add(sets, k, k);
-    cells::set_rows(work, k, lo, hi, k as u8 + 2, value);
+    search_sets::add(sets, k, k);
+    search_cells::set_rows(work, k, lo, hi, k as u8 + 2, value);
     if follow(splits, codes, work, sets, index, side, k, lo, hi) {
         solve(kinds, splits, codes, work, sets, index, side, k + 1, lo, hi)
     } else {
@@ -318,7 +318,7 @@ fn reached(codes: &[u16], work: &[u8], sets: &mut [u64], side: u8, i: usize) -> 
     requires { ⌜ (length (now work) ≡ 65536) × (length (now sets) ≡ 516) × (i < 256) × (side ≤ 1) × Coded 128 (now codes) ⌝ }
     ensures { λ r. ⌜ Reached (now (codes .entry)) side (now (work .entry)) i (now (sets .entry)) (now (sets .exit)) r ⌝ }
 {
-    let all = evaluation::matrix(codes, work, i);
+    let all = search_evaluation::matrix(codes, work, i);
     if side == 0 {
         if all {
             return true;
@@ -328,6 +328,6 @@ fn reached(codes: &[u16], work: &[u8], sets: &mut [u64], side: u8, i: usize) -> 
             return true;
         }
     }
-    sets::fill(sets, CUT);
+    search_sets::fill(sets, CUT);
     false
 }

@@ -3,7 +3,7 @@ ghost use mathlib.Core.Path.{_≡_};
 ghost use Prim.Native.Nat.{_≤_, _<_};
 ghost use lib.ListN.{length};
 ghost use lib.Dec.{ltb};
-ghost use Rattle.cells.specs.Cells.{cells, wants};
+ghost use Rattle.search_cells.specs.Cells.{cells, wants};
 ghost use Rattle.codes.specs.Clauses.{position, code-true};
 
 pub(crate) fn is_set(work: &[u8], i: usize, k: usize) -> bool

@@ -4,7 +4,7 @@ use mathlib.Core.Path.{sym, ap, _∙_, subst}
 use mathlib.Core.Bool.{Bool, true≢false}
 use mathlib.Core.List.{List}
 use lib.ListN.{replicate}
-use Rattle.cells.specs.Steps.{rows-filled}
+use Rattle.search_cells.specs.Steps.{rows-filled}
 use Rattle.search.specs.Whole.{Decided}
 use Rattle.search.proofs.over_places.Statement.{statement}
 use Rattle.search.proofs.over_places.Tie as tie

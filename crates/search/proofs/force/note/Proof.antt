@@ -1,7 +1,7 @@
 -- `force::note` meets its contract. Assumes nothing.
 use native.Mathlib.Omega.{arith}
 use lib.ListN.{length-set}
-use Rattle.sets.proofs.MaskLaws.{store-behind, kept-trans, kept-grown}
+use Rattle.search_sets.proofs.MaskLaws.{store-behind, kept-trans, kept-grown}
 use borrow.Author.Needs.{needs}
 use Rattle.search.proofs.CallLaws.{grows}
 use Rattle.search.proofs.force.note.Statement.{statement}

@@ -3,7 +3,7 @@ use native.Mathlib.Omega.{arith}
 use lib.Count.{trailing-le}
 use lib.ListN.{getD}
 use Prim.Native.Nat.{_+_, _*_}
-use Rattle.sets.proofs.MaskLaws.{store-behind}
+use Rattle.search_sets.proofs.MaskLaws.{store-behind}
 use borrow.Author.Needs.{needs}
 use Rattle.search.proofs.hints.take_lowest.Statement.{statement}
 use Rattle.search.proofs.hints.take_lowest.Tie as tie

@@ -3,9 +3,9 @@ use mathlib.Core.Path.{_≡_, refl}
 use Prim.Native.Nat.{_-_, _≤_}
 use native.Mathlib.Omega.{arith}
 use lib.ListN.{length}
-use Rattle.sets.specs.Masks.{SetsKept}
+use Rattle.search_sets.specs.Masks.{SetsKept}
 use Rattle.search.proofs.LiveLaws.{group-lives, group-dead}
-use Rattle.sets.proofs.MaskLaws.{kept-trans}
+use Rattle.search_sets.proofs.MaskLaws.{kept-trans}
 use Rattle.search.proofs.live.check.Statement.{statement}
 use Rattle.search.proofs.live.check.Tie as tie
 

@@ -2,7 +2,7 @@
 use native.Mathlib.Omega.{arith}
 use Rattle.search.proofs.CallLaws.{empties}
 use Rattle.search.proofs.LiveLaws.{row-dead, row-lives, row-lives-noted}
-use Rattle.sets.proofs.MaskLaws.{store-behind}
+use Rattle.search_sets.proofs.MaskLaws.{store-behind}
 use borrow.Author.Needs.{needs}
 use Rattle.search.proofs.live.dead.Statement.{statement}
 use Rattle.search.proofs.live.dead.Tie as tie

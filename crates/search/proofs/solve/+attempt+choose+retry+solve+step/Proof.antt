@@ -5,21 +5,21 @@ use borrow.Author.Needs.{needs}
 use mathlib.Core.Path.{refl, sym, _∙_}
 use mathlib.Core.Bool.{false}
 use lib.ListN.{length}
-use Rattle.sets.specs.Masks.{cut}
+use Rattle.search_sets.specs.Masks.{cut}
 use Rattle.search.proofs.CallLaws.{unites-words, grows, adds, trims, excuses, has-at, parts, parts-there, stands, sets-rows, opens-rows}
 use Rattle.search.proofs.SearchSteps.{tries-refuted, tries-searched, chooses-first, chooses-without, chooses-retried, chooses-second, chooses-last, chooses-neither, splits-first, splits-second, steps-reached, steps-split, steps-choose, searches-won, searches-failed}
 use borrow.Fn.Kinds.{In}
 use borrow.Fn.PlainCycle.{Measures, is, falls, and}
-use Rattle.cells.proofs.set_rows.Reads as set-rows-reads
-use Rattle.cells.proofs.undo.Reads as undo-reads
-use Rattle.groups.proofs.parted_at.Reads as parted-at-reads
-use Rattle.groups.proofs.parting.Reads as parting-reads
-use Rattle.groups.proofs.stand.Reads as stand-reads
-use Rattle.sets.proofs.add.Reads as add-reads
-use Rattle.sets.proofs.excuse.Reads as excuse-reads
-use Rattle.sets.proofs.has.Reads as has-reads
-use Rattle.sets.proofs.trim.Reads as trim-reads
-use Rattle.sets.proofs.unite_words.Reads as unite-words-reads
+use Rattle.search_cells.proofs.set_rows.Reads as set-rows-reads
+use Rattle.search_cells.proofs.undo.Reads as undo-reads
+use Rattle.search_groups.proofs.parted_at.Reads as parted-at-reads
+use Rattle.search_groups.proofs.parting.Reads as parting-reads
+use Rattle.search_groups.proofs.stand.Reads as stand-reads
+use Rattle.search_sets.proofs.add.Reads as add-reads
+use Rattle.search_sets.proofs.excuse.Reads as excuse-reads
+use Rattle.search_sets.proofs.has.Reads as has-reads
+use Rattle.search_sets.proofs.trim.Reads as trim-reads
+use Rattle.search_sets.proofs.unite_words.Reads as unite-words-reads
 use Rattle.search.proofs.solve.attempt.Reads as attempt
 use Rattle.search.proofs.solve.attempt.Kinds as attempt-kinds
 use Rattle.search.proofs.solve.choose.Reads as choose

@@ -2,7 +2,7 @@
 use mathlib.Core.Path.{sym, ap}
 use native.Mathlib.Omega.{arith}
 use lib.Dec.{ltb}
-use Rattle.cells.proofs.CellLaws.{level-at}
+use Rattle.search_cells.proofs.CellLaws.{level-at}
 use borrow.Author.Needs.{needs}
 use Rattle.search.proofs.table.is_set.Statement.{statement}
 use Rattle.search.proofs.table.is_set.Tie as tie

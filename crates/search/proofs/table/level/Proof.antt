@@ -1,7 +1,7 @@
 -- `table::level` meets its contract. Assumes nothing.
 use mathlib.Core.Path.{sym}
 use native.Mathlib.Omega.{arith}
-use Rattle.cells.proofs.CellLaws.{level-at}
+use Rattle.search_cells.proofs.CellLaws.{level-at}
 use borrow.Author.Needs.{needs}
 use Rattle.search.proofs.table.level.Statement.{statement}
 use Rattle.search.proofs.table.level.Tie as tie

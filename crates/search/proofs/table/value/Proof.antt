@@ -1,7 +1,7 @@
 -- `table::value` meets its contract. Assumes nothing.
 use mathlib.Core.Path.{sym}
 use native.Mathlib.Omega.{arith}
-use Rattle.cells.proofs.CellLaws.{value-at}
+use Rattle.search_cells.proofs.CellLaws.{value-at}
 use borrow.Author.Needs.{needs}
 use Rattle.search.proofs.table.value.Statement.{statement}
 use Rattle.search.proofs.table.value.Tie as tie

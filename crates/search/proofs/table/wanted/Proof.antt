@@ -1,7 +1,7 @@
 -- `table::wanted` meets its contract. Assumes nothing.
 use mathlib.Core.Path.{sym}
 use native.Mathlib.Omega.{arith}
-use Rattle.cells.proofs.CellLaws.{wants-at}
+use Rattle.search_cells.proofs.CellLaws.{wants-at}
 use borrow.Author.Needs.{needs}
 use Rattle.search.proofs.table.wanted.Statement.{statement}
 use Rattle.search.proofs.table.wanted.Tie as tie

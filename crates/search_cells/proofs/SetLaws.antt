@@ -1,0 +1,51 @@
+-- The cells at a position of neighbouring rows, set row by row. Assumes nothing.
+use Prim.Native.Nat.{ℕ, _+_, _-_, _*_, _/_, _≤_, _<_}
+use mathlib.Core.Path.{_≡_, ap, _∙_, subst, sym}
+use mathlib.Core.Bool.{Bool}
+use mathlib.Core.List.{List}
+use native.Mathlib.Omega.{arith}
+use lib.ListN.{length, getD, set, length-set}
+use borrow.Author.Tests.{lt-ltb}
+use Rattle.rows.specs.Row.{weight}
+use Rattle.search_cells.specs.Steps.{steps, with-cell, rows-set}
+use Rattle.search_cells.specs.Changes.{CellsSet}
+use Rattle.search_cells.proofs.CellLaws.{spot-in, level-stored, value-stored, cell-set, cells-set-none, cells-set-more}
+use Rattle.search_cells.proofs.StepLaws.{sizes-fit, steps-reach}
+
+-- ---- one cell
+
+module _ (i k mark : ℕ) (value : Bool) (w : List ℕ) where
+  pub length-with-cell : length (with-cell i k mark value w) ≡ length w
+  unfolding with-cell
+  length-with-cell = simp length-set
+
+  module _ (hi : i < 256) (hk : k < 128) where
+    pub with-cell-stored : value-stored (level-stored w i k mark) i k value ≡ with-cell i k mark value w
+    unfolding with-cell
+    with-cell-stored =
+        ap (λ (x : ℕ). set (set w x mark) (32768 + x) (getD (set w x mark) (32768 + x) 0 / 2 * 2 + weight value)) (sym (spot-in i k hi hk))
+
+    pub cells-set-one : length w ≡ 65536 → CellsSet k i (i + 1) mark value w (with-cell i k mark value w)
+    cells-set-one area = subst (CellsSet k i (i + 1) mark value w) with-cell-stored (cell-set i k hi hk w area mark value)
+
+-- ---- row by row
+
+module _ (k lo hi mark : ℕ) (value : Bool) (w : List ℕ) (area : length w ≡ 65536) (small : k < 128) (most : hi ≤ 256) where
+  pub rows-set-inside : rows-set k lo hi mark value w ≡ steps (λ i. with-cell i k mark value) (hi - lo) lo w
+  unfolding rows-set
+  rows-set-inside = rw (sizes-fit (length w) 0 hi area (omega arith) most, lt-ltb k 128 small)
+
+  module _ (order : lo ≤ hi) where
+    abbrev SetBelow : ℕ → List ℕ → Type 0
+    SetBelow i u = (length u ≡ 65536) × CellsSet k lo i mark value w u
+
+    all-set : SetBelow hi (rows-set k lo hi mark value w)
+    all-set =
+        subst (SetBelow hi) (sym rows-set-inside)
+        (steps-reach (λ i. with-cell i k mark value) SetBelow lo hi
+        (λ i u low less p.
+        (length-with-cell i k mark value u ∙ p .0, cells-set-more k lo i mark value w u (with-cell i k mark value u) low (p .1) (cells-set-one i k mark value u (omega arith) small (p .0))))
+        w order (area, cells-set-none k lo mark value w))
+
+    pub rows-are-set : CellsSet k lo hi mark value w (rows-set k lo hi mark value w)
+    rows-are-set = all-set .1

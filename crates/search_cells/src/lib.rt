@@ -1,0 +1,214 @@
+// The table of cells in the work area, a cell for each row and position (specs/Cells.antt), and the steps over whole parts of it.
+// Every public function is total: its contract gives every lent byte for whatever is lent, and nothing is changed unless the sizes are
+// right. What the cells mean, and the cells one by one, are left to `search`.
+ghost use mathlib.Core.Path.{_≡_};
+ghost use mathlib.Core.Bool.{cond};
+ghost use Prim.Native.Nat.{_+_, _≤_, _<_};
+ghost use lib.ListN.{length};
+ghost use Rattle.rows.specs.Row.{weight, bytes-of};
+ghost use Rattle.rows.specs.Table.{placed, bit-set};
+ghost use Rattle.expansion.specs.Play.{part};
+ghost use Rattle.expansion.proofs.Engine.{tabulate};
+ghost use Rattle.search_cells.specs.Cells.{cells, owned};
+ghost use Rattle.search_cells.specs.Steps.{fits, with-cell, rows-set, bounded, rows-opened, with-given-row, rows-filled, first-difference, rows-compared, packed};
+
+const AREA: usize = 65_536;
+
+const POSITIONS: usize = 128;
+
+const ROWS: usize = 256;
+
+// The bytes of the cells' values and wanted values lie behind those of their levels.
+const FLAGS: usize = 32_768;
+
+// A packed row.
+const BYTES: usize = 16;
+
+// Sets the cells at position k of the rows from lo to hi. The mark is the level plus 1; what the cells want stays.
+pub fn set_rows(work: &mut [u8], k: usize, lo: usize, hi: usize, mark: u8, value: bool)
+    ensures { λ _. ⌜ now (work .exit) ≡ rows-set k lo hi mark value (now (work .entry)) ⌝ }
+{
+    if is_table(work.len(), 0, hi) {} else {
+        return;
+    }
+    if POSITIONS <= k {
+        return;
+    }
+    let mut i = lo;
+    while i < hi {
+        set(work, i, k, mark, value);
+        i += 1;
+    }
+}
+
+// Opens the cells of the rows from lo to hi whose mark is over the bound: a plain walk over their bytes, which the compiler makes wide.
+pub fn undo(work: &mut [u8], lo: usize, hi: usize, bound: u8)
+    ensures { λ _. ⌜ now (work .exit) ≡ rows-opened lo hi bound (now (work .entry)) ⌝ }
+{
+    if is_table(work.len(), 0, hi) {} else {
+        return;
+    }
+    if hi < lo {
+        return;
+    }
+    let mut at = POSITIONS * lo;
+    while at < POSITIONS * hi {
+        work[at] = within(work[at], bound);
+        at += 1;
+    }
+}
+
+// Sets the other side's cells to the values of the lent rows, at level 0: lent row r goes to the sorted row place[r].
+pub fn fill(kinds: &[u8], rows: &[u8], place: &[u8], side: u8, work: &mut [u8])
+    ensures { λ _. ⌜ now (work .exit) ≡ rows-filled (now (kinds .entry)) (now (rows .entry)) (now (place .entry)) side (now (work .entry)) ⌝ }
+{
+    if is_table(work.len(), kinds.len(), place.len()) {} else {
+        return;
+    }
+    let mut row = 0;
+    while row < place.len() {
+        fill_row(kinds, rows, row, wide(place[row]), side, work);
+        row += 1;
+    }
+}
+
+// Writes, for each sorted row but the first, the first position of the other side at which it differs from the row before it; the number of
+// kinds if there is none.
+pub fn compare(kinds: &[u8], work: &[u8], count: usize, side: u8, splits: &mut [u8])
+    ensures { λ _. ⌜ now (splits .exit) ≡ rows-compared (now (kinds .entry)) (now (work .entry)) count side (now (splits .entry)) ⌝ }
+{
+    if is_table(work.len(), kinds.len(), count) {} else {
+        return;
+    }
+    if splits.len() != ROWS {
+        return;
+    }
+    let mut i = 0;
+    while i + 1 < count {
+        splits[i + 1] = first_difference(kinds, work, i, side) as u8;
+        i += 1;
+    }
+}
+
+// Packs the own values of each row, in the lent order, from the area's start, and clears what is behind. The bytes of the values lie behind
+// all the rows, so that writing a row leaves them.
+pub fn pack(kinds: &[u8], place: &[u8], side: u8, work: &mut [u8])
+    ensures { λ _. ⌜ now (work .exit) ≡ packed (now (kinds .entry)) (now (place .entry)) side (now (work .entry)) ⌝ }
+{
+    if is_table(work.len(), kinds.len(), place.len()) {} else {
+        return;
+    }
+    let mut row = 0;
+    while row < place.len() {
+        pack_row(kinds, row, wide(place[row]), side, work);
+        row += 1;
+    }
+    let end = work.len();
+    rows::clear(&mut work[BYTES * place.len()..end]);
+}
+
+// The area has its size, and cells for that many positions and rows.
+fn is_table(area: usize, positions: usize, rows: usize) -> bool
+    ensures { λ r. ⌜ r ≡ fits area positions rows ⌝ }
+{
+    if area != AREA {
+        return false;
+    }
+    if POSITIONS < positions {
+        return false;
+    }
+    rows <= ROWS
+}
+
+fn set(work: &mut [u8], i: usize, k: usize, mark: u8, value: bool)
+    requires { ⌜ (length (now work) ≡ 65536) × (i < 256) × (k < 128) ⌝ }
+    ensures { λ _. ⌜ now (work .exit) ≡ with-cell i k mark value (now (work .entry)) ⌝ }
+{
+    let at = POSITIONS * i + k;
+    work[at] = mark;
+    work[FLAGS + at] = work[FLAGS + at] / 2 * 2 + bit(value);
+}
+
+fn bit(value: bool) -> u8
+    ensures { λ r. ⌜ r ≡ weight value ⌝ }
+{
+    if value { 1 } else { 0 }
+}
+
+fn within(mark: u8, bound: u8) -> u8
+    ensures { λ r. ⌜ r ≡ bounded bound mark ⌝ }
+{
+    if mark <= bound { mark } else { 0 }
+}
+
+fn fill_row(kinds: &[u8], rows: &[u8], row: usize, i: usize, side: u8, work: &mut [u8])
+    requires { ⌜ (length (now work) ≡ 65536) × (length (now kinds) ≤ 128) × (i < 256) ⌝ }
+    ensures { λ _. ⌜ now (work .exit) ≡ with-given-row (now (kinds .entry)) (now (rows .entry)) side row i (now (work .entry)) ⌝ }
+{
+    let mut bit: usize = 0;
+    let mut k = 0;
+    while k < kinds.len() {
+        if kinds[k] != side { // the row's next bit
+            set(work, i, k, 1, rows::bit(rows, row, bit));
+            bit += 1;
+        }
+        k += 1;
+    }
+}
+
+fn wide(x: u8) -> usize
+    ensures { λ r. ⌜ r ≡ x ⌝ }
+{
+    x as usize
+}
+
+// The first position of the other side at which the rows i and i + 1 have different values; the number of kinds if there is none.
+fn first_difference(kinds: &[u8], work: &[u8], i: usize, side: u8) -> usize
+    requires { ⌜ (length (now kinds) ≤ 128) × (length (now work) ≡ 65536) × (i + 1 < 256) ⌝ }
+    ensures { λ r. ⌜ r ≡ first-difference (now (kinds .entry)) side (now (work .entry)) i ⌝ }
+{
+    let mut k = 0;
+    while k < kinds.len() {
+        if kinds[k] != side { // a given value
+            if value(work, i, k) != value(work, i + 1, k) {
+                return k;
+            }
+        }
+        k += 1;
+    }
+    k
+}
+
+fn value(work: &[u8], i: usize, k: usize) -> bool
+    requires { ⌜ (length (now work) ≡ 65536) × (i < 256) × (k < 128) ⌝ }
+    ensures { λ r. ⌜ r ≡ cells (now (work .entry)) .value i k ⌝ }
+{
+    work[FLAGS + (POSITIONS * i + k)] % 2 == 1
+}
+
+// Writes the own values of the sorted row i as lent row `row`.
+fn pack_row(kinds: &[u8], row: usize, i: usize, side: u8, work: &mut [u8])
+    requires { ⌜ (length (now kinds) ≤ 128) × (row < 256) × (i < 256) × (length (now work) ≡ 65536) ⌝ }
+    ensures { λ _. ⌜ now (work .exit) ≡ placed (now (work .entry)) row (bytes-of (part (owned (now (kinds .entry)) side) (tabulate (length (now (kinds .entry))) (cells (now (work .entry)) .value i)))) ⌝ }
+{
+    rows::clear(&mut work[BYTES * row..BYTES * row + BYTES]);
+    let mut bit = 0;
+    let mut k = 0;
+    while k < kinds.len() {
+        if kinds[k] == side {
+            let value = value(work, i, k);
+            set_if(work, row, bit, value);
+            bit += 1;
+        }
+        k += 1;
+    }
+}
+
+// Sets bit k of the row if the value is true.
+fn set_if(work: &mut [u8], row: usize, k: usize, value: bool)
+    ensures { λ _. ⌜ now (work .exit) ≡ cond value (bit-set (now (work .entry)) row k) (now (work .entry)) ⌝ }
+{
+    if value {
+        rows::set_bit(work, row, k);
+    }
+}

@@ -1,0 +1,75 @@
+-- What clauses, as codes, are worth in one row of the table of cells. A literal whose cell is set is true or false; any other is open.
+-- Assumes nothing.
+use Prim.Native.Nat.{ℕ, zero, suc, _+_, _%_}
+use mathlib.Core.Bool.{Bool, true, false, not, _&&_, _||_, cond}
+use mathlib.Core.List.{List, [], _∷_}
+use lib.Dec.{ltb, eqb}
+use lib.ListN.{length, drop}
+use Rattle.search_cells.specs.Cells.{cells}
+use Rattle.codes.specs.Codes.{row-position}
+
+-- The area is as long as the table, which has row i.
+abbrev pub has-row : List ℕ → ℕ → Bool
+has-row w i = eqb (length w) 65536 && ltb i 256
+
+-- The literal of code c is set in row i.
+unfoldable pub is-set : List ℕ → ℕ → ℕ → Bool
+is-set w i c = ltb 0 (cells w .level i (row-position c))
+
+-- It is true by its cell's value, set or not: an even code stands for the unknown, an odd one for its negation.
+unfoldable pub is-true : List ℕ → ℕ → ℕ → Bool
+is-true w i c = cond (eqb (c % 2) 0) (cells w .value i (row-position c)) (not (cells w .value i (row-position c)))
+
+-- It is set, and true.
+unfoldable pub is-satisfied : List ℕ → ℕ → ℕ → Bool
+is-satisfied w i c = is-set w i c && is-true w i c
+
+-- What the literals of a clause show: 0 if all are false, the code of the one open literal if all others are false, else 1. With the literal
+-- of code c besides, by whether it is set and whether it is true: a true one, or a second open one, makes it 1.
+abbrev pub shown-with : Bool → Bool → ℕ → ℕ → ℕ
+shown-with true true shown c = 1
+shown-with true false shown c = shown
+shown-with false truth zero c = c
+shown-with false truth (suc shown) c = 1
+
+-- What the clause shows of which these are the codes left; 1 if it has no end.
+abbrev pub look-on : (ℕ → Bool) → (ℕ → Bool) → ℕ → List ℕ → ℕ
+look-on set truth shown [] = 1
+look-on set truth shown (zero ∷ cs) = shown
+look-on set truth shown (suc c ∷ cs) = look-on set truth (shown-with (set (suc c)) (truth (suc c)) shown (suc c)) cs
+
+-- What the clause at `start` shows in row i.
+unfoldable pub look-at : List ℕ → List ℕ → ℕ → ℕ → ℕ
+look-at codes w i start = cond (has-row w i) (look-on (is-set w i) (is-true w i) 0 (drop start codes)) 1
+
+-- No code up to the end of the clause is satisfied, and it has an end.
+abbrev pub lives-on : (ℕ → Bool) → List ℕ → Bool
+lives-on satisfied [] = false
+lives-on satisfied (zero ∷ cs) = true
+lives-on satisfied (suc c ∷ cs) = not (satisfied (suc c)) && lives-on satisfied cs
+
+-- The clause at `start` is live in row i: none of its literals is set and true.
+unfoldable pub lives-at : List ℕ → List ℕ → ℕ → ℕ → Bool
+lives-at codes w i start = cond (has-row w i) (lives-on (is-satisfied w i) (drop start codes)) false
+
+-- The start of the first live clause, where the codes from entry e on are left, the clause being read began at `start`, and `dead` says
+-- whether a literal of it was satisfied; if there is none, the entry behind the last code.
+abbrev pub next-live-on : (ℕ → Bool) → ℕ → Bool → ℕ → List ℕ → ℕ
+next-live-on satisfied start dead e [] = e
+next-live-on satisfied start true e (zero ∷ cs) = next-live-on satisfied (e + 1) false (e + 1) cs
+next-live-on satisfied start false e (zero ∷ cs) = start
+next-live-on satisfied start dead e (suc c ∷ cs) = next-live-on satisfied start (dead || satisfied (suc c)) (e + 1) cs
+
+-- The start of the first live clause in row i from `from` on.
+unfoldable pub next-live-at : List ℕ → List ℕ → ℕ → ℕ → ℕ
+next-live-at codes w i from = cond (has-row w i) (next-live-on (is-satisfied w i) from false from (drop from codes)) (length codes)
+
+-- Each clause has a true literal, where `met` says whether the one being read has met one. A clause without an end doesn't count.
+abbrev pub matrix-on : (ℕ → Bool) → Bool → List ℕ → Bool
+matrix-on truth met [] = true
+matrix-on truth met (zero ∷ cs) = met && matrix-on truth false cs
+matrix-on truth met (suc c ∷ cs) = matrix-on truth (met || truth (suc c)) cs
+
+-- Each clause has a true literal in row i, by the values of all cells, set or not.
+unfoldable pub matrix-in : List ℕ → List ℕ → ℕ → Bool
+matrix-in codes w i = cond (has-row w i) (matrix-on (is-true w i) false codes) false

@@ -1,0 +1,191 @@
+// What clauses are worth in one row of the table of cells: which are false, unit, live or true.
+// Every public function is total: it gives a fixed answer if the area is no table or has no such row, and a defined one for any codes.
+// Nothing is changed. What follows from the answers is left to the search.
+ghost use mathlib.Core.Path.{_≡_};
+ghost use Prim.Native.Nat.{_<_};
+ghost use mathlib.Core.Bool.{false};
+ghost use lib.ListN.{length, drop};
+ghost use Rattle.codes.specs.Codes.{row-position};
+ghost use Rattle.search_evaluation.specs.Evaluation.{has-row, is-set, is-true, is-satisfied, look-on, look-at, lives-on, lives-at, next-live-on, next-live-at, matrix-on, matrix-in};
+
+const AREA: usize = 65_536;
+
+const ROWS: usize = 256;
+
+// The clause at `start` in row i: 0 if all its literals are false, the code of its one open literal if all others are false, else 1.
+pub fn look(codes: &[u16], work: &[u8], i: usize, start: usize) -> usize
+    ensures { λ r. ⌜ r ≡ look-at (now (codes .entry)) (now (work .entry)) i start ⌝ }
+{
+    if has_row(work, i) {} else {
+        return 1;
+    }
+    look_on(codes, work, i, start)
+}
+
+// Whether the entries from `start` to the end of a clause have no literal that is set and true in row i.
+pub fn lives(codes: &[u16], work: &[u8], i: usize, start: usize) -> bool
+    ensures { λ r. ⌜ r ≡ lives-at (now (codes .entry)) (now (work .entry)) i start ⌝ }
+{
+    if has_row(work, i) {} else {
+        return false;
+    }
+    lives_on(codes, work, i, start)
+}
+
+// The start of the first clause from `from` on that lives in row i; at least the number of entries if there is none.
+pub fn next_live(codes: &[u16], work: &[u8], i: usize, from: usize) -> usize
+    ensures { λ r. ⌜ r ≡ next-live-at (now (codes .entry)) (now (work .entry)) i from ⌝ }
+{
+    if has_row(work, i) {} else {
+        return codes.len();
+    }
+    next_live_on(codes, work, i, from)
+}
+
+// Whether every clause has a true literal in row i, by the values of all cells, set or not.
+pub fn matrix(codes: &[u16], work: &[u8], i: usize) -> bool
+    ensures { λ r. ⌜ r ≡ matrix-in (now (codes .entry)) (now (work .entry)) i ⌝ }
+{
+    if has_row(work, i) {} else {
+        return false;
+    }
+    matrix_on(codes, work, i)
+}
+
+fn has_row(work: &[u8], i: usize) -> bool
+    ensures { λ r. ⌜ r ≡ has-row (now (work .entry)) i ⌝ }
+{
+    if work.len() == AREA { i < ROWS } else { false }
+}
+
+fn look_on(codes: &[u16], work: &[u8], i: usize, start: usize) -> usize
+    requires { ⌜ (length (now work) ≡ 65536) × (i < 256) ⌝ }
+    ensures { λ r. ⌜ r ≡ look-on (is-set (now (work .entry)) i) (is-true (now (work .entry)) i) 0 (drop start (now (codes .entry))) ⌝ }
+{
+    let mut unit = 0;
+    let mut e = start;
+    while e < codes.len() {
+        let c = wide(codes[e]);
+        e += 1;
+        if c == 0 {
+            return unit;
+        }
+        if is_set(work, i, c) {
+            if is_true(work, i, c) {
+                return 1; // a true literal
+            }
+        } else {
+            if unit != 0 {
+                return 1; // a second open literal
+            }
+            unit = c;
+        }
+    }
+    1
+}
+
+fn lives_on(codes: &[u16], work: &[u8], i: usize, start: usize) -> bool
+    requires { ⌜ (length (now work) ≡ 65536) × (i < 256) ⌝ }
+    ensures { λ r. ⌜ r ≡ lives-on (is-satisfied (now (work .entry)) i) (drop start (now (codes .entry))) ⌝ }
+{
+    let mut e = start;
+    while e < codes.len() {
+        let c = wide(codes[e]);
+        e += 1;
+        if c == 0 {
+            return true;
+        }
+        if is_satisfied(work, i, c) {
+            return false;
+        }
+    }
+    false // no end
+}
+
+fn next_live_on(codes: &[u16], work: &[u8], i: usize, from: usize) -> usize
+    requires { ⌜ (length (now work) ≡ 65536) × (i < 256) ⌝ }
+    ensures { λ r. ⌜ r ≡ next-live-on (is-satisfied (now (work .entry)) i) from false from (drop from (now (codes .entry))) ⌝ }
+{
+    let mut start = from;
+    let mut dead = false;
+    let mut e = from;
+    while e < codes.len() {
+        let c = wide(codes[e]);
+        e += 1;
+        if c == 0 {
+            if dead {
+                start = e;
+                dead = false;
+            } else {
+                return start;
+            }
+        } else if dead {} else if is_satisfied(work, i, c) {
+            dead = true;
+        }
+    }
+    e
+}
+
+fn matrix_on(codes: &[u16], work: &[u8], i: usize) -> bool
+    requires { ⌜ (length (now work) ≡ 65536) × (i < 256) ⌝ }
+    ensures { λ r. ⌜ r ≡ matrix-on (is-true (now (work .entry)) i) false (now (codes .entry)) ⌝ }
+{
+    let mut met = false;
+    let mut e = 0;
+    while e < codes.len() {
+        let c = wide(codes[e]);
+        e += 1;
+        if c == 0 {
+            if met {} else {
+                return false;
+            }
+            met = false;
+        } else if is_true(work, i, c) {
+            met = true;
+        }
+    }
+    true
+}
+
+fn is_satisfied(work: &[u8], i: usize, c: usize) -> bool
+    requires { ⌜ (length (now work) ≡ 65536) × (i < 256) ⌝ }
+    ensures { λ r. ⌜ r ≡ is-satisfied (now (work .entry)) i c ⌝ }
+{
+    if is_set(work, i, c) {
+        is_true(work, i, c)
+    } else {
+        false // open
+    }
+}
+
+fn is_set(work: &[u8], i: usize, c: usize) -> bool
+    requires { ⌜ (length (now work) ≡ 65536) × (i < 256) ⌝ }
+    ensures { λ r. ⌜ r ≡ is-set (now (work .entry)) i c ⌝ }
+{
+    0 < work[128 * i + position(c)]
+}
+
+// Whether the literal is true by its cell's value, set or not.
+fn is_true(work: &[u8], i: usize, c: usize) -> bool
+    requires { ⌜ (length (now work) ≡ 65536) × (i < 256) ⌝ }
+    ensures { λ r. ⌜ r ≡ is-true (now (work .entry)) i c ⌝ }
+{
+    let value = work[32_768 + (128 * i + position(c))] % 2 == 1;
+    if c % 2 == 0 {
+        return value;
+    }
+    !value
+}
+
+// The position of a code's unknown: c / 2 - 1 for a literal, and inside the row for any number, so that no code needs a test.
+fn position(c: usize) -> usize
+    ensures { λ r. ⌜ (r ≡ row-position c) × (r < 128) ⌝ }
+{
+    (c / 2 + 127) % 128
+}
+
+fn wide(x: u16) -> usize
+    ensures { λ r. ⌜ r ≡ x ⌝ }
+{
+    x as usize
+}

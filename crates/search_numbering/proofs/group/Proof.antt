@@ -1,0 +1,82 @@
+-- `numbering::group` meets its contract. The loop's invariant: the places passed have the first places of their copies, and `start` is the last of
+-- them. Assumes nothing.
+use Prim.Native.Nat.{_+_, _-_, _≤_}
+use mathlib.Core.Path.{_≡_, refl, sym, ap, _∙_}
+use mathlib.Core.Logic.{⊎-elim}
+use native.Mathlib.Omega.{arith}
+use borrow.Author.Needs.{needs}
+use lib.ListN.{length, length-set}
+use Rattle.search_numbering.specs.Numbering.{first-place}
+use Rattle.search_numbering.specs.Wants.{Grouped}
+use Rattle.search_numbering.proofs.FillSteps.{grouped-none, first-place-here, first-place-kept, grouped-more}
+use Rattle.search_numbering.proofs.group.Statement.{statement}
+use Rattle.search_numbering.proofs.group.Tie as tie
+
+abbrev Inv-loop : tie.InvT-loop
+Inv-loop splits k count first₀ start₀ i₀ first start i = (i ≤ count) × (length first ≡ 256) × Grouped splits k i first × (start ≡ first-place splits k (i - 1))
+
+abbrev μ-loop : tie.MeasureT-loop
+μ-loop splits k count first₀ start₀ i₀ first start i = count - i
+
+loop-holds : tie.Need-loop-holds Inv-loop μ-loop
+loop-holds c = (omega arith, omega arith, grouped-none (c .before .before .args .splits .now) (c .before .before .args .k) (c .before .before .args .first .now) (c .before .before .pre .1), refl)
+
+shared-slice-read-wide : tie.Need-shared-slice-read-wide Inv-loop μ-loop
+shared-slice-read-wide c = omega arith
+
+wide-requires : tie.Need-wide-requires Inv-loop μ-loop
+wide-requires c κs = search needs
+
+cast-start : tie.Need-cast-start Inv-loop μ-loop
+cast-start c = omega arith
+
+slice-write-first : tie.Need-slice-write-first Inv-loop μ-loop
+slice-write-first c = omega arith
+
+add-i : tie.Need-add-i Inv-loop μ-loop
+add-i c = omega arith
+
+loop-less : tie.Need-loop-less Inv-loop μ-loop
+loop-less c = omega arith
+
+loop-again : tie.Need-loop-again Inv-loop μ-loop
+loop-again c =
+    let splits = c .before .before .before .before .before .before .before .args .splits .now in
+    let k = c .before .before .before .before .before .before .before .args .k in
+    let i = c .before .before .before .before .loop .i in
+    let start-is : c .if1 .start ≡ first-place splits k i =
+    ⊎-elim
+    (λ t. t .1 ∙ sym (first-place-here splits k i (omega (arith, c .before .wide .ensures, t .0 .taken))))
+    (λ t. t .1 ∙ c .before .before .before .before .loop .inv .3 ∙ sym (first-place-kept splits k i (omega (arith, c .before .wide .ensures, t .0 .left))))
+    (c .if1 .came) in
+    let back : i ≡ i + 1 - 1 = omega arith in (
+      omega arith,
+      length-set (c .before .before .before .before .loop .first) i (c .if1 .start) ∙ c .before .before .before .before .loop .inv .1,
+      grouped-more splits k i (c .before .before .before .before .loop .first) (c .if1 .start) (omega arith) (c .before .before .before .before .loop .inv .2) start-is,
+      start-is ∙ ap (first-place splits k) back,
+    )
+
+same-length : tie.Need-same-length Inv-loop μ-loop
+same-length c = omega arith
+
+returns : tie.Need-returns Inv-loop μ-loop
+returns c =
+    let full : c .before .loop .i ≡ c .before .before .before .before .args .count = omega arith in
+    rw full at (c .before .loop .inv .2)
+
+pub group-spec : {M : Type 1} → statement M
+group-spec =
+    tie.close
+    (tie.spec
+    Inv-loop
+    μ-loop
+    loop-holds
+    shared-slice-read-wide
+    wide-requires
+    cast-start
+    slice-write-first
+    add-i
+    loop-less
+    loop-again
+    same-length
+    returns)

@@ -1,0 +1,176 @@
+-- What the functions make of a table that has their places, as relations between the sets before and after. Assumes nothing.
+use Prim.Native.Nat.{ℕ, zero, suc, _+_, _-_, _*_, _/_, _%_, _^_, _≤_, _<_}
+use mathlib.Core.Path.{_≡_, refl, sym, _∙_, subst}
+use mathlib.Core.Logic.{_⊎_, inl, inr, ⊎-elim}
+use mathlib.Core.Bool.{Bool, true, false, cond}
+use mathlib.Core.List.{List, [], _∷_}
+use native.Mathlib.Decide.{decLt, ℕ-discrete}
+use native.Mathlib.Omega.{arith}
+use borrow.Author.Tests.{eq-eqb, ne-eqb}
+use lib.ListN.{length, drop}
+use Rattle.expansion.proofs.Booleans.{never-both}
+use Rattle.expansion.proofs.ClauseCuts.{Every, every-map}
+use Rattle.codes.specs.Clauses.{position, clause-of, Coded}
+use Rattle.codes.proofs.CodeLaws.{clause-coded, row-position-is}
+use Rattle.codes.specs.Codes.{row-position}
+use Rattle.search_sets.specs.Sets.{words-put, words-joined, words-met, set-joined, bit-added, bit-at, ones, each-from, cut-at, followed, code-joined, codes-joined, united, united-words, added, has, emptied, filled, trimmed, excused, blamed}
+use Rattle.search_sets.specs.Masks.{set-at, SetGrown, SetsKept, Put, United, WordsUnited, Trimmed, Excused, Blamed}
+use Rattle.search_sets.proofs.TestLaws.{place-true, numbers-true}
+use Rattle.search_sets.proofs.LengthLaws.{length-met, length-followed, length-code-joined, length-each}
+use Rattle.search_sets.proofs.MaskLaws.{words-full, set-bit, store-put, kept-put, store-grown, store-added, put-united, set-grown-refl, set-grown-trans, set-grown-keeps, trimmed-refl, trimmed-more}
+
+-- ---- sets at places that are there
+
+module _ (s : List ℕ) (size : length s ≡ 516) (to : ℕ) (place : to < 130) where
+  put-there : (low high : ℕ) → Put to low high s (words-put s to low high)
+  unfolding words-put
+  put-there low high = store-put s to low high (omega arith)
+
+  joined-united : (low high : ℕ) → WordsUnited to low high s (words-joined s to low high)
+  unfolding words-joined
+  joined-united low high = put-united s _ to low high (put-there _ _)
+
+  set-joined-united : (from : ℕ) → United to from s (set-joined s to from)
+  unfolding set-joined
+  set-joined-united from = let words = joined-united _ _ in record { grown = words .grown; takes = words .takes }
+
+-- ---- a position after the other
+
+trimmed-each : (k m : ℕ) (s : List ℕ) → length s ≡ 516 → k + m ≤ 128 → Trimmed k s (each-from (cut-at k) k m s)
+unfolding words-met ones
+trimmed-each k zero s size fits = trimmed-refl k s
+trimmed-each k (suc m) s size fits =
+    let t = each-from (cut-at k) k m s in
+    let same : length t ≡ 516 = length-each (cut-at k) (λ u p. length-met u p (ones k) (ones (k - 64))) k m s ∙ size in
+    trimmed-more k (k + m) (ones k) (ones (k - 64)) s t _ (omega arith) (omega arith) refl refl (trimmed-each k m s size (omega arith))
+    (put-there t same (k + m) (omega arith) _ _)
+
+excused-none : (k : ℕ) (s : List ℕ) → Excused k k s s
+excused-none k s = record { grown = set-grown-refl; takes = λ p low high. absurd (omega arith) }
+
+excused-shorter : (k at p : ℕ) (s t : List ℕ) → at ≤ p → Excused k p s t → Excused k at s t
+excused-shorter k at p s t le x = record { grown = x .grown; takes = λ q low high. x .takes q low (omega arith) }
+
+-- Position p: its set is taken in if the failure's set has it by now, so also if it had it at first.
+excused-more : (k p : ℕ) (s t u : List ℕ) → p < 128 → Excused k p s t → SetGrown 128 t u
+    → (set-at t 128 p ≡ true → (l : ℕ) → set-at t p l ≡ true → set-at u 128 l ≡ true) → Excused k (p + 1) s u
+excused-more k p s t u below x g here = record {
+  grown = set-grown-trans (x .grown) g;
+  takes = λ q low high named l h. go q low high named l h (decLt q p);
+}
+  where
+    go : (q : ℕ) → k ≤ q → q < p + 1 → set-at s 128 q ≡ true → (l : ℕ) → set-at s q l ≡ true → Dec (q < p) → set-at u 128 l ≡ true
+    go q low high named l h (yes lt) = g .keeps l (x .takes q low lt named l h)
+    go q low high named l h (no n) =
+        let same : q ≡ p = omega arith in
+        here (set-grown-keeps (x .grown) 128 p (subst (λ (y : ℕ). set-at s 128 y ≡ true) same named)) l
+        (set-grown-keeps (x .grown) p l (subst (λ (y : ℕ). set-at s y l ≡ true) same h))
+
+excused-step : (k p : ℕ) (s t : List ℕ) → length t ≡ 516 → p < 128 → Excused k p s t → (b : Bool) → bit-at t 128 p ≡ b
+    → Excused k (p + 1) s (cond b (set-joined t 128 p) t)
+unfolding bit-at
+excused-step k p s t size below x true e =
+    let joined = set-joined-united t size 128 (omega arith) p in
+    excused-more k p s t (set-joined t 128 p) below x (joined .grown) (λ named. joined .takes)
+excused-step k p s t size below x false e =
+    excused-more k p s t t below x set-grown-refl (λ named. absurd (never-both named (set-bit t 128 p below ∙ e)))
+
+excused-each : (k m : ℕ) (s : List ℕ) → length s ≡ 516 → m ≤ 128 - k → Excused k (k + m) s (each-from (followed 128) k m s)
+excused-each k zero s size fits = excused-shorter k (k + 0) k s s (omega arith) (excused-none k s)
+excused-each k (suc m) s size fits =
+    let t = each-from (followed 128) k m s in
+    let same : length t ≡ 516 = length-each (followed 128) (length-followed 128) k m s ∙ size in
+    excused-shorter k (k + suc m) (k + m + 1) s _ (omega arith)
+    (excused-step k (k + m) s t same (omega arith) (excused-each k m s size (omega arith)) (bit-at t 128 (k + m)) refl)
+
+-- ---- a code after the other
+
+code-grown : (s : List ℕ) → length s ≡ 516 → (to c : ℕ) → to < 130 → SetGrown to s (code-joined to s c)
+code-grown s size to c place = go (ℕ-discrete (row-position c) to)
+  where
+    go : Dec (row-position c ≡ to) → SetGrown to s (code-joined to s c)
+    go (yes same) = rw (eq-eqb (row-position c) to same) set-grown-refl
+    go (no other) = rw (ne-eqb (row-position c) to other) (set-joined-united s size to place (row-position c) .grown)
+
+code-taken : (s : List ℕ) → length s ≡ 516 → (to c : ℕ) → to < 130 → 2 ≤ c → position c < 128
+    → (position c ≡ to) ⊎ ((l : ℕ) → set-at s (position c) l ≡ true → set-at (code-joined to s c) to l ≡ true)
+code-taken s size to c place two below = go (ℕ-discrete (row-position c) to)
+  where
+    go : Dec (row-position c ≡ to) → (position c ≡ to) ⊎ ((l : ℕ) → set-at s (position c) l ≡ true → set-at (code-joined to s c) to l ≡ true)
+    go (yes same) = inl (sym (row-position-is c two below) ∙ same)
+    go (no other) =
+        inr
+        (λ l h.
+        rw (ne-eqb (row-position c) to other)
+        (set-joined-united s size to place (row-position c) .takes l (subst (λ (p : ℕ). set-at s p l ≡ true) (sym (row-position-is c two below)) h)))
+
+blamed-all : (to : ℕ) → to < 130 → (cs : List ℕ) → Every (λ c. (2 ≤ c) × (position c < 128)) cs
+    → (s : List ℕ) → length s ≡ 516 → Blamed cs to s (codes-joined to cs s)
+blamed-all to place [] coded s size = record { grown = set-grown-refl; takes = tt }
+blamed-all to place (c ∷ cs) coded s size =
+    let t = code-joined to s c in
+    let u = codes-joined to cs t in
+    let first = code-grown s size to c place in
+    let rest = blamed-all to place cs (coded .1) t (length-code-joined to s c ∙ size) in
+    record {
+      grown = set-grown-trans first (rest .grown);
+      takes = (
+        ⊎-elim (λ e. inl e) (λ f. inr (λ l h. rest .grown .keeps l (f l h))) (code-taken s size to c place (coded .0 .0) (coded .0 .1)),
+        every-map (Taken t u) (Taken s u) (λ d. ⊎-elim (λ e. inl e) (λ f. inr (λ l h. f l (set-grown-keeps first (position d) l h)))) cs (rest .takes),
+      );
+    }
+  where
+    Taken : List ℕ → List ℕ → ℕ → Type 0
+    Taken before after d = (position d ≡ to) ⊎ ((l : ℕ) → set-at before (position d) l ≡ true → set-at after to l ≡ true)
+
+-- ---- the public functions
+
+module _ (s : List ℕ) (size : length s ≡ 516) where
+  pub unite-unites : (to from : ℕ) → to < 130 → from < 130 → United to from s (united s to from)
+  unfolding united
+  unite-unites to from place other = rw (numbers-true (length s) to from 130 size place other) (set-joined-united s size to place from)
+
+  pub words-unite : (to low high : ℕ) → to < 130 → WordsUnited to low high s (united-words s to low high)
+  unfolding united-words
+  words-unite to low high place = rw (place-true (length s) to size place) (joined-united s size to place low high)
+
+  pub add-grows : (to p : ℕ) → to < 130 → p < 128 → SetGrown to s (added s to p)
+  unfolding added bit-added
+  add-grows to p place below = rw (numbers-true (length s) to p 128 size place below) (store-grown s (2 * to + p / 64) (2 ^ (p % 64)) to (omega arith) (omega arith) (omega arith))
+
+  pub add-adds : (to p : ℕ) → to < 130 → p < 128 → set-at (added s to p) to p ≡ true
+  unfolding added bit-added
+  add-adds to p place below = rw (numbers-true (length s) to p 128 size place below) (store-added s to p (omega arith) below)
+
+  pub has-is : (of p : ℕ) → of < 130 → p < 128 → has s of p ≡ set-at s of p
+  unfolding has bit-at
+  has-is of p place below = rw (numbers-true (length s) of p 128 size place below) (sym (set-bit s of p below))
+
+  pub empty-keeps : (to : ℕ) → 128 ≤ to → to < 130 → SetsKept s (emptied s to)
+  unfolding emptied
+  empty-keeps to behind place = rw (place-true (length s) to size place) (kept-put behind (put-there s size to place 0 0))
+
+  pub fill-keeps : (to : ℕ) → 128 ≤ to → to < 130 → SetsKept s (filled s to)
+  unfolding filled
+  fill-keeps to behind place = rw (place-true (length s) to size place) (kept-put behind (put-there s size to place (2 ^ 64 - 1) (2 ^ 64 - 1)))
+
+  pub fill-fills : (to : ℕ) → to < 130 → (l : ℕ) → l < 128 → set-at (filled s to) to l ≡ true
+  unfolding filled
+  fill-fills to place l below =
+      rw (place-true (length s) to size place) (put-there s size to place (2 ^ 64 - 1) (2 ^ 64 - 1) .there l ∙ words-full l below)
+
+  pub trim-trims : (k n : ℕ) → k ≤ n → n ≤ 128 → Trimmed k s (trimmed s k n)
+  unfolding trimmed
+  trim-trims k n low high = rw (numbers-true (length s) k n 129 size (omega arith) (omega arith)) (trimmed-each k (n - k) s size (omega arith))
+
+  pub excuse-excuses : (k at : ℕ) → at ≤ 128 → Excused k at s (excused s 128 k at)
+  unfolding excused
+  excuse-excuses k at high =
+      rw (numbers-true (length s) 128 at 129 size (omega arith) (omega arith))
+      (excused-shorter k at (k + (at - k)) s _ (omega arith) (excused-each k (at - k) s size (omega arith)))
+
+  pub blame-blames : (codes : List ℕ) (start to : ℕ) → to < 130 → Coded 128 codes
+      → Blamed (clause-of (drop start codes)) to s (blamed codes s start to)
+  unfolding blamed
+  blame-blames codes start to place coded =
+      rw (place-true (length s) to size place) (blamed-all to place (clause-of (drop start codes)) (clause-coded 128 codes start coded) s size)
