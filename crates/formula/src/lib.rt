@@ -41,6 +41,9 @@ impl Formula {
 
     pub const ROWS: usize = 256;
 
+    // The bytes of a work area.
+    pub const WORK: usize = 65_536;
+
     // The state of a run before its first round.
     pub fn start() -> Progress
         ensures { λ r. ⌜ r ≡ fresh ⌝ }

@@ -46,6 +46,10 @@ abbrev pub any : List Bool → Bool
 any [] = false
 any (v ∷ vs) = v || any vs
 
--- 'A bit set beyond its unknowns', of which there are m: one of a row's 128 bits, at or beyond m.
+-- A row's bits, eight to a byte.
+abbrev pub row-bits : ℕ
+row-bits = 8 * 16
+
+-- 'A bit set beyond its unknowns', of which there are m: one of a row's bits, at or beyond m.
 unfoldable pub stray : ℕ → List ℕ → Bool
-stray m bytes = any (drop m (row-of 128 bytes))
+stray m bytes = any (drop m (row-of row-bits bytes))

@@ -7,7 +7,7 @@ use lib.Bits.{bitOr}
 use lib.Dec.{eqb, leb, ltb}
 use lib.ListN.{length, getD, take, drop, set}
 use Rattle.formula.specs.Formula.{max-rows}
-use Rattle.rows.specs.Row.{values, row-of, bytes-of, any, stray}
+use Rattle.rows.specs.Row.{values, row-of, bytes-of, row-bits, any, stray}
 use Rattle.rows.specs.declared.Found.{Found}
 use Rattle.rows.specs.declared.Found.the-variants.{At, Absent}
 
@@ -50,7 +50,7 @@ handed-back table count place = cond (ltb place count) (row-at table place) []
 unfoldable pub bit-set : List ℕ → ℕ → ℕ → List ℕ
 bit-set table i k =
     let place = 16 * i + k / 8 in
-    cond (inside table i && ltb k 128) (set table place (bitOr (getD table place 0) (2 ^ (k % 8)))) table
+    cond (inside table i && ltb k row-bits) (set table place (bitOr (getD table place 0) (2 ^ (k % 8)))) table
 
 -- Two lists of bytes are equal.
 abbrev pub same-bytes : List ℕ → List ℕ → Bool

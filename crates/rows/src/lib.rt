@@ -12,7 +12,7 @@ ghost use Rattle.rows.specs.Table.{row-at, room, table-fits, marks-fit, 
 // A row's bytes, and its bits.
 const BYTES: usize = 16;
 
-const BITS: usize = 128;
+pub const BITS: usize = 8 * BYTES;
 
 // A place, or none.
 pub enum Found {
