@@ -14,13 +14,17 @@ abbrev pub code-of : ℤ → ℕ
 code-of (pos v) = 2 * v
 code-of (negsuc v) = 2 * suc v + 1
 
+-- The last code: that of -v for the last unknown v.
+abbrev pub last-code : ℕ
+last-code = 2 * max-unknowns + 1
+
 -- The code of the same unknown with the other sign.
 unfoldable pub opposite : ℕ → ℕ
 opposite c = cond (eqb (c % 2) 0) (c + 1) (c - 1)
 
--- The position of a code's unknown: c / 2 - 1 for the codes 2 to 257, which stand for literals, and one of the 128 for any other number.
+-- The position of a code's unknown: c / 2 - 1 for the codes from 2 to the last, which stand for literals, and a position for any other number.
 abbrev pub row-position : ℕ → ℕ
-row-position c = (c / 2 + 127) % 128
+row-position c = (c / 2 + (max-unknowns - 1)) % max-unknowns
 
 -- Whether a clause has a code.
 abbrev pub has : ℕ → List ℕ → Bool

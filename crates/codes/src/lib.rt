@@ -1,15 +1,25 @@
 // The literals of a formula as 16-bit codes: 0 ends a clause, 2v stands for the literal v and 2v + 1 for -v. Each clause names a literal
 // once, its largest code first; a clause with v and -v, which is always true, is left out. `encode` is total: its contract gives the
 // number of entries used and every entry of the table, for whatever is lent. What a formula means is left to `formula`.
+use formula::Formula;
 ghost use mathlib.Core.Path.{_≡_};
-ghost use Prim.Native.Nat.{_-_, _≤_, _<_};
+ghost use Prim.Native.Nat.{_+_, _-_, _≤_, _<_};
 ghost use mathlib.Core.Bool.{false};
 ghost use mathlib.Core.List.{_++_};
 ghost use lib.IntN.{natAbs};
 ghost use lib.ListN.{length, take, replicate};
+ghost use Rattle.formula.specs.Formula.{max-unknowns};
 ghost use Rattle.formula.specs.Causes.{any, beyond};
-ghost use Rattle.codes.specs.Codes.{code-of, opposite as code-opposite, encoding, used, filled};
+ghost use Rattle.codes.specs.Codes.{last-code, code-of, opposite as code-opposite, encoding, used, filled};
 ghost use Rattle.codes.specs.Clauses.{Names, PastClause, Added, ClauseEncoded};
+
+// That of the last unknown's opposite literal.
+pub const LAST_CODE: usize = 2 * Formula::UNKNOWNS + 1;
+
+// The last unknown's literals.
+const HIGHEST: i32 = Formula::UNKNOWNS as i32;
+
+const LOWEST: i32 = -HIGHEST;
 
 // The entries read and written, where a clause ends.
 struct Ends {
@@ -17,8 +27,8 @@ struct Ends {
     written: usize,
 }
 
-// Writes the codes and zeros behind them, and returns how many entries are used. With more literals than places, or a literal beyond 128
-// either way, nothing is changed.
+// Writes the codes and zeros behind them, and returns how many entries are used. With more literals than places, or a literal beyond the
+// last unknown either way, nothing is changed.
 pub fn encode(literals: &[i32], codes: &mut [u16]) -> usize
     ensures { λ r. ⌜ r ≡ used (now (literals .entry)) (length (now (codes .entry))) ⌝ }
     ensures { λ _. ⌜ now (codes .exit) ≡ filled (now (literals .entry)) (now (codes .entry)) ⌝ }
@@ -36,7 +46,7 @@ pub fn encode(literals: &[i32], codes: &mut [u16]) -> usize
 
 // A loop with one way out, so that the compiler looks at several entries at once.
 fn has_beyond(literals: &[i32]) -> bool
-    ensures { λ r. ⌜ r ≡ any (beyond 128) (now (literals .entry)) ⌝ }
+    ensures { λ r. ⌜ r ≡ any (beyond max-unknowns) (now (literals .entry)) ⌝ }
 {
     let mut found = false;
     let mut i = 0;
@@ -51,17 +61,17 @@ fn has_beyond(literals: &[i32]) -> bool
 
 // No number is negated here, since the lowest has no opposite.
 fn is_beyond(literal: i32) -> bool
-    ensures { λ r. ⌜ r ≡ beyond 128 literal ⌝ }
+    ensures { λ r. ⌜ r ≡ beyond max-unknowns literal ⌝ }
 {
     if literal < 0 {
-        literal < -128
+        literal < LOWEST
     } else {
-        literal > 128
+        literal > HIGHEST
     }
 }
 
 fn encode_clauses(literals: &[i32], codes: &mut [u16]) -> usize
-    requires { ⌜ (length (now literals) ≤ length (now codes)) × Names 128 (now literals) ⌝ }
+    requires { ⌜ (length (now literals) ≤ length (now codes)) × Names max-unknowns (now literals) ⌝ }
     ensures { λ r. ⌜ r ≡ length (encoding (now (literals .entry))) ⌝ }
     ensures { λ r. ⌜ take r (now (codes .exit)) ≡ encoding (now (literals .entry)) ⌝ }
 {
@@ -78,10 +88,10 @@ fn encode_clauses(literals: &[i32], codes: &mut [u16]) -> usize
 // Writes the clause that begins at `from`; nothing of it counts if it is always true.
 fn encode_clause(literals: &[i32], from: usize, codes: &mut [u16], start: usize) -> Ends
     requires { ⌜ (length (now literals) ≤ length (now codes)) × (start ≤ from) × (from < length (now literals)) ⌝ }
-    requires { ⌜ Names 128 (now literals) ⌝ }
+    requires { ⌜ Names max-unknowns (now literals) ⌝ }
     ensures { λ r. ⌜ ClauseEncoded (now (literals .entry)) from (r .read) start (r .written) (now (codes .entry)) (now (codes .exit)) ⌝ }
 {
-    let mut seen = [0u8; 258];
+    let mut seen = [0u8; LAST_CODE + 1];
     let mut to = start;
     let mut i = from;
     while i < literals.len() {
@@ -145,7 +155,7 @@ fn add(codes: &mut [u16], start: usize, to: usize, code: u16)
 }
 
 fn code_of(literal: i32) -> u16
-    requires { ⌜ natAbs literal ≤ 128 ⌝ }
+    requires { ⌜ natAbs literal ≤ max-unknowns ⌝ }
     ensures { λ r. ⌜ r ≡ code-of literal ⌝ }
 {
     if literal < 0 {
@@ -157,7 +167,7 @@ fn code_of(literal: i32) -> u16
 }
 
 fn opposite(c: usize) -> usize
-    requires { ⌜ (2 ≤ c) × (c < 258) ⌝ }
+    requires { ⌜ (2 ≤ c) × (c < last-code + 1) ⌝ }
     ensures { λ r. ⌜ r ≡ code-opposite c ⌝ }
 {
     if c % 2 == 0 { c + 1 } else { c - 1 }
