@@ -5,12 +5,13 @@ use mathlib.Core.Bool.{Bool, not, _&&_, cond, Bool·beq}
 use mathlib.Core.List.{List, _++_}
 use lib.Dec.{eqb, leb, ltb}
 use lib.ListN.{length, getD, set, replicate}
+use Rattle.formula.specs.Formula.{max-unknowns, max-rows, work-size}
 use Rattle.rows.specs.Row.{weight, bit-of}
 use Rattle.rows.specs.Table.{row-at, table-of}
 use Rattle.expansion.specs.Play.{part}
 use Rattle.expansion.proofs.Engine.{tabulate}
 use Rattle.expansion.proofs.Leading.{others-before}
-use Rattle.search_cells.specs.Cells.{spot, cells, owned}
+use Rattle.search_cells.specs.Cells.{flags, spot, cells, owned}
 
 -- A step at i, at i + 1 and so on, n times, each on what the one before it leaves.
 abbrev pub steps : (ℕ → List ℕ → List ℕ) → ℕ → ℕ → List ℕ → List ℕ
@@ -19,7 +20,7 @@ steps step (suc n) i w = steps step n (suc i) (step i w)
 
 -- The area has its size, and cells for that many positions and rows.
 unfoldable pub fits : ℕ → ℕ → ℕ → Bool
-fits area positions rows = eqb area 65536 && leb positions 128 && leb rows 256
+fits area positions rows = eqb area work-size && leb positions max-unknowns && leb rows max-rows
 
 -- A cell's level: the byte is a mark, 0 or the level plus 1.
 abbrev pub with-level : ℕ → ℕ → ℕ → List ℕ → List ℕ
@@ -27,7 +28,7 @@ with-level i k mark w = set w (spot i k) mark
 
 -- A cell's value: the lowest bit of its byte. What the cell wants stays.
 abbrev pub with-value : ℕ → ℕ → Bool → List ℕ → List ℕ
-with-value i k value w = set w (32768 + spot i k) (getD w (32768 + spot i k) 0 / 2 * 2 + weight value)
+with-value i k value w = set w (flags + spot i k) (getD w (flags + spot i k) 0 / 2 * 2 + weight value)
 
 -- A cell gets a mark and a value.
 unfoldable pub with-cell : ℕ → ℕ → ℕ → Bool → List ℕ → List ℕ
@@ -36,7 +37,7 @@ with-cell i k mark value w = with-value i k value (with-level i k mark w)
 -- The cells at position k of the rows from lo to hi get a mark and a value.
 unfoldable pub rows-set : ℕ → ℕ → ℕ → ℕ → Bool → List ℕ → List ℕ
 rows-set k lo hi mark value w =
-    cond (fits (length w) 0 hi && ltb k 128) (steps (λ i. with-cell i k mark value) (hi - lo) lo w) w
+    cond (fits (length w) 0 hi && ltb k max-unknowns) (steps (λ i. with-cell i k mark value) (hi - lo) lo w) w
 
 -- A mark that is at most the bound stays, another becomes 0.
 abbrev pub bounded : ℕ → ℕ → ℕ
@@ -48,7 +49,7 @@ with-bounded bound at w = set w at (bounded bound (getD w at 0))
 
 -- The cells of the rows from lo to hi whose mark is over the bound are opened: their levels are a run of bytes.
 unfoldable pub rows-opened : ℕ → ℕ → ℕ → List ℕ → List ℕ
-rows-opened lo hi bound w = cond (fits (length w) 0 hi) (steps (with-bounded bound) (128 * hi - 128 * lo) (128 * lo) w) w
+rows-opened lo hi bound w = cond (fits (length w) 0 hi) (steps (with-bounded bound) (max-unknowns * hi - max-unknowns * lo) (max-unknowns * lo) w) w
 
 -- The cell (i, k) gets the value of lent row r, at level 0, if position k is the other side's. The row has a bit for each such position.
 unfoldable pub with-given : List ℕ → List ℕ → ℕ → ℕ → ℕ → ℕ → List ℕ → List ℕ
@@ -84,7 +85,7 @@ with-split kinds side w i splits = set splits (i + 1) (first-difference kinds si
 -- Each row below the count but the first gets the first position at which it differs from the row before it. The other entries stay.
 unfoldable pub rows-compared : List ℕ → List ℕ → ℕ → ℕ → List ℕ → List ℕ
 rows-compared kinds w count side splits =
-    cond (fits (length w) (length kinds) count && eqb (length splits) 256) (steps (with-split kinds side w) (count - 1) 0 splits) splits
+    cond (fits (length w) (length kinds) count && eqb (length splits) max-rows) (steps (with-split kinds side w) (count - 1) 0 splits) splits
 
 -- The own values of lent row r: those of its sorted row, place[r].
 abbrev pub yielded : List ℕ → List ℕ → ℕ → List ℕ → ℕ → List Bool
@@ -94,4 +95,4 @@ yielded kinds place side w r = part (owned kinds side) (tabulate (length kinds) 
 unfoldable pub packed : List ℕ → List ℕ → ℕ → List ℕ → List ℕ
 packed kinds place side w =
     cond (fits (length w) (length kinds) (length place))
-    (table-of (tabulate (length place) (yielded kinds place side w)) ++ replicate (65536 - 16 * length place) 0) w
+    (table-of (tabulate (length place) (yielded kinds place side w)) ++ replicate (work-size - 16 * length place) 0) w

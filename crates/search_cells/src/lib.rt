@@ -1,10 +1,12 @@
 // The table of cells in the work area, a cell for each row and position (specs/Cells.antt), and the steps over whole parts of it.
 // Every public function is total: its contract gives every lent byte for whatever is lent, and nothing is changed unless the sizes are
 // right. What the cells mean, and the cells one by one, are left to `search`.
+use formula::Formula;
 ghost use mathlib.Core.Path.{_≡_};
 ghost use mathlib.Core.Bool.{cond};
 ghost use Prim.Native.Nat.{_+_, _≤_, _<_};
 ghost use lib.ListN.{length};
+ghost use Rattle.formula.specs.Formula.{max-unknowns, max-rows, work-size};
 ghost use Rattle.rows.specs.Row.{weight, bytes-of};
 ghost use Rattle.rows.specs.Table.{placed, bit-set};
 ghost use Rattle.expansion.specs.Play.{part};
@@ -12,14 +14,8 @@ ghost use Rattle.expansion.proofs.Engine.{tabulate};
 ghost use Rattle.search_cells.specs.Cells.{cells, owned};
 ghost use Rattle.search_cells.specs.Steps.{fits, with-cell, rows-set, bounded, rows-opened, with-given-row, rows-filled, first-difference, rows-compared, packed};
 
-const AREA: usize = 65_536;
-
-const POSITIONS: usize = 128;
-
-const ROWS: usize = 256;
-
 // The bytes of the cells' values and wanted values lie behind those of their levels.
-const FLAGS: usize = 32_768;
+pub const FLAGS: usize = Formula::ROWS * Formula::UNKNOWNS;
 
 // A packed row.
 const BYTES: usize = 16;
@@ -31,7 +27,7 @@ pub fn set_rows(work: &mut [u8], k: usize, lo: usize, hi: usize, mark: u8, value
     if is_table(work.len(), 0, hi) {} else {
         return;
     }
-    if POSITIONS <= k {
+    if Formula::UNKNOWNS <= k {
         return;
     }
     let mut i = lo;
@@ -51,8 +47,8 @@ pub fn undo(work: &mut [u8], lo: usize, hi: usize, bound: u8)
     if hi < lo {
         return;
     }
-    let mut at = POSITIONS * lo;
-    while at < POSITIONS * hi {
+    let mut at = Formula::UNKNOWNS * lo;
+    while at < Formula::UNKNOWNS * hi {
         work[at] = within(work[at], bound);
         at += 1;
     }
@@ -80,7 +76,7 @@ pub fn compare(kinds: &[u8], work: &[u8], count: usize, side: u8, splits: &mut [
     if is_table(work.len(), kinds.len(), count) {} else {
         return;
     }
-    if splits.len() != ROWS {
+    if splits.len() != Formula::ROWS {
         return;
     }
     let mut i = 0;
@@ -111,20 +107,20 @@ pub fn pack(kinds: &[u8], place: &[u8], side: u8, work: &mut [u8])
 fn is_table(area: usize, positions: usize, rows: usize) -> bool
     ensures { λ r. ⌜ r ≡ fits area positions rows ⌝ }
 {
-    if area != AREA {
+    if area != Formula::WORK {
         return false;
     }
-    if POSITIONS < positions {
+    if Formula::UNKNOWNS < positions {
         return false;
     }
-    rows <= ROWS
+    rows <= Formula::ROWS
 }
 
 fn set(work: &mut [u8], i: usize, k: usize, mark: u8, value: bool)
-    requires { ⌜ (length (now work) ≡ 65536) × (i < 256) × (k < 128) ⌝ }
+    requires { ⌜ (length (now work) ≡ work-size) × (i < max-rows) × (k < max-unknowns) ⌝ }
     ensures { λ _. ⌜ now (work .exit) ≡ with-cell i k mark value (now (work .entry)) ⌝ }
 {
-    let at = POSITIONS * i + k;
+    let at = Formula::UNKNOWNS * i + k;
     work[at] = mark;
     work[FLAGS + at] = work[FLAGS + at] / 2 * 2 + bit(value);
 }
@@ -142,7 +138,7 @@ fn within(mark: u8, bound: u8) -> u8
 }
 
 fn fill_row(kinds: &[u8], rows: &[u8], row: usize, i: usize, side: u8, work: &mut [u8])
-    requires { ⌜ (length (now work) ≡ 65536) × (length (now kinds) ≤ 128) × (i < 256) ⌝ }
+    requires { ⌜ (length (now work) ≡ work-size) × (length (now kinds) ≤ max-unknowns) × (i < max-rows) ⌝ }
     ensures { λ _. ⌜ now (work .exit) ≡ with-given-row (now (kinds .entry)) (now (rows .entry)) side row i (now (work .entry)) ⌝ }
 {
     let mut bit: usize = 0;
@@ -164,7 +160,7 @@ fn wide(x: u8) -> usize
 
 // The first position of the other side at which the rows i and i + 1 have different values; the number of kinds if there is none.
 fn first_difference(kinds: &[u8], work: &[u8], i: usize, side: u8) -> usize
-    requires { ⌜ (length (now kinds) ≤ 128) × (length (now work) ≡ 65536) × (i + 1 < 256) ⌝ }
+    requires { ⌜ (length (now kinds) ≤ max-unknowns) × (length (now work) ≡ work-size) × (i + 1 < max-rows) ⌝ }
     ensures { λ r. ⌜ r ≡ first-difference (now (kinds .entry)) side (now (work .entry)) i ⌝ }
 {
     let mut k = 0;
@@ -180,15 +176,15 @@ fn first_difference(kinds: &[u8], work: &[u8], i: usize, side: u8) -> usize
 }
 
 fn value(work: &[u8], i: usize, k: usize) -> bool
-    requires { ⌜ (length (now work) ≡ 65536) × (i < 256) × (k < 128) ⌝ }
+    requires { ⌜ (length (now work) ≡ work-size) × (i < max-rows) × (k < max-unknowns) ⌝ }
     ensures { λ r. ⌜ r ≡ cells (now (work .entry)) .value i k ⌝ }
 {
-    work[FLAGS + (POSITIONS * i + k)] % 2 == 1
+    work[FLAGS + (Formula::UNKNOWNS * i + k)] % 2 == 1
 }
 
 // Writes the own values of the sorted row i as lent row `row`.
 fn pack_row(kinds: &[u8], row: usize, i: usize, side: u8, work: &mut [u8])
-    requires { ⌜ (length (now kinds) ≤ 128) × (row < 256) × (i < 256) × (length (now work) ≡ 65536) ⌝ }
+    requires { ⌜ (length (now kinds) ≤ max-unknowns) × (row < max-rows) × (i < max-rows) × (length (now work) ≡ work-size) ⌝ }
     ensures { λ _. ⌜ now (work .exit) ≡ placed (now (work .entry)) row (bytes-of (part (owned (now (kinds .entry)) side) (tabulate (length (now (kinds .entry))) (cells (now (work .entry)) .value i)))) ⌝ }
 {
     rows::clear(&mut work[BYTES * row..BYTES * row + BYTES]);

@@ -5,8 +5,10 @@ use mathlib.Core.Bool.{Bool, false, _&&_, _||_, cond}
 use mathlib.Core.List.{List, [], _∷_, map}
 use lib.Dec.{eqb, leb, ltb}
 use lib.ListN.{length, getD, set}
+use Rattle.formula.specs.Formula.{max-unknowns, max-rows, work-size}
 use Rattle.preference.specs.Preference.{prefer}
 use Rattle.rows.specs.Row.{weight}
+use Rattle.search_cells.specs.Cells.{flags}
 
 -- Sorted rows that have the same copy (annotated variable) at position k stand together, so a copy is known by the first of them. Neighbours
 -- that differ before k have different copies: entry i of `splits` says where sorted row i first differs from the one before it.
@@ -50,7 +52,7 @@ preferred preferences number copies x = member x copies && prefer preferences (n
 -- The table with the cells of position k and the first n sorted rows written: 2 where f is true, else 0.
 abbrev pub written : (ℕ → Bool) → ℕ → ℕ → List ℕ → List ℕ
 written f k zero w = w
-written f k (suc i) w = set (written f k i w) (32768 + (128 * i + k)) (2 * weight (f i))
+written f k (suc i) w = set (written f k i w) (flags + (max-unknowns * i + k)) (2 * weight (f i))
 
 -- The table with position k filled, whose copies are numbered from `number` on.
 unfoldable pub filled-at : List ℕ → List ℕ → List ℕ → ℕ → ℕ → List ℕ → List ℕ
@@ -66,9 +68,10 @@ filled-from preferences place splits side (kind ∷ kinds) k number w =
     let other = filled-from preferences place splits side kinds (suc k) number w in
     cond (eqb kind side) own other
 
--- The lengths of what is lent are those of a table: at most 128 kinds and 256 places, 256 splits, 65,536 bytes.
+-- The lengths of what is lent are those of a table: no more kinds than unknowns and no more places than rows, a split for each row, and the area's
+-- bytes.
 abbrev pub sized : ℕ → ℕ → ℕ → ℕ → Bool
-sized kinds places splits bytes = leb kinds 128 && leb places 256 && eqb splits 256 && eqb bytes 65536
+sized kinds places splits bytes = leb kinds max-unknowns && leb places max-rows && eqb splits max-rows && eqb bytes work-size
 
 -- The table with every position of the side filled; as it was where the lengths are others.
 unfoldable pub filled : List ℕ → List ℕ → List ℕ → List ℕ → ℕ → List ℕ → List ℕ

@@ -6,12 +6,15 @@ ghost use mathlib.Core.Path.{_≡_};
 ghost use Prim.Native.Nat.{ℕ, _+_, _*_, _≤_, _<_};
 ghost use lib.Dec.{eqb};
 ghost use lib.ListN.{length, getD};
+ghost use Rattle.formula.specs.Formula.{max-unknowns, max-rows, work-size};
 ghost use Rattle.preference.specs.Preference.{prefer};
 ghost use Rattle.rows.specs.Row.{weight};
+ghost use Rattle.search_cells.specs.Cells.{flags};
 ghost use Rattle.search_numbering.specs.Numbering.{copies-at, written, filled-at, filled-from, sized, filled};
 ghost use Rattle.search_numbering.specs.Wants.{Grouped, firsts, note, Numbered};
 use formula::Formula;
 use preference::preference;
+use search_cells::FLAGS;
 
 // Entry r of `place` is the sorted place of lent row r, and entry i of `splits` the position where sorted row i first differs from the one
 // before it. The copies at the positions whose kind is `side` are numbered from 0.
@@ -43,7 +46,7 @@ fn is_sized(kinds: usize, places: usize, splits: usize, bytes: usize) -> bool
     if splits != Formula::ROWS {
         return false;
     }
-    bytes == 65_536
+    bytes == Formula::WORK
 }
 
 fn fill_positions(
@@ -54,7 +57,7 @@ fn fill_positions(
     side: u8,
     work: &mut [u8],
 )
-    requires { ⌜ (length (now kinds) ≤ 128) × (length (now place) ≤ 256) × (length (now splits) ≡ 256) × (length (now work) ≡ 65536) ⌝ }
+    requires { ⌜ (length (now kinds) ≤ max-unknowns) × (length (now place) ≤ max-rows) × (length (now splits) ≡ max-rows) × (length (now work) ≡ work-size) ⌝ }
     ensures { λ _. ⌜ now (work .exit) ≡ filled-from (now (preferences .entry)) (now (place .entry)) (now (splits .entry)) side (now (kinds .entry)) 0 0 (now (work .entry)) ⌝ }
 {
     let mut number = 0;
@@ -76,7 +79,7 @@ fn fill_at(
     number: usize,
     work: &mut [u8],
 ) -> usize
-    requires { ⌜ (length (now place) ≤ 256) × (length (now splits) ≡ 256) × (k < 128) × (number ≤ 32768) × (length (now work) ≡ 65536) ⌝ }
+    requires { ⌜ (length (now place) ≤ max-rows) × (length (now splits) ≡ max-rows) × (k < max-unknowns) × (number ≤ flags) × (length (now work) ≡ work-size) ⌝ }
     ensures { λ r. ⌜ r ≡ number + length (copies-at (now (splits .entry)) (now (place .entry)) k) ⌝ }
     ensures { λ _. ⌜ now (work .exit) ≡ filled-at (now (preferences .entry)) (now (place .entry)) (now (splits .entry)) k number (now (work .entry)) ⌝ }
 {
@@ -91,7 +94,7 @@ fn fill_at(
 
 // Writes for each of so many sorted rows the first row of its copy at position k.
 fn group(splits: &[u8], k: usize, count: usize, first: &mut [u8])
-    requires { ⌜ (count ≤ 256) × (length (now splits) ≡ 256) × (length (now first) ≡ 256) ⌝ }
+    requires { ⌜ (count ≤ max-rows) × (length (now splits) ≡ max-rows) × (length (now first) ≡ max-rows) ⌝ }
     requires { ⌜ ((x : ℕ) → getD (now first) x 0 ≡ 0) ⌝ }
     ensures { λ _. ⌜ Grouped (now (splits .entry)) k count (now (first .exit)) ⌝ }
 {
@@ -115,7 +118,7 @@ fn number_copies(
     number: usize,
     notes: &mut [u8],
 ) -> usize
-    requires { ⌜ (length (now place) ≤ 256) × (length (now first) ≡ 256) × (number ≤ 32768) × (length (now notes) ≡ 256) ⌝ }
+    requires { ⌜ (length (now place) ≤ max-rows) × (length (now first) ≡ max-rows) × (number ≤ flags) × (length (now notes) ≡ max-rows) ⌝ }
     requires { ⌜ ((x : ℕ) → getD (now notes) x 0 ≡ 0) ⌝ }
     ensures { λ r. ⌜ Numbered (now (preferences .entry)) number (firsts (now (first .entry)) (now (place .entry))) r (now (notes .exit)) ⌝ }
 {
@@ -145,13 +148,13 @@ fn note_of(preferences: &[u8], number: usize) -> u8
 
 // Writes into each cell of position k what is noted of its copy.
 fn write(first: &[u8], notes: &[u8], k: usize, count: usize, work: &mut [u8])
-    requires { ⌜ (length (now first) ≡ 256) × (length (now notes) ≡ 256) × (k < 128) × (count ≤ 256) × (length (now work) ≡ 65536) ⌝ }
+    requires { ⌜ (length (now first) ≡ max-rows) × (length (now notes) ≡ max-rows) × (k < max-unknowns) × (count ≤ max-rows) × (length (now work) ≡ work-size) ⌝ }
     ensures { λ _. ⌜ now (work .exit) ≡ written (λ i. eqb (getD (now (notes .entry)) (getD (now (first .entry)) i 0) 0) 2) k count (now (work .entry)) ⌝ }
 {
     let mut i = 0;
     while i < count {
         let start = wide(first[i]);
-        work[32_768 + (128 * i + k)] = cell(notes[start]);
+        work[FLAGS + (Formula::UNKNOWNS * i + k)] = cell(notes[start]);
         i += 1;
     }
 }
