@@ -7,6 +7,7 @@ use mathlib.Core.Bool.{true, false, cond}
 use mathlib.Core.List.{List}
 use lib.Dec.{ltb}
 use lib.ListN.{getD}
+use Rattle.formula.specs.Formula.{max-unknowns}
 use Rattle.preference.specs.Preference.{odd}
 use Rattle.expansion.proofs.Cuts.{Mask}
 use Rattle.expansion.proofs.ClauseCuts.{Every}
@@ -22,10 +23,10 @@ set-at s p = words (getD s (2 * p) 0) (getD s (2 * p + 1) 0)
 
 -- The sets of the positions, and the set behind them by which the last failure was reached.
 unfoldable pub masks : List ℕ → ℕ → Mask
-masks s p = cond (ltb p 128) (set-at s p) (λ l. false)
+masks s p = cond (ltb p max-unknowns) (set-at s p) (λ l. false)
 
 unfoldable pub cut : List ℕ → Mask
-cut s = set-at s 128
+cut s = set-at s max-unknowns
 
 -- Only the set at `to` changes, and it loses nothing.
 pub record SetGrown (to : ℕ) (s u : List ℕ) : Type 0 where
@@ -34,7 +35,7 @@ pub record SetGrown (to : ℕ) (s u : List ℕ) : Type 0 where
 
 -- The sets of the positions stay.
 pub record SetsKept (s u : List ℕ) : Type 0 where
-  pub same : (p : ℕ) → p < 128 → (l : ℕ) → set-at u p l ≡ set-at s p l
+  pub same : (p : ℕ) → p < max-unknowns → (l : ℕ) → set-at u p l ≡ set-at s p l
 
 -- The set at `to` becomes that of two words.
 pub record Put (to low high : ℕ) (s u : List ℕ) : Type 0 where
@@ -54,12 +55,12 @@ pub record WordsUnited (to low high : ℕ) (s u : List ℕ) : Type 0 where
 -- The sets of positions lose nothing below k, and those behind the positions stay.
 pub record Trimmed (k : ℕ) (s u : List ℕ) : Type 0 where
   pub below : (p l : ℕ) → l < k → set-at s p l ≡ true → set-at u p l ≡ true
-  pub behind : (p l : ℕ) → 128 ≤ p → set-at u p l ≡ set-at s p l
+  pub behind : (p l : ℕ) → max-unknowns ≤ p → set-at u p l ≡ set-at s p l
 
 -- For each position from k to `at` that the failure's set has, it takes in the set of that position.
 pub record Excused (k at : ℕ) (s t : List ℕ) : Type 0 where
-  pub grown : SetGrown 128 s t
-  pub takes : (p : ℕ) → k ≤ p → p < at → set-at s 128 p ≡ true → (l : ℕ) → set-at s p l ≡ true → set-at t 128 l ≡ true
+  pub grown : SetGrown max-unknowns s t
+  pub takes : (p : ℕ) → k ≤ p → p < at → set-at s max-unknowns p ≡ true → (l : ℕ) → set-at s p l ≡ true → set-at t max-unknowns l ≡ true
 
 -- The sets of a clause's positions are united at `to`.
 pub record Blamed (clause : List ℕ) (to : ℕ) (s t : List ℕ) : Type 0 where

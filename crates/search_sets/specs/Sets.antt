@@ -6,6 +6,7 @@ use mathlib.Core.List.{List, [], _∷_}
 use lib.Bits.{bitAnd, bitOr}
 use lib.Dec.{eqb, ltb}
 use lib.ListN.{length, getD, set, drop}
+use Rattle.formula.specs.Formula.{max-unknowns, max-rows}
 use Rattle.preference.specs.Preference.{odd}
 use Rattle.codes.specs.Codes.{row-position}
 use Rattle.codes.specs.Clauses.{clause-of}
@@ -64,9 +65,17 @@ codes-joined to (c ∷ cs) s = codes-joined to cs (code-joined to s c)
 
 -- ---- any table, any numbers
 
--- A table has 516 words, and sets at the places below 130.
+-- A set for each position, and two behind them.
+abbrev pub set-places : ℕ
+set-places = max-unknowns + 2
+
+-- Two words a set, and behind the sets a word for each row, of which nothing is said here.
+abbrev pub sets-size : ℕ
+sets-size = 2 * set-places + max-rows
+
+-- A table has its size, and a set at the place.
 unfoldable pub has-place : ℕ → ℕ → Bool
-has-place size to = eqb size 516 && ltb to 130
+has-place size to = eqb size sets-size && ltb to set-places
 
 -- Besides, another number is below its bound.
 unfoldable pub numbers-fit : ℕ → ℕ → ℕ → ℕ → Bool
@@ -74,7 +83,7 @@ numbers-fit size to number bound = has-place size to && ltb number bound
 
 -- The set at `to` takes in the set at `from`.
 unfoldable pub united : List ℕ → ℕ → ℕ → List ℕ
-united s to from = cond (numbers-fit (length s) to from 130) (set-joined s to from) s
+united s to from = cond (numbers-fit (length s) to from set-places) (set-joined s to from) s
 
 -- The set at `to` takes in the set of two words.
 unfoldable pub united-words : List ℕ → ℕ → ℕ → ℕ → List ℕ
@@ -82,11 +91,11 @@ united-words s to low high = cond (has-place (length s) to) (words-joined s to l
 
 -- The set at `to` takes in the position p.
 unfoldable pub added : List ℕ → ℕ → ℕ → List ℕ
-added s to p = cond (numbers-fit (length s) to p 128) (bit-added s to p) s
+added s to p = cond (numbers-fit (length s) to p max-unknowns) (bit-added s to p) s
 
 -- Whether the set at `of` has the position p.
 unfoldable pub has : List ℕ → ℕ → ℕ → Bool
-has s of p = cond (numbers-fit (length s) of p 128) (bit-at s of p) false
+has s of p = cond (numbers-fit (length s) of p max-unknowns) (bit-at s of p) false
 
 -- The set at `to` becomes empty.
 unfoldable pub emptied : List ℕ → ℕ → List ℕ
@@ -98,11 +107,11 @@ filled s to = cond (has-place (length s) to) (words-put s to (2 ^ 64 - 1) (2 ^ 6
 
 -- The sets at the places from k to n lose the positions from k on.
 unfoldable pub trimmed : List ℕ → ℕ → ℕ → List ℕ
-trimmed s k n = cond (numbers-fit (length s) k n 129) (each-from (cut-at k) k (n - k) s) s
+trimmed s k n = cond (numbers-fit (length s) k n (max-unknowns + 1)) (each-from (cut-at k) k (n - k) s) s
 
 -- For each position from k to `at`, in order, that the set at `of` has by then, it takes in the set at that place.
 unfoldable pub excused : List ℕ → ℕ → ℕ → ℕ → List ℕ
-excused s of k at = cond (numbers-fit (length s) of at 129) (each-from (followed of) k (at - k) s) s
+excused s of k at = cond (numbers-fit (length s) of at (max-unknowns + 1)) (each-from (followed of) k (at - k) s) s
 
 -- The set at `to` takes in the sets of the positions, other than `to`, of the codes from `start` up to the first 0.
 unfoldable pub blamed : List ℕ → List ℕ → ℕ → ℕ → List ℕ

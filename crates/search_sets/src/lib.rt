@@ -1,11 +1,25 @@
 // Sets of positions, two 64-bit words each, in a lent table of words: what they take in, lose and have.
-// Every public function is total: its contract gives the table at exit, or the answer, for whatever is lent. A table has 516 words, and
-// sets at the places below 130; elsewhere nothing is changed and nothing is had. What the sets stand for is left to others, and so are the
-// words behind them.
+// Every public function is total: its contract gives the table at exit, or the answer, for whatever is lent. A table has `WORDS` words, and
+// sets at the places below `PLACES`; elsewhere nothing is changed and nothing is had. What the sets stand for is left to others, and so are
+// the words behind them.
+use formula::Formula;
 ghost use mathlib.Core.Path.{_≡_};
 ghost use Prim.Native.Nat.{_-_, _<_};
 ghost use lib.ListN.{length};
-ghost use Rattle.search_sets.specs.Sets.{has-place, numbers-fit, words-put, words-joined, words-met, set-joined, bit-added, bit-at, ones, united, united-words, added, has, emptied, filled, trimmed, excused, blamed};
+ghost use Rattle.formula.specs.Formula.{max-unknowns};
+ghost use Rattle.search_sets.specs.Sets.{set-places, sets-size, has-place, numbers-fit, words-put, words-joined, words-met, set-joined, bit-added, bit-at, ones, united, united-words, added, has, emptied, filled, trimmed, excused, blamed};
+
+// A set for each position, and two behind them.
+pub const PLACES: usize = Formula::UNKNOWNS + 2;
+
+// Behind the sets there is a word for each row.
+pub const WORDS: usize = 2 * PLACES + Formula::ROWS;
+
+// The last position.
+const LAST: usize = Formula::UNKNOWNS - 1;
+
+// The ends of ranges of positions are below this.
+const ENDS: usize = Formula::UNKNOWNS + 1;
 
 // A word of ones.
 const ALL: u64 = 18_446_744_073_709_551_615;
@@ -14,7 +28,7 @@ const ALL: u64 = 18_446_744_073_709_551_615;
 pub fn unite(sets: &mut [u64], to: usize, from: usize)
     ensures { λ _. ⌜ now (sets .exit) ≡ united (now (sets .entry)) to from ⌝ }
 {
-    if numbers_fit(sets.len(), to, from, 130) {} else {
+    if numbers_fit(sets.len(), to, from, PLACES) {} else {
         return;
     }
     unite_at(sets, to, from);
@@ -34,7 +48,7 @@ pub fn unite_words(sets: &mut [u64], to: usize, low: u64, high: u64)
 pub fn add(sets: &mut [u64], to: usize, p: usize)
     ensures { λ _. ⌜ now (sets .exit) ≡ added (now (sets .entry)) to p ⌝ }
 {
-    if numbers_fit(sets.len(), to, p, 128) {} else {
+    if numbers_fit(sets.len(), to, p, Formula::UNKNOWNS) {} else {
         return;
     }
     add_at(sets, to, p);
@@ -44,7 +58,7 @@ pub fn add(sets: &mut [u64], to: usize, p: usize)
 pub fn has(sets: &[u64], of: usize, p: usize) -> bool
     ensures { λ r. ⌜ r ≡ has (now (sets .entry)) of p ⌝ }
 {
-    if numbers_fit(sets.len(), of, p, 128) {
+    if numbers_fit(sets.len(), of, p, Formula::UNKNOWNS) {
         has_at(sets, of, p)
     } else {
         false
@@ -75,7 +89,7 @@ pub fn fill(sets: &mut [u64], to: usize)
 pub fn trim(sets: &mut [u64], k: usize, n: usize)
     ensures { λ _. ⌜ now (sets .exit) ≡ trimmed (now (sets .entry)) k n ⌝ }
 {
-    if numbers_fit(sets.len(), k, n, 129) {} else {
+    if numbers_fit(sets.len(), k, n, ENDS) {} else {
         return;
     }
     let low = ones(k);
@@ -91,7 +105,7 @@ pub fn trim(sets: &mut [u64], k: usize, n: usize)
 pub fn excuse(sets: &mut [u64], of: usize, k: usize, at: usize)
     ensures { λ _. ⌜ now (sets .exit) ≡ excused (now (sets .entry)) of k at ⌝ }
 {
-    if numbers_fit(sets.len(), of, at, 129) {} else {
+    if numbers_fit(sets.len(), of, at, ENDS) {} else {
         return;
     }
     let mut p = k;
@@ -118,7 +132,7 @@ pub fn blame(codes: &[u16], sets: &mut [u64], start: usize, to: usize)
             return;
         }
         e += 1;
-        let k = (c / 2 + 127) % 128;
+        let k = (c / 2 + LAST) % Formula::UNKNOWNS;
         if k != to {
             unite_at(sets, to, k);
         }
@@ -139,11 +153,11 @@ fn numbers_fit(size: usize, to: usize, number: usize, bound: usize) -> bool
 fn has_place(size: usize, to: usize) -> bool
     ensures { λ r. ⌜ r ≡ has-place size to ⌝ }
 {
-    if size == 516 { to < 130 } else { false }
+    if size == WORDS { to < PLACES } else { false }
 }
 
 fn unite_at(sets: &mut [u64], to: usize, from: usize)
-    requires { ⌜ (length (now sets) ≡ 516) × (to < 130) × (from < 130) ⌝ }
+    requires { ⌜ (length (now sets) ≡ sets-size) × (to < set-places) × (from < set-places) ⌝ }
     ensures { λ _. ⌜ now (sets .exit) ≡ set-joined (now (sets .entry)) to from ⌝ }
 {
     let low = sets[2 * from];
@@ -153,7 +167,7 @@ fn unite_at(sets: &mut [u64], to: usize, from: usize)
 
 // The set at `to` has what it or the set of two words has.
 fn join(sets: &mut [u64], to: usize, low: u64, high: u64)
-    requires { ⌜ (length (now sets) ≡ 516) × (to < 130) ⌝ }
+    requires { ⌜ (length (now sets) ≡ sets-size) × (to < set-places) ⌝ }
     ensures { λ _. ⌜ now (sets .exit) ≡ words-joined (now (sets .entry)) to low high ⌝ }
 {
     let new_low = sets[2 * to] | low;
@@ -163,7 +177,7 @@ fn join(sets: &mut [u64], to: usize, low: u64, high: u64)
 
 // The set at `to` keeps what the set of two words has.
 fn meet(sets: &mut [u64], to: usize, low: u64, high: u64)
-    requires { ⌜ (length (now sets) ≡ 516) × (to < 130) ⌝ }
+    requires { ⌜ (length (now sets) ≡ sets-size) × (to < set-places) ⌝ }
     ensures { λ _. ⌜ now (sets .exit) ≡ words-met (now (sets .entry)) to low high ⌝ }
 {
     let kept_low = sets[2 * to] & low;
@@ -173,7 +187,7 @@ fn meet(sets: &mut [u64], to: usize, low: u64, high: u64)
 
 // The set at `to` becomes that of two words.
 fn put(sets: &mut [u64], to: usize, low: u64, high: u64)
-    requires { ⌜ (length (now sets) ≡ 516) × (to < 130) ⌝ }
+    requires { ⌜ (length (now sets) ≡ sets-size) × (to < set-places) ⌝ }
     ensures { λ _. ⌜ now (sets .exit) ≡ words-put (now (sets .entry)) to low high ⌝ }
 {
     sets[2 * to] = low;
@@ -181,7 +195,7 @@ fn put(sets: &mut [u64], to: usize, low: u64, high: u64)
 }
 
 fn add_at(sets: &mut [u64], to: usize, p: usize)
-    requires { ⌜ (length (now sets) ≡ 516) × (to < 130) × (p < 128) ⌝ }
+    requires { ⌜ (length (now sets) ≡ sets-size) × (to < set-places) × (p < max-unknowns) ⌝ }
     ensures { λ _. ⌜ now (sets .exit) ≡ bit-added (now (sets .entry)) to p ⌝ }
 {
     let at = 2 * to + p / 64;
@@ -189,7 +203,7 @@ fn add_at(sets: &mut [u64], to: usize, p: usize)
 }
 
 fn has_at(sets: &[u64], of: usize, p: usize) -> bool
-    requires { ⌜ (length (now sets) ≡ 516) × (of < 130) × (p < 128) ⌝ }
+    requires { ⌜ (length (now sets) ≡ sets-size) × (of < set-places) × (p < max-unknowns) ⌝ }
     ensures { λ r. ⌜ r ≡ bit-at (now (sets .entry)) of p ⌝ }
 {
     (sets[2 * of + p / 64] >> (p % 64)) % 2 == 1
