@@ -5,12 +5,13 @@ use mathlib.Core.Bool.{Bool, true, false, not, _&&_, _||_, cond}
 use mathlib.Core.List.{List, [], _∷_}
 use lib.Dec.{ltb, eqb}
 use lib.ListN.{length, drop}
+use Rattle.formula.specs.Formula.{max-rows, work-size}
 use Rattle.search_cells.specs.Cells.{cells}
 use Rattle.codes.specs.Codes.{row-position}
 
 -- The area is as long as the table, which has row i.
 abbrev pub has-row : List ℕ → ℕ → Bool
-has-row w i = eqb (length w) 65536 && ltb i 256
+has-row w i = eqb (length w) work-size && ltb i max-rows
 
 -- The literal of code c is set in row i.
 unfoldable pub is-set : List ℕ → ℕ → ℕ → Bool

@@ -6,6 +6,7 @@ use mathlib.Core.Logic.{_⊎_}
 use mathlib.Core.Bool.{Bool, false}
 use mathlib.Core.List.{List}
 use lib.ListN.{drop}
+use Rattle.formula.specs.Formula.{max-unknowns}
 use Rattle.expansion.proofs.ClauseCuts.{Every, Some}
 use Rattle.search_cells.specs.Cells.{cells}
 use Rattle.codes.specs.Clauses.{position, code-true, clause-of, HasEnd}
@@ -21,4 +22,4 @@ pub record Looked (codes w : List ℕ) (i start found : ℕ) : Type 0 where
   pub rest : (found ≡ 1 → ⊥) → Every (λ c. (c ≡ found) ⊎ IsAt w i false c) (clause-of (drop start codes))
   pub named : 2 ≤ found → Some (λ c. c ≡ found) (clause-of (drop start codes))
   pub unset : 2 ≤ found → cells w .level i (position found) ≡ 0
-  pub fits : 2 ≤ found → position found < 128
+  pub fits : 2 ≤ found → position found < max-unknowns

@@ -1,16 +1,18 @@
 // What clauses are worth in one row of the table of cells: which are false, unit, live or true.
 // Every public function is total: it gives a fixed answer if the area is no table or has no such row, and a defined one for any codes.
 // Nothing is changed. What follows from the answers is left to the search.
+use formula::Formula;
+use search_cells::FLAGS;
 ghost use mathlib.Core.Path.{_≡_};
 ghost use Prim.Native.Nat.{_<_};
 ghost use mathlib.Core.Bool.{false};
 ghost use lib.ListN.{length, drop};
+ghost use Rattle.formula.specs.Formula.{max-unknowns, max-rows, work-size};
 ghost use Rattle.codes.specs.Codes.{row-position};
 ghost use Rattle.search_evaluation.specs.Evaluation.{has-row, is-set, is-true, is-satisfied, look-on, look-at, lives-on, lives-at, next-live-on, next-live-at, matrix-on, matrix-in};
 
-const AREA: usize = 65_536;
-
-const ROWS: usize = 256;
+// The last position.
+const LAST: usize = Formula::UNKNOWNS - 1;
 
 // The clause at `start` in row i: 0 if all its literals are false, the code of its one open literal if all others are false, else 1.
 pub fn look(codes: &[u16], work: &[u8], i: usize, start: usize) -> usize
@@ -55,11 +57,15 @@ pub fn matrix(codes: &[u16], work: &[u8], i: usize) -> bool
 fn has_row(work: &[u8], i: usize) -> bool
     ensures { λ r. ⌜ r ≡ has-row (now (work .entry)) i ⌝ }
 {
-    if work.len() == AREA { i < ROWS } else { false }
+    if work.len() == Formula::WORK {
+        i < Formula::ROWS
+    } else {
+        false
+    }
 }
 
 fn look_on(codes: &[u16], work: &[u8], i: usize, start: usize) -> usize
-    requires { ⌜ (length (now work) ≡ 65536) × (i < 256) ⌝ }
+    requires { ⌜ (length (now work) ≡ work-size) × (i < max-rows) ⌝ }
     ensures { λ r. ⌜ r ≡ look-on (is-set (now (work .entry)) i) (is-true (now (work .entry)) i) 0 (drop start (now (codes .entry))) ⌝ }
 {
     let mut unit = 0;
@@ -85,7 +91,7 @@ fn look_on(codes: &[u16], work: &[u8], i: usize, start: usize) -> usize
 }
 
 fn lives_on(codes: &[u16], work: &[u8], i: usize, start: usize) -> bool
-    requires { ⌜ (length (now work) ≡ 65536) × (i < 256) ⌝ }
+    requires { ⌜ (length (now work) ≡ work-size) × (i < max-rows) ⌝ }
     ensures { λ r. ⌜ r ≡ lives-on (is-satisfied (now (work .entry)) i) (drop start (now (codes .entry))) ⌝ }
 {
     let mut e = start;
@@ -103,7 +109,7 @@ fn lives_on(codes: &[u16], work: &[u8], i: usize, start: usize) -> bool
 }
 
 fn next_live_on(codes: &[u16], work: &[u8], i: usize, from: usize) -> usize
-    requires { ⌜ (length (now work) ≡ 65536) × (i < 256) ⌝ }
+    requires { ⌜ (length (now work) ≡ work-size) × (i < max-rows) ⌝ }
     ensures { λ r. ⌜ r ≡ next-live-on (is-satisfied (now (work .entry)) i) from false from (drop from (now (codes .entry))) ⌝ }
 {
     let mut start = from;
@@ -127,7 +133,7 @@ fn next_live_on(codes: &[u16], work: &[u8], i: usize, from: usize) -> usize
 }
 
 fn matrix_on(codes: &[u16], work: &[u8], i: usize) -> bool
-    requires { ⌜ (length (now work) ≡ 65536) × (i < 256) ⌝ }
+    requires { ⌜ (length (now work) ≡ work-size) × (i < max-rows) ⌝ }
     ensures { λ r. ⌜ r ≡ matrix-on (is-true (now (work .entry)) i) false (now (codes .entry)) ⌝ }
 {
     let mut met = false;
@@ -148,7 +154,7 @@ fn matrix_on(codes: &[u16], work: &[u8], i: usize) -> bool
 }
 
 fn is_satisfied(work: &[u8], i: usize, c: usize) -> bool
-    requires { ⌜ (length (now work) ≡ 65536) × (i < 256) ⌝ }
+    requires { ⌜ (length (now work) ≡ work-size) × (i < max-rows) ⌝ }
     ensures { λ r. ⌜ r ≡ is-satisfied (now (work .entry)) i c ⌝ }
 {
     if is_set(work, i, c) {
@@ -159,18 +165,18 @@ fn is_satisfied(work: &[u8], i: usize, c: usize) -> bool
 }
 
 fn is_set(work: &[u8], i: usize, c: usize) -> bool
-    requires { ⌜ (length (now work) ≡ 65536) × (i < 256) ⌝ }
+    requires { ⌜ (length (now work) ≡ work-size) × (i < max-rows) ⌝ }
     ensures { λ r. ⌜ r ≡ is-set (now (work .entry)) i c ⌝ }
 {
-    0 < work[128 * i + position(c)]
+    0 < work[Formula::UNKNOWNS * i + position(c)]
 }
 
 // Whether the literal is true by its cell's value, set or not.
 fn is_true(work: &[u8], i: usize, c: usize) -> bool
-    requires { ⌜ (length (now work) ≡ 65536) × (i < 256) ⌝ }
+    requires { ⌜ (length (now work) ≡ work-size) × (i < max-rows) ⌝ }
     ensures { λ r. ⌜ r ≡ is-true (now (work .entry)) i c ⌝ }
 {
-    let value = work[32_768 + (128 * i + position(c))] % 2 == 1;
+    let value = work[FLAGS + (Formula::UNKNOWNS * i + position(c))] % 2 == 1;
     if c % 2 == 0 {
         return value;
     }
@@ -179,9 +185,9 @@ fn is_true(work: &[u8], i: usize, c: usize) -> bool
 
 // The position of a code's unknown: c / 2 - 1 for a literal, and inside the row for any number, so that no code needs a test.
 fn position(c: usize) -> usize
-    ensures { λ r. ⌜ (r ≡ row-position c) × (r < 128) ⌝ }
+    ensures { λ r. ⌜ (r ≡ row-position c) × (r < max-unknowns) ⌝ }
 {
-    (c / 2 + 127) % 128
+    (c / 2 + LAST) % Formula::UNKNOWNS
 }
 
 fn wide(x: u16) -> usize

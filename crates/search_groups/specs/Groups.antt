@@ -6,6 +6,7 @@ use mathlib.Core.Bool.{Bool, true, not, _&&_, cond}
 use mathlib.Core.List.{List}
 use lib.Dec.{leb, ltb, eqb}
 use lib.ListN.{length, getD}
+use Rattle.formula.specs.Formula.{max-unknowns, max-rows, work-size}
 use Rattle.search_cells.specs.Cells.{cells}
 
 -- The rows i - 1 and i differ at a position before k. If they do not, they have the same copy of the unknown at k.
@@ -70,11 +71,11 @@ parting-row splits lo hi = cond (are-rows splits lo hi) (earliest splits lo (hi 
 unfoldable pub is-open : List ℕ → List ℕ → ℕ → ℕ → ℕ → Bool
 is-open kinds work side i j = eqb (getD kinds j 0) side && eqb (cells work .level i j) 0
 
--- The work area has its full size, no position before `until` is past the kinds, at most 128, and row i is one of its 256: the cells of
--- row i at these positions are in the area.
+-- The work area has its size, there are no more kinds than unknowns, no position before `until` is past them, and row i is one of the table's:
+-- the cells of row i at these positions are in the area.
 abbrev pub have-cells : List ℕ → List ℕ → ℕ → ℕ → Bool
 have-cells kinds work i until =
-    eqb (length work) 65536 && leb (length kinds) 128 && leb until (length kinds) && ltb i 256
+    eqb (length work) work-size && leb (length kinds) max-unknowns && leb until (length kinds) && ltb i max-rows
 
 -- The first position from k on, before `until`, that is the side's own and open in row i; `until` if there is none. It is k if there are no
 -- such cells, or if `until` is not behind k.

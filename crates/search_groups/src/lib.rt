@@ -2,17 +2,12 @@
 // values, at least the number of unknowns if there is none. Nothing is written.
 // Every public function is total: asked about what is not in its tables, it answers what the definition says. Who sorts the rows and what
 // their values are is left to others.
+use formula::Formula;
 ghost use mathlib.Core.Path.{_≡_};
 ghost use Prim.Native.Nat.{_<_};
 ghost use lib.ListN.{length};
+ghost use Rattle.formula.specs.Formula.{max-unknowns, max-rows, work-size};
 ghost use Rattle.search_groups.specs.Groups.{copy-start, copy-end, agreement-of, is-repeated, parting-row, parted-at, is-open, open-position};
-
-// The work area: its bytes, and the rows and positions that have a cell in it.
-const AREA: usize = 65_536;
-
-const ROWS: usize = 256;
-
-const POSITIONS: usize = 128;
 
 // The first row from lo on, up to i, that has row i's copy at position k; i if these are not rows of the table.
 pub fn copy_start(splits: &[u8], k: usize, lo: usize, i: usize) -> usize
@@ -123,16 +118,16 @@ pub fn parted_at(splits: &[u8], lo: usize, mid: usize, n: usize) -> usize
 pub fn stand(kinds: &[u8], work: &[u8], side: u8, k: usize, lo: usize, until: usize) -> usize
     ensures { λ r. ⌜ r ≡ open-position (now (kinds .entry)) (now (work .entry)) side k lo until ⌝ }
 {
-    if work.len() != AREA {
+    if work.len() != Formula::WORK {
         return k;
     }
-    if kinds.len() > POSITIONS {
+    if kinds.len() > Formula::UNKNOWNS {
         return k;
     }
     if until > kinds.len() {
         return k;
     }
-    if lo >= ROWS {
+    if lo >= Formula::ROWS {
         return k;
     }
     let mut at = k;
@@ -147,11 +142,11 @@ pub fn stand(kinds: &[u8], work: &[u8], side: u8, k: usize, lo: usize, until: us
 
 // Position j is an own one, and open in row i.
 fn is_open(kinds: &[u8], work: &[u8], side: u8, i: usize, j: usize) -> bool
-    requires { ⌜ (length (now work) ≡ 65536) × (i < 256) × (j < 128) × (j < length (now kinds)) ⌝ }
+    requires { ⌜ (length (now work) ≡ work-size) × (i < max-rows) × (j < max-unknowns) × (j < length (now kinds)) ⌝ }
     ensures { λ r. ⌜ r ≡ is-open (now (kinds .entry)) (now (work .entry)) side i j ⌝ }
 {
     if kinds[j] == side {
-        work[POSITIONS * i + j] == 0
+        work[Formula::UNKNOWNS * i + j] == 0
     } else {
         false
     }
