@@ -7,12 +7,16 @@ use mathlib.Core.Bool.{Bool, true, false, cond}
 use mathlib.Core.List.{List}
 use lib.Dec.{eqb}
 use lib.ListN.{length, getD}
+use Rattle.formula.specs.Formula.{max-unknowns, max-rows, max-entries, work-size}
 use Rattle.expansion.proofs.Cuts.{Mask, Problem, Agree, Sound, Refuted}
 use Rattle.expansion.proofs.Node.{Node, Won, Grown, MasksWithin}
 use Rattle.expansion.proofs.ClauseCuts.{Every, Some}
 use Rattle.search_cells.specs.Cells.{cells, wants}
 use Rattle.search_cells.specs.Changes.{SameWants}
+use Rattle.index.specs.Index.{index-size}
+use Rattle.search_sets.specs.Sets.{sets-size}
 use Rattle.search_sets.specs.Masks.{set-at, masks, cut, SetGrown, SetsKept}
+use Rattle.codes.specs.Codes.{last-code}
 use Rattle.codes.specs.Clauses.{position, code-clauses, Ended, code-goal, Begins, Coded}
 use Rattle.search_evaluation.specs.Looked.{IsAt}
 use Rattle.search_groups.specs.Parts.{Parting, PartedAt}
@@ -106,7 +110,7 @@ Steps kinds splits codes side at until lo mid hi w u s t r =
 pub record Reached (codes : List ℕ) (side : ℕ) (w : List ℕ) (i : ℕ) (s t : List ℕ) (r : Bool) : Type 0 where
   pub kept : SetsKept s t
   pub goal : Ended codes → r ≡ code-goal side codes (cells w .value i)
-  pub full : r ≡ false → (l : ℕ) → l < 128 → set-at t 128 l ≡ true
+  pub full : r ≡ false → (l : ℕ) → l < max-unknowns → set-at t max-unknowns l ≡ true
 
 -- The search of all rows: what it leaves, over every problem that the tables fit, whose rows' cells are set at level 0 and whose other cells are open.
 abbrev pub FromStart : List ℕ → List ℕ → List ℕ → ℕ → List ℕ → List ℕ → Bool → Type 0
@@ -119,19 +123,19 @@ FromStart kinds splits codes side w u r =
 
 -- What the index lists between the bounds of a code are starts of clauses.
 abbrev pub Listed : List ℕ → List ℕ → Type 0
-Listed codes index = (c at : ℕ) → 1 ≤ c → c ≤ 257 → getD index (c - 1) 0 ≤ at → at < getD index c 0 → Begins codes (getD index at 0)
+Listed codes index = (c at : ℕ) → 1 ≤ c → c ≤ last-code → getD index (c - 1) 0 ≤ at → at < getD index c 0 → Begins codes (getD index at 0)
 
 -- The sizes of what the steps are lent, and what they rest on.
 pub record Lent (splits codes work sets index : List ℕ) : Type 0 where
-  pub rows : length splits ≤ 256
-  pub entries : length codes ≤ 8192
-  pub coded : Coded 128 codes
-  pub area : length work ≡ 65536
-  pub sets-lent : length sets ≡ 516
-  pub index-lent : length index ≡ 8451
+  pub rows : length splits ≤ max-rows
+  pub entries : length codes ≤ max-entries
+  pub coded : Coded max-unknowns codes
+  pub area : length work ≡ work-size
+  pub sets-lent : length sets ≡ sets-size
+  pub index-lent : length index ≡ index-size
   pub listed : Listed codes index
 
--- In row i every clause has a true literal, whose position's set is taken in at 128.
+-- In row i every clause has a true literal, whose position's set is taken in behind those of the positions.
 pub record RowBlamed (codes w : List ℕ) (i : ℕ) (s t : List ℕ) (r : Bool) : Type 0 where
-  pub grown : SetGrown 128 s t
-  pub dead : r ≡ true → Ended codes → Every (Some (λ c. IsAt w i true c × ((l : ℕ) → set-at s (position c) l ≡ true → set-at t 128 l ≡ true))) (code-clauses codes)
+  pub grown : SetGrown max-unknowns s t
+  pub dead : r ≡ true → Ended codes → Every (Some (λ c. IsAt w i true c × ((l : ℕ) → set-at s (position c) l ≡ true → set-at t max-unknowns l ≡ true))) (code-clauses codes)

@@ -8,7 +8,7 @@ use mathlib.Core.List.{List}
 use mathlib.Core.Option.{Option, none, some}
 use lib.IntN.{ℤ}
 use lib.ListN.{length, getD, take, replicate}
-use Rattle.formula.specs.Formula.{Kind, existential, universal, prefix, clauses}
+use Rattle.formula.specs.Formula.{max-rows, Kind, existential, universal, prefix, clauses}
 use Rattle.formula.specs.Meaning.{matrix}
 use Rattle.preference.specs.Preference.{prefer}
 use Rattle.formula.specs.Causes.{count}
@@ -35,20 +35,20 @@ side-kind (suc s) = universal
 pub record Ready (kinds : List ℕ) (literals : List ℤ) (rows : List ℕ) (lent others side : ℕ) (work : List ℕ) : Type 0 where
   pub accepted : Accepted kinds literals
   pub inside : lent ≤ room rows
-  pub few : room rows ≤ 256
+  pub few : room rows ≤ max-rows
   pub others-known : others ≡ count (other (side-kind side)) (prefix kinds)
   pub side-fits : side ≤ 1
-  pub area : length work ≡ 65536
+  pub area : length work ≡ work-size
 
 -- What is rested on once the rows are sorted: entry r of `place` is the sorted place of lent row r.
 pub record Arranged (kinds : List ℕ) (literals : List ℤ) (place : List ℕ) (side : ℕ) (work : List ℕ) : Type 0 where
   pub accepted : Accepted kinds literals
   pub side-fits : side ≤ 1
   pub some-row : 0 < length place
-  pub few : length place ≤ 256
+  pub few : length place ≤ max-rows
   pub inside : (r : ℕ) → r < length place → getD place r 0 < length place
   pub met : (i : ℕ) → i < length place → (r : ℕ) × (r < length place) × (getD place r 0 ≡ i)
-  pub area : length work ≡ 65536
+  pub area : length work ≡ work-size
 
 -- The search over a filled table w of the sorted rows: where neighbours differ, what the copies want, the codes, and what is left.
 pub record Decided (kinds : List ℕ) (literals : List ℤ) (preferences place : List ℕ) (side : ℕ) (w u : List ℕ) (r : Bool) : Type 0 where

@@ -4,8 +4,11 @@
 ghost use mathlib.Core.Path.{_≡_};
 ghost use Prim.Native.Nat.{_+_, _≤_, _<_};
 ghost use lib.ListN.{length};
+ghost use Rattle.formula.specs.Formula.{max-unknowns};
+ghost use Rattle.codes.specs.Codes.{last-code};
 ghost use Rattle.codes.specs.Clauses.{position, Begins};
 ghost use mathlib.Core.Bool.{true};
+ghost use Rattle.search_sets.specs.Sets.{sets-size};
 ghost use Rattle.search_sets.specs.Masks.{SetsKept};
 ghost use Rattle.search_evaluation.specs.Looked.{Looked};
 ghost use Rattle.search.specs.Steps.{Settles, Lent};
@@ -66,7 +69,7 @@ pub(crate) fn propagate(
     hi: usize,
 ) -> bool
     requires { ⌜ Lent (now splits) (now codes) (now work) (now sets) (now index) ⌝ }
-    requires { ⌜ (k < 128) × (lo < hi) × (hi ≤ length (now splits)) ⌝ }
+    requires { ⌜ (k < max-unknowns) × (lo < hi) × (hi ≤ length (now splits)) ⌝ }
     ensures { λ r. ⌜ Settles 0 (now (splits .entry)) (now (codes .entry)) lo hi (k + 2) (now (work .entry)) (now (work .exit)) (now (sets .entry)) (now (sets .exit)) r ⌝ }
 {
     search_sets::empty(sets, CHANGED);
@@ -120,7 +123,7 @@ fn visit(
     to: usize,
 ) -> bool
     requires { ⌜ Lent (now splits) (now codes) (now work) (now sets) (now index) ⌝ }
-    requires { ⌜ (hi ≤ length (now splits)) × (k < 128) × (lo ≤ from) × (to ≤ hi) ⌝ }
+    requires { ⌜ (hi ≤ length (now splits)) × (k < max-unknowns) × (lo ≤ from) × (to ≤ hi) ⌝ }
     ensures { λ r. ⌜ Settles 0 (now (splits .entry)) (now (codes .entry)) lo hi mark (now (work .entry)) (now (work .exit)) (now (sets .entry)) (now (sets .exit)) r ⌝ }
 {
     let mut i = from;
@@ -136,8 +139,8 @@ fn visit(
 
 // The code of the literal that is false by the value at position k.
 fn shortened(value: bool, k: usize) -> usize
-    requires { ⌜ k < 128 ⌝ }
-    ensures { λ r. ⌜ (2 ≤ r) × (r ≤ 257) ⌝ }
+    requires { ⌜ k < max-unknowns ⌝ }
+    ensures { λ r. ⌜ (2 ≤ r) × (r ≤ last-code) ⌝ }
 {
     if value { 2 * k + 3 } else { 2 * k + 2 }
 }
@@ -157,7 +160,7 @@ fn visit_row(
     i: usize,
 ) -> bool
     requires { ⌜ Lent (now splits) (now codes) (now work) (now sets) (now index) ⌝ }
-    requires { ⌜ (lo ≤ i) × (i < hi) × (hi ≤ length (now splits)) × (1 ≤ c) × (c ≤ 257) ⌝ }
+    requires { ⌜ (lo ≤ i) × (i < hi) × (hi ≤ length (now splits)) × (1 ≤ c) × (c ≤ last-code) ⌝ }
     ensures { λ r. ⌜ Settles 0 (now (splits .entry)) (now (codes .entry)) lo hi mark (now (work .entry)) (now (work .exit)) (now (sets .entry)) (now (sets .exit)) r ⌝ }
 {
     let end = lower(wide16(index[c]), index.len());
@@ -232,7 +235,7 @@ fn force(
     c: usize,
 )
     requires { ⌜ Lent (now splits) (now codes) (now work) (now sets) (now index) ⌝ }
-    requires { ⌜ (lo ≤ i) × (i < hi) × (hi ≤ length (now splits)) × (2 ≤ c) × (position c < 128) ⌝ }
+    requires { ⌜ (lo ≤ i) × (i < hi) × (hi ≤ length (now splits)) × (2 ≤ c) × (position c < max-unknowns) ⌝ }
     ensures { λ _. ⌜ (Begins (now (codes .entry)) start → Looked (now (codes .entry)) (now (work .entry)) i start c → Settles 0 (now (splits .entry)) (now (codes .entry)) lo hi mark (now (work .entry)) (now (work .exit)) (now (sets .entry)) (now (sets .exit)) true) ⌝ }
 {
     let k = position(c);
@@ -245,7 +248,7 @@ fn force(
 
 // Position k has changes in the rows from lo to hi.
 fn note(sets: &mut [u64], k: usize, lo: usize, hi: usize)
-    requires { ⌜ (length (now sets) ≡ 516) × (k < 128) ⌝ }
+    requires { ⌜ (length (now sets) ≡ sets-size) × (k < max-unknowns) ⌝ }
     ensures { λ _. ⌜ SetsKept (now (sets .entry)) (now (sets .exit)) ⌝ }
 {
     let at = HINTS + 2 * k;

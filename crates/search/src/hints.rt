@@ -3,21 +3,24 @@
 ghost use mathlib.Core.Path.{_≡_};
 ghost use Prim.Native.Nat.{_≤_, _<_};
 ghost use lib.ListN.{length};
+ghost use Rattle.formula.specs.Formula.{max-unknowns};
+ghost use Rattle.search_sets.specs.Sets.{set-places, sets-size};
 ghost use Rattle.search_sets.specs.Masks.{SetsKept};
+use formula::Formula;
 
 // The place behind the positions.
-pub(crate) const CUT: usize = 128;
+pub(crate) const CUT: usize = Formula::UNKNOWNS;
 
 // The place of the positions whose changes were not looked at.
-pub(crate) const CHANGED: usize = 129;
+pub(crate) const CHANGED: usize = CUT + 1;
 
 // The first word behind the sets. On the existential side words 2 k and 2 k + 1 from here bound the rows in which position k changed; on
 // the universal side word i names a clause that was live in row i. Nothing rests on them.
-pub(crate) const HINTS: usize = 260;
+pub(crate) const HINTS: usize = 2 * search_sets::PLACES;
 
 // Takes out the lowest position of the set at `of`, behind those of the positions, and returns it; CUT if there is none.
 pub(crate) fn take_lowest(sets: &mut [u64], of: usize) -> usize
-    requires { ⌜ (length (now sets) ≡ 516) × (128 ≤ of) × (of < 130) ⌝ }
+    requires { ⌜ (length (now sets) ≡ sets-size) × (max-unknowns ≤ of) × (of < set-places) ⌝ }
     ensures { λ _. ⌜ SetsKept (now (sets .entry)) (now (sets .exit)) ⌝ }
 {
     let low = sets[2 * of];

@@ -82,7 +82,7 @@ fn over_rows(
     if rows::table_fits(rows) {} else {
         return Search::Refused(4);
     }
-    if work.len() != 65_536 {
+    if work.len() != Formula::WORK {
         return Search::Refused(5);
     }
     if rows.len() / 16 < count {

@@ -7,8 +7,10 @@ ghost use mathlib.Core.Logic.{_⊎_};
 ghost use mathlib.Core.Bool.{true, _&&_};
 ghost use lib.ListN.{length};
 ghost use lib.Dec.{ltb};
+ghost use Rattle.formula.specs.Formula.{max-unknowns, max-rows, max-entries, work-size};
 ghost use Rattle.search_cells.specs.Cells.{cells};
 ghost use Rattle.codes.specs.Clauses.{position, code-true, Coded};
+ghost use Rattle.search_sets.specs.Sets.{sets-size};
 ghost use Rattle.search_evaluation.specs.Looked.{IsAt};
 ghost use Rattle.search.specs.Steps.{Settles, RowBlamed};
 ghost use Rattle.search.specs.Live.{RowDead};
@@ -20,7 +22,7 @@ use super::width::wide16;
 
 // Whether each row from lo to hi has a live clause. False: CUT says by which decisions one has none.
 pub(crate) fn check(codes: &[u16], work: &[u8], sets: &mut [u64], lo: usize, hi: usize) -> bool
-    requires { ⌜ (length (now work) ≡ 65536) × (length (now sets) ≡ 516) × (lo ≤ hi) × (hi ≤ 256) × (length (now codes) ≤ 8192) × Coded 128 (now codes) ⌝ }
+    requires { ⌜ (length (now work) ≡ work-size) × (length (now sets) ≡ sets-size) × (lo ≤ hi) × (hi ≤ max-rows) × (length (now codes) ≤ max-entries) × Coded max-unknowns (now codes) ⌝ }
     ensures { λ r. ⌜ ((splits : List ℕ) (mark : ℕ) → Settles 1 splits (now (codes .entry)) lo hi mark (now (work .entry)) (now (work .entry)) (now (sets .entry)) (now (sets .exit)) r) ⌝ }
 {
     let mut i = lo;
@@ -35,7 +37,7 @@ pub(crate) fn check(codes: &[u16], work: &[u8], sets: &mut [u64], lo: usize, hi:
 
 // Whether every clause has a true literal in row i. True: CUT says by which decisions.
 fn dead(codes: &[u16], work: &[u8], sets: &mut [u64], i: usize) -> bool
-    requires { ⌜ (length (now work) ≡ 65536) × (length (now sets) ≡ 516) × (i < 256) × (length (now codes) ≤ 8192) × Coded 128 (now codes) ⌝ }
+    requires { ⌜ (length (now work) ≡ work-size) × (length (now sets) ≡ sets-size) × (i < max-rows) × (length (now codes) ≤ max-entries) × Coded max-unknowns (now codes) ⌝ }
     ensures { λ r. ⌜ RowDead (now (codes .entry)) (now (work .entry)) i (now (sets .entry)) (now (sets .exit)) r ⌝ }
 {
     if search_evaluation::lives(codes, work, i, live_clause(sets, i)) {
@@ -52,14 +54,14 @@ fn dead(codes: &[u16], work: &[u8], sets: &mut [u64], i: usize) -> bool
 
 // The clause that was live in row i.
 fn live_clause(sets: &[u64], i: usize) -> usize
-    requires { ⌜ (length (now sets) ≡ 516) × (i < 256) ⌝ }
+    requires { ⌜ (length (now sets) ≡ sets-size) × (i < max-rows) ⌝ }
 {
     sets[HINTS + i] as usize
 }
 
 // Whether the literal of code c is set and true in row i.
 fn holds(work: &[u8], i: usize, c: usize) -> bool
-    requires { ⌜ (length (now work) ≡ 65536) × (i < 256) × (2 ≤ c) × (position c < 128) ⌝ }
+    requires { ⌜ (length (now work) ≡ work-size) × (i < max-rows) × (2 ≤ c) × (position c < max-unknowns) ⌝ }
     ensures { λ r. ⌜ r ≡ (ltb 0 (cells (now (work .entry)) .level i (position c)) && code-true (cells (now (work .entry)) .value i) c) ⌝ }
 {
     if table::is_set(work, i, position(c)) {
@@ -72,7 +74,7 @@ fn holds(work: &[u8], i: usize, c: usize) -> bool
 // The start of another clause without a true literal in row i: that of the row before, the next one behind row i's, or the first one. At
 // least the number of entries if there is none.
 fn other_live(codes: &[u16], work: &[u8], sets: &[u64], i: usize) -> usize
-    requires { ⌜ (length (now sets) ≡ 516) × (i < 256) ⌝ }
+    requires { ⌜ (length (now sets) ≡ sets-size) × (i < max-rows) ⌝ }
 {
     if i > 0 {
         let near = live_clause(sets, i - 1);
@@ -89,7 +91,7 @@ fn other_live(codes: &[u16], work: &[u8], sets: &[u64], i: usize) -> usize
 
 // Unites, at CUT, for each clause the set of its earliest true literal in row i. False: a clause has none.
 fn blame(codes: &[u16], work: &[u8], sets: &mut [u64], i: usize) -> bool
-    requires { ⌜ (length (now work) ≡ 65536) × (length (now sets) ≡ 516) × (i < 256) × Coded 128 (now codes) ⌝ }
+    requires { ⌜ (length (now work) ≡ work-size) × (length (now sets) ≡ sets-size) × (i < max-rows) × Coded max-unknowns (now codes) ⌝ }
     ensures { λ r. ⌜ RowBlamed (now (codes .entry)) (now (work .entry)) i (now (sets .entry)) (now (sets .exit)) r ⌝ }
 {
     let mut best = CUT;
@@ -112,7 +114,7 @@ fn blame(codes: &[u16], work: &[u8], sets: &mut [u64], i: usize) -> bool
 
 // The best position so far, or that of the literal of code c if it is true in row i and was set at a lower level.
 fn better(work: &[u8], i: usize, best: usize, c: usize) -> usize
-    requires { ⌜ (length (now work) ≡ 65536) × (i < 256) × (best ≤ 128) × (2 ≤ c) × (position c < 128) ⌝ }
+    requires { ⌜ (length (now work) ≡ work-size) × (i < max-rows) × (best ≤ max-unknowns) × (2 ≤ c) × (position c < max-unknowns) ⌝ }
     ensures { λ r. ⌜ (r ≡ best) ⊎ ((r ≡ position c) × IsAt (now (work .entry)) i true c) ⌝ }
 {
     if holds(work, i, c) {
@@ -124,8 +126,8 @@ fn better(work: &[u8], i: usize, best: usize, c: usize) -> usize
 
 // Of two positions the one that was set at the lower level; CUT is none.
 fn earlier(work: &[u8], i: usize, k: usize, l: usize) -> usize
-    requires { ⌜ (length (now work) ≡ 65536) × (i < 256) × (k ≤ 128) × (l < 128) ⌝ }
-    ensures { λ r. ⌜ (r ≡ l) ⊎ ((r ≡ k) × (k < 128)) ⌝ }
+    requires { ⌜ (length (now work) ≡ work-size) × (i < max-rows) × (k ≤ max-unknowns) × (l < max-unknowns) ⌝ }
+    ensures { λ r. ⌜ (r ≡ l) ⊎ ((r ≡ k) × (k < max-unknowns)) ⌝ }
 {
     if k == CUT {
         return l;

@@ -3,12 +3,20 @@
 ghost use mathlib.Core.Path.{_≡_};
 ghost use Prim.Native.Nat.{ℕ, _+_, _≤_, _<_};
 ghost use lib.ListN.{length, getD};
+ghost use Rattle.formula.specs.Formula.{max-unknowns, max-rows, max-entries, work-size};
 ghost use Rattle.codes.specs.Clauses.{Coded};
+ghost use Rattle.index.specs.Index.{index-size};
+ghost use Rattle.search_sets.specs.Sets.{sets-size};
 ghost use Rattle.search.specs.Steps.{Lent, Listed, Settles, Searches, Tries, Chooses, Retries, Steps, Reached, FromStart};
 use super::force;
 use super::hints::CUT;
 use super::live;
 use super::table;
+
+// The words of the set at CUT.
+const LOW: usize = 2 * CUT;
+
+const HIGH: usize = LOW + 1;
 
 // The search over a filled table of at least one row. False: there is no model.
 pub(crate) fn from_start(
@@ -18,11 +26,11 @@ pub(crate) fn from_start(
     side: u8,
     work: &mut [u8],
 ) -> bool
-    requires { ⌜ (length (now kinds) ≤ 128) × (0 < length (now splits)) × (length (now splits) ≤ 256) × (length (now codes) ≤ 8192) × Coded 128 (now codes) × (side ≤ 1) × (length (now work) ≡ 65536) ⌝ }
+    requires { ⌜ (length (now kinds) ≤ max-unknowns) × (0 < length (now splits)) × (length (now splits) ≤ max-rows) × (length (now codes) ≤ max-entries) × Coded max-unknowns (now codes) × (side ≤ 1) × (length (now work) ≡ work-size) ⌝ }
     ensures { λ r. ⌜ FromStart (now (kinds .entry)) (now (splits .entry)) (now (codes .entry)) side (now (work .entry)) (now (work .exit)) r ⌝ }
 {
-    let mut sets = [0u64; 516];
-    let mut index = [0u16; 8_451];
+    let mut sets = [0u64; search_sets::WORDS];
+    let mut index = [0u16; index::SIZE];
     list_codes(codes, side, &mut index);
     if look_around(splits, codes, work, &mut sets, &index, side) {
         let hi = splits.len();
@@ -45,7 +53,7 @@ pub(crate) fn from_start(
 
 // The existential side finds a code's clauses through the index; the universal side doesn't look them up.
 fn list_codes(codes: &[u16], side: u8, index: &mut [u16])
-    requires { ⌜ (length (now codes) ≤ 8192) × Coded 128 (now codes) × (length (now index) ≡ 8451) × ((x : ℕ) → getD (now index) x 0 ≡ 0) ⌝ }
+    requires { ⌜ (length (now codes) ≤ max-entries) × Coded max-unknowns (now codes) × (length (now index) ≡ index-size) × ((x : ℕ) → getD (now index) x 0 ≡ 0) ⌝ }
     ensures { λ _. ⌜ Listed (now (codes .entry)) (now (index .exit)) ⌝ }
 {
     if side == 0 {
@@ -87,7 +95,7 @@ fn solve(
     hi: usize,
 ) -> bool
     requires { ⌜ Lent (now splits) (now codes) (now work) (now sets) (now index) ⌝ }
-    requires { ⌜ (length (now kinds) ≤ 128) × (side ≤ 1) × (k ≤ length (now kinds)) × (lo < hi) × (hi ≤ length (now splits)) ⌝ }
+    requires { ⌜ (length (now kinds) ≤ max-unknowns) × (side ≤ 1) × (k ≤ length (now kinds)) × (lo < hi) × (hi ≤ length (now splits)) ⌝ }
     ensures { λ r. ⌜ Searches (now (kinds .entry)) (now (splits .entry)) (now (codes .entry)) side k lo hi (now (work .entry)) (now (work .exit)) (now (sets .entry)) (now (sets .exit)) r ⌝ }
 {
     let mid = search_groups::parting(splits, lo, hi);
@@ -130,7 +138,7 @@ fn step(
     hi: usize,
 ) -> bool
     requires { ⌜ Lent (now splits) (now codes) (now work) (now sets) (now index) ⌝ }
-    requires { ⌜ (length (now kinds) ≤ 128) × (side ≤ 1) × (at ≤ length (now kinds)) × (until ≤ length (now kinds)) × (lo < hi) × (hi ≤ length (now splits)) ⌝ }
+    requires { ⌜ (length (now kinds) ≤ max-unknowns) × (side ≤ 1) × (at ≤ length (now kinds)) × (until ≤ length (now kinds)) × (lo < hi) × (hi ≤ length (now splits)) ⌝ }
     requires { ⌜ (lo ≤ mid) × (mid < hi) × (until < length (now kinds) → lo < mid) ⌝ }
     ensures { λ r. ⌜ Steps (now (kinds .entry)) (now (splits .entry)) (now (codes .entry)) side at until lo mid hi (now (work .entry)) (now (work .exit)) (now (sets .entry)) (now (sets .exit)) r ⌝ }
 {
@@ -183,7 +191,7 @@ fn choose(
     hi: usize,
 ) -> bool
     requires { ⌜ Lent (now splits) (now codes) (now work) (now sets) (now index) ⌝ }
-    requires { ⌜ (length (now kinds) ≤ 128) × (side ≤ 1) × (k < length (now kinds)) × (lo < hi) × (hi ≤ length (now splits)) ⌝ }
+    requires { ⌜ (length (now kinds) ≤ max-unknowns) × (side ≤ 1) × (k < length (now kinds)) × (lo < hi) × (hi ≤ length (now splits)) ⌝ }
     ensures { λ r. ⌜ Chooses (now (kinds .entry)) (now (splits .entry)) (now (codes .entry)) side k lo hi (now (work .entry)) (now (work .exit)) (now (sets .entry)) (now (sets .exit)) r ⌝ }
 {
     let wanted = table::wanted(work, lo, k);
@@ -235,13 +243,13 @@ fn retry(
     tried: bool,
 ) -> bool
     requires { ⌜ Lent (now splits) (now codes) (now work) (now sets) (now index) ⌝ }
-    requires { ⌜ (length (now kinds) ≤ 128) × (side ≤ 1) × (k < length (now kinds)) × (lo < hi) × (hi ≤ length (now splits)) ⌝ }
+    requires { ⌜ (length (now kinds) ≤ max-unknowns) × (side ≤ 1) × (k < length (now kinds)) × (lo < hi) × (hi ≤ length (now splits)) ⌝ }
     ensures { λ r. ⌜ Retries (now (kinds .entry)) (now (splits .entry)) (now (codes .entry)) side k lo hi tried (now (work .entry)) (now (work .exit)) (now (sets .entry)) (now (sets .exit)) r ⌝ }
 {
     search_cells::undo(work, lo, hi, k as u8 + 1);
     search_sets::trim(sets, k, kinds.len());
-    let low = sets[256];
-    let high = sets[257];
+    let low = sets[LOW];
+    let high = sets[HIGH];
     if attempt(
         kinds,
         splits,
@@ -278,7 +286,7 @@ fn attempt(
     value: bool,
 ) -> bool
     requires { ⌜ Lent (now splits) (now codes) (now work) (now sets) (now index) ⌝ }
-    requires { ⌜ (length (now kinds) ≤ 128) × (side ≤ 1) × (k < length (now kinds)) × (lo < hi) × (hi ≤ length (now splits)) ⌝ }
+    requires { ⌜ (length (now kinds) ≤ max-unknowns) × (side ≤ 1) × (k < length (now kinds)) × (lo < hi) × (hi ≤ length (now splits)) ⌝ }
     ensures { λ r. ⌜ Tries (now (kinds .entry)) (now (splits .entry)) (now (codes .entry)) side k lo hi value (now (work .entry)) (now (work .exit)) (now (sets .entry)) (now (sets .exit)) r ⌝ }
 {
     search_sets::add(sets, k, k);
@@ -303,7 +311,7 @@ fn follow(
     hi: usize,
 ) -> bool
     requires { ⌜ Lent (now splits) (now codes) (now work) (now sets) (now index) ⌝ }
-    requires { ⌜ (side ≤ 1) × (k < 128) × (lo < hi) × (hi ≤ length (now splits)) ⌝ }
+    requires { ⌜ (side ≤ 1) × (k < max-unknowns) × (lo < hi) × (hi ≤ length (now splits)) ⌝ }
     ensures { λ r. ⌜ Settles side (now (splits .entry)) (now (codes .entry)) lo hi (k + 2) (now (work .entry)) (now (work .exit)) (now (sets .entry)) (now (sets .exit)) r ⌝ }
 {
     if side == 1 {
@@ -315,7 +323,7 @@ fn follow(
 
 // Whether the values of row i reach the side's goal. Where they do not, every position is to blame.
 fn reached(codes: &[u16], work: &[u8], sets: &mut [u64], side: u8, i: usize) -> bool
-    requires { ⌜ (length (now work) ≡ 65536) × (length (now sets) ≡ 516) × (i < 256) × (side ≤ 1) × Coded 128 (now codes) ⌝ }
+    requires { ⌜ (length (now work) ≡ work-size) × (length (now sets) ≡ sets-size) × (i < max-rows) × (side ≤ 1) × Coded max-unknowns (now codes) ⌝ }
     ensures { λ r. ⌜ Reached (now (codes .entry)) side (now (work .entry)) i (now (sets .entry)) (now (sets .exit)) r ⌝ }
 {
     let all = search_evaluation::matrix(codes, work, i);
