@@ -6,7 +6,7 @@ use mathlib.Core.Bool.{Bool, true, false}
 use mathlib.Core.List.{List, [], _∷_, map}
 use lib.IntN.{ℤ, pos, negsuc}
 use lib.ListN.{length}
-use Rattle.formula.specs.Formula.{prefix, clauses}
+use Rattle.formula.specs.Formula.{max-rows, prefix, clauses}
 use Rattle.formula.specs.Meaning.{matrix}
 use Rattle.preference.specs.Preference.{prefer}
 use Rattle.expansion.specs.Play.{Row}
@@ -44,7 +44,7 @@ with-rows room-A room-S limit kinds literals returned =
     record { kinds = kinds; literals = literals; preferences = []; room-A = room-A; room-S = room-S; limit = limit; returned = returned }
 
 abbrev pub usual : List ℕ → List ℤ → List ℕ → WorkedRun
-usual = with-rows 256 256 9
+usual = with-rows max-rows max-rows 9
 
 -- The formula of K1: `a 1 0`, `e 2 0`, `1 2 0`, `-1 -2 0`.
 abbrev pub kinds-1 : List ℕ
@@ -80,15 +80,15 @@ K6 =
       kinds = K5 .kinds;
       literals = K5 .literals;
       preferences = 1 ∷ [];
-      room-A = 256;
-      room-S = 256;
+      room-A = max-rows;
+      room-S = max-rows;
       limit = 9;
       returned = 0 ∷ 2 ∷ 2 ∷ 1 ∷ [];
     }
 
 -- 'K7 K1, limit 1: spent, round 1, counts 2 and 1.'
 abbrev pub K7 : WorkedRun
-K7 = with-rows 256 256 1 kinds-1 literals-1 (2 ∷ 1 ∷ 2 ∷ 1 ∷ [])
+K7 = with-rows max-rows max-rows 1 kinds-1 literals-1 (2 ∷ 1 ∷ 2 ∷ 1 ∷ [])
 
 -- 'K9 K1, one row a side: no room universal, round 1, counts 1 and 1.'
 abbrev pub K9 : WorkedRun
@@ -111,7 +111,7 @@ K12 = usual kinds-12 literals-12 (1 ∷ 3 ∷ 3 ∷ 4 ∷ [])
 
 -- Not in 01: K12 with two existential rows. Round 2 yields two new rows, of which one would fit, and none is added.
 abbrev pub K12-full : WorkedRun
-K12-full = with-rows 256 2 9 kinds-12 literals-12 (4 ∷ 2 ∷ 2 ∷ 1 ∷ [])
+K12-full = with-rows max-rows 2 9 kinds-12 literals-12 (4 ∷ 2 ∷ 2 ∷ 1 ∷ [])
 
 -- 'K13 one universal, clause 1 -1: true, round 1, counts 1 and 1.'
 abbrev pub K13 : WorkedRun

@@ -32,8 +32,6 @@ pub struct Outcome {
     pub existential: usize,
 }
 
-const WORK: usize = 65_536;
-
 // How a side's step of a round ends.
 const NO_MODEL: u8 = 0;
 
@@ -141,7 +139,7 @@ fn check(
                     universals,
                 };
             }
-            if work.len() != WORK {
+            if work.len() != Formula::WORK {
                 return Checked {
                     cause: 5,
                     universals,

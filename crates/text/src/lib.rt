@@ -9,6 +9,9 @@ ghost use Rattle.text.specs.Reading.{read as definition, taken, Read-so}
 ghost use Rattle.text.specs.Steps.{Sized, held};
 use formula::Formula;
 
+// The most bytes of a text.
+pub const BYTES: usize = 65_536;
+
 mod body;
 mod names;
 mod opening;

@@ -5,6 +5,7 @@ ghost use lib.Dec.{leb, eqb};
 ghost use Rattle.formula.specs.Formula.{max-unknowns, max-entries};
 ghost use Rattle.text.specs.Reading.{max-bytes};
 ghost use Rattle.text.specs.Steps.{Opened-read, Comments-read, Problem-read, range-cause as range};
+use super::BYTES;
 use formula::Formula;
 use lines::shapes;
 
@@ -61,7 +62,7 @@ pub(crate) fn read_opening(text: &[u8], kinds: usize, literals: usize, names: us
 fn lent_well(text: usize, kinds: usize, literals: usize, names: usize) -> bool
     ensures { λ r. ⌜ r ≡ (leb text max-bytes && eqb kinds max-unknowns && eqb literals max-entries && eqb names max-unknowns) ⌝ }
 {
-    if text > 65_536 {
+    if text > BYTES {
         return false;
     }
     if kinds != Formula::UNKNOWNS {

@@ -2,6 +2,7 @@
 // What is decided, read and printed is proved in `run`, `text` and `report`; here only buffers are made and handed on.
 
 ghost use Prim.Native.Nat.{_≤_};
+use formula::Formula;
 use libc::STDIN_FILENO;
 use libc::STDOUT_FILENO;
 use run::Answer;
@@ -9,8 +10,13 @@ use text::Reading;
 
 const ROUNDS: u32 = 1_000;
 
+// Room for a result's two lines, and for a refusal's one.
+const RESULT: usize = 256;
+
+const REFUSAL: usize = 64;
+
 fn main() {
-    let mut input = [0u8; 65_536];
+    let mut input = [0u8; text::BYTES];
     let length = io::read_full(STDIN_FILENO, &mut input);
     if ends() {
         read(&input[..length]);
@@ -26,9 +32,9 @@ fn ends() -> bool {
 }
 
 fn read(input: &[u8]) {
-    let mut kinds = [0u8; 128];
-    let mut literals = [0i32; 8_192];
-    let mut names = [0u16; 128];
+    let mut kinds = [0u8; Formula::UNKNOWNS];
+    let mut literals = [0i32; Formula::ENTRIES];
+    let mut names = [0u16; Formula::UNKNOWNS];
     match text::read(input, &mut kinds, &mut literals, &mut names) {
         Reading::Refused { number, line } => refuse(number, number32(line)),
         Reading::Taken {
@@ -37,8 +43,8 @@ fn read(input: &[u8]) {
             variables,
             clauses,
         } => {
-            let n = lower(unknowns, 128);
-            let m = lower(entries, 8_192);
+            let n = lower(unknowns, Formula::UNKNOWNS);
+            let m = lower(entries, Formula::ENTRIES);
             decide(
                 &kinds[..n],
                 &literals[..m],
@@ -59,14 +65,14 @@ fn number32(x: usize) -> u32 {
     (x % 4_294_967_296) as u32
 }
 
-// Decides with 256 rows a side and no lent preferences, and prints the two lines.
+// Decides with as many rows a side as a table may hold and no lent preferences, and prints the two lines.
 fn decide(kinds: &[u8], literals: &[i32], variables: u32, clauses: u32) {
     let none = [0u8; 0];
-    let mut universal_rows = [0u8; 4_096];
-    let mut universal_marks = [0u16; 256];
-    let mut existential_rows = [0u8; 4_096];
-    let mut existential_marks = [0u16; 256];
-    let mut work = [0u8; 65_536];
+    let mut universal_rows = [0u8; 16 * Formula::ROWS];
+    let mut universal_marks = [0u16; Formula::ROWS];
+    let mut existential_rows = [0u8; 16 * Formula::ROWS];
+    let mut existential_marks = [0u16; Formula::ROWS];
+    let mut work = [0u8; Formula::WORK];
     let end = run::run(
         kinds,
         literals,
@@ -93,7 +99,7 @@ fn decide(kinds: &[u8], literals: &[i32], variables: u32, clauses: u32) {
 }
 
 fn report(answer: u32, variables: u32, clauses: u32, round: u32, universal: u32, existential: u32) {
-    let mut out = [0u8; 256];
+    let mut out = [0u8; RESULT];
     let length = report::result(
         &mut out,
         answer,
@@ -103,13 +109,13 @@ fn report(answer: u32, variables: u32, clauses: u32, round: u32, universal: u32,
         universal,
         existential,
     );
-    let n = lower(length, 256);
+    let n = lower(length, RESULT);
     io::write_all(STDOUT_FILENO, &out[..n]);
 }
 
 fn refuse(number: u32, line: u32) {
-    let mut out = [0u8; 64];
+    let mut out = [0u8; REFUSAL];
     let length = report::refusal(&mut out, number, line);
-    let n = lower(length, 64);
+    let n = lower(length, REFUSAL);
     io::write_all(STDOUT_FILENO, &out[..n]);
 }

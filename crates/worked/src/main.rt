@@ -9,6 +9,7 @@ use run::Answer;
 use run::Outcome;
 ghost use Prim.Native.Nat.{_≤_, _*_};
 ghost use lib.ListN.{length};
+ghost use Rattle.formula.specs.Formula.{max-rows};
 
 // The first of each table's values. The bytes are 10 to 98, of which no row of these runs has any, and the marks are over the limit.
 const UNIVERSAL_ROWS: u8 = 10;
@@ -21,7 +22,7 @@ const UNIVERSAL_MARKS: u16 = 1_000;
 
 const EXISTENTIAL_MARKS: u16 = 2_000;
 
-const AMPLE: usize = 256;
+const AMPLE: usize = Formula::ROWS;
 
 const LIMIT: u32 = 9;
 
@@ -106,13 +107,13 @@ fn play_run(
     existential_room: usize,
     limit: u32,
 )
-    requires { ⌜ («universal_room» ≤ 256) × («existential_room» ≤ 256) ⌝ }
+    requires { ⌜ («universal_room» ≤ max-rows) × («existential_room» ≤ max-rows) ⌝ }
 {
-    let mut universal_rows = [0u8; 4_096];
-    let mut universal_marks = [0u16; 256];
-    let mut existential_rows = [0u8; 4_096];
-    let mut existential_marks = [0u16; 256];
-    let mut work = [0u8; 65_536];
+    let mut universal_rows = [0u8; 16 * Formula::ROWS];
+    let mut universal_marks = [0u16; Formula::ROWS];
+    let mut existential_rows = [0u8; 16 * Formula::ROWS];
+    let mut existential_marks = [0u16; Formula::ROWS];
+    let mut work = [0u8; Formula::WORK];
     fill(&mut universal_rows, UNIVERSAL_ROWS);
     fill_marks(&mut universal_marks, UNIVERSAL_MARKS);
     fill(&mut existential_rows, EXISTENTIAL_ROWS);
@@ -236,7 +237,7 @@ fn print_outcome(end: Outcome) -> bool {
 
 // Plays the judge on claim 1, and prints what it returns and leaves.
 fn play_judge(name: &[u8], kinds: &[u8], literals: &[i32], rows: &[u8], count: usize) {
-    let mut work = [0u8; 65_536];
+    let mut work = [0u8; Formula::WORK];
     fill(&mut work, WORK);
     let judgement = judge::judge(kinds, literals, 1, rows, count, &mut work);
     print(name);
@@ -318,13 +319,13 @@ fn marks_as_found(marks: &[u16], first: u16, from: usize) -> bool {
 
 // Whether both tables of a side are as found past a count.
 fn universal_kept(rows: &[u8], marks: &[u16], count: usize) -> bool
-    requires { ⌜ count ≤ 256 ⌝ }
+    requires { ⌜ count ≤ max-rows ⌝ }
 {
     as_found(rows, UNIVERSAL_ROWS, 16 * count) && marks_as_found(marks, UNIVERSAL_MARKS, count)
 }
 
 fn existential_kept(rows: &[u8], marks: &[u16], count: usize) -> bool
-    requires { ⌜ count ≤ 256 ⌝ }
+    requires { ⌜ count ≤ max-rows ⌝ }
 {
     as_found(rows, EXISTENTIAL_ROWS, 16 * count) && marks_as_found(marks, EXISTENTIAL_MARKS, count)
 }
