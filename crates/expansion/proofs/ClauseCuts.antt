@@ -7,8 +7,9 @@ use mathlib.Core.Bool.{Bool, true, false, not, _&&_, _||_, or-true, and-false, a
 use mathlib.Core.List.{List, [], _∷_}
 use native.Mathlib.Omega.{arith}
 use Rattle.expansion.proofs.Booleans.{true-or-false, never-both}
-use Rattle.expansion.proofs.Cuts.{Values, Mask, Problem, Model, Heeds, Refuted, Implied, Within}
-use Rattle.expansion.proofs.Node.{Cells, Node}
+use Rattle.expansion.specs.Cells.{Values, Cells}
+use Rattle.expansion.proofs.Cuts.{Mask, Problem, Model, Heeds, Refuted, Implied, Within}
+use Rattle.expansion.proofs.Node.{Node}
 
 -- ---- all and some of a list
 

@@ -8,12 +8,10 @@ use mathlib.Core.Logic.{_⊎_, inl, inr, ⊎-elim}
 use mathlib.Core.Bool.{Bool, true, false, not}
 use native.Mathlib.Omega.{arith}
 use native.Mathlib.Nat.{eq-or-lt-of-le}
+use Rattle.expansion.specs.Cells.{Values}
 use Rattle.expansion.proofs.Booleans.{true-or-false, never-both}
 
--- Values by row and position; a set of positions.
-abbrev pub Values : Type 0
-Values = ℕ → ℕ → Bool
-
+-- A set of positions.
 abbrev pub Mask : Type 0
 Mask = ℕ → Bool
 

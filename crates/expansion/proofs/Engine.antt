@@ -17,12 +17,13 @@ use Rattle.expansion.specs.Play.{Row, Strategy, restriction, play, part,
 use Rattle.expansion.specs.Model.{wins, yielded, first-model, search}
 use Rattle.expansion.proofs.CopyLaws.{Own}
 use Rattle.expansion.proofs.FirstModel.{none-if-no-strategy}
-use Rattle.expansion.proofs.Leading.{wanted, others-before, Fits, Uniform, LeadsAt, Leading}
+use Rattle.expansion.specs.Cells.{Cells, others-before, tabulate}
+use Rattle.expansion.proofs.Leading.{wanted, Fits, Uniform, LeadsAt, Leading}
 use Rattle.expansion.proofs.LeadingPath.{first-at, later-at, play-at-own, play-at-other}
 use Rattle.expansion.proofs.LeadingFirst.{leading-is-first}
 use Rattle.expansion.proofs.Booleans.{true-or-false, never-both}
 use Rattle.expansion.proofs.Cuts.{Mask, Problem, Agree, Sound, Model, Refuted}
-use Rattle.expansion.proofs.Node.{Cells, Won}
+use Rattle.expansion.proofs.Node.{Won}
 use Rattle.expansion.proofs.ClauseCuts.{Every, clause-at, matrix-at}
 
 -- ---- restrictions and the values before a position
@@ -60,10 +61,6 @@ values-of-restriction (false ∷ ts) (suc k) a b e (suc l) lt ll o =
 -- ---- values as a list
 
 module _ {A : Type 0} where
-  abbrev pub tabulate : ℕ → (ℕ → A) → List A
-  tabulate zero f = []
-  tabulate (suc n) f = f zero ∷ tabulate n (λ j. f (suc j))
-
   pub length-tabulate : (n : ℕ) (f : ℕ → A) → length (tabulate n f) ≡ n
   length-tabulate zero f = refl
   length-tabulate (suc n) f = ap suc (length-tabulate n (λ j. f (suc j)))
@@ -73,7 +70,7 @@ module _ {A : Type 0} where
   tabulate-at (suc n) f zero d lt = refl
   tabulate-at (suc n) f (suc j) d lt = tabulate-at n (λ i. f (suc i)) j d (omega arith)
 
-  pub map-tabulate : {B : Type 0} (g : A → B) (n : ℕ) (f : ℕ → A) → map g (tabulate n f) ≡ Rattle.expansion.proofs.Engine.tabulate n (λ j. g (f j))
+  pub map-tabulate : {B : Type 0} (g : A → B) (n : ℕ) (f : ℕ → A) → map g (tabulate n f) ≡ tabulate n (λ j. g (f j))
   map-tabulate g zero f = refl
   map-tabulate g (suc n) f = ap (λ xs. g (f zero) ∷ xs) (map-tabulate g n (λ j. f (suc j)))
 

@@ -11,6 +11,7 @@ use lib.ListN.{length, getD}
 use Rattle.expansion.specs.Play.{Row, first-value, later-values, restriction, Strategy, past-own, past-row, play}
 use Rattle.expansion.specs.Copies.{Copy, same, copies}
 use Rattle.expansion.specs.Model.{wins}
+use Rattle.expansion.specs.Cells.{others-before}
 use Rattle.expansion.proofs.CopyLaws.{Own}
 
 -- The number of a copy: its place in the list of copies.
@@ -23,13 +24,6 @@ number (c ∷ cs) k r =
 -- 'Copy i prefers preference i': the value that the copy at position k with restriction r prefers.
 unfoldable pub wanted : (ℕ → Bool) → List Bool → List Row → Strategy
 wanted prefer ts rows k r = prefer (number (copies ts rows) k r)
-
--- How many of the unknowns before position k are not own: the place of position k's value in a row, if it is not own itself.
-abbrev pub others-before : List Bool → ℕ → ℕ
-others-before ts zero = zero
-others-before [] (suc k) = zero
-others-before (true ∷ ts) (suc k) = others-before ts k
-others-before (false ∷ ts) (suc k) = suc (others-before ts k)
 
 -- P has a value for each unknown, and at those that are not own it has the row's values.
 pub record Fits (ts : List Bool) (row : Row) (P : List Bool) : Type 0 where

@@ -11,7 +11,8 @@ use lib.Seq.{ext-getD}
 use Rattle.expansion.specs.Play.{Row, first-value, later-values, restriction, Strategy, past-own, past-row, play}
 use Rattle.expansion.proofs.Booleans.{true-or-false}
 use Rattle.expansion.proofs.CopyLaws.{Own}
-use Rattle.expansion.proofs.Leading.{others-before, Fits, LeadsPath, LeadsAt}
+use Rattle.expansion.specs.Cells.{others-before}
+use Rattle.expansion.proofs.Leading.{Fits, LeadsPath, LeadsAt}
 
 -- A list's values by index are its first one and the later ones by index.
 pub first-at : (P : List Bool) → getD P zero false ≡ first-value P

@@ -7,12 +7,8 @@ use mathlib.Core.Logic.{_⊎_, inl, inr, ⊎-elim}
 use mathlib.Core.Bool.{Bool, true, false, not}
 use native.Mathlib.Omega.{arith}
 use native.Mathlib.Decide.{ℕ-discrete, decLe, decLt}
-use Rattle.expansion.proofs.Cuts.{Values, Mask, Problem, Agree, Model, Implied, Within, SameBelow}
-
--- The level is 0 in an open cell, else one more than the level; an open cell's value means nothing.
-pub record Cells : Type 0 where
-  pub level : ℕ → ℕ → ℕ
-  pub value : Values
+use Rattle.expansion.specs.Cells.{Values, Cells}
+use Rattle.expansion.proofs.Cuts.{Mask, Problem, Agree, Model, Implied, Within, SameBelow}
 
 pub record Node (P : Problem) (k lo hi : ℕ) (v : ℕ → Bool) (T : Cells) (M : ℕ → Mask) : Type 0 where
   pub some : lo < hi

@@ -7,8 +7,9 @@ use mathlib.Core.Bool.{Bool, true, false}
 use native.Mathlib.Omega.{arith}
 use native.Mathlib.Decide.{decLt}
 use Rattle.expansion.proofs.Booleans.{true-or-false}
-use Rattle.expansion.proofs.Cuts.{Values, Mask, Problem, Agree, Model, Heeds, Refuted, Within, SameBelow, agree-shorter, implied-later, heeds-smaller}
-use Rattle.expansion.proofs.Node.{Cells, Node, Won, Grown, grown-keeps}
+use Rattle.expansion.specs.Cells.{Values, Cells}
+use Rattle.expansion.proofs.Cuts.{Mask, Problem, Agree, Model, Heeds, Refuted, Within, SameBelow, agree-shorter, implied-later, heeds-smaller}
+use Rattle.expansion.proofs.Node.{Node, Won, Grown, grown-keeps}
 use Rattle.expansion.proofs.Success.{past-kept}
 
 below-or-not : (j k : ℕ) → (j < k) ⊎ (k ≤ j)

@@ -8,7 +8,8 @@ use native.Mathlib.Nat.{eq-or-lt-of-le}
 use native.Mathlib.Decide.{ℕ-discrete, decLe, decLt}
 use Rattle.expansion.proofs.Booleans.{never-both}
 use Rattle.expansion.proofs.Cuts.{Mask, Problem, Agree, Implied, SameBelow, below-or-last, agree-sym, agree-own, implied-larger, implied-later}
-use Rattle.expansion.proofs.Node.{Cells, Node, Won, SameCell, Grown, Stored, MasksWithin, positive, grown-keeps}
+use Rattle.expansion.specs.Cells.{Cells}
+use Rattle.expansion.proofs.Node.{Node, Won, SameCell, Grown, Stored, MasksWithin, positive, grown-keeps}
 
 module _ (P : Problem) where
   -- ---- nodes

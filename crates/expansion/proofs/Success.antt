@@ -7,8 +7,9 @@ use native.Mathlib.Omega.{arith}
 use native.Mathlib.Nat.{eq-or-lt-of-le}
 use native.Mathlib.Decide.{ℕ-discrete, decLe, decLt}
 use Rattle.expansion.proofs.Booleans.{never-both}
-use Rattle.expansion.proofs.Cuts.{Values, Mask, Problem, Agree, Sound, Model, Refuted, SameBelow, other-value, below-or-last, agree-sym}
-use Rattle.expansion.proofs.Node.{Cells, Node, Won, SameCell, Grown, positive, grown-keeps}
+use Rattle.expansion.specs.Cells.{Values, Cells}
+use Rattle.expansion.proofs.Cuts.{Mask, Problem, Agree, Sound, Model, Refuted, SameBelow, other-value, below-or-last, agree-sym}
+use Rattle.expansion.proofs.Node.{Node, Won, SameCell, Grown, positive, grown-keeps}
 
 module _ (P : Problem) where
   -- the values of a node's rows before its position, also after the table has grown

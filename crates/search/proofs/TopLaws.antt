@@ -26,8 +26,9 @@ use Rattle.expansion.specs.Model.{search}
 use Rattle.expansion.proofs.Booleans.{true-or-false, never-both}
 use Rattle.expansion.proofs.Cuts.{Problem, Agree, Mask, Refuted}
 use Rattle.expansion.proofs.ClauseCuts.{Every, matrix-at}
-use Rattle.expansion.proofs.Leading.{wanted, others-before}
-use Rattle.expansion.proofs.Engine.{restriction-of-values, values-of-restriction, tabulate, literal-at, goal-at, Names, Places, problem, problem-sound, refuted-is-none, won-is-first}
+use Rattle.expansion.specs.Cells.{others-before, tabulate}
+use Rattle.expansion.proofs.Leading.{wanted}
+use Rattle.expansion.proofs.Engine.{restriction-of-values, values-of-restriction, literal-at, goal-at, Names, Places, problem, problem-sound, refuted-is-none, won-is-first}
 use Rattle.search_cells.specs.Cells.{cells, wants, owned}
 use Rattle.search_cells.specs.Changes.{Filled, FirstDifference}
 use Rattle.codes.specs.Clauses.{Coded, code-true, code-clauses, code-goal, Encoded}

@@ -20,8 +20,8 @@ use Rattle.expansion.specs.Side.{other, flags, goal}
 use Rattle.expansion.specs.Play.{Row, part}
 use Rattle.expansion.specs.Model.{search, first-model, yielded}
 use Rattle.expansion.proofs.Verdict.{search-none}
-use Rattle.expansion.proofs.Leading.{others-before}
-use Rattle.expansion.proofs.Engine.{tabulate, length-tabulate}
+use Rattle.expansion.specs.Cells.{others-before, tabulate}
+use Rattle.expansion.proofs.Engine.{length-tabulate}
 use Rattle.search_cells.specs.Cells.{cells, owned, spot}
 use Rattle.search_cells.specs.Changes.{Filled, FirstDifference}
 use Rattle.search_order.specs.Sorted.{Sorted}

@@ -9,7 +9,7 @@ use lib.ListN.{length, getD}
 use borrow.Author.Tests.{eq-eqb, ne-eqb}
 use Rattle.rows.specs.Row.{bit-of}
 use Rattle.rows.specs.Table.{row-at}
-use Rattle.expansion.proofs.Leading.{others-before}
+use Rattle.expansion.specs.Cells.{others-before}
 use Rattle.search_cells.specs.Cells.{cells, owned}
 use Rattle.search_cells.specs.Steps.{steps, with-cell, with-given, with-given-row, rows-filled}
 use Rattle.search_cells.specs.Changes.{CellsSet, RowFilled, Filled}

@@ -8,7 +8,7 @@ use native.Mathlib.Numerals.{add-one}
 use native.Mathlib.Omega.{arith}
 use lib.Dec.{eqb}
 use lib.ListN.{length, getD}
-use Rattle.expansion.proofs.Leading.{others-before}
+use Rattle.expansion.specs.Cells.{others-before}
 use Rattle.search_cells.specs.Cells.{owned}
 
 pub owned-at : (kinds : List ℕ) (side k : ℕ) → k < length kinds → getD (owned kinds side) k false ≡ eqb (getD kinds k 0) side

@@ -22,7 +22,8 @@ use Rattle.rows.proofs.TableLaws.{row-at-inside, getD-row-at}
 use Rattle.rows.proofs.WriteLaws.{bit-set-inside, length-bit-set, bit-of-bit-set, length-placed, row-at-placed}
 use Rattle.expansion.specs.Play.{first-value, later-values, part}
 use Rattle.expansion.proofs.LeadingPath.{first-at, later-at}
-use Rattle.expansion.proofs.Engine.{tabulate, tabulate-at}
+use Rattle.expansion.specs.Cells.{tabulate}
+use Rattle.expansion.proofs.Engine.{tabulate-at}
 use Rattle.search_cells.specs.Cells.{spot, cells, owned}
 use Rattle.search_cells.specs.Steps.{yielded, packed}
 use Rattle.search_cells.proofs.CellLaws.{value-same}

@@ -8,8 +8,7 @@ use lib.Dec.{ltb, eqb}
 use lib.ListN.{getD}
 use Rattle.formula.specs.Formula.{max-unknowns, max-rows, work-size}
 use Rattle.preference.specs.Preference.{odd}
-use Rattle.expansion.proofs.Cuts.{Values}
-use Rattle.expansion.proofs.Node.{Cells}
+use Rattle.expansion.specs.Cells.{Values, Cells}
 
 -- Where the bytes of the values begin: behind the levels of all cells.
 abbrev pub flags : ℕ

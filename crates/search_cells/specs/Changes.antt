@@ -8,7 +8,7 @@ use mathlib.Core.List.{List}
 use lib.ListN.{length, getD}
 use Rattle.rows.specs.Row.{bit-of}
 use Rattle.rows.specs.Table.{row-at}
-use Rattle.expansion.proofs.Leading.{others-before}
+use Rattle.expansion.specs.Cells.{others-before}
 use Rattle.expansion.proofs.Node.{Stored, Cleared}
 use Rattle.search_cells.specs.Cells.{cells, wants, owned}
 

@@ -9,8 +9,7 @@ use Rattle.formula.specs.Formula.{max-unknowns, max-rows, work-size}
 use Rattle.rows.specs.Row.{weight, bit-of}
 use Rattle.rows.specs.Table.{row-at, table-of}
 use Rattle.expansion.specs.Play.{part}
-use Rattle.expansion.proofs.Engine.{tabulate}
-use Rattle.expansion.proofs.Leading.{others-before}
+use Rattle.expansion.specs.Cells.{others-before, tabulate}
 use Rattle.search_cells.specs.Cells.{flags, spot, cells, owned}
 
 -- A step at i, at i + 1 and so on, n times, each on what the one before it leaves.

@@ -10,7 +10,7 @@ ghost use Rattle.formula.specs.Formula.{max-unknowns, max-rows, work-size};
 ghost use Rattle.rows.specs.Row.{weight, bytes-of};
 ghost use Rattle.rows.specs.Table.{placed, bit-set};
 ghost use Rattle.expansion.specs.Play.{part};
-ghost use Rattle.expansion.proofs.Engine.{tabulate};
+ghost use Rattle.expansion.specs.Cells.{tabulate};
 ghost use Rattle.search_cells.specs.Cells.{cells, owned};
 ghost use Rattle.search_cells.specs.Steps.{fits, with-cell, rows-set, bounded, rows-opened, with-given-row, rows-filled, first-difference, rows-compared, packed};
 

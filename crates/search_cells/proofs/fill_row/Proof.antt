@@ -6,7 +6,7 @@ use mathlib.Core.Logic.{⊎-elim}
 use native.Mathlib.Omega.{arith}
 use borrow.Author.Needs.{needs}
 use lib.ListN.{length}
-use Rattle.expansion.proofs.Leading.{others-before}
+use Rattle.expansion.specs.Cells.{others-before}
 use Rattle.search_cells.specs.Cells.{owned}
 use Rattle.search_cells.specs.Steps.{steps, with-given, with-given-row}
 use Rattle.search_cells.proofs.OwnedLaws.{others-before-most}
