@@ -5,7 +5,6 @@ use mathlib.Core.Logic.{_≢_}
 use mathlib.Core.Bool.{Bool, true, false, not, _&&_, cond, Bool·beq, true≢false}
 use mathlib.Core.List.{List}
 use native.Mathlib.Decide.{ℕ-discrete}
-use native.Mathlib.Numerals.{add-one}
 use native.Mathlib.Omega.{arith}
 use borrow.Author.Tests.{not-true, eq-eqb, ne-eqb}
 use lib.Dec.{eqb}
@@ -19,24 +18,18 @@ use Rattle.search_cells.proofs.StepLaws.{both, sizes-fit, steps-all, st
 
 -- ---- the first place, as a loop finds it
 
-pub first-from-all : (f : ℕ → Bool) (n : ℕ) → first-from f n 0 ≡ first-from f (n - 0) 0
-first-from-all f n = let all : n ≡ n - 0 = omega arith in ap (λ (m : ℕ). first-from f m 0) all
+module _ (f : ℕ → Bool) where
+  pub first-from-all : (n : ℕ) → first-from f 0 n ≡ first-from f 0 (n - 0)
+  first-from-all n = let all : n ≡ n - 0 = omega arith in ap (first-from f 0) all
 
-module _ (f : ℕ → Bool) (n k : ℕ) where
-  pub first-from-none : n ≤ k → first-from f (n - k) k ≡ k
-  first-from-none past = let none : n - k ≡ 0 = omega arith in ap (λ (m : ℕ). first-from f m k) none
+  pub first-from-step : (at hi : ℕ) (b : Bool) → at < hi → f at ≡ b
+      → first-from f at (hi - at) ≡ cond b at (first-from f (at + 1) (hi - (at + 1)))
+  first-from-step at hi b below e =
+      let left : hi - at ≡ suc (hi - (at + 1)) = omega arith in
+      ap (first-from f at) left ∙ ap (λ (t : Bool). cond t at (first-from f (at + 1) (hi - (at + 1)))) e
 
-  module _ (less : k < n) where
-    first-from-more : first-from f (n - k) k ≡ cond (f k) k (first-from f (n - (k + 1)) (k + 1))
-    first-from-more =
-        let more : n - k ≡ suc (n - (k + 1)) = omega arith in
-        ap (λ (m : ℕ). first-from f m k) more ∙ ap (λ (j : ℕ). cond (f k) k (first-from f (n - (k + 1)) j)) (sym (add-one k))
-
-    pub first-from-here : f k ≡ true → first-from f (n - k) k ≡ k
-    first-from-here e = first-from-more ∙ ap (λ (t : Bool). cond t k (first-from f (n - (k + 1)) (k + 1))) e
-
-    pub first-from-next : f k ≡ false → first-from f (n - k) k ≡ first-from f (n - (k + 1)) (k + 1)
-    first-from-next e = first-from-more ∙ ap (λ (t : Bool). cond t k (first-from f (n - (k + 1)) (k + 1))) e
+  pub first-from-end : (at hi : ℕ) → hi ≤ at → first-from f at (hi - at) ≡ at
+  first-from-end at hi past = let none : hi - at ≡ 0 = omega arith in ap (first-from f at) none
 
 -- ---- two rows
 
@@ -69,7 +62,7 @@ module _ (kinds : List ℕ) (side : ℕ) (w : List ℕ) (i : ℕ) where
   abbrev SameBefore : ℕ → Type 0
   SameBefore k = (j : ℕ) → j < k → getD (owned kinds side) j false ≡ false → cells w .value i j ≡ cells w .value (i + 1) j
 
-  same-more : (k : ℕ) → k < length kinds → SameBefore k → differ kinds side w i k ≡ false → SameBefore (suc k)
+  same-more : (k : ℕ) → k < length kinds → SameBefore k → differ kinds side w i k ≡ false → SameBefore (k + 1)
   unfolding differ
   same-more k inside same e j less other = go (ℕ-discrete j k)
     where
@@ -90,13 +83,13 @@ module _ (kinds : List ℕ) (side : ℕ) (w : List ℕ) (i : ℕ) where
         unlike = λ h. unlike (cells w .value i k) (cells w .value (i + 1) k) (t .1);
       }
 
-  search-on : (n k : ℕ) → k + n ≡ length kinds → SameBefore k → FirstDifference kinds side w i (first-from (differ kinds side w i) n k)
+  search-on : (n k : ℕ) → k + n ≡ length kinds → SameBefore k → FirstDifference kinds side w i (first-from (differ kinds side w i) k n)
   search-on zero k end same = record { most = omega arith; same = same; other = λ h. absurd (omega arith); unlike = λ h. absurd (omega arith) }
-  search-on (suc n) k end same = go (differ kinds side w i k) refl (λ e. search-on n (suc k) (omega arith) (same-more k (omega arith) same e))
+  search-on (suc n) k end same = go (differ kinds side w i k) refl (λ e. search-on n (k + 1) (omega arith) (same-more k (omega arith) same e))
     where
       go : (t : Bool) → differ kinds side w i k ≡ t
-          → (differ kinds side w i k ≡ false → FirstDifference kinds side w i (first-from (differ kinds side w i) n (suc k)))
-          → FirstDifference kinds side w i (cond t k (first-from (differ kinds side w i) n (suc k)))
+          → (differ kinds side w i k ≡ false → FirstDifference kinds side w i (first-from (differ kinds side w i) (k + 1) n))
+          → FirstDifference kinds side w i (cond t k (first-from (differ kinds side w i) (k + 1) n))
       go true e next = found k (omega arith) same e
       go false e next = next e
 

@@ -64,10 +64,10 @@ unfoldable pub rows-filled : List ℕ → List ℕ → List ℕ → ℕ → List
 rows-filled kinds rows place side w =
     cond (fits (length w) (length kinds) (length place)) (steps (λ r. with-given-row kinds rows side r (getD place r 0)) (length place) 0 w) w
 
--- The first of n places from k on at which a function is true; the place behind them if there is none.
+-- The first of the n places from k on at which a function is true; the place behind them if there is none.
 abbrev pub first-from : (ℕ → Bool) → ℕ → ℕ → ℕ
-first-from f zero k = k
-first-from f (suc n) k = cond (f k) k (first-from f n (suc k))
+first-from f k zero = k
+first-from f k (suc n) = cond (f k) k (first-from f (k + 1) n)
 
 -- Position k is the other side's, and the rows i and i + 1 have different values there.
 unfoldable pub differ : List ℕ → ℕ → List ℕ → ℕ → ℕ → Bool
@@ -75,7 +75,7 @@ differ kinds side w i k = not (eqb (getD kinds k 0) side) && not (Bool·beq (cel
 
 -- The first position at which they differ, the number of kinds if there is none.
 abbrev pub first-difference : List ℕ → ℕ → List ℕ → ℕ → ℕ
-first-difference kinds side w i = first-from (differ kinds side w i) (length kinds) 0
+first-difference kinds side w i = first-from (differ kinds side w i) 0 (length kinds)
 
 -- Row i + 1 gets it.
 abbrev pub with-split : List ℕ → ℕ → List ℕ → ℕ → List ℕ → List ℕ

@@ -10,7 +10,8 @@ use lib.Dec.{ltb, eqb}
 use lib.ListN.{length, getD}
 use borrow.Author.Tests.{ltb-true, ltb-false, eqb-true, eqb-false}
 use Rattle.search_cells.specs.Cells.{cells}
-use Rattle.search_groups.specs.Groups.{differ-before, last-behind, first-from, copy-start, copy-end, parts-at, parted-at, earliest, parting-row, is-open, open-position}
+use Rattle.search_cells.specs.Steps.{first-from}
+use Rattle.search_groups.specs.Groups.{differ-before, last-behind, copy-start, copy-end, parts-at, parted-at, earliest, parting-row, is-open, open-position}
 use Rattle.search_groups.specs.Parts.{CopyFrom, CopyTo, Parting, PartedAt, Stands}
 use Rattle.search_groups.proofs.ScanLaws.{both, copy-start-is, copy-end-is, parted-at-is, parting-row-is, open-position-is, parts-nowhere, parts-there, parts-earlier}
 

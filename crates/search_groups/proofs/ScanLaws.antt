@@ -10,8 +10,9 @@ use lib.Dec.{leb, ltb, eqb}
 use lib.ListN.{length, getD}
 use borrow.Author.Tests.{ltb-true, leb-true, eqb-true, eqb-false, not-true, lt-ltb, le-ltb, le-leb, eq-eqb, ne-eqb}
 use Rattle.expansion.proofs.Booleans.{never-both, false-if-not-true}
+use Rattle.search_cells.specs.Steps.{first-from}
 use Rattle.search_cells.proofs.CellLaws.{level-at}
-use Rattle.search_groups.specs.Groups.{differ-before, are-rows, last-behind, first-from, copy-start, copy-end, agreement-of, is-repeated, parts-at, parted-at, earlier, earliest, parting-row, is-open, have-cells, open-position}
+use Rattle.search_groups.specs.Groups.{differ-before, are-rows, last-behind, copy-start, copy-end, agreement-of, is-repeated, parts-at, parted-at, earlier, earliest, parting-row, is-open, have-cells, open-position}
 
 -- ---- what is asked is in the tables, or not
 
@@ -118,17 +119,6 @@ module _ (kinds work : List ℕ) (side i j : ℕ) where
   is-open-other other = rw (ne-eqb (getD kinds j 0) side other)
 
 module _ (f : ℕ → Bool) where
-  -- ---- upwards, before hi
-
-  pub first-from-step : (at hi : ℕ) (b : Bool) → at < hi → f at ≡ b
-      → first-from f at (hi - at) ≡ cond b at (first-from f (at + 1) (hi - (at + 1)))
-  first-from-step at hi b below e =
-      let left : hi - at ≡ suc (hi - (at + 1)) = omega arith in
-      ap (first-from f at) left ∙ ap (λ (t : Bool). cond t at (first-from f (at + 1) (hi - (at + 1)))) e
-
-  pub first-from-end : (at hi : ℕ) → hi ≤ at → first-from f at (hi - at) ≡ at
-  first-from-end at hi past = let none : hi - at ≡ 0 = omega arith in ap (first-from f at) none
-
   -- ---- downwards, behind lo
 
   pub last-behind-step : (lo from : ℕ) (b : Bool) → lo < from → f from ≡ b

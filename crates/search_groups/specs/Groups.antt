@@ -8,6 +8,7 @@ use lib.Dec.{leb, ltb, eqb}
 use lib.ListN.{length, getD}
 use Rattle.formula.specs.Formula.{max-unknowns, max-rows, work-size}
 use Rattle.search_cells.specs.Cells.{cells}
+use Rattle.search_cells.specs.Steps.{first-from}
 
 -- The rows i - 1 and i differ at a position before k. If they do not, they have the same copy of the unknown at k.
 abbrev pub differ-before : List ℕ → ℕ → ℕ → Bool
@@ -21,11 +22,6 @@ are-rows splits lo hi = ltb lo hi && leb hi (length splits)
 abbrev pub last-behind : (ℕ → Bool) → ℕ → ℕ → ℕ
 last-behind f low zero = low
 last-behind f low (suc n) = cond (f (low + suc n)) (low + suc n) (last-behind f low n)
-
--- The first of the n numbers from `low` on for which f is true; the number behind them if there is none.
-abbrev pub first-from : (ℕ → Bool) → ℕ → ℕ → ℕ
-first-from f low zero = low
-first-from f low (suc n) = cond (f low) low (first-from f (low + 1) n)
 
 -- The first of the rows from lo up to i that has row i's copy of the unknown at k: the last one that differs before k from the row before
 -- it, or lo. If these are no rows of the table, it is i.

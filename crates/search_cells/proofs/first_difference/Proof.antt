@@ -3,16 +3,16 @@
 use Prim.Native.Nat.{_-_, _≤_}
 use mathlib.Core.Path.{_≡_, sym, _∙_}
 use mathlib.Core.Logic.{⊎-elim}
-use mathlib.Core.Bool.{false}
+use mathlib.Core.Bool.{true, false}
 use native.Mathlib.Omega.{arith}
 use lib.ListN.{length}
 use Rattle.search_cells.specs.Steps.{first-from, differ, first-difference}
-use Rattle.search_cells.proofs.DifferenceLaws.{first-from-all, first-from-none, first-from-here, first-from-next, differ-own, differ-other}
+use Rattle.search_cells.proofs.DifferenceLaws.{first-from-all, first-from-step, first-from-end, differ-own, differ-other}
 use Rattle.search_cells.proofs.first_difference.Statement.{statement}
 use Rattle.search_cells.proofs.first_difference.Tie as tie
 
 abbrev Inv-loop : tie.InvT-loop
-Inv-loop kinds work i side k₀ k = (k ≤ length kinds) × (first-difference kinds side work i ≡ first-from (differ kinds side work i) (length kinds - k) k)
+Inv-loop kinds work i side k₀ k = (k ≤ length kinds) × (first-difference kinds side work i ≡ first-from (differ kinds side work i) k (length kinds - k))
 
 abbrev μ-loop : tie.MeasureT-loop
 μ-loop kinds work i side k₀ k = length kinds - k
@@ -39,7 +39,7 @@ returns c =
     let given = c .before .before .before .before .before .before .before .before .before .args in
     let loop = c .before .before .before .before .before .before .loop in
     sym (loop .inv .1
-    ∙ first-from-here (differ (given .kinds .now) (given .side) (given .work .now) (given .i)) (length (given .kinds .now)) (loop .k) (omega arith)
+    ∙ first-from-step (differ (given .kinds .now) (given .side) (given .work .now) (given .i)) (loop .k) (length (given .kinds .now)) true (omega arith)
     (differ-other (given .kinds .now) (given .side) (given .work .now) (given .i) (loop .k) (c .before .before .value .result) (c .before .value2 .result) (c .before .before .before .if1 .taken) (c .before .before .value .ensures) (c .before .value2 .ensures) ∙ c .if2 .taken))
 
 add-k : tie.Need-add-k Inv-loop μ-loop
@@ -57,13 +57,13 @@ loop-again c =
     (λ t. differ-other (given .kinds .now) (given .side) (given .work .now) (given .i) (loop .k) (t .1 .result) (t .2 .result) (t .0 .taken) (t .1 .ensures) (t .2 .ensures) ∙ t .3 .left)
     (λ t. differ-own (given .kinds .now) (given .side) (given .work .now) (given .i) (loop .k) (t .left))
     (c .if1 .came) in
-    (omega arith, loop .inv .1 ∙ first-from-next (differ (given .kinds .now) (given .side) (given .work .now) (given .i)) (length (given .kinds .now)) (loop .k) (omega arith) same)
+    (omega arith, loop .inv .1 ∙ first-from-step (differ (given .kinds .now) (given .side) (given .work .now) (given .i)) (loop .k) (length (given .kinds .now)) false (omega arith) same)
 
 returns-2 : tie.Need-returns-2 Inv-loop μ-loop
 returns-2 c =
     let given = c .before .before .before .before .args in
     let loop = c .before .loop in
-    sym (loop .inv .1 ∙ first-from-none (differ (given .kinds .now) (given .side) (given .work .now) (given .i)) (length (given .kinds .now)) (loop .k) (omega arith))
+    sym (loop .inv .1 ∙ first-from-end (differ (given .kinds .now) (given .side) (given .work .now) (given .i)) (loop .k) (length (given .kinds .now)) (omega arith))
 
 pub first-difference-spec : {M : Type 1} → statement M
 first-difference-spec =

@@ -6,8 +6,10 @@ use native.Mathlib.Omega.{arith}
 use mir.Facts.{fits-8-64}
 use lib.ListN.{getD}
 use borrow.Author.Tests.{lt-ltb, le-ltb}
-use Rattle.search_groups.specs.Groups.{differ-before, first-from, copy-end}
-use Rattle.search_groups.proofs.ScanLaws.{copy-end-none, copy-end-is, first-from-step, first-from-end}
+use Rattle.search_cells.specs.Steps.{first-from}
+use Rattle.search_cells.proofs.DifferenceLaws.{first-from-step, first-from-end}
+use Rattle.search_groups.specs.Groups.{differ-before, copy-end}
+use Rattle.search_groups.proofs.ScanLaws.{copy-end-none, copy-end-is}
 use Rattle.search_groups.proofs.copy_end.Statement.{statement}
 use Rattle.search_groups.proofs.copy_end.Tie as tie
 

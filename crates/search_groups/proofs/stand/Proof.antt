@@ -3,8 +3,10 @@ use Prim.Native.Nat.{_-_}
 use mathlib.Core.Bool.{true, false}
 use mathlib.Core.Path.{_≡_, sym, _∙_}
 use native.Mathlib.Omega.{arith}
-use Rattle.search_groups.specs.Groups.{first-from, is-open, open-position}
-use Rattle.search_groups.proofs.ScanLaws.{open-position-none, open-position-is, first-from-step, first-from-end}
+use Rattle.search_cells.specs.Steps.{first-from}
+use Rattle.search_cells.proofs.DifferenceLaws.{first-from-step, first-from-end}
+use Rattle.search_groups.specs.Groups.{is-open, open-position}
+use Rattle.search_groups.proofs.ScanLaws.{open-position-none, open-position-is}
 use Rattle.search_groups.proofs.stand.Statement.{statement}
 use Rattle.search_groups.proofs.stand.Tie as tie
 
