@@ -165,12 +165,6 @@ module _ (P : Problem) (kinds splits codes : List ℕ) (F : Fits P kinds splits 
     from-low : lo ≤ from
     from-low = copy-from .low
 
-    from-high : from ≤ i
-    from-high = copy-from .high
-
-    to-low : i < to
-    to-low = copy-to .low
-
     to-high : to ≤ hi
     to-high = copy-to .high
 

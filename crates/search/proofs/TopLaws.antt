@@ -42,11 +42,6 @@ use Rattle.search_numbering.proofs.WantsLaws.{Placed, wants-of-copies}
 
 -- ---- the literals name the formula's unknowns
 
-names-of : (n : ℕ) (z : ℤ) → natAbs z ≤ n → (z ≡ pos 0 → ⊥) → Names n z
-names-of n (pos zero) h z = absurd (z refl)
-names-of n (pos (suc x)) h z = h
-names-of n (negsuc x) h z = h
-
 every-onto : (n : ℕ) (z : ℤ) (cs : List Clause) → Names n z → Every (Every (Names n)) cs → Every (Every (Names n)) (onto z cs)
 every-onto n z [] h e = ((h, tt), tt)
 every-onto n z (c ∷ cs) h e = ((h, e .0), e .1)
