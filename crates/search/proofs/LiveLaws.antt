@@ -3,14 +3,13 @@
 use Prim.Native.Nat.{ℕ, zero, suc, _+_, _%_, _≤_, _<_, suc-le-suc}
 use mathlib.Core.Path.{_≡_, refl, sym, ap, _∙_, subst}
 use mathlib.Core.Logic.{_≢_, _⊎_, inl, inr, ⊎-elim}
-use mathlib.Core.Bool.{Bool, true, false, not, cond, _&&_, and-eq-true-iff}
+use mathlib.Core.Bool.{Bool, true, false, not, cond}
 use mathlib.Core.List.{List, [], _∷_}
 use native.Mathlib.Numerals.{add-one}
 use native.Mathlib.Omega.{arith}
 use lib.Dec.{ltb, eqb}
 use lib.ListN.{length, getD, drop, drop-of-length-le}
 use lib.Seq.{drop-cons}
-use borrow.Author.Tests.{ltb-true}
 use Rattle.expansion.proofs.Booleans.{never-both}
 use Rattle.expansion.proofs.Cuts.{Mask, Problem, Refuted, refuted-row}
 use Rattle.expansion.proofs.Node.{Node, grown-refl}
@@ -169,26 +168,6 @@ module _ (codes w : List ℕ) (i : ℕ) (s : List ℕ) where
 
   pub blaming-left : (e best : ℕ) (t : List ℕ) → Blaming codes w i s e best t → RowBlamed codes w i s t false
   blaming-left e best t b = record { grown = b .grown; dead = λ q. absurd (never-both q refl) }
-
--- ---- a literal that holds
-
-pub holds-at : (w : List ℕ) (i c : ℕ) → (ltb 0 (cells w .level i (position c)) && code-true (cells w .value i) c) ≡ true → IsAt w i true c
-holds-at w i c h =
-    let both = and-eq-true-iff (ltb 0 (cells w .level i (position c))) (code-true (cells w .value i) c) .0 h in
-    record { set = ltb-true 0 (cells w .level i (position c)) (both .0); is = both .1 }
-
--- What the code finds: the cell is set, and then the literal is looked at; or it is open.
-pub holds-set : (w : List ℕ) (i c p : ℕ) (b r : Bool) → p ≡ position c → b ≡ ltb 0 (cells w .level i p) → b ≡ true
-    → r ≡ code-true (cells w .value i) c → r ≡ (ltb 0 (cells w .level i (position c)) && code-true (cells w .value i) c)
-holds-set w i c p b r at is yes-set e =
-    let set : ltb 0 (cells w .level i (position c)) ≡ true = ap (λ (q : ℕ). ltb 0 (cells w .level i q)) (sym at) ∙ sym is ∙ yes-set in
-    e ∙ sym (ap (λ (t : Bool). t && code-true (cells w .value i) c) set)
-
-pub holds-open : (w : List ℕ) (i c p : ℕ) (b : Bool) → p ≡ position c → b ≡ ltb 0 (cells w .level i p) → b ≡ false
-    → false ≡ (ltb 0 (cells w .level i (position c)) && code-true (cells w .value i) c)
-holds-open w i c p b at is no-set =
-    let open-cell : ltb 0 (cells w .level i (position c)) ≡ false = ap (λ (q : ℕ). ltb 0 (cells w .level i q)) (sym at) ∙ sym is ∙ no-set in
-    sym (ap (λ (t : Bool). t && code-true (cells w .value i) c) open-cell)
 
 -- ---- the row is refuted
 

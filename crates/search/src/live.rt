@@ -4,12 +4,10 @@ ghost use mathlib.Core.Path.{_≡_};
 ghost use Prim.Native.Nat.{ℕ, _≤_, _<_};
 ghost use mathlib.Core.List.{List};
 ghost use mathlib.Core.Logic.{_⊎_};
-ghost use mathlib.Core.Bool.{true, _&&_};
+ghost use mathlib.Core.Bool.{true};
 ghost use lib.ListN.{length};
-ghost use lib.Dec.{ltb};
 ghost use Rattle.formula.specs.Formula.{max-unknowns, max-rows, max-entries, work-size};
-ghost use Rattle.search_cells.specs.Cells.{cells};
-ghost use Rattle.codes.specs.Clauses.{position, code-true, Coded};
+ghost use Rattle.codes.specs.Clauses.{position, Coded};
 ghost use Rattle.search_sets.specs.Sets.{sets-size};
 ghost use Rattle.search_evaluation.specs.Looked.{IsAt};
 ghost use Rattle.search.specs.Steps.{Settles, RowBlamed};
@@ -17,7 +15,6 @@ ghost use Rattle.search.specs.Live.{RowDead};
 use super::clauses::position;
 use super::hints::CUT;
 use super::hints::HINTS;
-use super::table;
 use super::width::wide16;
 
 // Whether each row from lo to hi has a live clause. False: CUT says by which decisions one has none.
@@ -59,18 +56,6 @@ fn live_clause(sets: &[u64], i: usize) -> usize
     sets[HINTS + i] as usize
 }
 
-// Whether the literal of code c is set and true in row i.
-fn holds(work: &[u8], i: usize, c: usize) -> bool
-    requires { ⌜ (length (now work) ≡ work-size) × (i < max-rows) × (2 ≤ c) × (position c < max-unknowns) ⌝ }
-    ensures { λ r. ⌜ r ≡ (ltb 0 (cells (now (work .entry)) .level i (position c)) && code-true (cells (now (work .entry)) .value i) c) ⌝ }
-{
-    if table::is_set(work, i, position(c)) {
-        table::is_true(work, i, c)
-    } else {
-        false
-    }
-}
-
 // The start of another clause without a true literal in row i: that of the row before, the next one behind row i's, or the first one. At
 // least the number of entries if there is none.
 fn other_live(codes: &[u16], work: &[u8], sets: &[u64], i: usize) -> usize
@@ -91,7 +76,7 @@ fn other_live(codes: &[u16], work: &[u8], sets: &[u64], i: usize) -> usize
 
 // Unites, at CUT, for each clause the set of its earliest true literal in row i. False: a clause has none.
 fn blame(codes: &[u16], work: &[u8], sets: &mut [u64], i: usize) -> bool
-    requires { ⌜ (length (now work) ≡ work-size) × (length (now sets) ≡ sets-size) × (i < max-rows) × Coded max-unknowns (now codes) ⌝ }
+    requires { ⌜ (length (now sets) ≡ sets-size) × Coded max-unknowns (now codes) ⌝ }
     ensures { λ r. ⌜ RowBlamed (now (codes .entry)) (now (work .entry)) i (now (sets .entry)) (now (sets .exit)) r ⌝ }
 {
     let mut best = CUT;
@@ -114,10 +99,10 @@ fn blame(codes: &[u16], work: &[u8], sets: &mut [u64], i: usize) -> bool
 
 // The best position so far, or that of the literal of code c if it is true in row i and was set at a lower level.
 fn better(work: &[u8], i: usize, best: usize, c: usize) -> usize
-    requires { ⌜ (length (now work) ≡ work-size) × (i < max-rows) × (best ≤ max-unknowns) × (2 ≤ c) × (position c < max-unknowns) ⌝ }
+    requires { ⌜ (best ≤ max-unknowns) × (2 ≤ c) × (position c < max-unknowns) ⌝ }
     ensures { λ r. ⌜ (r ≡ best) ⊎ ((r ≡ position c) × IsAt (now (work .entry)) i true c) ⌝ }
 {
-    if holds(work, i, c) {
+    if search_evaluation::satisfied(work, i, c) {
         earlier(work, i, best, position(c))
     } else {
         best
@@ -126,13 +111,13 @@ fn better(work: &[u8], i: usize, best: usize, c: usize) -> usize
 
 // Of two positions the one that was set at the lower level; CUT is none.
 fn earlier(work: &[u8], i: usize, k: usize, l: usize) -> usize
-    requires { ⌜ (length (now work) ≡ work-size) × (i < max-rows) × (k ≤ max-unknowns) × (l < max-unknowns) ⌝ }
+    requires { ⌜ k ≤ max-unknowns ⌝ }
     ensures { λ r. ⌜ (r ≡ l) ⊎ ((r ≡ k) × (k < max-unknowns)) ⌝ }
 {
     if k == CUT {
         return l;
     }
-    if table::level(work, i, k) <= table::level(work, i, l) {
+    if search_evaluation::level(work, i, k) <= search_evaluation::level(work, i, l) {
         return k;
     }
     l

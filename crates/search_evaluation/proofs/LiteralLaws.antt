@@ -1,7 +1,7 @@
 -- A literal of one of the 128 unknowns: what the definitions read is what its code says of the cells. Assumes nothing.
 use Prim.Native.Nat.{ℕ, _%_, _≤_, _<_}
 use mathlib.Core.Path.{_≡_, ap, sym, _∙_}
-use mathlib.Core.Bool.{Bool, true, false, not, cond}
+use mathlib.Core.Bool.{Bool, true, false, not, cond, _&&_, and-eq-true-iff, false≢true}
 use mathlib.Core.List.{List}
 use native.Mathlib.Omega.{arith}
 use borrow.Author.Tests.{lt-ltb, ltb-true, ltb-false, eq-eqb}
@@ -11,7 +11,7 @@ use Rattle.search_cells.specs.Cells.{cells}
 use Rattle.codes.specs.Clauses.{position, code-true}
 use Rattle.codes.specs.Codes.{row-position}
 use Rattle.codes.proofs.CodeLaws.{row-position-is}
-use Rattle.search_evaluation.specs.Evaluation.{has-row, is-set, is-true}
+use Rattle.search_evaluation.specs.Evaluation.{has-row, is-set, is-true, is-satisfied, satisfied-at}
 use Rattle.search_evaluation.specs.Looked.{IsAt}
 
 -- Each code of a literal: none but these stand in codes that are `Coded 128`.
@@ -43,3 +43,13 @@ module _ (w : List ℕ) (i c : ℕ) (literal : IsLiteral c) where
   is-open unset =
       let low : cells w .level i (position c) ≤ 0 = ltb-false 0 (cells w .level i (position c)) (sym set-is ∙ unset) in
       omega arith
+
+  pub satisfied-is-at : satisfied-at w i c ≡ true → IsAt w i true c
+  unfolding satisfied-at is-satisfied
+  satisfied-is-at e = go (has-row w i) e
+    where
+      go : (b : Bool) → cond b (is-set w i c && is-true w i c) false ≡ true → IsAt w i true c
+      go true holds =
+          let both = and-eq-true-iff (is-set w i c) (is-true w i c) .0 holds in
+          is-at true (both .0) (both .1)
+      go false holds = absurd (false≢true holds)

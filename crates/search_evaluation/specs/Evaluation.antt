@@ -5,7 +5,7 @@ use mathlib.Core.Bool.{Bool, true, false, not, _&&_, _||_, cond}
 use mathlib.Core.List.{List, [], _∷_}
 use lib.Dec.{ltb, eqb}
 use lib.ListN.{length, drop}
-use Rattle.formula.specs.Formula.{max-rows, work-size}
+use Rattle.formula.specs.Formula.{max-unknowns, max-rows, work-size}
 use Rattle.search_cells.specs.Cells.{cells}
 use Rattle.codes.specs.Codes.{row-position}
 
@@ -74,3 +74,11 @@ matrix-on truth met (suc c ∷ cs) = matrix-on truth (met || truth (suc c)) cs
 -- Each clause has a true literal in row i, by the values of all cells, set or not.
 unfoldable pub matrix-in : List ℕ → List ℕ → ℕ → Bool
 matrix-in codes w i = cond (has-row w i) (matrix-on (is-true w i) false codes) false
+
+-- The literal of code c is set and true in row i.
+unfoldable pub satisfied-at : List ℕ → ℕ → ℕ → Bool
+satisfied-at w i c = cond (has-row w i) (is-satisfied w i c) false
+
+-- The level of row i's cell at position k, plus 1; 0 if the cell is open, or none of the table.
+unfoldable pub level-in : List ℕ → ℕ → ℕ → ℕ
+level-in w i k = cond (has-row w i && ltb k max-unknowns) (cells w .level i k) 0

@@ -1,4 +1,4 @@
-// What clauses are worth in one row of the table of cells: which are false, unit, live or true.
+// What clauses and literals are worth in one row of the table of cells: which are false, unit, live or true.
 // Every public function is total: it gives a fixed answer if the area is no table or has no such row, and a defined one for any codes.
 // Nothing is changed. What follows from the answers is left to the search.
 use formula::Formula;
@@ -9,7 +9,7 @@ ghost use mathlib.Core.Bool.{false};
 ghost use lib.ListN.{length, drop};
 ghost use Rattle.formula.specs.Formula.{max-unknowns, max-rows, work-size};
 ghost use Rattle.codes.specs.Codes.{row-position};
-ghost use Rattle.search_evaluation.specs.Evaluation.{has-row, is-set, is-true, is-satisfied, look-on, look-at, lives-on, lives-at, next-live-on, next-live-at, matrix-on, matrix-in};
+ghost use Rattle.search_evaluation.specs.Evaluation.{has-row, is-set, is-true, is-satisfied, look-on, look-at, lives-on, lives-at, next-live-on, next-live-at, matrix-on, matrix-in, satisfied-at, level-in};
 
 // The last position.
 const LAST: usize = Formula::UNKNOWNS - 1;
@@ -52,6 +52,29 @@ pub fn matrix(codes: &[u16], work: &[u8], i: usize) -> bool
         return false;
     }
     matrix_on(codes, work, i)
+}
+
+// Whether the literal of code c is set and true in row i.
+pub fn satisfied(work: &[u8], i: usize, c: usize) -> bool
+    ensures { λ r. ⌜ r ≡ satisfied-at (now (work .entry)) i c ⌝ }
+{
+    if has_row(work, i) {} else {
+        return false;
+    }
+    is_satisfied(work, i, c)
+}
+
+// The level of row i's cell at position k, plus 1; 0 if the cell is open, or none of the table.
+pub fn level(work: &[u8], i: usize, k: usize) -> u8
+    ensures { λ r. ⌜ r ≡ level-in (now (work .entry)) i k ⌝ }
+{
+    if has_row(work, i) {} else {
+        return 0;
+    }
+    if Formula::UNKNOWNS <= k {
+        return 0;
+    }
+    work[Formula::UNKNOWNS * i + k]
 }
 
 fn has_row(work: &[u8], i: usize) -> bool

@@ -15,7 +15,7 @@ abbrev μ-loop : tie.MeasureT-loop
 μ-loop codes work sets₀ i best₀ e₀ sets best e = length codes - e
 
 loop-holds : tie.Need-loop-holds Inv-loop μ-loop
-loop-holds c = (c .before .before .before .pre .1, omega arith, blaming-start (c .before .before .before .args .codes .now) (c .before .before .before .args .work .now) (c .before .before .before .args .i) (c .before .before .before .args .sets .now))
+loop-holds c = (c .before .before .before .pre .0, omega arith, blaming-start (c .before .before .before .args .codes .now) (c .before .before .before .args .work .now) (c .before .before .before .args .i) (c .before .before .before .args .sets .now))
 
 mul-wide16 : tie.Need-mul-wide16 Inv-loop μ-loop
 mul-wide16 c = omega arith
@@ -50,8 +50,8 @@ loop-again c = (
 
 better-requires : tie.Need-better-requires Inv-loop μ-loop
 better-requires c κs =
-    let literal = coded-at 128 (c .before .before .before .before .before .before .before .before .args .codes .now) (c .before .before .before .before .loop .e) (c .before .wide16 .result) (c .before .before .before .before .before .before .before .before .pre .3) (c .before .before .before .loop-test .taken) (c .before .wide16 .ensures) (c .if1 .left) in
-    (c .before .before .before .before .before .before .before .before .pre .0, c .before .before .before .before .before .before .before .before .pre .2, c .before .before .before .before .loop .inv .2 .most, literal .0, literal .1)
+    let literal = coded-at 128 (c .before .before .before .before .before .before .before .before .args .codes .now) (c .before .before .before .before .loop .e) (c .before .wide16 .result) (c .before .before .before .before .before .before .before .before .pre .1) (c .before .before .before .loop-test .taken) (c .before .wide16 .ensures) (c .if1 .left) in
+    (c .before .before .before .before .loop .inv .2 .most, literal .0, literal .1)
 
 loop-less-2 : tie.Need-loop-less-2 Inv-loop μ-loop
 loop-less-2 c = omega arith
@@ -60,7 +60,7 @@ loop-again-2 : tie.Need-loop-again-2 Inv-loop μ-loop
 loop-again-2 c = (
   c .before .before .before .before .before .loop .inv .0,
   omega arith,
-  blaming-literal (c .before .before .before .before .before .before .before .before .before .args .codes .now) (c .before .before .before .before .before .before .before .before .before .args .work .now) (c .before .before .before .before .before .before .before .before .before .args .i) (c .before .before .before .before .before .before .before .before .before .args .sets .now) (c .before .before .before .before .before .loop .e) (c .before .before .before .before .before .loop .best) (c .before .before .wide16 .result) (c .better .result) (c .before .before .before .before .before .loop .sets) (c .before .before .before .before .loop-test .taken) (c .before .before .wide16 .ensures) (c .before .if1 .left) (coded-at 128 (c .before .before .before .before .before .before .before .before .before .args .codes .now) (c .before .before .before .before .before .loop .e) (c .before .before .wide16 .result) (c .before .before .before .before .before .before .before .before .before .pre .3) (c .before .before .before .before .loop-test .taken) (c .before .before .wide16 .ensures) (c .before .if1 .left) .1) (c .better .ensures) (c .before .before .before .before .before .loop .inv .2),
+  blaming-literal (c .before .before .before .before .before .before .before .before .before .args .codes .now) (c .before .before .before .before .before .before .before .before .before .args .work .now) (c .before .before .before .before .before .before .before .before .before .args .i) (c .before .before .before .before .before .before .before .before .before .args .sets .now) (c .before .before .before .before .before .loop .e) (c .before .before .before .before .before .loop .best) (c .before .before .wide16 .result) (c .better .result) (c .before .before .before .before .before .loop .sets) (c .before .before .before .before .loop-test .taken) (c .before .before .wide16 .ensures) (c .before .if1 .left) (coded-at 128 (c .before .before .before .before .before .before .before .before .before .args .codes .now) (c .before .before .before .before .before .loop .e) (c .before .before .wide16 .result) (c .before .before .before .before .before .before .before .before .before .pre .1) (c .before .before .before .before .loop-test .taken) (c .before .before .wide16 .ensures) (c .before .if1 .left) .1) (c .better .ensures) (c .before .before .before .before .before .loop .inv .2),
 )
 
 same-length-2 : tie.Need-same-length-2 Inv-loop μ-loop

@@ -2,7 +2,6 @@
 use mathlib.Core.Path.{refl}
 use mathlib.Core.Logic.{inl, inr}
 use native.Mathlib.Omega.{arith}
-use borrow.Author.Needs.{needs}
 use Rattle.search.proofs.live.earlier.Statement.{statement}
 use Rattle.search.proofs.live.earlier.Tie as tie
 
@@ -10,10 +9,10 @@ returns : tie.Need-returns
 returns c = inl refl
 
 level-requires : tie.Need-level-requires
-level-requires c κs = search needs
+level-requires c κs = tt
 
 level-requires-2 : tie.Need-level-requires-2
-level-requires-2 c κs = search needs
+level-requires-2 c κs = tt
 
 returns-2 : tie.Need-returns-2
 returns-2 c = inr (refl, omega arith)
