@@ -3,7 +3,7 @@
 use Prim.Native.Nat.{ℕ, _≤_, _<_}
 use mathlib.Core.Path.{_≡_, refl, sym, _∙_, ap, subst}
 use mathlib.Core.Logic.{_⊎_, inl, inr, ⊎-elim}
-use mathlib.Core.Bool.{Bool, true, false, not, _&&_, _||_, or-true, and-false, and-eq-true-iff}
+use mathlib.Core.Bool.{Bool, true, false, not, _&&_, _||_, or-true, and-eq-true-iff}
 use mathlib.Core.List.{List, [], _∷_}
 use native.Mathlib.Omega.{arith}
 use Rattle.expansion.proofs.Booleans.{true-or-false, never-both}
@@ -51,10 +51,6 @@ module _ {L : Type 0} (true-at : (ℕ → Bool) → L → Bool) where
   pub matrix-true : (f : ℕ → Bool) (cs : List (List L)) → Every (λ c. clause-at f c ≡ true) cs → matrix-at cs f ≡ true
   matrix-true f [] e = refl
   matrix-true f (c ∷ cs) e = rw (e .0, matrix-true f cs (e .1)) refl
-
-  pub matrix-false : (f : ℕ → Bool) (cs : List (List L)) → Some (λ c. clause-at f c ≡ false) cs → matrix-at cs f ≡ false
-  matrix-false f (c ∷ cs) (inl e) = rw e refl
-  matrix-false f (c ∷ cs) (inr s) = rw (matrix-false f cs s) (and-false (clause-at f c))
 
   -- in a true clause whose literals are all z or false, z is true
   pub unit-true : (f : ℕ → Bool) (z : L) (c : List L) → clause-at f c ≡ true → Every (λ x. (x ≡ z) ⊎ (true-at f x ≡ false)) c → true-at f z ≡ true

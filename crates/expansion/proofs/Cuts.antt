@@ -2,7 +2,7 @@
 -- refuted, and a failure that does not depend on the last choice fails the choice before it (backjumping).
 -- All is read over the models of ALL rows of the search, never over a group of rows alone: what a group implies does not pass to a part of it.
 -- A mask is a set of positions on whose values a conclusion rests; every conclusion survives larger masks. Assumes nothing.
-use Prim.Native.Nat.{ℕ, zero, suc, _+_, _≤_, _<_}
+use Prim.Native.Nat.{ℕ, _+_, _≤_, _<_}
 use mathlib.Core.Path.{_≡_, refl, sym, _∙_, ap, subst}
 use mathlib.Core.Logic.{_⊎_, inl, inr, ⊎-elim}
 use mathlib.Core.Bool.{Bool, true, false, not}
@@ -120,9 +120,6 @@ module _ (P : Problem) where
   pub heeds-smaller : (m : Values) (i k : ℕ) (v : ℕ → Bool) (D E : Mask) → Within k D E → Heeds m i k v E → Heeds m i k v D
   heeds-smaller m i k v D E w e l lt d = e l lt (w l lt d)
 
-  pub refuted-larger : (k : ℕ) (v : ℕ → Bool) (D E : Mask) (i : ℕ) → Within k D E → Refuted P k v D i → Refuted P k v E i
-  refuted-larger k v D E i w r m M e = r m M (heeds-smaller m i k v D E w e)
-
   pub implied-larger : (k : ℕ) (v : ℕ → Bool) (D E : Mask) (i j : ℕ) (y : Bool) → Within k D E → Implied P k v D i j y → Implied P k v E i j y
   implied-larger k v D E i j y w r m M e = r m M (heeds-smaller m i k v D E w e)
 
@@ -147,13 +144,6 @@ module _ (P : Problem) where
   -- a failure at a value that the row gives, or that is implied, is a failure without it
   pub refuted-given : (k : ℕ) (v w : ℕ → Bool) (D : Mask) (i : ℕ) → i < P .count → k < P .n → P .own k ≡ false → w k ≡ P .given i k → SameBelow k v w → Refuted P (k + 1) w D i → Refuted P k v D i
   refuted-given k v w D i hi hk o g same r m M e = r m M (heeds-next m i k v w D same (λ d. M .follows i k hi hk o ∙ sym g) e)
-
-  pub refuted-implied : (k : ℕ) (v w : ℕ → Bool) (D E F : Mask) (i : ℕ) → SameBelow k v w → Within k D F → (D k ≡ true → Within k E F) → Implied P k v E i k (w k) → Refuted P (k + 1) w D i → Refuted P k v F i
-  refuted-implied k v w D E F i same inF why forced r m M e =
-      r m M
-      (heeds-next m i k v w D same
-      (λ d. forced m M (heeds-smaller m i k v E F (why d) e))
-      (heeds-smaller m i k v D F inF e))
 
   -- both values fail
   pub refuted-both : (k : ℕ) (v w u : ℕ → Bool) (D E F : Mask) (i : ℕ) → SameBelow k v w → SameBelow k v u → u k ≡ not (w k) → Within k D F → Within k E F → Refuted P (k + 1) w D i → Refuted P (k + 1) u E i → Refuted P k v F i

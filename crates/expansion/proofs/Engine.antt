@@ -14,10 +14,10 @@ use Rattle.formula.specs.Formula.{Kind, existential, universal, Clause}
 use Rattle.formula.specs.Meaning.{literal, clause, matrix}
 use Rattle.expansion.specs.Side.{own, flags, goal}
 use Rattle.expansion.specs.Play.{Row, Strategy, restriction, play, part, first-value, later-values}
-use Rattle.expansion.specs.Model.{wins, yielded, first-model, search}
+use Rattle.expansion.specs.Model.{wins, yielded, search}
 use Rattle.expansion.proofs.CopyLaws.{Own}
 use Rattle.expansion.proofs.FirstModel.{none-if-no-strategy}
-use Rattle.expansion.proofs.Leading.{wanted, others-before, Fits, Uniform, LeadsAt, Leading}
+use Rattle.expansion.proofs.Leading.{wanted, others-before, Leading}
 use Rattle.expansion.proofs.LeadingPath.{first-at, later-at, play-at-own, play-at-other}
 use Rattle.expansion.proofs.LeadingFirst.{leading-is-first}
 use Rattle.expansion.proofs.Booleans.{true-or-false, never-both}

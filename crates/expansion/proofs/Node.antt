@@ -1,10 +1,10 @@
 -- A node of the tree search: a group of rows that agree before a position, over a table of cells, and what a search of the group gives.
 -- A cell is open, or has a value and the level at which it got it; each position has a mask on which its set cells rest.
 -- The steps of a search keep these records. Assumes nothing.
-use Prim.Native.Nat.{ℕ, zero, suc, _+_, _≤_, _<_}
+use Prim.Native.Nat.{ℕ, _+_, _≤_, _<_}
 use mathlib.Core.Path.{_≡_, refl, sym, _∙_, ap, subst}
 use mathlib.Core.Logic.{_⊎_, inl, inr, ⊎-elim}
-use mathlib.Core.Bool.{Bool, true, false, not}
+use mathlib.Core.Bool.{Bool, true, false}
 use native.Mathlib.Omega.{arith}
 use native.Mathlib.Decide.{ℕ-discrete, decLe, decLt}
 use Rattle.expansion.proofs.Cuts.{Values, Mask, Problem, Agree, Model, Implied, Within, SameBelow}
@@ -64,9 +64,6 @@ grown-keeps b lo hi T U g i j h = ⊎-elim (λ s. (s .0, s .1 h)) (λ o. absurd 
 
 pub grown-outside : (b lo hi : ℕ) (T U : Cells) → Grown b lo hi T U → (i j : ℕ) → ((lo ≤ i) × (i < hi) → ⊥) → SameCell T U i j
 grown-outside b lo hi T U g i j out = ⊎-elim (λ s. s) (λ o. absurd (out (o .0, o .1))) (g i j)
-
-pub grown-set : (b lo hi : ℕ) (T U : Cells) → Grown b lo hi T U → (i j : ℕ) → 0 < T .level i j → 0 < U .level i j
-grown-set b lo hi T U g i j h = positive (U .level i j) (T .level i j) (grown-keeps b lo hi T U g i j h .0) h
 
 pub grown-wider : (b c lo hi a e : ℕ) (T U : Cells) → c ≤ b → a ≤ lo → hi ≤ e → Grown b lo hi T U → Grown c a e T U
 grown-wider b c lo hi a e T U cb al he g i j =

@@ -1,13 +1,13 @@
 -- Positions that stand: from position k to `at` every cell of the group is set already, and its rows agree. The node passes to `at`, and what
 -- a search from there gives passes back to k. Assumes nothing.
 use Prim.Native.Nat.{ℕ, _+_, _≤_, _<_}
-use mathlib.Core.Path.{_≡_, refl, sym, _∙_, ap, subst}
+use mathlib.Core.Path.{_≡_, sym, _∙_}
 use mathlib.Core.Logic.{_⊎_, inl, inr, ⊎-elim}
-use mathlib.Core.Bool.{Bool, true, false}
+use mathlib.Core.Bool.{Bool, true}
 use native.Mathlib.Omega.{arith}
 use native.Mathlib.Decide.{decLt}
 use Rattle.expansion.proofs.Booleans.{true-or-false}
-use Rattle.expansion.proofs.Cuts.{Values, Mask, Problem, Agree, Model, Heeds, Refuted, Within, SameBelow, agree-shorter, implied-later, heeds-smaller}
+use Rattle.expansion.proofs.Cuts.{Values, Mask, Problem, Agree, Model, Refuted, Within, SameBelow, agree-shorter, implied-later, heeds-smaller}
 use Rattle.expansion.proofs.Node.{Cells, Node, Won, Grown, grown-keeps}
 use Rattle.expansion.proofs.Success.{past-kept}
 

@@ -1,14 +1,13 @@
 -- The steps of the tree search keep a node's record, and successes of its parts make a success of the node. Assumes nothing.
-use Prim.Native.Nat.{ℕ, zero, suc, _+_, _≤_, _<_}
-use mathlib.Core.Path.{_≡_, refl, sym, _∙_, ap, subst}
+use Prim.Native.Nat.{ℕ, _+_, _≤_, _<_}
+use mathlib.Core.Path.{_≡_, sym, _∙_, ap, subst}
 use mathlib.Core.Logic.{_⊎_, inl, inr, ⊎-elim}
-use mathlib.Core.Bool.{Bool, true, false, not}
+use mathlib.Core.Bool.{Bool, true, false}
 use native.Mathlib.Omega.{arith}
-use native.Mathlib.Nat.{eq-or-lt-of-le}
 use native.Mathlib.Decide.{ℕ-discrete, decLe, decLt}
 use Rattle.expansion.proofs.Booleans.{never-both}
 use Rattle.expansion.proofs.Cuts.{Mask, Problem, Agree, Implied, SameBelow, below-or-last, agree-sym, agree-own, implied-larger, implied-later}
-use Rattle.expansion.proofs.Node.{Cells, Node, Won, SameCell, Grown, Stored, MasksWithin, positive, grown-keeps}
+use Rattle.expansion.proofs.Node.{Cells, Node, SameCell, Stored, MasksWithin, positive}
 
 module _ (P : Problem) where
   -- ---- nodes
@@ -71,10 +70,6 @@ module _ (P : Problem) where
         implied = λ i j p q lt z. implied-later P k (k + 1) v w (M j) i j (T .value i j) (omega arith) same (A .implied i j p q lt z);
         levels = λ i j p q. let z : T .level i j ≤ k + 1 = A .levels i j p q in omega arith;
       }
-
-  -- in a group at an own position, all rows are as its first
-  pub alike-first : (k lo hi : ℕ) (v : ℕ → Bool) (T : Cells) (M : ℕ → Mask) → Node P k lo hi v T M → k < P .n → P .own k ≡ true → (i h : ℕ) → lo ≤ i → i < hi → lo ≤ h → h < hi → 0 < T .level i k → (0 < T .level h k) × (T .value h k ≡ T .value i k)
-  alike-first k lo hi v T M A kn o i h p q r s z = A .alike i h k p q r s kn o (A .agree i h p q r s) z
 
   -- a store of a whole copy leaves rows that share a copy alike, and the rows' own values
   module _ (k lo hi : ℕ) (v : ℕ → Bool) (T U : Cells) (M : ℕ → Mask) (s e p b : ℕ) (y : Bool) (A : Node P k lo hi v T M) (st : Stored s e p b y T U)

@@ -1,14 +1,14 @@
 -- Successes of a node's parts make a success of the node. Assumes nothing.
-use Prim.Native.Nat.{ℕ, zero, suc, _+_, _≤_, _<_}
-use mathlib.Core.Path.{_≡_, refl, sym, _∙_, ap, subst}
+use Prim.Native.Nat.{ℕ, _+_, _≤_, _<_}
+use mathlib.Core.Path.{_≡_, sym, _∙_, ap, subst}
 use mathlib.Core.Logic.{_⊎_, inl, inr, ⊎-elim}
 use mathlib.Core.Bool.{Bool, true, false, not}
 use native.Mathlib.Omega.{arith}
 use native.Mathlib.Nat.{eq-or-lt-of-le}
-use native.Mathlib.Decide.{ℕ-discrete, decLe, decLt}
+use native.Mathlib.Decide.{decLt}
 use Rattle.expansion.proofs.Booleans.{never-both}
 use Rattle.expansion.proofs.Cuts.{Values, Mask, Problem, Agree, Sound, Model, Refuted, SameBelow, other-value, below-or-last, agree-sym}
-use Rattle.expansion.proofs.Node.{Cells, Node, Won, SameCell, Grown, positive, grown-keeps}
+use Rattle.expansion.proofs.Node.{Cells, Node, Won, Grown, positive, grown-keeps}
 
 module _ (P : Problem) where
   -- the values of a node's rows before its position, also after the table has grown
@@ -25,23 +25,6 @@ module _ (P : Problem) where
         reaches = λ i p q. S .goal-of-values (T .value lo) (T .value i) (λ j lt. A .past lo j (omega arith) (let z : lo < hi = A .some in omega arith) lt .1 ∙ sym (A .past i j p q lt .1)) win;
         leads = λ m Mm i j p q kj lt o same. absurd (omega arith);
       }
-
-  -- past a position that was set before: every model has its value
-  pub won-set : (k lo hi b a e : ℕ) (v : ℕ → Bool) (T U : Cells) (M : ℕ → Mask) → Node P k lo hi v T M → ((i : ℕ) → lo ≤ i → i < hi → 0 < T .level i k) → Grown b a e T U → Won P (k + 1) lo hi U → Won P k lo hi U
-  won-set k lo hi b a e v T U M A set g W =
-      record {
-        complete = W .complete;
-        given = W .given;
-        alike = W .alike;
-        reaches = W .reaches;
-        leads = λ m Mm i j p q kj lt o same. ⊎-elim (λ eq. inl (at-k m Mm i j p q lt same (sym eq))) (λ later. W .leads m Mm i j p q (omega arith) lt o same) (eq-or-lt-of-le kj);
-      }
-    where
-      at-k : (m : Values) → Model P m → (i j : ℕ) → lo ≤ i → i < hi → j < P .n → SameBelow j (m i) (U .value i) → j ≡ k → m i j ≡ U .value i j
-      at-k m Mm i j p q lt same jk =
-          subst (λ (x : ℕ). m i x ≡ U .value i x) (sym jk)
-          (A .implied i k p q (omega arith) (set i p q) m Mm (λ l lk d. same l (omega arith) ∙ past-kept k lo hi b a e v T U M A g i l p q lk)
-          ∙ sym (grown-keeps b a e T U g i k (set i p q) .1))
 
   -- past a position at which the rows have the wanted value
   pub won-wanted : (k lo hi : ℕ) (U : Cells) → ((i : ℕ) → lo ≤ i → i < hi → U .value i k ≡ P .wanted i k) → Won P (k + 1) lo hi U → Won P k lo hi U
@@ -116,21 +99,6 @@ module _ (P : Problem) where
               (λ eq. absurd (never-both o (ap (P .own) (sym eq) ∙ ko)))
               (λ lt. absurd (differ h i r d c q (sym (ag k lt ko))))
               (eq-or-lt-of-le (let z : k ≤ j = omega arith in z))
-
-  -- a group whose one value at a position of the rows is past it
-  pub won-given : (k lo hi : ℕ) (U : Cells) → P .own k ≡ false → Won P (k + 1) lo hi U → Won P k lo hi U
-  won-given k lo hi U ko W =
-      record {
-        complete = W .complete;
-        given = W .given;
-        alike = W .alike;
-        reaches = W .reaches;
-        leads = λ m Mm i j p q kj lt o below.
-            ⊎-elim
-            (λ eq. absurd (never-both o (ap (P .own) (sym eq) ∙ ko)))
-            (λ later. W .leads m Mm i j p q (omega arith) lt o below)
-            (eq-or-lt-of-le kj);
-      }
 
   -- a success stays while the group's cells stay
   pub won-kept : (k lo hi b a e : ℕ) (T U : Cells) → Grown b a e T U → Won P k lo hi T → Sound P → Won P k lo hi U

@@ -6,3 +6,4 @@ pub mod Copies
 pub mod Model
 pub mod Order
 pub mod Judge
+pub mod Right

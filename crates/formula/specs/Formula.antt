@@ -18,6 +18,10 @@ max-entries = 8192
 abbrev pub max-rows : ℕ
 max-rows = 256
 
+-- 'Run and judge are each lent a work area of exactly 65,536 bytes.'
+abbrev pub work-size : ℕ
+work-size = 65536
+
 -- The quantifier of an unknown.
 pub data Kind : Type 0 where
   existential : Kind

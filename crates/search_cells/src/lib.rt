@@ -6,7 +6,7 @@ ghost use mathlib.Core.Bool.{cond};
 ghost use Prim.Native.Nat.{_+_, _≤_, _<_};
 ghost use lib.ListN.{length};
 ghost use Rattle.rows.specs.Row.{weight, bytes-of};
-ghost use Rattle.rows.specs.Table.{placed, bit-set};
+ghost use Rattle.rows.specs.Access.{placed, bit-set};
 ghost use Rattle.expansion.specs.Play.{part};
 ghost use Rattle.expansion.proofs.Engine.{tabulate};
 ghost use Rattle.search_cells.specs.Cells.{cells, owned};
