@@ -97,7 +97,7 @@ start-reached l =
     }
   where
     only : Sized (count universal (l .ks)) (rows (start l .A))
-    only x (inl e) = rw e (length-values (count universal (l .ks)) (l .prefer))
+    only x (inl e) = rw e (length-values (count universal (l .ks)) _)
     only x (inr h) = absurd h
 
 some-row : (n : ℕ) (t : Table) → suc n ≤ length t → (x : Row) × In x (rows t)

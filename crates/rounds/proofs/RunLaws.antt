@@ -6,9 +6,7 @@ use mathlib.Core.Path.{_≡_, refl, sym, ap, subst, _∙_}
 use mathlib.Core.Logic.{_⊎_, inl, inr, ⊎-elim}
 use mathlib.Core.Option.{Option·none-ne-some}
 use Rattle.formula.specs.Formula.{Kind, existential, universal}
-use Rattle.formula.specs.Causes.{count}
-use Rattle.rows.specs.Row.{values}
-use Rattle.rounds.specs.Run.{Entry, under-mark, start, Answer, is-false, is-true, spent, no-room-universal, no-room-existential, Outcome, Lent, round-of, next, run}
+use Rattle.rounds.specs.Run.{Entry, start, Answer, is-false, is-true, spent, no-room-universal, no-room-existential, Outcome, Lent, round-of, next, run}
 use Rattle.rounds.specs.Claim.{table, Stands}
 use Rattle.rounds.proofs.TableLaws.{Extends, extends-itself, extends-further}
 use Rattle.rounds.proofs.RoundLaws.{Reached, Made, Over, over-not-spent, round-made, start-reached}
@@ -99,7 +97,7 @@ spent-before l r limit h e =
 
 -- No mark is past the limit.
 start-mark : (l : Lent) (side : Kind) (i : ℕ) (x : Entry) → Stands (table side (start l)) i x → x .mark ≤ 0
-start-mark l universal zero x s = let e : under-mark 0 (values (count universal (l .ks)) (l .prefer)) ≡ x = cc in rw (← e) (omega arith)
+start-mark l universal zero x s = let e : x .mark ≡ 0 = cc in omega arith
 start-mark l universal (suc i) x s = absurd (Option·none-ne-some x s)
 start-mark l existential i x s = absurd (Option·none-ne-some x s)
 

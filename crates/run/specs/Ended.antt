@@ -32,23 +32,24 @@ count-of existential r = r .existential
 
 -- Finished round r has left a row below the count: its mark is r, and its sixteen bytes are those of no row below the count of the table
 -- before the round.
-pub record NewBytes (r : ℕ) (before : List ℕ) (before-count : ℕ) (row-bytes marks : List ℕ) (number : ℕ) : Type 0 where
+pub record NewBytes (r : ℕ) (before : List ℕ) (before-count : ℕ) (rows-left marks-left : List ℕ) (number : ℕ) : Type 0 where
   pub place : ℕ
   pub below : place < number
-  pub marked : getD marks place 0 ≡ r
-  pub new : (i : ℕ) → i < before-count → row-at before i ≢ row-at row-bytes place
+  pub marked : getD marks-left place 0 ≡ r
+  pub new : (i : ℕ) → i < before-count → row-at before i ≢ row-at rows-left place
 
 -- A side's tables at exit, read below the count that is returned.
-pub record TableRight (g : Given) (side : Kind) (row-bytes-left marks-left : List ℕ) (number : ℕ) : Type 0 where
+pub record TableRight (g : Given) (side : Kind) (rows-left marks-left : List ℕ) (number : ℕ) : Type 0 where
   -- They are those of 01's run.
-  pub rows-read : rows-of (count side (prefix (g .kinds))) number row-bytes-left ≡ rows (table side (reached g))
+  pub rows-read : rows-of (count side (prefix (g .kinds))) number rows-left ≡ rows (table side (reached g))
   pub marks-read : take number marks-left ≡ map (λ (x : Entry). x .mark) (table side (reached g))
-  -- 'No two rows below its count are equal.'
-  pub different : (i j : ℕ) → i < number → j < number → row-at row-bytes-left i ≡ row-at row-bytes-left j → i ≡ j
-  -- 'For every finished round r' it has a row with mark r that is new: the table before is what the same call with the limit r - 1 leaves.
+  -- 'In neither table .. at the end, are two rows below its count equal.'
+  pub different : (i j : ℕ) → i < number → j < number → row-at rows-left i ≡ row-at rows-left j → i ≡ j
+  -- 'For every finished round r, each table .. has a row with mark r that is equal to no row of that table after round r - 1', which is what the
+  -- same call with the limit r - 1 leaves.
   pub new-rows : (r : ℕ) → Finished (lent g) (g .limit) r
       → NewBytes r (row-bytes (table side (run (lent g) (r - 1))) (row-part side (g .found))) (length (table side (run (lent g) (r - 1))))
-      row-bytes-left marks-left number
+      rows-left marks-left number
 
 pub record Ended (g : Given) (r : Outcome) (exit : Areas) : Type 0 where
   pub returned-so : r ≡ returned g
