@@ -5,15 +5,15 @@ use mathlib.Core.Path.{_≡_, refl}
 use mathlib.Core.Bool.{Bool, true, false, cond, not}
 use lib.Dec.{eqb}
 use lib.ListN.{length}
+use Rattle.formula.specs.Formula.{work-size}
 use Rattle.formula.specs.Causes.{cause-1, cause-2, cause-3, refused-if, checked, sizes, number as cause-number}
 use Rattle.formula.specs.declared.Formula.{Formula}
 use Rattle.formula.specs.declared.Check.the-variants.{Accepted}
-use Rattle.search.specs.Search.{work-size}
-use Rattle.rounds.specs.Run.{Answer, is-false, is-true, spent, no-room-universal, no-room-existential, number, run}
-use Rattle.run.specs.Outcome.{Given, lent, tables-fit, cause, accepted, named, number-of, returned}
-use Rattle.door.specs.Door.{run-number}
+use Rattle.rounds.specs.Run.{Answer, is-false, is-true, spent, no-room-universal, no-room-existential, number}
+use Rattle.run.specs.Outcome.{Given, tables-fit, cause, accepted, reached, named, returned}
+use Rattle.door.specs.Door.{answer-back, run-number}
 
-number-named : (a : Answer) → number-of (named a) ≡ number a
+number-named : (a : Answer) → answer-back (named a) ≡ number a
 number-named is-false = refl
 number-named is-true = refl
 number-named spent = refl
@@ -61,17 +61,17 @@ module _ (g : Given) where
       first-cause-small (cause-number (checked (g .kinds) (g .literals)))
       (formula-cause-small (cause-1 (g .kinds)) (cause-2 (g .literals)) (cause-3 (length (g .kinds)) (g .literals)) (sizes (g .kinds) (g .literals)))
       (eqb (cause-number (checked (g .kinds) (g .literals))) 0)
-      (not (tables-fit (g .universal-rows) (g .universal-marks) (g .existential-rows) (g .existential-marks)))
-      (not (eqb (length (g .work)) work-size)) (eqb (g .limit) 0)
+      (not (tables-fit (g .found .universal-rows) (g .found .universal-marks) (g .found .existential-rows) (g .found .existential-marks)))
+      (not (eqb (length (g .found .work)) work-size)) (eqb (g .limit) 0)
 
-  pub run-numbered : (b : Bool) → accepted g ≡ b → run-number g ≡ cond b (number (run (lent g) (g .limit) .answer)) (100 + cause g)
+  pub run-numbered : (b : Bool) → accepted g ≡ b → run-number g ≡ cond b (number (reached g .answer)) (100 + cause g)
   unfolding returned
-  run-numbered true e = rw e (number-named (run (lent g) (g .limit) .answer))
+  run-numbered true e = rw e (number-named (reached g .answer))
   run-numbered false e = rw e refl
 
   pub run-number-small : run-number g ≤ 106
   run-number-small = go (accepted g) refl
     where
       go : (b : Bool) → accepted g ≡ b → run-number g ≤ 106
-      go true e = omega (arith, run-numbered true e, number-small (run (lent g) (g .limit) .answer))
+      go true e = omega (arith, run-numbered true e, number-small (reached g .answer))
       go false e = omega (arith, run-numbered false e, cause-small)

@@ -7,9 +7,10 @@ use mathlib.Core.List.{List}
 use lib.Dec.{eqb}
 use lib.ListN.{length, replicate}
 use Rattle.rows.specs.Table.{table-fits}
-use Rattle.search.specs.Search.{work-size}
-use Rattle.rounds.specs.Run.{number, run}
-use Rattle.run.specs.Outcome.{Given, lent, side-fits, tables-fit, cause, accepted}
+use Rattle.formula.specs.Formula.{work-size}
+use Rattle.formula.specs.Meaning.{verdict}
+use Rattle.rounds.specs.Run.{number}
+use Rattle.run.specs.Outcome.{Given, lent, side-fits, tables-fit, cause, accepted, reached, answered, left}
 use Rattle.rounds.proofs.Verdict.{verdict-right}
 use Rattle.text.specs.Reading.{State, Result, taken, refused}
 use Rattle.door.specs.Door.{own-rows, own-marks, handed-on, run-number, run-work, number-back, work-back, text-read, answer, work-after}
@@ -25,27 +26,29 @@ own-rows-fit = refl
 -- By what a run's number is: an answer with the work area zero, or a cause with the work area as found.
 module _ (g : Given) where
   run-zero : run-number g ≤ 4 → run-work g ≡ replicate work-size 0
+  unfolding left
   run-zero small = go (accepted g) refl
     where
-      go : (b : Bool) → accepted g ≡ b → cond b (replicate work-size 0) (g .work) ≡ replicate work-size 0
+      go : (b : Bool) → accepted g ≡ b → cond b (answered (reached g) (g .found)) (g .found) .work ≡ replicate work-size 0
       go true e = refl
       go false e = absurd (omega (arith, run-numbered g false e))
 
-  run-found : 100 ≤ run-number g → run-work g ≡ g .work
+  run-found : 100 ≤ run-number g → run-work g ≡ g .found .work
+  unfolding left
   run-found large = go (accepted g) refl
     where
-      go : (b : Bool) → accepted g ≡ b → cond b (replicate work-size 0) (g .work) ≡ g .work
-      go true e = absurd (omega (arith, run-numbered g true e, number-small (run (lent g) (g .limit) .answer)))
+      go : (b : Bool) → accepted g ≡ b → cond b (answered (reached g) (g .found)) (g .found) .work ≡ g .found .work
+      go true e = absurd (omega (arith, run-numbered g true e, number-small (reached g .answer)))
       go false e = refl
 
-  run-answered : run-number g ≤ 4 → number (run (lent g) (g .limit) .answer) ≡ run-number g
+  run-answered : run-number g ≤ 4 → number (reached g .answer) ≡ run-number g
   run-answered small = go (accepted g) refl
     where
-      go : (b : Bool) → accepted g ≡ b → number (run (lent g) (g .limit) .answer) ≡ run-number g
+      go : (b : Bool) → accepted g ≡ b → number (reached g .answer) ≡ run-number g
       go true e = sym (run-numbered g true e)
       go false e = absurd (omega (arith, run-numbered g false e))
 
-  run-refused-or-answered : (a b : Bool) → cause g ≡ cond a 5 (cond b 6 0) → run-number g ≡ cond a 105 (cond b 106 (number (run (lent g) (g .limit) .answer)))
+  run-refused-or-answered : (a b : Bool) → cause g ≡ cond a 5 (cond b 6 0) → run-number g ≡ cond a 105 (cond b 106 (number (reached g .answer)))
   run-refused-or-answered true b e = run-numbered g false (ap (λ (n : ℕ). eqb n 0) e) ∙ ap (λ (n : ℕ). 100 + n) e
   run-refused-or-answered false true e = run-numbered g false (ap (λ (n : ℕ). eqb n 0) e) ∙ ap (λ (n : ℕ). 100 + n) e
   run-refused-or-answered false false e = run-numbered g true (ap (λ (n : ℕ). eqb n 0) e)
@@ -67,10 +70,11 @@ module _ (text work : List ℕ) (limit : ℕ) where
     unfolding cause
     cause-taken = let passes = subst (Results Passes) e (read-passes text 128 8192 128) in rw (passes, own-rows-fit) refl
 
-    taken-number : answer text work limit ≡ cond (not (eqb (length work) work-size)) 105 (cond (eqb limit 0) 106 (number (run (lent (handed s)) limit .answer)))
+    taken-number : answer text work limit ≡ cond (not (eqb (length work) work-size)) 105 (cond (eqb limit 0) 106 (number (reached (handed s) .answer)))
     taken-number = answer-taken ∙ run-refused-or-answered (handed s) (not (eqb (length work) work-size)) (eqb limit 0) cause-taken
 
     taken-true : answer text work limit ≡ 1 → Verdict text true
+    unfolding verdict
     taken-true one =
         let back : run-number (handed s) ≡ 1 = sym answer-taken ∙ one in
         record {
@@ -78,10 +82,11 @@ module _ (text work : List ℕ) (limit : ℕ) where
           read-so = e;
           right =
               verdict-right (lent (handed s)) limit .only-true
-              (number-1 (run (lent (handed s)) limit .answer) (run-answered (handed s) (omega arith) ∙ back));
+              (number-1 (reached (handed s) .answer) (run-answered (handed s) (omega arith) ∙ back));
         }
 
     taken-false : answer text work limit ≡ 0 → Verdict text false
+    unfolding verdict
     taken-false none =
         let back : run-number (handed s) ≡ 0 = sym answer-taken ∙ none in
         record {
@@ -89,7 +94,7 @@ module _ (text work : List ℕ) (limit : ℕ) where
           read-so = e;
           right =
               verdict-right (lent (handed s)) limit .only-false
-              (number-0 (run (lent (handed s)) limit .answer) (run-answered (handed s) (omega arith) ∙ back));
+              (number-0 (reached (handed s) .answer) (run-answered (handed s) (omega arith) ∙ back));
         }
 
   -- A text that is refused has no answer.

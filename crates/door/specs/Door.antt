@@ -3,13 +3,13 @@
 -- Assumes nothing.
 use Prim.Native.Nat.{ℕ, _+_, _*_}
 use mathlib.Core.Path.{_≡_}
-use mathlib.Core.Bool.{cond}
 use mathlib.Core.List.{List, []}
 use lib.IntN.{ℤ}
 use lib.ListN.{replicate}
 use Rattle.formula.specs.Formula.{max-unknowns, max-entries, max-rows}
-use Rattle.search.specs.Search.{work-size}
-use Rattle.run.specs.Outcome.{Given, given, accepted, number-of, returned}
+use Rattle.run.specs.declared.Answer.{Answer}
+use Rattle.run.specs.declared.Answer.the-variants.{False, True, Spent, NoRoomUniversal, NoRoomExistential, Refused}
+use Rattle.run.specs.Outcome.{areas, Given, given, number-of, returned, left}
 use Rattle.text.specs.Reading.{Result, taken, refused, read}
 
 -- '256 rows a side of its own': a row is 16 bytes, and a mark table has one number a row. All are zero when the run begins.
@@ -21,15 +21,23 @@ own-marks = replicate max-rows 0
 
 -- What the run is given: the formula, no preferences, the door's own rows and marks, the lent work area and the limit.
 abbrev pub handed-on : List ℕ → List ℤ → List ℕ → ℕ → Given
-handed-on kinds literals work limit = given kinds literals [] own-rows own-marks own-rows own-marks work limit
+handed-on kinds literals work limit = given kinds literals [] (areas own-rows own-marks own-rows own-marks work) limit
 
--- 'Gets the answer number back, or 100 plus the refusal number': the number of what the run returns, 0 to 4 or 100 plus its cause.
+-- 'Gets the answer number back, or 100 plus the refusal number.'
+abbrev pub answer-back : Answer → ℕ
+answer-back False = number-of False
+answer-back True = number-of True
+answer-back Spent = number-of Spent
+answer-back NoRoomUniversal = number-of NoRoomUniversal
+answer-back NoRoomExistential = number-of NoRoomExistential
+answer-back (Refused cause) = 100 + number-of (Refused cause)
+
 abbrev pub run-number : Given → ℕ
-run-number g = number-of (returned g .answer)
+run-number g = answer-back (returned g .answer)
 
--- 'A work area of exactly 65,536 bytes, zero after an answer'; a refusal leaves it as found.
+-- What the run leaves of the work area.
 abbrev pub run-work : Given → List ℕ
-run-work g = cond (accepted g) (replicate work-size 0) (g .work)
+run-work g = left g .work
 
 -- 'The text's faults come before 5 and 6': a text that is refused is not handed on, and leaves the work area as found.
 abbrev pub number-back : Result → List ℕ → ℕ → ℕ

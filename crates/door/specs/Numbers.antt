@@ -6,11 +6,10 @@ use mathlib.Core.Bool.{Bool, true, false, not, cond}
 use mathlib.Core.List.{List}
 use lib.Dec.{eqb}
 use lib.ListN.{length, replicate}
-use Rattle.formula.specs.Formula.{prefix, clauses}
-use Rattle.formula.specs.Meaning.{meaning, matrix}
-use Rattle.search.specs.Search.{work-size}
-use Rattle.rounds.specs.Run.{number, run}
-use Rattle.run.specs.Outcome.{lent}
+use Rattle.formula.specs.Formula.{work-size}
+use Rattle.formula.specs.Meaning.{verdict}
+use Rattle.rounds.specs.Run.{number}
+use Rattle.run.specs.Outcome.{reached}
 use Rattle.text.specs.Reading.{State, taken, refused}
 use Rattle.door.specs.Door.{handed-on, text-read, answer, work-after}
 
@@ -18,7 +17,7 @@ use Rattle.door.specs.Door.{handed-on, text-read, answer, work-after}
 pub record Verdict (text : List ℕ) (value : Bool) : Type 0 where
   pub state : State
   pub read-so : text-read text ≡ taken state
-  pub right : meaning (prefix (state .kinds)) (matrix (clauses (state .literals))) ≡ value
+  pub right : verdict (state .kinds) (state .literals) ≡ value
 
 pub record NumbersRight (text work : List ℕ) (limit : ℕ) : Type 0 where
   -- '100 plus the refusal number .. the text's faults come before 5 and 6': a text that is refused has one of the numbers 109 to 114.
@@ -27,7 +26,7 @@ pub record NumbersRight (text work : List ℕ) (limit : ℕ) : Type 0 where
   pub of-run : (s : State) → text-read text ≡ taken s
       → answer text work limit
       ≡ cond (not (eqb (length work) work-size)) 105
-      (cond (eqb limit 0) 106 (number (run (lent (handed-on (s .kinds) (s .literals) work limit)) limit .answer)))
+      (cond (eqb limit 0) 106 (number (reached (handed-on (s .kinds) (s .literals) work limit) .answer)))
   -- 'Zero after an answer'; a refusal leaves it as found.
   pub zero-after : answer text work limit ≤ 4 → work-after text work limit ≡ replicate work-size 0
   pub as-found : 100 ≤ answer text work limit → work-after text work limit ≡ work

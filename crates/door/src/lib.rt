@@ -6,8 +6,7 @@ use run::Answer;
 use text::Reading;
 ghost use Prim.Native.Nat.{_≤_};
 ghost use mathlib.Core.Path.{_≡_};
-ghost use Rattle.run.specs.Outcome.{number-of};
-ghost use Rattle.door.specs.Door.{handed-on, answer, work-after, Decided};
+ghost use Rattle.door.specs.Door.{answer-back, handed-on, answer, work-after, Decided};
 
 // The answer's number, or 100 plus the number of the refusal.
 #[no_mangle]
@@ -53,8 +52,8 @@ fn decide(kinds: &[u8], literals: &[i32], work: &mut [u8], limit: u32) -> u32
 }
 
 fn number(answer: Answer) -> u32
-    requires { ⌜ number-of answer ≤ 106 ⌝ }
-    ensures { λ r. ⌜ r ≡ number-of answer ⌝ }
+    requires { ⌜ answer-back answer ≤ 106 ⌝ }
+    ensures { λ r. ⌜ r ≡ answer-back answer ⌝ }
 {
     match answer {
         Answer::False => 0,

@@ -16,7 +16,7 @@ use Rattle.expansion.specs.Model.{wins, strategy-of, is-model, first-mod
 use Rattle.expansion.specs.Order.{IsFirst}
 use Rattle.expansion.proofs.Booleans.{never-both}
 use Rattle.expansion.proofs.Membership.{In}
-use Rattle.expansion.proofs.Walk.{walk-first, walk-none, walk-returns}
+use Rattle.expansion.proofs.Walk.{walk-first, walk-none}
 use Rattle.expansion.proofs.CopyLaws.{Own, in-copies, values-at, value-of-values, play-agree}
 
 -- A strategy as values of the copies over the rows, by number.
@@ -48,10 +48,6 @@ module _ (prefer : ℕ → Bool) (ts : List Bool) (psi : List Bool → Bool) (ro
       → IsFirst prefer (length (copies ts rows)) (is-model ts psi rows) vs
   unfolding first-model
   first-is-first vs e = walk-first (length (copies ts rows)) prefer (is-model ts psi rows) vs e
-
-  pub first-returns : (vs : List Bool) → IsFirst prefer (length (copies ts rows)) (is-model ts psi rows) vs → first-model prefer ts psi rows ≡ some vs
-  unfolding first-model
-  first-returns vs p = walk-returns (length (copies ts rows)) prefer (is-model ts psi rows) vs p
 
   -- Its values, read as a strategy, win.
   pub first-some : (vs : List Bool) → first-model prefer ts psi rows ≡ some vs → wins ts psi (strategy-of ts rows vs) rows ≡ true

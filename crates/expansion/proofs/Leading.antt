@@ -8,7 +8,7 @@ use mathlib.Core.List.{List, [], _∷_}
 use mathlib.Core.Logic.{_⊎_}
 use lib.Dec.{eqb}
 use lib.ListN.{length, getD}
-use Rattle.expansion.specs.Play.{Row, first-value, later-values, restriction, Strategy, past-own, past-row, play}
+use Rattle.expansion.specs.Play.{Row, restriction, Strategy, play}
 use Rattle.expansion.specs.Copies.{Copy, same, copies}
 use Rattle.expansion.specs.Model.{wins}
 use Rattle.expansion.specs.Cells.{others-before}
@@ -41,15 +41,6 @@ abbrev pub LeadsAt : Strategy → List Bool → Row → List Bool → List Bool 
 LeadsAt W ts row P Q = (k : ℕ) → Own ts k
     → ((j : ℕ) → j < k → getD P j false ≡ getD Q j false)
     → (getD P k false ≡ getD Q k false) ⊎ (getD P k false ≡ W k (restriction ts k row))
-
--- .. and by recursion over the positions.
-abbrev pub LeadsPath : Strategy → List Bool → Row → List Bool → List Bool → Type 0
-LeadsPath W [] row P Q = Unit {0}
-LeadsPath W (true ∷ ts) row P Q =
-    ((first-value P ≡ first-value Q) ⊎ (first-value P ≡ W zero []))
-    × (first-value P ≡ first-value Q → LeadsPath (past-own W) ts row (later-values P) (later-values Q))
-LeadsPath W (false ∷ ts) row P Q =
-    first-value P ≡ first-value Q → LeadsPath (past-row (first-value row) W) ts (later-values row) (later-values P) (later-values Q)
 
 -- The plays are those of a strategy, it wins, and each play leads those of every strategy that wins over all the rows.
 pub record Leading (prefer : ℕ → Bool) (ts : List Bool) (psi : List Bool → Bool) (rows : List Row) (plays : List (List Bool)) : Type 0 where

@@ -1,5 +1,4 @@
--- Plays that lead along every row are those of the first model: `leading-is-first`, and `leading-is-found` for a side's search.
--- For plays that are known to lead by recursion over the positions `leading-of-paths` gives the premise.
+-- Plays that lead along every row are those of the first model.
 -- Assumes nothing.
 use Prim.Native.Nat.{ℕ, zero, suc, _<_}
 use native.Mathlib.Omega.{arith}
@@ -9,18 +8,16 @@ use mathlib.Core.List.{List, [], _∷_, map}
 use mathlib.Core.Logic.{inl, inr, ⊎-elim}
 use mathlib.Core.Option.{Option, none, some}
 use lib.ListN.{length, getD, length-map}
-use Rattle.formula.specs.Formula.{Kind}
-use Rattle.expansion.specs.Side.{flags, goal}
 use Rattle.expansion.specs.Play.{Row, restriction, Strategy, play, part, yield}
 use Rattle.expansion.specs.Copies.{same, copies}
-use Rattle.expansion.specs.Model.{wins, strategy-of, is-model, first-model, yielded, search}
+use Rattle.expansion.specs.Model.{wins, strategy-of, is-model, first-model, yielded}
 use Rattle.expansion.specs.Order.{PartsAt, IsFirst}
 use Rattle.expansion.proofs.Booleans.{true-or-false, never-both}
 use Rattle.expansion.proofs.Membership.{In, place-of-in, same-refl, same-eq}
 use Rattle.expansion.proofs.CopyLaws.{Own}
 use Rattle.expansion.proofs.FirstModel.{values-of, play-of-values, is-model-of-values, first-is-first, first-none}
-use Rattle.expansion.proofs.Leading.{wanted, Fits, Uniform, LeadsPath, LeadsAt, Leading}
-use Rattle.expansion.proofs.LeadingPath.{leads-at-of-path, play-at-own, fits-is-play, plays-agree-below}
+use Rattle.expansion.proofs.Leading.{wanted, LeadsAt, Leading}
+use Rattle.expansion.proofs.LeadingPath.{play-at-own, fits-is-play, plays-agree-below}
 use Rattle.expansion.proofs.LeadingCopies.{map-in, values-of-value-of, distinct-copies, LeadsAlong, never-parts}
 
 -- A strategy wins exactly if it reaches the goal in each row.
@@ -50,7 +47,7 @@ module _ (prefer : ℕ → Bool) (ts : List Bool) (psi : List Bool → Bool) (ro
   first-is-values vs first =
       let τ = strategy-of ts rows vs in
       let values = values-of ts rows σ in
-      let back : values-of ts rows τ ≡ vs = values-of-value-of (copies ts rows) vs (distinct-copies ts rows) (first .values) in
+      let back : values-of ts rows τ ≡ vs = values-of-value-of (copies ts rows) vs (distinct-copies ts rows) (first .sized) in
       let never : (i : ℕ) → PartsAt prefer vs values i → ⊥ =
       subst (λ (ws : List Bool). (i : ℕ) → PartsAt prefer ws values i → ⊥) back (never-parts prefer ts rows σ τ (leads-along τ (first .passes))) in
       ⊎-elim (λ e. e) (λ p. absurd (never (p .0) (p .1)))
@@ -127,22 +124,3 @@ module _ {prefer : ℕ → Bool} {ts : List Bool} {psi : List Bool → Bool} {ro
       let reach = each-by-place (λ (row : Row). psi (play ts σ row) ≡ true) rows (λ i l. rw (play-of-played i l) (L .reach i l)) in
       let parts = map-by-place (yield ts σ) (part ts) rows plays (L .one-each) (λ i l. ap (part ts) (play-of-played i l)) in
       leading-strategy-is-first prefer ts psi rows σ (wins-all ts psi σ rows reach) played-leads ∙ ap {B = Option (List Row)} some parts
-
-pub leading-is-found : {prefer : ℕ → Bool} {rows : List Row} {plays : List (List Bool)} (side : Kind) (ks : List Kind) (phi : List Bool → Bool)
-    → Leading prefer (flags side ks) (goal side phi) rows plays → search prefer side ks phi rows ≡ some (map (part (flags side ks)) plays)
-unfolding search
-leading-is-found side ks phi L = leading-is-first L
-
-pub leading-of-paths : (prefer : ℕ → Bool) (ts : List Bool) (psi : List Bool → Bool) (rows : List Row) (plays : List (List Bool))
-    → length plays ≡ length rows → ((i : ℕ) → i < length rows → Fits ts (getD rows i []) (getD plays i [])) → Uniform ts rows plays
-    → ((i : ℕ) → i < length rows → psi (getD plays i []) ≡ true)
-    → ((σ : Strategy) → wins ts psi σ rows ≡ true → (i : ℕ) → i < length rows
-    → LeadsPath (wanted prefer ts rows) ts (getD rows i []) (getD plays i []) (play ts σ (getD rows i [])))
-    → Leading prefer ts psi rows plays
-leading-of-paths prefer ts psi rows plays one-each fits uniform reach paths = record {
-  one-each = one-each;
-  fits = fits;
-  uniform = uniform;
-  reach = reach;
-  lead = λ σ w i l. leads-at-of-path (wanted prefer ts rows) ts (getD rows i []) (getD plays i []) (play ts σ (getD rows i [])) (paths σ w i l);
-}

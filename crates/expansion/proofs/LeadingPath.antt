@@ -1,4 +1,4 @@
--- One row: the two forms of leading say the same; and a play by index has the strategy's values at the own positions and the row's at the others.
+-- One row: a play by index has the strategy's values at the own positions and the row's at the others.
 -- Assumes nothing.
 use Prim.Native.Nat.{ℕ, zero, suc, _<_}
 use native.Mathlib.Omega.{arith}
@@ -12,7 +12,7 @@ use Rattle.expansion.specs.Play.{Row, first-value, later-values, restric
 use Rattle.expansion.proofs.Booleans.{true-or-false}
 use Rattle.expansion.proofs.CopyLaws.{Own}
 use Rattle.expansion.specs.Cells.{others-before}
-use Rattle.expansion.proofs.Leading.{Fits, LeadsPath, LeadsAt}
+use Rattle.expansion.proofs.Leading.{Fits}
 
 -- A list's values by index are its first one and the later ones by index.
 pub first-at : (P : List Bool) → getD P zero false ≡ first-value P
@@ -22,43 +22,6 @@ first-at (p ∷ P) = refl
 pub later-at : (P : List Bool) (k : ℕ) → getD P (suc k) false ≡ getD (later-values P) k false
 later-at [] k = refl
 later-at (p ∷ P) k = refl
-
-abbrev AgreeBelow : List Bool → List Bool → ℕ → Type 0
-AgreeBelow P Q k = (j : ℕ) → j < k → getD P j false ≡ getD Q j false
-
-agree-first : (P Q : List Bool) (k : ℕ) → AgreeBelow P Q (suc k) → first-value P ≡ first-value Q
-agree-first P Q k agree = sym (first-at P) ∙ agree zero (omega arith) ∙ first-at Q
-
-agree-later : (P Q : List Bool) (k : ℕ) → AgreeBelow P Q (suc k) → AgreeBelow (later-values P) (later-values Q) k
-agree-later P Q k agree j l = sym (later-at P j) ∙ agree (suc j) (omega arith) ∙ later-at Q j
-
-agree-suc : (P Q : List Bool) (k : ℕ) → first-value P ≡ first-value Q → AgreeBelow (later-values P) (later-values Q) k → AgreeBelow P Q (suc k)
-agree-suc P Q k e agree zero l = first-at P ∙ e ∙ sym (first-at Q)
-agree-suc P Q k e agree (suc j) l = later-at P j ∙ agree j (omega arith) ∙ sym (later-at Q j)
-
-pub leads-at-of-path : (W : Strategy) (ts : List Bool) (row : Row) (P Q : List Bool) → LeadsPath W ts row P Q → LeadsAt W ts row P Q
-leads-at-of-path W [] row P Q h k o agree = absurd (false≢true o)
-leads-at-of-path W (true ∷ ts) row P Q h zero o agree = rw (first-at P, first-at Q) (h .0)
-leads-at-of-path W (true ∷ ts) row P Q h (suc k) o agree =
-    let behind = leads-at-of-path (past-own W) ts row (later-values P) (later-values Q) (h .1 (agree-first P Q k agree)) in
-    rw (later-at P k, later-at Q k) (behind k o (agree-later P Q k agree))
-leads-at-of-path W (false ∷ ts) row P Q h zero o agree = absurd (false≢true o)
-leads-at-of-path W (false ∷ ts) row P Q h (suc k) o agree =
-    let W′ = past-row (first-value row) W in
-    let behind = leads-at-of-path W′ ts (later-values row) (later-values P) (later-values Q) (h (agree-first P Q k agree)) in
-    rw (later-at P k, later-at Q k) (behind k o (agree-later P Q k agree))
-
-pub leads-path-of-at : (W : Strategy) (ts : List Bool) (row : Row) (P Q : List Bool) → LeadsAt W ts row P Q → LeadsPath W ts row P Q
-leads-path-of-at W [] row P Q h = tt
-leads-path-of-at W (true ∷ ts) row P Q h = (
-  rw (← first-at P, ← first-at Q) (h zero refl (λ j l. absurd (omega arith))),
-  λ e.
-      leads-path-of-at (past-own W) ts row (later-values P) (later-values Q)
-      (λ k o agree. rw (← later-at P k, ← later-at Q k) (h (suc k) o (agree-suc P Q k e agree))),
-)
-leads-path-of-at W (false ∷ ts) row P Q h = λ e.
-    leads-path-of-at (past-row (first-value row) W) ts (later-values row) (later-values P) (later-values Q)
-    (λ k o agree. rw (← later-at P k, ← later-at Q k) (h (suc k) o (agree-suc P Q k e agree)))
 
 -- A play by index.
 length-play : (ts : List Bool) (σ : Strategy) (row : Row) → length (play ts σ row) ≡ length ts

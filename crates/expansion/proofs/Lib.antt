@@ -8,7 +8,6 @@ pub mod Leading
 pub mod LeadingPath
 pub mod LeadingCopies
 pub mod LeadingFirst
-pub mod Tree
 pub mod Game
 pub mod Soundness
 pub mod Verdict
@@ -22,3 +21,4 @@ pub mod Engine
 pub mod Progress
 pub mod Counting
 pub mod Stand
+pub mod Right

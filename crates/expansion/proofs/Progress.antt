@@ -51,16 +51,6 @@ wins-each ts psi σ [] w r h = absurd h
 wins-each ts psi σ (x ∷ rows) w r (inl e) = rw e (and-eq-true-iff (psi (play ts σ x)) (wins ts psi σ rows) .0 w .0)
 wins-each ts psi σ (x ∷ rows) w r (inr h) = wins-each ts psi σ rows (and-eq-true-iff (psi (play ts σ x)) (wins ts psi σ rows) .0 w .1) r h
 
--- The same over lists: for σ that wins for the existential side over A and ρ that wins for the universal side over S, where A is not empty, it
--- is impossible that every row that σ yields over A is in S and every row that ρ yields over S is in A.
-pub progress : (ks : List Kind) (phi : List Bool → Bool) (σ ρ : Strategy) (A S : List Row) (a : Row) → In a A
-    → wins (flags existential ks) (goal existential phi) σ A ≡ true → wins (flags universal ks) (goal universal phi) ρ S ≡ true
-    → ((r : Row) → In r A → In (yield (flags existential ks) σ r) S) → ((r : Row) → In r S → In (yield (flags universal ks) ρ r) A) → ⊥
-progress ks phi σ ρ A S a in-A win-A win-S to-S to-A =
-    no-closed-pair ks phi σ ρ (λ r. In r A) (λ r. In r S) a in-A
-    (record { wins = wins-each _ _ σ A win-A; within = to-S })
-    (record { wins = wins-each _ _ ρ S win-S; within = to-A })
-
 -- What a search yields: the yields of a strategy that wins over the rows.
 pub search-answers : (prefer : ℕ → Bool) (side : Kind) (ks : List Kind) (phi : List Bool → Bool) (rows new : List Row)
     → search prefer side ks phi rows ≡ some new

@@ -15,7 +15,7 @@ use Rattle.expansion.proofs.FirstModel.{first-none, none-if-no-strategy
 use Rattle.expansion.proofs.Game.{reaches}
 use Rattle.expansion.proofs.Soundness.{no-strategy-no-meaning}
 
-yielded-none : (ts : List Bool) (rows : List Row) (o : Option (List Bool)) → yielded ts rows o ≡ none → o ≡ none
+pub yielded-none : (ts : List Bool) (rows : List Row) (o : Option (List Bool)) → yielded ts rows o ≡ none → o ≡ none
 yielded-none ts rows none e = refl
 yielded-none ts rows (some vs) e = absurd (Option·some-ne-none (yields ts rows vs) e)
 

@@ -2,7 +2,7 @@
 -- Assumes nothing.
 use Prim.Native.Nat.{ℕ, zero, suc, _<_}
 use native.Mathlib.Omega.{arith}
-use mathlib.Core.Path.{_≡_, refl, sym, ap, subst, _∙_}
+use mathlib.Core.Path.{_≡_, refl, ap, subst}
 use mathlib.Core.Bool.{Bool, true, false, not, cond}
 use mathlib.Core.List.{List, [], _∷_}
 use mathlib.Core.Option.{Option, none, some}
@@ -10,7 +10,7 @@ use mathlib.Core.Logic.{inl, inr}
 use lib.ListN.{length, getD}
 use Rattle.expansion.specs.Model.{first-passing, with-front, or-else}
 use Rattle.expansion.specs.Order.{PartsAt, Leads, IsFirst}
-use Rattle.expansion.proofs.Booleans.{never-both, never-unlike}
+use Rattle.expansion.proofs.Booleans.{never-both}
 
 -- A common first value changes nothing.
 parts-behind : (prefer : ℕ → Bool) (v : Bool) (vs ws : List Bool) (i : ℕ) → PartsAt (λ j. prefer (suc j)) vs ws i
@@ -38,7 +38,7 @@ only-empty C c [] h = c
 only-empty C c (w ∷ ws) h = absurd (omega arith)
 
 owed-at-end : (prefer : ℕ → Bool) (test : List Bool → Bool) (b : Bool) → test [] ≡ b → Owed prefer zero test (cond b (some []) none)
-owed-at-end prefer test true e = record { values = refl; passes = e; leads = only-empty (λ ws. test ws ≡ true → Leads prefer [] ws) (λ t. inl refl) }
+owed-at-end prefer test true e = record { sized = refl; passes = e; leads = only-empty (λ ws. test ws ≡ true → Leads prefer [] ws) (λ t. inl refl) }
 owed-at-end prefer test false e = only-empty (λ ws. test ws ≡ false) e
 
 -- A list of m + 1 values begins with the value p or with the other one.
@@ -62,7 +62,7 @@ module _ (prefer : ℕ → Bool) (m : ℕ) (test : List Bool → Bool) where
   owed-in-front none none p q = begins (prefer zero) m (λ ws. test ws ≡ false) p q
   owed-in-front none (some vs) p q =
       record {
-        values = ap suc (q .values);
+        sized = ap suc (q .sized);
         passes = q .passes;
         leads =
             begins (prefer zero) m (λ ws. test ws ≡ true → Leads prefer (not (prefer zero) ∷ vs) ws)
@@ -71,7 +71,7 @@ module _ (prefer : ℕ → Bool) (m : ℕ) (test : List Bool → Bool) where
       }
   owed-in-front (some vs) b p q =
       record {
-        values = ap suc (p .values);
+        sized = ap suc (p .sized);
         passes = p .passes;
         leads =
             begins (prefer zero) m (λ ws. test ws ≡ true → Leads prefer (prefer zero ∷ vs) ws)
@@ -97,34 +97,3 @@ walk-first m prefer test vs e = subst (Owed prefer m test) e (walk m prefer test
 pub walk-none : (m : ℕ) (prefer : ℕ → Bool) (test : List Bool → Bool) → first-passing m prefer test ≡ none → (ws : List Bool)
     → length ws ≡ m → test ws ≡ false
 walk-none m prefer test e = subst (Owed prefer m test) e (walk m prefer test)
-
--- Two lists that lead each other are equal.
-parts-earlier : (prefer : ℕ → Bool) (vs ws : List Bool) (i k : ℕ) → PartsAt prefer vs ws i → PartsAt prefer ws vs k → i < k → ⊥
-parts-earlier prefer vs ws i k p q h = never-unlike (prefer i) (getD ws i false) (q .agree i h ∙ p .preferred) (p .unlike)
-
-parts-one-way : (prefer : ℕ → Bool) (vs ws : List Bool) (i k : ℕ) → PartsAt prefer vs ws i → PartsAt prefer ws vs k → ⊥
-parts-one-way prefer vs ws i k p q =
-    let not-earlier : ¬ (i < k) = parts-earlier prefer vs ws i k p q in
-    let not-later : ¬ (k < i) = parts-earlier prefer ws vs k i q p in
-    let e : i ≡ k = omega arith in
-    never-unlike (prefer i) (getD vs i false) (p .preferred) (rw (← e) at (q .unlike))
-
-pub leads-antisymmetric : (prefer : ℕ → Bool) (vs ws : List Bool) → Leads prefer vs ws → Leads prefer ws vs → vs ≡ ws
-leads-antisymmetric prefer vs ws (inl e) b = e
-leads-antisymmetric prefer vs ws (inr p) (inl e) = sym e
-leads-antisymmetric prefer vs ws (inr p) (inr q) = absurd (parts-one-way prefer vs ws (p .0) (q .0) (p .1) (q .1))
-
--- There is one first list at most.
-pub first-unique : (prefer : ℕ → Bool) (m : ℕ) (test : List Bool → Bool) (vs ws : List Bool) → IsFirst prefer m test vs
-    → IsFirst prefer m test ws → vs ≡ ws
-first-unique prefer m test vs ws p q =
-    leads-antisymmetric prefer vs ws (p .leads ws (q .values) (q .passes)) (q .leads vs (p .values) (p .passes))
-
--- So the walk returns the first list where there is one.
-pub walk-returns : (m : ℕ) (prefer : ℕ → Bool) (test : List Bool → Bool) (vs : List Bool) → IsFirst prefer m test vs
-    → first-passing m prefer test ≡ some vs
-walk-returns m prefer test vs p = go (first-passing m prefer test) refl
-  where
-    go : (o : Option (List Bool)) → first-passing m prefer test ≡ o → first-passing m prefer test ≡ some vs
-    go none e = absurd (never-both (p .passes) (walk-none m prefer test e vs (p .values)))
-    go (some ws) e = e ∙ ap {B = Option (List Bool)} some (first-unique prefer m test ws vs (walk-first m prefer test ws e) p)

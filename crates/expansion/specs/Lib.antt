@@ -6,4 +6,5 @@ pub mod Copies
 pub mod Model
 pub mod Order
 pub mod Judge
+pub mod Right
 pub mod Cells

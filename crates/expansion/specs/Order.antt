@@ -19,6 +19,6 @@ Leads prefer vs ws = (vs ≡ ws) ⊎ ((i : ℕ) × PartsAt prefer vs ws i)
 
 -- The first of the lists of m values that pass the test: it passes, and it leads every other one that does.
 pub record IsFirst (prefer : ℕ → Bool) (m : ℕ) (test : List Bool → Bool) (vs : List Bool) : Type 0 where
-  pub values : length vs ≡ m
+  pub sized : length vs ≡ m
   pub passes : test vs ≡ true
   pub leads : (ws : List Bool) → length ws ≡ m → test ws ≡ true → Leads prefer vs ws

@@ -5,6 +5,11 @@ use mathlib.Core.Bool.{Bool, true, false, not}
 use mathlib.Core.List.{List, map}
 use Rattle.formula.specs.Formula.{Kind, existential, universal}
 
+-- A side by a flag: true for the universal one.
+abbrev pub side-of : Bool → Kind
+side-of false = existential
+side-of true = universal
+
 -- The side's own unknowns are those of its kind.
 abbrev pub own : Kind → Kind → Bool
 own existential existential = true

@@ -10,7 +10,8 @@ use lib.Dec.{ltb}
 use lib.ListN.{length, getD, set, length-set}
 use Rattle.rows.specs.Row.{weight}
 use borrow.Author.Tests.{leb-true}
-use Rattle.rows.specs.Table.{inside, row-at, bit-set, placed, writable, rows-written, marks-written}
+use Rattle.rows.specs.Table.{inside, row-at}
+use Rattle.rows.specs.Access.{bit-set, placed, writable, rows-written, marks-written}
 use Rattle.rows.proofs.TableLaws.{length-row-at}
 use Rattle.rows.proofs.WriteLaws.{length-placed}
 use Rattle.growth.specs.Growth.{is-added, count-below, Bytes, with-row, with-new-row, with-new-rows, with-preferred}

@@ -5,7 +5,8 @@ use mathlib.Core.Bool.{Bool, true, false, _&&_, cond}
 use mathlib.Core.List.{List}
 use lib.Dec.{leb, ltb}
 use Rattle.rows.specs.Row.{weight}
-use Rattle.rows.specs.Table.{room, first-place, rows-written, marks-written, bit-set}
+use Rattle.rows.specs.Table.{room}
+use Rattle.rows.specs.Access.{first-place, rows-written, marks-written, bit-set}
 use Rattle.rows.specs.declared.Found.{Found}
 use Rattle.rows.specs.declared.Found.the-variants.{At, Absent}
 use Rattle.growth.specs.declared.Growth.{Growth as Answer}

@@ -6,7 +6,7 @@ use rows::Found;
 ghost use mathlib.Core.Path.{_≡_};
 ghost use lib.ListN.{replicate};
 ghost use Rattle.preference.specs.Preference.{prefer};
-ghost use Rattle.rows.specs.Table.{first-place, rows-written, marks-written};
+ghost use Rattle.rows.specs.Access.{first-place, rows-written, marks-written};
 ghost use Rattle.growth.specs.Growth.{is-absent, is-new, is-added, count-below, all-fit, bytes, with-new-row, with-new-rows, grown, growth, with-preferred};
 
 const ROW: usize = 16;

@@ -9,6 +9,7 @@ use lib.Dec.{eqb, leb, ltb}
 use lib.IntN.{ℤ}
 use lib.ListN.{length}
 use borrow.Author.Tests.{leb-true, eqb-true, eqb-false, lt-ltb}
+use Rattle.formula.specs.Formula.{work-size}
 use Rattle.formula.specs.Causes as Causes
 use Rattle.rows.specs.Table.{room, table-fits, stray-rows}
 use Rattle.search.specs.Search as search
@@ -54,7 +55,7 @@ module _ (kinds : List ℕ) (literals : List ℤ) (rows : List ℕ) (count : ℕ
   same-cause (suc (suc claim)) =
       let formula = Causes.number (Causes.checked kinds literals) in
       ap (λ (later : ℕ). cond (eqb formula 0) later formula)
-      (seven-after-four (table-fits rows) (eqb (length work) search.work-size) _ _ (room-under-length rows))
+      (seven-after-four (table-fits rows) (eqb (length work) work-size) _ _ (room-under-length rows))
 
 -- What the tests have found if none of them applies.
 tests-passed : (formula : ℕ) (fits sized over stray checked : Bool) → eqb formula 0 ≡ checked
@@ -72,9 +73,9 @@ either-first true b e = e
 
 -- If no cause applies, the work area has its size, and the claim is 0 or 1.
 pub no-cause : (kinds : List ℕ) (literals : List ℤ) (claim : ℕ) (rows : List ℕ) (count : ℕ) (work : List ℕ)
-    → cause kinds literals claim rows count work ≡ 0 → (length work ≡ search.work-size) × (other-claim claim ≡ false)
+    → cause kinds literals claim rows count work ≡ 0 → (length work ≡ work-size) × (other-claim claim ≡ false)
 unfolding cause
 no-cause kinds literals claim rows count work none =
-    let passed = tests-passed (Causes.number (Causes.checked kinds literals)) (table-fits rows) (eqb (length work) search.work-size)
+    let passed = tests-passed (Causes.number (Causes.checked kinds literals)) (table-fits rows) (eqb (length work) work-size)
     (other-claim claim || ltb (room rows) count) (stray-rows (width kinds claim) count rows) _ refl none in
-    (eqb-true (length work) search.work-size (passed .0), either-first (other-claim claim) _ (passed .1))
+    (eqb-true (length work) work-size (passed .0), either-first (other-claim claim) _ (passed .1))

@@ -7,31 +7,32 @@ use mathlib.Core.List.{List, []}
 use lib.Dec.{eqb}
 use lib.IntN.{ℤ}
 use lib.ListN.{length, replicate}
-use Rattle.formula.specs.Meaning.{verdict, bit}
+use Rattle.formula.specs.Formula.{prefix, clauses}
+use Rattle.formula.specs.Meaning.{matrix}
+use Rattle.expansion.proofs.Right.{judge-right}
 use Rattle.search.specs.Search as search
 use Rattle.search.specs.declared.Search.{Search}
 use Rattle.judge.specs.declared.Judgement.{Judgement}
-use Rattle.judge.specs.declared.Judgement.the-variants.{Accepted}
-use Rattle.judge.specs.Judge.{outcome, work-after, number, outcome-number}
+use Rattle.judge.specs.Judge.{claims-true, lent-rows, outcome, work-after, number, Judged}
 use Rattle.judge.proofs.Causes.{counted}
 use Rattle.judge.proofs.Outcome.{judgement-of, is-found, searched, same-outcome, same-number, same-work, cleared-work}
 use Rattle.judge.proofs.Verdict.{accepted-is-verdict}
 
 module _ (kinds : List ℕ) (literals : List ℤ) (claim : ℕ) (rows : List ℕ) (count : ℕ) (work : List ℕ) where
-  -- What is promised of a judgement and of the work area that is left.
-  abbrev pub Promised : Judgement → List ℕ → Type 0
-  Promised judgement left =
-      (judgement ≡ outcome kinds literals claim rows count work)
-      × ((left ≡ work-after kinds literals claim rows count work)
-      × ((number judgement ≡ outcome-number kinds literals claim rows count work)
-      × (judgement ≡ Accepted → bit (verdict kinds literals) ≡ claim)))
+  abbrev Promised : Judgement → List ℕ → Type 0
+  Promised = Judged kinds literals claim rows count work
 
-  -- The last two promises follow from the first.
+  -- The other promises follow from the first.
   promised : (judgement : Judgement) (left : List ℕ) → judgement ≡ outcome kinds literals claim rows count work
       → left ≡ work-after kinds literals claim rows count work → Promised judgement left
   promised judgement left same same-left =
-      let same-of = ap number same ∙ same-number kinds literals claim rows count work in
-      (same, (same-left, (same-of, λ e. accepted-is-verdict kinds literals claim rows count work (sym same ∙ e))))
+      record {
+        returned = same;
+        numbered = ap number same ∙ same-number kinds literals claim rows count work;
+        area = same-left;
+        only-verdict = λ e. accepted-is-verdict kinds literals claim rows count work (sym same ∙ e);
+        right = judge-right (claims-true claim) (prefix kinds) (matrix (clauses literals)) (lent-rows kinds claim rows count);
+      }
 
   -- The search was handed the count `lent`; what it returned is the case in hand.
   module _ (lent : ℕ) (counts : lent ≡ counted claim rows count) {result : Search} (case : Search) (told : result ≡ case)

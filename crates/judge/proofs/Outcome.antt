@@ -9,7 +9,7 @@ use lib.Dec.{eqb}
 use lib.IntN.{ℤ}
 use lib.ListN.{length, replicate}
 use borrow.Author.Tests.{eqb-true, eq-eqb}
-use Rattle.formula.specs.Formula.{prefix, clauses}
+use Rattle.formula.specs.Formula.{work-size, prefix, clauses}
 use Rattle.formula.specs.Meaning.{matrix, bit}
 use Rattle.preference.specs.Preference.{prefer}
 use Rattle.expansion.specs.Play.{Row}
@@ -61,7 +61,7 @@ is-found (Search.Refused cause) = false
 
 left-by-cause : (cause : ℕ) (o : Option (List Row)) (work : List ℕ) (none? : Bool)
     → is-found (cond none? (search.answer o) (Search.Refused cause)) ≡ false
-    → cond none? (search.left o) work ≡ cond none? (replicate search.work-size 0) work
+    → cond none? (search.left o) work ≡ cond none? (replicate work-size 0) work
 left-by-cause cause none work true e = refl
 left-by-cause cause (some yielded) work true e = absurd (true≢false e)
 left-by-cause cause o work false e = refl
@@ -107,7 +107,7 @@ module _ (kinds : List ℕ) (literals : List ℤ) (claim : ℕ) (rows : List ℕ
   unfolding search.outcome search.work-after work-after
   same-work e =
       left-by-cause search-cause found work (eqb search-cause 0) e
-      ∙ ap (λ (c : ℕ). cond (eqb c 0) (replicate search.work-size 0) work) same
+      ∙ ap (λ (c : ℕ). cond (eqb c 0) (replicate work-size 0) work) same
 
   -- .. and if one is found, that is zeros.
   pub cleared-work : is-found searched ≡ true → replicate (length work) 0 ≡ work-after kinds literals claim rows count work

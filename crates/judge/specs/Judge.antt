@@ -1,18 +1,20 @@
 -- What the judge (a checker) returns and leaves, for everything that is lent: 01's causes 1 to 5, 7 and 8 in order, then the judgement.
 -- Assumes nothing.
 use Prim.Native.Nat.{ℕ, zero, suc}
+use mathlib.Core.Path.{_≡_}
 use mathlib.Core.Bool.{Bool, true, false, not, _||_, cond}
 use mathlib.Core.List.{List}
 use lib.Dec.{eqb, ltb}
 use lib.IntN.{ℤ}
 use lib.ListN.{length, replicate}
-use Rattle.formula.specs.Formula.{prefix, clauses}
-use Rattle.formula.specs.Meaning.{matrix, bit}
+use Rattle.formula.specs.Formula.{work-size, prefix, clauses}
+use Rattle.formula.specs.Meaning.{matrix, verdict, bit}
 use Rattle.formula.specs.Causes as Causes
 use Rattle.rows.specs.Table.{rows-of, room, table-fits, stray-rows}
-use Rattle.expansion.specs.Side.{other}
-use Rattle.expansion.specs.Judge.{side-of, accepted}
-use Rattle.search.specs.Search.{work-size}
+use Rattle.expansion.specs.Side.{side-of, other}
+use Rattle.expansion.specs.Play.{Row}
+use Rattle.expansion.specs.Judge.{accepted}
+use Rattle.expansion.specs.Right.{JudgeRight}
 use Rattle.judge.specs.declared.Judgement.{Judgement}
 use Rattle.judge.specs.declared.Judgement.the-variants.{NotBorneOut, Accepted, Refused}
 
@@ -43,10 +45,14 @@ cause kinds literals claim rows count work =
     (cond (stray-rows (width kinds claim) count rows) 8 0))) in
     cond (eqb formula 0) later formula
 
+-- The lent rows below the count, as values of those unknowns.
+abbrev pub lent-rows : List ℕ → ℕ → List ℕ → ℕ → List Row
+lent-rows kinds claim rows count = rows-of (width kinds claim) count rows
+
 -- 'Accepted exactly if no model over those rows exists' ..
 unfoldable pub borne-out : List ℕ → List ℤ → ℕ → List ℕ → ℕ → Bool
 borne-out kinds literals claim rows count =
-    accepted (claims-true claim) (prefix kinds) (matrix (clauses literals)) (rows-of (width kinds claim) count rows)
+    accepted (claims-true claim) (prefix kinds) (matrix (clauses literals)) (lent-rows kinds claim rows count)
 
 -- .. 'otherwise not borne out'.
 abbrev pub answer : Bool → Judgement
@@ -76,3 +82,12 @@ unfoldable pub outcome-number : List ℕ → List ℤ → ℕ → List ℕ → �
 outcome-number kinds literals claim rows count work =
     let answered = bit (borne-out kinds literals claim rows count) in
     cond (eqb (cause kinds literals claim rows count work) 0) answered (cause kinds literals claim rows count work)
+
+-- All that the judge promises: what it returns and its number, the work area at exit, that an accepted claim is the verdict, and that the
+-- definition of 'accepted' is 01's, over the lent rows.
+pub record Judged (kinds : List ℕ) (literals : List ℤ) (claim : ℕ) (rows : List ℕ) (count : ℕ) (work : List ℕ) (result : Judgement) (work-then : List ℕ) : Type 0 where
+  pub returned : result ≡ outcome kinds literals claim rows count work
+  pub numbered : number result ≡ outcome-number kinds literals claim rows count work
+  pub area : work-then ≡ work-after kinds literals claim rows count work
+  pub only-verdict : result ≡ Accepted → bit (verdict kinds literals) ≡ claim
+  pub right : JudgeRight (claims-true claim) (prefix kinds) (matrix (clauses literals)) (lent-rows kinds claim rows count)

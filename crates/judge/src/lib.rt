@@ -5,9 +5,7 @@
 ghost use mathlib.Core.Path.{_≡_};
 ghost use mathlib.Core.Bool.{cond};
 ghost use lib.ListN.{length};
-ghost use Rattle.formula.specs.Meaning.{verdict, bit};
-ghost use Rattle.judge.specs.declared.Judgement.the-variants.{Accepted};
-ghost use Rattle.judge.specs.Judge.{other-claim, outcome, work-after, number, outcome-number};
+ghost use Rattle.judge.specs.Judge.{other-claim, Judged};
 use search::Search;
 
 // A refusal has the number of its cause.
@@ -26,10 +24,7 @@ pub fn judge(
     count: usize,
     work: &mut [u8],
 ) -> Judgement
-    ensures { λ r. ⌜ r ≡ outcome (now (kinds .entry)) (now (literals .entry)) claim (now (rows .entry)) count (now (work .entry)) ⌝ }
-    ensures { λ _. ⌜ now (work .exit) ≡ work-after (now (kinds .entry)) (now (literals .entry)) claim (now (rows .entry)) count (now (work .entry)) ⌝ }
-    ensures { λ r. ⌜ number r ≡ outcome-number (now (kinds .entry)) (now (literals .entry)) claim (now (rows .entry)) count (now (work .entry)) ⌝ }
-    ensures { λ r. ⌜ (r ≡ Accepted → bit (verdict (now (kinds .entry)) (now (literals .entry))) ≡ claim) ⌝ }
+    ensures { λ r. ⌜ Judged (now (kinds .entry)) (now (literals .entry)) claim (now (rows .entry)) count (now (work .entry)) r (now (work .exit)) ⌝ }
 {
     let lent = counted(rows, claim, count);
     match search::first_model(kinds, literals, b"", rows, lent, claim == 1, work) {

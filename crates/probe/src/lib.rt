@@ -8,11 +8,11 @@ ghost use mathlib.Core.Path.{_≡_};
 ghost use Prim.Native.Nat.{_+_};
 ghost use lib.ListN.{length, getD};
 ghost use Rattle.preference.specs.Preference.{prefer};
-ghost use Rattle.rows.specs.Table.{handed-back};
+ghost use Rattle.rows.specs.Access.{handed-back};
 ghost use Rattle.search.specs.Search.{outcome, work-after};
 ghost use Rattle.judge.specs.Judge.{outcome as judge-outcome, work-after as judge-work-after};
-ghost use Rattle.run.specs.Outcome.{given, number-of, Left};
-ghost use Rattle.probe.specs.Numbers.{search-number, judge-number, value-number, Reported};
+ghost use Rattle.run.specs.Outcome.{areas, given, left as run-left};
+ghost use Rattle.probe.specs.Numbers.{search-number, judge-number, answer-number, value-number, Reported};
 
 // The first model of one side over rows of the other.
 #[no_mangle]
@@ -89,8 +89,8 @@ pub extern "C" fn probe_run(
     universal: &mut usize,
     existential: &mut usize,
 ) -> u64
-    ensures reported { λ r. ⌜ Reported (given (now (kinds .entry)) (now (literals .entry)) (now (preferences .entry)) (now («universal_rows» .entry)) (now («universal_marks» .entry)) (now («existential_rows» .entry)) (now («existential_marks» .entry)) (now (work .entry)) limit) r (now (round .exit)) (now (universal .exit)) (now (existential .exit)) ⌝ }
-    ensures left { λ _. ⌜ Left (given (now (kinds .entry)) (now (literals .entry)) (now (preferences .entry)) (now («universal_rows» .entry)) (now («universal_marks» .entry)) (now («existential_rows» .entry)) (now («existential_marks» .entry)) (now (work .entry)) limit) (now («universal_rows» .exit)) (now («universal_marks» .exit)) (now («existential_rows» .exit)) (now («existential_marks» .exit)) (now (work .exit)) ⌝ }
+    ensures reported { λ r. ⌜ Reported (given (now (kinds .entry)) (now (literals .entry)) (now (preferences .entry)) (areas (now («universal_rows» .entry)) (now («universal_marks» .entry)) (now («existential_rows» .entry)) (now («existential_marks» .entry)) (now (work .entry))) limit) r (now (round .exit)) (now (universal .exit)) (now (existential .exit)) ⌝ }
+    ensures left { λ _. ⌜ areas (now («universal_rows» .exit)) (now («universal_marks» .exit)) (now («existential_rows» .exit)) (now («existential_marks» .exit)) (now (work .exit)) ≡ run-left (given (now (kinds .entry)) (now (literals .entry)) (now (preferences .entry)) (areas (now («universal_rows» .entry)) (now («universal_marks» .entry)) (now («existential_rows» .entry)) (now («existential_marks» .entry)) (now (work .entry))) limit) ⌝ }
 {
     let end = run::run(
         kinds,
@@ -111,7 +111,7 @@ pub extern "C" fn probe_run(
 }
 
 fn answer_number(answer: Answer) -> u64
-    ensures { λ r. ⌜ r ≡ number-of answer ⌝ }
+    ensures { λ r. ⌜ r ≡ answer-number answer ⌝ }
 {
     match answer {
         Answer::False => 0,

@@ -26,9 +26,6 @@ module _ (l : Lent) (limit : ℕ) where
   pub count-in-room : (side : Kind) → 1 ≤ room side l → length (table side (run l limit)) ≤ room side l
   count-in-room side = run-reached l limit .held side .fits
 
-  -- So a round's number fits its mark: 256 rounds are the most with 256 rows. This goes for the round reached and for the one that follows a finished one.
-  pub round-in-room : 1 ≤ l .room-A → run l limit .round ≤ l .room-A
-  round-in-room some-room = omega (arith, run-reached l limit .round-A, count-in-room universal some-room)
-
+  -- So the number of the round that follows a finished one fits its mark: 256 rounds are the most with 256 rows.
   pub next-round-in-room : 1 ≤ l .room-A → run l limit .answer ≡ spent → suc limit ≤ l .room-A
   next-round-in-room some-room e = omega (arith, run-reached l limit .ongoing e .count-A, count-in-room universal some-room)

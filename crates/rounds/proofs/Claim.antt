@@ -3,16 +3,16 @@ use Prim.Native.Nat.{ℕ, zero, suc, _-_, _^_, _≤_, _<_}
 use native.Mathlib.Omega.{arith}
 use native.Mathlib.Decide.{decLe}
 use mathlib.Core.Path.{_≡_, refl, sym, ap, subst, _∙_}
-use mathlib.Core.Logic.{_↔_, by-cases}
+use mathlib.Core.Logic.{_↔_, _≢_, by-cases}
 use Rattle.formula.specs.Formula.{Kind, existential, universal}
 use Rattle.formula.specs.Causes.{count}
 use Rattle.formula.specs.Meaning.{meaning}
-use Rattle.rounds.specs.Run.{Answer, is-false, is-true, spent, no-room-universal, no-room-existential, Outcome, Lent, round-of, run}
-use Rattle.rounds.specs.Claim.{table, no-room, Finished, NewRow, most-rounds, answer-of, Claim}
+use Rattle.rounds.specs.Run.{Entry, Answer, is-false, is-true, spent, no-room-universal, no-room-existential, Outcome, Lent, round-of, run}
+use Rattle.rounds.specs.Claim.{table, no-room, Stands, Finished, NewRow, most-rounds, answer-of, Claim}
 use Rattle.rounds.proofs.TableLaws.{all-different}
 use Rattle.rounds.proofs.RoundLaws.{Right, Made}
 use Rattle.rounds.proofs.Bounds.{count-most}
-use Rattle.rounds.proofs.RunLaws.{run-goes-on, run-reached, run-made, run-extends, spent-before, Last, last-round}
+use Rattle.rounds.proofs.RunLaws.{run-marks, run-goes-on, run-reached, run-made, run-extends, spent-before, Last, last-round}
 
 finished-if-spent : (l : Lent) (limit r : ℕ) → 1 ≤ r → r ≤ limit → run l r .answer ≡ spent → Finished l limit r
 finished-if-spent l limit r from-one to-limit e =
@@ -89,6 +89,20 @@ module _ (l : Lent) (limit : ℕ) (from-one : 1 ≤ limit) where
       ∙ made .none-added side (ap (λ (o : Outcome). o .answer) (sym (last .same)) ∙ e)
       ∙ ap (λ (q : ℕ). table side (run l q)) round-before
 
+  marks-made : (side : Kind) (i : ℕ) (x : Entry) → Stands (table side (run l limit)) i x → x .mark ≤ run l limit .round
+  marks-made side i x s =
+      let below = run-marks l (suc (last .p)) side i x (subst (λ (o : Outcome). Stands (table side o) i x) (last .same) s) in
+      omega (arith, round-is)
+
+  last-mark : run l limit .answer ≢ is-false → run l limit .answer ≢ no-room-existential
+      → NewRow (run l limit .round) (run l (run l limit .round - 1) .S) (run l limit .S) (run l limit .S)
+  last-mark one two =
+      let answer-is = ap (λ (o : Outcome). o .answer) (last .same) in
+      let latest = made .latest (λ e. one (answer-is ∙ e)) (λ e. two (answer-is ∙ e)) in
+      subst (λ (q : ℕ). NewRow (run l limit .round) (run l q .S) (run l limit .S) (run l limit .S)) round-before
+      (subst (λ (r : ℕ). NewRow r (run l (last .p) .S) (run l limit .S) (run l limit .S)) (sym round-is)
+      (subst (λ (o : Outcome). NewRow (suc (last .p)) (run l (last .p) .S) (o .S) (o .S)) (sym (last .same)) latest))
+
   pub claim : Claim l limit
   claim =
       record {
@@ -102,6 +116,8 @@ module _ (l : Lent) (limit : ℕ) (from-one : 1 ≤ limit) where
         new-rows = new-row l limit;
         different-after = λ side r f. all-different (table side (run l r)) (run-reached l r .held side .distinct);
         different-at-end = λ side. all-different (table side (run l limit)) (run-reached l limit .held side .distinct);
+        marks-made = marks-made;
+        last-mark = last-mark;
         none-added = none-added;
         most =
             let reached = run-reached l limit in

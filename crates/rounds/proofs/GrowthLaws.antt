@@ -4,7 +4,7 @@ use native.Mathlib.Omega.{arith}
 use mathlib.Core.Path.{_≡_, refl, ap, subst}
 use mathlib.Core.Bool.{Bool, true, false, not, cond}
 use mathlib.Core.List.{List, [], _∷_, _++_}
-use mathlib.Core.Logic.{⊎-elim}
+use mathlib.Core.Logic.{_⊎_, ⊎-elim}
 use mathlib.Core.Option.{Option, none, some}
 use lib.Dec.{T, leb, leb→le, nleb→lt}
 use lib.ListN.{length, length-map}
@@ -18,8 +18,8 @@ use Rattle.expansion.proofs.Membership.{In, Distinct, in-append-cases, in-appen
 use Rattle.expansion.proofs.Progress.{Answers, search-answers, yields-fresh}
 use Rattle.expansion.proofs.Counting.{Sized, at-most-all-rows}
 use Rattle.rounds.specs.Run.{Entry, Table, rows, grown, if-fits, Lent}
-use Rattle.rounds.specs.Claim.{NewRow}
-use Rattle.rounds.proofs.TableLaws.{rows-grown, Extends, extends-grown, grown-new, length-grown}
+use Rattle.rounds.specs.Claim.{Stands, NewRow}
+use Rattle.rounds.proofs.TableLaws.{rows-grown, marks-grown, Extends, extends-grown, grown-new, length-grown}
 
 -- The rows that a side's table has room for.
 abbrev pub room : Kind → Lent → ℕ
@@ -71,6 +71,7 @@ pub record Growth (l : Lent) (side : Kind) (r : ℕ) (from : List Row) (t u : Ta
   pub more : suc (length t) ≤ length u
   pub extends : Extends t u
   pub new-row : (end : Table) → Extends u end → NewRow r t u end
+  pub marks : (i : ℕ) (x : Entry) → Stands u i x → Stands t i x ⊎ (x .mark ≡ r)
   pub σ : Strategy
   pub answers : Answers side (l .ks) (l .phi) σ (λ x. In x from) (λ x. In x (rows u))
 
@@ -112,6 +113,7 @@ module _ (l : Lent) (side : Kind) (r : ℕ) (from : List Row) (t : Table) (held 
         more = length-grown r t new adds;
         extends = extends-grown r t new;
         new-row = λ end. grown-new r t new end adds;
+        marks = marks-grown r t (fresh (rows t) new);
         σ = model .0;
         answers = record { wins = model .1 .wins; within = λ y h. yielded-in-grown _ (model .1 .within y h) };
       }

@@ -4,20 +4,21 @@ use native.Mathlib.Omega.{arith}
 use mathlib.Core.Path.{_≡_, refl, sym, ap, subst, _∙_}
 use mathlib.Core.Bool.{Bool, true, false, not, Bool·not-not}
 use mathlib.Core.List.{List, [], _∷_}
-use mathlib.Core.Logic.{_≢_, inl, inr}
+use mathlib.Core.Logic.{_≢_, _⊎_, inl, inr}
 use mathlib.Core.Option.{Option, none, some}
 use lib.ListN.{length}
 use Rattle.formula.specs.Formula.{Kind, existential, universal}
 use Rattle.formula.specs.Causes.{count}
 use Rattle.formula.specs.Meaning.{meaning}
+use Rattle.rows.proofs.ValueLaws.{length-values}
 use Rattle.expansion.specs.Play.{Row, Strategy}
 use Rattle.expansion.specs.Model.{search}
 use Rattle.expansion.proofs.Membership.{In}
 use Rattle.expansion.proofs.Verdict.{none-is-verdict}
 use Rattle.expansion.proofs.Progress.{Answers}
 use Rattle.expansion.proofs.Counting.{Sized}
-use Rattle.rounds.specs.Run.{Table, rows, Answer, is-false, is-true, spent, no-room-universal, no-room-existential, number, Outcome, outcome, preferred, grown, if-fits, Lent, start, step-1, step-2, step-3, step-4, round-of}
-use Rattle.rounds.specs.Claim.{table, no-room, NewRow}
+use Rattle.rounds.specs.Run.{Entry, Table, rows, Answer, is-false, is-true, spent, no-room-universal, no-room-existential, number, Outcome, outcome, grown, if-fits, Lent, start, step-1, step-2, step-3, step-4, round-of}
+use Rattle.rounds.specs.Claim.{table, no-room, Stands, NewRow}
 use Rattle.rounds.proofs.TableLaws.{Extends, extends-itself}
 use Rattle.rounds.proofs.GrowthLaws.{Held, Fitted, fitted, Growth, growth, room-below-all-rows}
 
@@ -65,15 +66,13 @@ pub record Made (l : Lent) (r : ℕ) (b o : Outcome) : Type 0 where
   pub extends : (side : Kind) → Extends (table side b) (table side o)
   pub new-row : o .answer ≡ spent → (side : Kind) (end : Table) → Extends (table side o) end → NewRow r (table side b) (table side o) end
   pub none-added : (side : Kind) → o .answer ≡ no-room side → table side o ≡ table side b
+  pub marks : (side : Kind) (i : ℕ) (x : Entry) → Stands (table side o) i x → Stands (table side b) i x ⊎ (x .mark ≡ r)
+  pub latest : o .answer ≢ is-false → o .answer ≢ no-room-existential → NewRow r (b .S) (o .S) (o .S)
 
 -- What holds of A and of S holds of each table.
 each : (P : Kind → Type 0) → P universal → P existential → (side : Kind) → P side
 each P u e universal = u
 each P u e existential = e
-
-length-preferred : (n : ℕ) (prefer : ℕ → Bool) → length (preferred n prefer) ≡ n
-length-preferred zero prefer = refl
-length-preferred (suc n) prefer = ap suc (length-preferred n (λ i. prefer (suc i)))
 
 pub start-reached : (l : Lent) → Reached l zero (start l)
 start-reached l =
@@ -98,7 +97,7 @@ start-reached l =
     }
   where
     only : Sized (count universal (l .ks)) (rows (start l .A))
-    only x (inl e) = rw e (length-preferred (count universal (l .ks)) (l .prefer))
+    only x (inl e) = rw e (length-values (count universal (l .ks)) _)
     only x (inr h) = absurd h
 
 some-row : (n : ℕ) (t : Table) → suc n ≤ length t → (x : Row) × In x (rows t)
@@ -109,8 +108,9 @@ some-row n (x ∷ t) h = (x .row, inl refl)
 module _ (l : Lent) (r : ℕ) (b : Outcome) (before : Reached l r b) (ongoing : Ongoing l r b) where
   -- A round that ends the run, with S or what step 2 has made of it.
   over : (a : Answer) (S : Table) → Over a → Right l a → Held l existential S → Extends (b .S) S → r ≤ length S
-      → (a ≡ no-room-existential → S ≡ b .S) → Made l (suc r) b (outcome a (suc r) (b .A) S)
-  over a S ends right held extends count-S unchanged =
+      → (a ≡ no-room-existential → S ≡ b .S) → ((i : ℕ) (x : Entry) → Stands S i x → Stands (b .S) i x ⊎ (x .mark ≡ suc r))
+      → (a ≢ is-false → a ≢ no-room-existential → NewRow (suc r) (b .S) S S) → Made l (suc r) b (outcome a (suc r) (b .A) S)
+  over a S ends right held extends count-S unchanged marks latest =
       let o = outcome a (suc r) (b .A) S in
       record {
         reached =
@@ -127,6 +127,8 @@ module _ (l : Lent) (r : ℕ) (b : Outcome) (before : Reached l r b) (ongoing : 
         extends = each (λ side. Extends (table side b) (table side o)) (extends-itself (b .A)) extends;
         new-row = λ e. absurd (over-not-spent a ends e);
         none-added = each (λ side. a ≡ no-room side → table side o ≡ table side b) (λ _. refl) unchanged;
+        marks = each (λ side. (i : ℕ) (x : Entry) → Stands (table side o) i x → Stands (table side b) i x ⊎ (x .mark ≡ suc r)) (λ i x s. inl s) marks;
+        latest = latest;
       }
 
   finished : (A S : Table) → Growth l existential (suc r) (rows (b .A)) (b .S) S → Growth l universal (suc r) (rows S) (b .A) A
@@ -157,6 +159,11 @@ module _ (l : Lent) (r : ℕ) (b : Outcome) (before : Reached l r b) (ongoing : 
             each (λ side. spent ≡ no-room side → table side o ≡ table side b)
             (λ e. absurd (omega (arith, ap number e)))
             (λ e. absurd (omega (arith, ap number e)));
+        marks =
+            each (λ side. (i : ℕ) (x : Entry) → Stands (table side o) i x → Stands (table side b) i x ⊎ (x .mark ≡ suc r))
+            (grown-A .marks)
+            (grown-S .marks);
+        latest = λ _ _. grown-S .new-row S (extends-itself S);
       }
 
   -- A round that ends the run after step 2.
@@ -164,6 +171,7 @@ module _ (l : Lent) (r : ℕ) (b : Outcome) (before : Reached l r b) (ongoing : 
       → Made l (suc r) b (outcome a (suc r) (b .A) S)
   over-later a S ends other-answer right grown-S =
       over a S ends right (grown-S .held) (grown-S .extends) (omega (arith, ongoing .count-S, grown-S .more)) (λ e. absurd (other-answer e))
+      (grown-S .marks) (λ _ _. grown-S .new-row S (extends-itself S))
 
   -- The steps, each by what it looks at.
   made-4 : (S : Table) (new : List Row) → Growth l existential (suc r) (rows (b .A)) (b .S) S → search (l .prefer) universal (l .ks) (l .phi) (rows S) ≡ some new
@@ -190,7 +198,7 @@ module _ (l : Lent) (r : ℕ) (b : Outcome) (before : Reached l r b) (ongoing : 
   made-2 new found none full =
       over no-room-existential (b .S) tt
       (room-below-all-rows l existential (suc r) (rows (b .A)) (b .S) (before .held existential) new found full)
-      (before .held existential) (extends-itself (b .S)) (ongoing .count-S) (λ _. refl)
+      (before .held existential) (extends-itself (b .S)) (ongoing .count-S) (λ _. refl) (λ i x s. inl s) (λ _ n. absurd (n refl))
   made-2 new found (some S) fits =
       let x = some-row r (b .A) (ongoing .count-A) in
       made-3 S
@@ -202,7 +210,7 @@ module _ (l : Lent) (r : ℕ) (b : Outcome) (before : Reached l r b) (ongoing : 
       → Made l (suc r) b (step-1 l (suc r) (b .A) (b .S) m)
   made-1 none e =
       over is-false (b .S) tt (none-is-verdict (l .prefer) existential (l .ks) (l .phi) (rows (b .A)) e)
-      (before .held existential) (extends-itself (b .S)) (ongoing .count-S) (λ _. refl)
+      (before .held existential) (extends-itself (b .S)) (ongoing .count-S) (λ _. refl) (λ i x s. inl s) (λ n _. absurd (n refl))
   made-1 (some new) e = made-2 new e (if-fits (l .room-S) (grown (suc r) (b .S) new)) (fitted (l .room-S) (grown (suc r) (b .S) new))
 
   pub round-made : Made l (suc r) b (round-of l (suc r) (b .A) (b .S))

@@ -4,9 +4,10 @@ use native.Mathlib.Omega.{arith}
 use native.Mathlib.Decide.{le-ind}
 use mathlib.Core.Path.{_≡_, refl, sym, ap, subst, _∙_}
 use mathlib.Core.Logic.{_⊎_, inl, inr, ⊎-elim}
-use Rattle.formula.specs.Formula.{Kind}
-use Rattle.rounds.specs.Run.{Answer, is-false, is-true, spent, no-room-universal, no-room-existential, Outcome, Lent, round-of, next, run}
-use Rattle.rounds.specs.Claim.{table}
+use mathlib.Core.Option.{Option·none-ne-some}
+use Rattle.formula.specs.Formula.{Kind, existential, universal}
+use Rattle.rounds.specs.Run.{Entry, start, Answer, is-false, is-true, spent, no-room-universal, no-room-existential, Outcome, Lent, round-of, next, run}
+use Rattle.rounds.specs.Claim.{table, Stands}
 use Rattle.rounds.proofs.TableLaws.{Extends, extends-itself, extends-further}
 use Rattle.rounds.proofs.RoundLaws.{Reached, Made, Over, over-not-spent, round-made, start-reached}
 
@@ -92,6 +93,27 @@ spent-before l r limit h e =
     ⊎-elim
     (λ s. s)
     (λ over. absurd (over-not-spent (run l r .answer) over (ap (λ (o : Outcome). o .answer) (sym (run-stays l r limit h over)) ∙ e)))
+    (spent-or-over (run l r .answer))
+
+-- No mark is past the limit.
+start-mark : (l : Lent) (side : Kind) (i : ℕ) (x : Entry) → Stands (table side (start l)) i x → x .mark ≤ 0
+start-mark l universal zero x s = let e : x .mark ≡ 0 = cc in omega arith
+start-mark l universal (suc i) x s = absurd (Option·none-ne-some x s)
+start-mark l existential i x s = absurd (Option·none-ne-some x s)
+
+pub run-marks : (l : Lent) (r : ℕ) (side : Kind) (i : ℕ) (x : Entry) → Stands (table side (run l r)) i x → x .mark ≤ r
+unfolding run
+run-marks l zero side i x s = start-mark l side i x s
+run-marks l (suc r) side i x s =
+    ⊎-elim
+    (λ e.
+    ⊎-elim
+    (λ old. let before = run-marks l r side i x old in omega arith)
+    (λ new. omega arith)
+    (run-made l r e .marks side i x s))
+    (λ over.
+    let before = run-marks l r side i x (subst (λ (o : Outcome). Stands (table side o) i x) (run-over l r over) s) in
+    omega arith)
     (spent-or-over (run l r .answer))
 
 -- The last round of a run, p + 1: p rounds are finished, and the outcome is that of this round.

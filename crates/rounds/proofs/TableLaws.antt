@@ -3,7 +3,7 @@ use Prim.Native.Nat.{ℕ, zero, suc, _≤_}
 use native.Mathlib.Omega.{arith}
 use mathlib.Core.Path.{_≡_, refl, sym, ap, _∙_}
 use mathlib.Core.List.{List, [], _∷_, _++_, map, append-nil, append-assoc}
-use mathlib.Core.Logic.{inl, inr}
+use mathlib.Core.Logic.{_⊎_, inl, inr}
 use mathlib.Core.Option.{Option·none-ne-some}
 use lib.ListN.{length, length-append}
 use Rattle.expansion.specs.Play.{Row}
@@ -48,6 +48,14 @@ stands-extends t u i x p s = rw (p .1) (stands-append t (p .0) i x s)
 pub stands-at-seam : (t : Table) (x : Entry) (more : Table) → Stands (t ++ x ∷ more) (length t) x
 stands-at-seam [] x more = refl
 stands-at-seam (y ∷ t) x more = stands-at-seam t x more
+
+-- What stands in a grown table stood there, or has the round's mark.
+pub marks-grown : (r : ℕ) (t : Table) (l : List Row) (i : ℕ) (x : Entry) → Stands (t ++ map (under-mark r) l) i x → Stands t i x ⊎ (x .mark ≡ r)
+marks-grown r [] [] i x s = absurd (Option·none-ne-some x s)
+marks-grown r [] (y ∷ l) zero x s = inr (let e : under-mark r y ≡ x = cc in rw (← e))
+marks-grown r [] (y ∷ l) (suc i) x s = marks-grown r [] l i x s
+marks-grown r (y ∷ t) l zero x s = inl s
+marks-grown r (y ∷ t) l (suc i) x s = marks-grown r t l i x s
 
 pub stands-in : (t : Table) (i : ℕ) (x : Entry) → Stands t i x → In (x .row) (rows t)
 stands-in [] i x s = absurd (Option·none-ne-some x s)

@@ -1,4 +1,5 @@
--- What holds of every run, whatever is lent and with every limit from 1: 01's demand 3, one claim about the whole run.
+-- What holds of every run, whatever is lent: 01's demand 2, what an answer says of the formula; and, with every limit from 1, demand 3, one claim
+-- about the whole run.
 -- 'A table after round r is the rows and marks that stand below its count when the same things are lent with the limit r': it is a table of `run l r`.
 -- Assumes nothing.
 use Prim.Native.Nat.{ℕ, _+_, _-_, _^_, _≤_, _<_, min}
@@ -11,6 +12,12 @@ use Rattle.formula.specs.Formula.{Kind, existential, universal}
 use Rattle.formula.specs.Causes.{count}
 use Rattle.formula.specs.Meaning.{meaning}
 use Rattle.rounds.specs.Run.{Entry, Table, Answer, is-true, is-false, spent, no-room-universal, no-room-existential, Outcome, Lent, round-of, run}
+
+-- 'The verdict is this value of the whole formula, 1 for true and 0 for false': the answer is true only if the formula is true, and false
+-- only if it is false.
+pub record VerdictRight (l : Lent) (limit : ℕ) : Type 0 where
+  pub only-true : run l limit .answer ≡ is-true → meaning (l .ks) (l .phi) ≡ true
+  pub only-false : run l limit .answer ≡ is-false → meaning (l .ks) (l .phi) ≡ false
 
 -- The table of a side's rows: A holds universal rows, S existential ones.
 abbrev pub table : Kind → Outcome → Table
@@ -75,6 +82,11 @@ pub record Claim (l : Lent) (limit : ℕ) : Type 0 where
   -- 'In neither table, after a finished round or at the end, are two rows below its count equal.'
   pub different-after : (side : Kind) (r : ℕ) → Finished l limit r → AllDifferent (table side (run l r))
   pub different-at-end : (side : Kind) → AllDifferent (table side (run l limit))
+  -- The rounds made are those of the marks: no mark is past the round returned, and S has a new row with that mark, unless the round ended
+  -- in step 1 or without room in step 2.
+  pub marks-made : (side : Kind) (i : ℕ) (x : Entry) → Stands (table side (run l limit)) i x → x .mark ≤ run l limit .round
+  pub last-mark : run l limit .answer ≢ is-false → run l limit .answer ≢ no-room-existential
+      → NewRow (run l limit .round) (run l (run l limit .round - 1) .S) (run l limit .S) (run l limit .S)
   -- 'If they don't all fit, none is added': the table for which there is no room is that after the round before.
   pub none-added : (side : Kind) → run l limit .answer ≡ no-room side → table side (run l limit) ≡ table side (run l (run l limit .round - 1))
   -- No round is past min(2^a, 2^e + 1), a and e being the numbers of universal and existential unknowns.

@@ -1,5 +1,4 @@
 -- The definition of 01's 'The run', and the statements of what holds of it.
 pub mod Run
-pub mod Verdict
 pub mod Claim
 pub mod Worked

@@ -8,6 +8,7 @@ use lib.Dec.{leb}
 use lib.ListN.{length}
 use Rattle.formula.specs.Formula.{Kind, existential, universal}
 use Rattle.formula.specs.Causes.{count}
+use Rattle.rows.specs.Row.{values}
 use Rattle.expansion.specs.Play.{Row}
 use Rattle.expansion.specs.Copies.{fresh}
 use Rattle.expansion.specs.Model.{search}
@@ -48,11 +49,6 @@ pub record Outcome : Type 0 where
 abbrev pub outcome : Answer → ℕ → Table → Table → Outcome
 outcome a r A S = record { answer = a; round = r; A = A; S = S }
 
--- The values of m unknowns, the k-th being preference k.
-abbrev pub preferred : ℕ → (ℕ → Bool) → Row
-preferred zero prefer = []
-preferred (suc m) prefer = prefer zero ∷ preferred m (λ i. prefer (suc i))
-
 -- 'Those not in the table are added in that order, each once, mark r. If they don't all fit, none is added.'
 abbrev pub grown : ℕ → Table → List Row → Table
 grown r t yielded = t ++ map (under-mark r) (fresh (rows t) yielded)
@@ -70,7 +66,7 @@ pub record Lent : Type 0 where
 
 -- 'At the start A holds one row, mark 0, its bit k being preference k; S is empty.'
 abbrev pub start : Lent → Outcome
-start l = outcome spent zero (under-mark zero (preferred (count universal (l .ks)) (l .prefer)) ∷ []) []
+start l = outcome spent zero (under-mark zero (values (count universal (l .ks)) (l .prefer)) ∷ []) []
 
 -- Steps 4 and 5 of round r. '4. Otherwise the same towards A: no room, universal. 5. The round is finished.'
 abbrev pub step-4 : ℕ → Table → Table → Option Table → Outcome

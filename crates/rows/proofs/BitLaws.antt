@@ -11,7 +11,8 @@ use lib.Dec.{eqb, eqb·zero-suc, eqb·suc-zero, eqb·suc-suc}
 use lib.ListN.{length, getD}
 use lib.Pow.{shl-exact}
 use borrow.Author.Tests.{eqb-true, eqb-false, eq-eqb, ne-eqb}
-use Rattle.rows.specs.Row.{odd, weight, number}
+use Rattle.preference.specs.Preference.{odd}
+use Rattle.rows.specs.Row.{weight, number}
 
 -- Shifting by one place more is halving first.
 shift-suc : (n t : ℕ) → n / 2 ^ suc t ≡ n / 2 / 2 ^ t

@@ -10,7 +10,8 @@ use lib.Dec.{eqb}
 use lib.ListN.{length, getD, take, drop}
 use borrow.Author.Tests.{eqb-true, eq-eqb}
 use Rattle.rows.specs.Row.{values, row-of}
-use Rattle.rows.specs.Table.{inside, row-at, room, same-bytes, equal-rows, first-true, first-place}
+use Rattle.rows.specs.Table.{inside, row-at, room}
+use Rattle.rows.specs.Access.{same-bytes, equal-rows, first-true, first-place}
 use Rattle.rows.specs.declared.Found.the-variants.{At, Absent}
 use Rattle.rows.proofs.ValueLaws.{length-values, getD-values, values-false}
 use Rattle.rows.proofs.RowLaws.{IsRow, equal-values-equal-bytes}

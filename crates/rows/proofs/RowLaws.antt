@@ -11,7 +11,8 @@ use native.Mathlib.Omega.{arith}
 use lib.ListN.{length, getD, take, drop, length-take, List·getD-eq-default}
 use lib.Pow.{pow-pos, shr-lt, shr-shr}
 use lib.Seq.{ext-getD, getD-take, getD-drop, drop-drop}
-use Rattle.rows.specs.Row.{odd, bit-of, row-of, number, bytes, bytes-of, stray}
+use Rattle.preference.specs.Preference.{odd}
+use Rattle.rows.specs.Row.{bit-of, row-of, number, bytes, bytes-of, stray}
 use Rattle.rows.proofs.BitLaws.{odd-zero, bit-number, number-below, bits-determine}
 use Rattle.rows.proofs.ValueLaws.{length-values, getD-values, any-false, none-any}
 

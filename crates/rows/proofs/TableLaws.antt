@@ -10,7 +10,8 @@ use native.Mathlib.Omega.{arith}
 use lib.ListN.{length, getD, take, drop, length-drop, List·getD-eq-default}
 use lib.Seq.{ext-getD, getD-take, getD-drop, drop-drop, take-at, drop-at, length-take-le}
 use borrow.Author.Tests.{le-leb, lt-leb}
-use Rattle.rows.specs.Row.{odd, bit-of, values, row-of, bytes-of, stray}
+use Rattle.preference.specs.Preference.{odd}
+use Rattle.rows.specs.Row.{bit-of, values, row-of, bytes-of, stray}
 use Rattle.rows.specs.Table.{inside, row-at, room, rows-of, table-of, stray-rows}
 use Rattle.rows.proofs.ValueLaws.{values-false, getD-values, any-false, none-any, found-any}
 use Rattle.rows.proofs.RowLaws.{IsRow, getD-row-of, no-bit-past-end, none-stray, length-bytes-of, row-of-bytes-of}

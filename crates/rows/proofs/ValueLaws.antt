@@ -8,7 +8,8 @@ use native.Mathlib.Nat.{le-of-suc-le-suc, not-suc-le-zero}
 use native.Mathlib.Decide.{decLt}
 use native.Mathlib.Omega.{arith}
 use lib.ListN.{length, getD, List·getD-eq-default}
-use Rattle.rows.specs.Row.{values, any}
+use Rattle.formula.specs.Causes.{any}
+use Rattle.rows.specs.Row.{values}
 
 pub length-values : (m : ℕ) (f : ℕ → Bool) → length (values m f) ≡ m
 length-values zero f = refl
@@ -27,15 +28,15 @@ values-false m f none k = go (decLt k m)
     go (yes h) = getD-values m f k h ∙ none k h
     go (no h) = List·getD-eq-default (values m f) false (omega (arith, length-values m f))
 
-pub any-false : (vs : List Bool) → any vs ≡ false → (k : ℕ) → getD vs k false ≡ false
+pub any-false : (vs : List Bool) → any (λ v. v) vs ≡ false → (k : ℕ) → getD vs k false ≡ false
 any-false [] e k = refl
 any-false (true ∷ vs) e k = absurd (true≢false e)
 any-false (false ∷ vs) e zero = refl
 any-false (false ∷ vs) e (suc k) = any-false vs e k
 
-pub none-any : (vs : List Bool) → ((k : ℕ) → getD vs k false ≡ false) → any vs ≡ false
+pub none-any : (vs : List Bool) → ((k : ℕ) → getD vs k false ≡ false) → any (λ v. v) vs ≡ false
 none-any [] none = refl
-none-any (v ∷ vs) none = ap (λ (u : Bool). u || any vs) (none zero) ∙ none-any vs (λ k. none (suc k))
+none-any (v ∷ vs) none = ap (λ (u : Bool). u || any (λ v. v) vs) (none zero) ∙ none-any vs (λ k. none (suc k))
 
-pub found-any : (vs : List Bool) (k : ℕ) → getD vs k false ≡ true → any vs ≡ true
+pub found-any : (vs : List Bool) (k : ℕ) → getD vs k false ≡ true → any (λ v. v) vs ≡ true
 found-any vs k found = not-eq-not {b = true} .0 (λ e. true≢false (sym found ∙ any-false vs e k))

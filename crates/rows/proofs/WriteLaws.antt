@@ -11,8 +11,10 @@ use lib.Dec.{eqb}
 use lib.ListN.{length, getD, take, drop, set, length-append, length-drop, length-set, List·getD-append}
 use lib.Seq.{ext-getD, getD-take, getD-drop, getD-append-add, getD-set-same, getD-set-other, length-take-le, take-suc-set}
 use borrow.Author.Tests.{lt-ltb, eq-eqb, ne-eqb}
-use Rattle.rows.specs.Row.{odd, bit-of, row-of}
-use Rattle.rows.specs.Table.{row-at, room, rows-of, bit-set, placed, rows-written, marks-written}
+use Rattle.preference.specs.Preference.{odd}
+use Rattle.rows.specs.Row.{bit-of, row-of}
+use Rattle.rows.specs.Table.{row-at, room, rows-of}
+use Rattle.rows.specs.Access.{bit-set, placed, rows-written, marks-written}
 use Rattle.rows.proofs.BitLaws.{odd-with-bit}
 use Rattle.rows.proofs.RowLaws.{length-row-of, getD-row-of}
 use Rattle.rows.proofs.TableLaws.{inside-true, length-row-at, getD-row-at, equal-row-at, bit-of-row-at, rows-of-next, rows-of-same}

@@ -1,3 +1,4 @@
--- The definitions of 01's 'Rows', in the order of reading: one row as values and as bytes, then the tables and what the code does with them.
+-- The definitions of 01's 'Rows', in the order of reading: one row as values and as bytes, then the tables, then what the code does with them.
 pub mod Row
 pub mod Table
+pub mod Access

@@ -1,14 +1,11 @@
 -- One row, an assignment of one side's unknowns: as its values, and as its sixteen bytes.
 -- Assumes nothing.
 use Prim.Native.Nat.{ℕ, zero, suc, _+_, _*_, _/_, _%_, _^_}
-use mathlib.Core.Bool.{Bool, true, false, _||_}
+use mathlib.Core.Bool.{Bool, true, false}
 use mathlib.Core.List.{List, [], _∷_}
-use lib.Dec.{eqb}
 use lib.ListN.{getD, take, drop}
-
--- The lowest bit of a number.
-abbrev pub odd : ℕ → Bool
-odd n = eqb (n % 2) 1
+use Rattle.formula.specs.Causes.{any}
+use Rattle.preference.specs.Preference.{odd}
 
 -- 'Bit k (byte k div 8, weight 2^(k mod 8))' of a list of bytes. Past the end no bit is set.
 unfoldable pub bit-of : List ℕ → ℕ → Bool
@@ -41,15 +38,10 @@ bytes (suc n) vs = number (take 8 vs) ∷ bytes n (drop 8 vs)
 unfoldable pub bytes-of : List Bool → List ℕ
 bytes-of row = bytes 16 row
 
--- One of the values is true.
-abbrev pub any : List Bool → Bool
-any [] = false
-any (v ∷ vs) = v || any vs
-
 -- A row's bits, eight to a byte.
 abbrev pub row-bits : ℕ
 row-bits = 8 * 16
 
 -- 'A bit set beyond its unknowns', of which there are m: one of a row's bits, at or beyond m.
 unfoldable pub stray : ℕ → List ℕ → Bool
-stray m bytes = any (drop m (row-of row-bits bytes))
+stray m bytes = any (λ v. v) (drop m (row-of row-bits bytes))

@@ -1,15 +1,13 @@
--- Row tables and mark tables, and what is read from them, found in them and written to them.
+-- Row tables and mark tables: a table's rows, its room, and which tables are refused.
 -- Assumes nothing.
-use Prim.Native.Nat.{ℕ, zero, suc, _+_, _*_, _/_, _%_, _^_}
-use mathlib.Core.Bool.{Bool, true, false, _&&_, cond}
+use Prim.Native.Nat.{ℕ, zero, suc, _+_, _*_, _/_, _%_}
+use mathlib.Core.Bool.{Bool, _&&_, cond}
 use mathlib.Core.List.{List, [], _∷_, _++_}
-use lib.Bits.{bitOr}
-use lib.Dec.{eqb, leb, ltb}
-use lib.ListN.{length, getD, take, drop, set}
+use lib.Dec.{eqb, leb}
+use lib.ListN.{length, take, drop}
 use Rattle.formula.specs.Formula.{max-rows}
-use Rattle.rows.specs.Row.{values, row-of, bytes-of, row-bits, any, stray}
-use Rattle.rows.specs.declared.Found.{Found}
-use Rattle.rows.specs.declared.Found.the-variants.{At, Absent}
+use Rattle.formula.specs.Causes.{any}
+use Rattle.rows.specs.Row.{values, row-of, bytes-of, stray}
 
 -- 'Row i starts at byte 16·i.' It is wholly inside the table.
 abbrev pub inside : List ℕ → ℕ → Bool
@@ -41,54 +39,6 @@ table-fits table = leb 16 (length table) && leb (length table) (max-rows * 16) &
 abbrev pub marks-fit : List ℕ → List ℕ → Bool
 marks-fit table marks = eqb (length marks) (room table)
 
--- 'On request a row is handed back as the caller's own sixteen bytes; for a place at or past the count, or not wholly inside the table, as
--- an empty part.'
-unfoldable pub handed-back : List ℕ → ℕ → ℕ → List ℕ
-handed-back table count place = cond (ltb place count) (row-at table place) []
-
--- The table with bit k of row i set. It stays as it is if the row is not wholly inside it, or if a row has no bit k.
-unfoldable pub bit-set : List ℕ → ℕ → ℕ → List ℕ
-bit-set table i k =
-    let place = 16 * i + k / 8 in
-    cond (inside table i && ltb k row-bits) (set table place (bitOr (getD table place 0) (2 ^ (k % 8)))) table
-
--- Two lists of bytes are equal.
-abbrev pub same-bytes : List ℕ → List ℕ → Bool
-same-bytes [] [] = true
-same-bytes [] (y ∷ ys) = false
-same-bytes (x ∷ xs) [] = false
-same-bytes (x ∷ xs) (y ∷ ys) = eqb x y && same-bytes xs ys
-
--- Row i of a table equals row j of another. A row that is not wholly inside its table equals none.
-unfoldable pub equal-rows : List ℕ → ℕ → List ℕ → ℕ → Bool
-equal-rows table i other j = inside table i && inside other j && same-bytes (row-at table i) (row-at other j)
-
--- The first place, counted from i, at which a list has true.
-abbrev pub first-true : ℕ → List Bool → Found
-first-true i [] = Absent
-first-true i (true ∷ vs) = At i
-first-true i (false ∷ vs) = first-true (suc i) vs
-
--- The first place below the count whose row equals row j of another table.
-unfoldable pub first-place : List ℕ → ℕ → List ℕ → ℕ → Found
-first-place table count other j = first-true 0 (values count (λ i. equal-rows table i other j))
-
--- The table with a row in the place of row i.
-abbrev pub placed : List ℕ → ℕ → List ℕ → List ℕ
-placed table i row = take (16 * i) table ++ row ++ drop (16 * i + 16) table
-
--- Row i and mark i, and row j of another table, are all inside.
-abbrev pub writable : List ℕ → List ℕ → ℕ → List ℕ → ℕ → Bool
-writable table marks i other j = inside table i && ltb i (length marks) && inside other j
-
--- Row j of another table written to place i with its mark: the rows and the marks afterwards. If one of the three is not inside, both stay
--- as they are.
-unfoldable pub rows-written : List ℕ → List ℕ → ℕ → List ℕ → ℕ → List ℕ
-rows-written table marks i other j = cond (writable table marks i other j) (placed table i (row-at other j)) table
-
-unfoldable pub marks-written : List ℕ → List ℕ → ℕ → List ℕ → ℕ → ℕ → List ℕ
-marks-written table marks i other j mark = cond (writable table marks i other j) (set marks i mark) marks
-
 -- Cause 8: 'in a row below the count, a bit set beyond its unknowns', of which there are m.
 unfoldable pub stray-rows : ℕ → ℕ → List ℕ → Bool
-stray-rows m count table = any (values count (λ i. stray m (row-at table i)))
+stray-rows m count table = any (λ v. v) (values count (λ i. stray m (row-at table i)))

@@ -7,7 +7,8 @@ ghost use Prim.Native.Nat.{_+_, _≤_, min};
 ghost use lib.ListN.{length, take, drop, replicate};
 ghost use lib.Seq.{paste};
 ghost use Rattle.rows.specs.Row.{bit-of, stray};
-ghost use Rattle.rows.specs.Table.{row-at, room, table-fits, marks-fit, handed-back, bit-set, same-bytes, equal-rows, first-place, rows-written, marks-written, stray-rows};
+ghost use Rattle.rows.specs.Table.{row-at, room, table-fits, marks-fit, stray-rows};
+ghost use Rattle.rows.specs.Access.{handed-back, bit-set, same-bytes, equal-rows, first-place, rows-written, marks-written};
 
 // A row's bytes, and its bits.
 const BYTES: usize = 16;

@@ -7,7 +7,8 @@ use mathlib.Core.List.{List, [], _∷_, _++_, append-assoc}
 use lib.ListN.{length, getD, take, drop, length-append}
 use lib.Seq.{ext-getD, getD-take, drop-drop, take-at, drop-at, length-take-le}
 use Rattle.rows.specs.Row.{row-of, bytes-of}
-use Rattle.rows.specs.Table.{row-at, rows-of, table-of, room, equal-rows, first-place, stray-rows}
+use Rattle.rows.specs.Table.{row-at, rows-of, table-of, room, stray-rows}
+use Rattle.rows.specs.Access.{equal-rows, first-place}
 use Rattle.rows.specs.declared.Found.the-variants.{At, Absent}
 use Rattle.rows.proofs.RowLaws.{IsRow, length-bytes-of, row-of-bytes-of, bytes-of-is-row}
 use Rattle.rows.proofs.TableLaws.{row-at-inside, length-rows-of, getD-rows-of, none-stray-rows}

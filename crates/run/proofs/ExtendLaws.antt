@@ -10,19 +10,19 @@ use lib.IntN.{ℤ}
 use lib.ListN.{length, take, drop, replicate, length-append, length-map, length-replicate}
 use lib.Seq.{take-all}
 use borrow.Author.Tests.{le-leb, lt-leb, eq-eqb, le-ltb, leb-true, leb-false}
-use Rattle.formula.specs.Formula.{Kind, existential, universal, prefix, clauses, max-rows}
+use Rattle.formula.specs.Formula.{work-size, Kind, existential, universal, prefix, clauses, max-rows}
 use Rattle.formula.specs.Meaning.{matrix}
 use Rattle.formula.specs.Causes.{count}
 use Rattle.formula.proofs.Accepted.{accepted}
 use Rattle.preference.specs.Preference.{prefer}
 use Rattle.rows.specs.Table.{table-of, room, table-fits, stray-rows, rows-of}
-use Rattle.expansion.specs.Side.{other}
+use Rattle.expansion.specs.Side.{side-of, other}
 use Rattle.expansion.specs.Play.{Row}
 use Rattle.expansion.specs.Copies.{fresh}
 use Rattle.expansion.specs.Model.{search}
 use Rattle.expansion.proofs.Progress.{search-answers}
 use Rattle.expansion.proofs.Counting.{Sized}
-use Rattle.search.specs.Search.{work-size, side-of, lent-rows, cause, found as found-rows, answer, left, outcome, work-after}
+use Rattle.search.specs.Search.{lent-rows, cause, found as found-rows, answer, left, outcome, work-after}
 use Rattle.run.specs.declared.Step.{Step}
 use Rattle.rounds.specs.Run.{Entry, Table, rows, under-mark, grown, if-fits}
 use Rattle.run.specs.Outcome.{row-bytes}

@@ -11,7 +11,8 @@ use lib.ListN.{length, getD, take, drop, set, length-append, length-drop, length
 use lib.Seq.{take-at, drop-at, drop-drop, take-all, take-suc, drop-cons, set-at, append-snoc}
 use borrow.Author.Tests.{lt-ltb}
 use Rattle.rows.specs.Row.{bytes-of, weight}
-use Rattle.rows.specs.Table.{table-of, room, first-place, placed}
+use Rattle.rows.specs.Table.{table-of, room}
+use Rattle.rows.specs.Access.{first-place, placed}
 use Rattle.rows.specs.declared.Found.{Found}
 use Rattle.rows.specs.declared.Found.the-variants.{At, Absent}
 use Rattle.rows.proofs.WriteLaws.{rows-written-inside, marks-written-inside}

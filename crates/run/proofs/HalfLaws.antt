@@ -16,7 +16,7 @@ use Rattle.run.specs.declared.Answer.the-variants.{Spent}
 use Rattle.run.specs.declared.Outcome.{Outcome}
 use Rattle.run.specs.declared.Step.{Step}
 use Rattle.rounds.specs.Run.{Table, rows, grown, if-fits, Lent, outcome, is-false, is-true, spent, no-room-universal, no-room-existential, step-1, step-2, step-3, step-4, round-of, Outcome as RunOutcome, Answer as RunAnswer}
-use Rattle.run.specs.Outcome.{given, lent, named}
+use Rattle.run.specs.Outcome.{areas, given, lent, named}
 use Rattle.run.specs.Growing.{Holds, Half, no-model, no-room, grows, half, half-fit, half-table, half-of, Extended, said, existential-stop, universal-stop, Shows}
 
 -- The outcome of round r by its steps' ends.
@@ -54,7 +54,7 @@ module _ (l : Lent) (r : ℕ) (A : Table) where
 module _ (kinds : List ℕ) (literals : List ℤ) (preferences A-found A-marks-found S-found S-marks-found : List ℕ) (A S : Table) (r u x : ℕ)
     (counted-A : u ≡ length A) (counted-S : x ≡ length S) where
   abbrev l : Lent
-  l = lent (given kinds literals preferences A-found A-marks-found S-found S-marks-found [] 0)
+  l = lent (given kinds literals preferences (areas A-found A-marks-found S-found S-marks-found []) 0)
 
   abbrev first : Half
   first = half-of kinds literals preferences existential (room S-found) r A S

@@ -6,4 +6,5 @@ pub mod ExtendLaws
 pub mod HalfLaws
 pub mod StartLaws
 pub mod LoopLaws
+pub mod TableClaim
 pub mod OutcomeLaws

@@ -10,22 +10,22 @@ use lib.IntN.{ℤ}
 use lib.ListN.{length, drop, replicate}
 use lib.Seq.{set-split}
 use borrow.Author.Tests.{leb-true, eqb-true}
-use Rattle.formula.specs.Formula.{existential, universal, prefix, max-rows}
+use Rattle.formula.specs.Formula.{work-size, existential, universal, prefix, max-rows}
 use Rattle.formula.specs.Causes.{count}
 use Rattle.formula.specs.Progress.{fresh}
 use Rattle.formula.specs.declared.Progress.{Progress}
 use Rattle.preference.specs.Preference.{prefer}
-use Rattle.rows.specs.Row.{bytes-of}
-use Rattle.rows.specs.Table.{room, table-fits, marks-fit, rows-written, marks-written}
+use Rattle.rows.specs.Row.{values, bytes-of}
+use Rattle.rows.specs.Table.{room, table-fits, marks-fit}
+use Rattle.rows.specs.Access.{rows-written, marks-written}
 use Rattle.rows.proofs.WriteLaws.{rows-written-inside, marks-written-inside}
 use Rattle.rows.proofs.RowLaws.{length-bytes-of}
-use Rattle.search.specs.Search.{work-size}
 use Rattle.run.specs.declared.Answer.{Answer}
 use Rattle.run.specs.declared.Answer.the-variants.{False, True, Spent, NoRoomUniversal, NoRoomExistential, Refused}
 use Rattle.run.specs.declared.Outcome.{Outcome}
 use Rattle.run.specs.declared.Step.{Step}
-use Rattle.rounds.specs.Run.{Table, rows, preferred, Lent, is-false, is-true, spent, no-room-universal, no-room-existential, round-of, run, Outcome as RunOutcome, Answer as RunAnswer}
-use Rattle.run.specs.Outcome.{given, lent, named, side-fits, tables-fit, row-bytes, mark-numbers}
+use Rattle.rounds.specs.Run.{Table, rows, Lent, is-false, is-true, spent, no-room-universal, no-room-existential, round-of, run, Outcome as RunOutcome, Answer as RunAnswer}
+use Rattle.run.specs.Outcome.{areas, given, lent, named, side-fits, tables-fit, row-bytes, mark-numbers}
 use Rattle.growth.specs.Growth.{with-preferred}
 use Rattle.run.specs.Growing.{Passes, half-table, half-of, Extended, Extends, said, existential-stop, universal-stop, HoldsBoth, Shows, Ready}
 use Rattle.rounds.proofs.RoundLaws.{Over}
@@ -99,16 +99,16 @@ goes-on-over no-room-existential e = tt
 -- After `made` finished rounds, none past the limit, the lent tables hold those of the run.
 pub record Going (kinds : List ℕ) (literals : List ℤ) (preferences A-found A-marks-found S-found S-marks-found : List ℕ) (limit made u x : ℕ) (AR AM SR SM W : List ℕ) : Type 0 where
   pub passes : Passes kinds literals
-  pub going : run (lent (given kinds literals preferences A-found A-marks-found S-found S-marks-found [] 0)) made .answer ≡ spent
+  pub going : run (lent (given kinds literals preferences (areas A-found A-marks-found S-found S-marks-found []) 0)) made .answer ≡ spent
   pub to-limit : made ≤ limit
-  pub counted-A : u ≡ length (run (lent (given kinds literals preferences A-found A-marks-found S-found S-marks-found [] 0)) made .A)
-  pub counted-S : x ≡ length (run (lent (given kinds literals preferences A-found A-marks-found S-found S-marks-found [] 0)) made .S)
-  pub both : HoldsBoth kinds A-found A-marks-found S-found S-marks-found (run (lent (given kinds literals preferences A-found A-marks-found S-found S-marks-found [] 0)) made) AR AM SR SM
+  pub counted-A : u ≡ length (run (lent (given kinds literals preferences (areas A-found A-marks-found S-found S-marks-found []) 0)) made .A)
+  pub counted-S : x ≡ length (run (lent (given kinds literals preferences (areas A-found A-marks-found S-found S-marks-found []) 0)) made .S)
+  pub both : HoldsBoth kinds A-found A-marks-found S-found S-marks-found (run (lent (given kinds literals preferences (areas A-found A-marks-found S-found S-marks-found []) 0)) made) AR AM SR SM
   pub work-long : length W ≡ work-size
 
 module _ (kinds : List ℕ) (literals : List ℤ) (preferences A-found A-marks-found S-found S-marks-found : List ℕ) (limit : ℕ) where
   abbrev l : Lent
-  l = lent (given kinds literals preferences A-found A-marks-found S-found S-marks-found [] 0)
+  l = lent (given kinds literals preferences (areas A-found A-marks-found S-found S-marks-found []) 0)
 
   start-going : (universals : ℕ) (AR AM W : List ℕ) → Ready kinds literals A-found A-marks-found S-found S-marks-found W universals
       → AR ≡ rows-written A-found A-marks-found 0 (with-preferred (prefer preferences) universals (replicate 16 0)) 0
@@ -117,7 +117,7 @@ module _ (kinds : List ℕ) (literals : List ℤ) (preferences A-found A-marks-f
   unfolding run row-bytes mark-numbers
   start-going universals AR AM W ready on-rows on-marks =
       let m : ℕ = count universal (prefix kinds) in
-      let first : List Bool = preferred m (prefer preferences) in
+      let first : List Bool = values m (prefer preferences) in
       let fit = tables-fitting A-found A-marks-found S-found S-marks-found (ready .tables) in
       let row-is : with-preferred (prefer preferences) universals (replicate 16 0) ≡ bytes-of first =
       ap (λ (n : ℕ). with-preferred (prefer preferences) n (replicate 16 0)) (ready .counted)

@@ -1,5 +1,5 @@
 -- What `run` returns and leaves, cause by cause and after an answer. Assumes nothing.
-use Prim.Native.Nat.{ℕ, _+_, _≤_}
+use Prim.Native.Nat.{ℕ, _≤_}
 use native.Mathlib.Omega.{arith}
 use mathlib.Core.Path.{_≡_, refl, sym, ap, _∙_}
 use mathlib.Core.Bool.{Bool, true, false, not, cond, true≢false}
@@ -8,16 +8,21 @@ use lib.Dec.{eqb}
 use lib.IntN.{ℤ}
 use lib.ListN.{length, replicate}
 use borrow.Author.Tests.{eq-eqb, ne-eqb}
+use Rattle.formula.specs.Formula.{work-size, Kind, existential, universal}
+use Rattle.formula.specs.Meaning.{verdict}
 use Rattle.formula.specs.Causes.{cause-1, cause-2, cause-3, refused-if, checked, sizes, number as cause-number}
 use Rattle.formula.proofs.Accepted.{accepted-sizes}
 use Rattle.formula.specs.declared.Formula.{Formula}
 use Rattle.formula.specs.declared.Check.{Check}
 use Rattle.formula.specs.declared.Check.the-variants.{Accepted, Refused}
-use Rattle.search.specs.Search.{work-size}
 use Rattle.run.specs.declared.Outcome.{Outcome}
-use Rattle.rounds.specs.Run.{is-false, is-true, spent, no-room-universal, no-room-existential, number, run, Answer as RunAnswer}
-use Rattle.run.specs.Outcome.{Given, given, lent, tables-fit, cause, accepted, named, number-of, reported, refusal, returned, Returned, row-bytes, mark-numbers, Left, Proved}
-use Rattle.run.specs.Growing.{Shows, FirstCause}
+use Rattle.rounds.specs.Run.{is-false, is-true, spent, no-room-universal, no-room-existential, number, Answer as RunAnswer}
+use Rattle.rounds.specs.Claim.{Claim}
+use Rattle.run.specs.declared.Answer.the-variants.{False, True}
+use Rattle.run.specs.Outcome.{Areas, areas, Given, given, lent, tables-fit, cause, accepted, reached, named, number-of, reported, refusal, returned, answered, left}
+use Rattle.run.specs.Ended.{row-part, mark-part, count-of, TableRight, Ended}
+use Rattle.run.specs.Growing.{Passes, Shows, FirstCause}
+use Rattle.run.proofs.TableClaim.{table-right}
 use Rattle.rounds.proofs.Claim.{claim}
 use Rattle.rounds.proofs.Verdict.{verdict-right}
 
@@ -28,10 +33,6 @@ refused-from-1 false true c f n e = let same : 2 ≡ n = cc in omega arith
 refused-from-1 false false true f n e = let same : 3 ≡ n = cc in omega arith
 refused-from-1 false false false f n e = let z : _≡_ {A = ℕ} 0 1 = cc in absurd (omega arith)
 
--- All that `run` ensures.
-abbrev pub Ended : Given → Outcome → List ℕ → List ℕ → List ℕ → List ℕ → List ℕ → Type 0
-Ended g r AR AM SR SM W = Returned g r × (Left g AR AM SR SM W × (accepted g ≡ true → Proved g))
-
 -- The number is that of the definition's answer.
 number-named : (a : RunAnswer) → number-of (named a) ≡ number a
 number-named is-false = refl
@@ -40,72 +41,98 @@ number-named spent = refl
 number-named no-room-universal = refl
 number-named no-room-existential = refl
 
-returned-so : (g : Given) (r : Outcome) → r ≡ returned g → Returned g r
+numbered-so : (g : Given) (r : Outcome) → r ≡ returned g → number-of (r .answer) ≡ cond (accepted g) (number (reached g .answer)) (cause g)
 unfolding returned
-returned-so g r e = record { value = e; numbered = ap (λ (o : Outcome). number-of (o .answer)) e ∙ by-test (accepted g) }
+numbered-so g r e = ap (λ (o : Outcome). number-of (o .answer)) e ∙ by-test (accepted g)
   where
-    by-test : (b : Bool) → number-of (cond b (reported (run (lent g) (g .limit))) (refusal (cause g)) .answer)
-        ≡ cond b (number (run (lent g) (g .limit) .answer)) (100 + cause g)
-    by-test true = number-named (run (lent g) (g .limit) .answer)
+    by-test : (b : Bool) → number-of (cond b (reported (reached g)) (refusal (cause g)) .answer) ≡ cond b (number (reached g .answer)) (cause g)
+    by-test true = number-named (reached g .answer)
     by-test false = refl
 
 -- A cause that applies.
-pub refused-so : (g : Given) (n : ℕ) (r : Outcome) → cause g ≡ n → 1 ≤ n → r ≡ refusal n
-    → Ended g r (g .universal-rows) (g .universal-marks) (g .existential-rows) (g .existential-marks) (g .work)
-unfolding returned
+pub refused-so : (g : Given) (n : ℕ) (r : Outcome) → cause g ≡ n → 1 ≤ n → r ≡ refusal n → Ended g r (g .found)
+unfolding returned left
 refused-so g n r e some-cause is =
-    let not-0 : accepted g ≡ false = ne-eqb (cause g) 0 (omega arith) in (
-      returned-so g r
-          (is ∙ ap refusal (sym e) ∙ sym (ap (λ (b : Bool). cond b (reported (run (lent g) (g .limit))) (refusal (cause g))) not-0)),
-      (
-        record {
-          A-rows = sym (ap (λ (b : Bool). cond b (row-bytes (run (lent g) (g .limit) .A) (g .universal-rows)) (g .universal-rows)) not-0);
-          A-marks = sym (ap (λ (b : Bool). cond b (mark-numbers (run (lent g) (g .limit) .A) (g .universal-marks)) (g .universal-marks)) not-0);
-          S-rows = sym (ap (λ (b : Bool). cond b (row-bytes (run (lent g) (g .limit) .S) (g .existential-rows)) (g .existential-rows)) not-0);
-          S-marks = sym (ap (λ (b : Bool). cond b (mark-numbers (run (lent g) (g .limit) .S) (g .existential-marks)) (g .existential-marks)) not-0);
-          area = sym (ap (λ (b : Bool). cond b (replicate work-size 0) (g .work)) not-0);
-        },
-        λ yes-0. absurd (true≢false (sym yes-0 ∙ not-0)),
-      ),
-    )
+    let not-0 : accepted g ≡ false = ne-eqb (cause g) 0 (omega arith) in
+    let value : r ≡ returned g = is ∙ ap refusal (sym e) ∙ sym (ap (λ (b : Bool). cond b (reported (reached g)) (refusal (cause g))) not-0) in
+    record {
+      returned-so = value;
+      numbered = numbered-so g r value;
+      left-so = sym (ap (λ (b : Bool). cond b (answered (reached g) (g .found)) (g .found)) not-0);
+      only-true = λ h. let z : _≡_ {A = ℕ} 0 1 = cc (sym h ∙ ap (λ (o : Outcome). o .answer) is) in absurd (omega arith);
+      only-false = λ h. let z : _≡_ {A = ℕ} 0 1 = cc (sym h ∙ ap (λ (o : Outcome). o .answer) is) in absurd (omega arith);
+      claim = λ yes-0. absurd (true≢false (sym yes-0 ∙ not-0));
+      tables = λ yes-0. absurd (true≢false (sym yes-0 ∙ not-0));
+    }
 
 -- The cause does not depend on the preferences.
-pub same-cause : (kinds : List ℕ) (literals : List ℤ) (preferences A A-marks S S-marks work : List ℕ) (limit : ℕ)
-    → cause (given kinds literals [] A A-marks S S-marks work limit) ≡ cause (given kinds literals preferences A A-marks S S-marks work limit)
+pub same-cause : (kinds : List ℕ) (literals : List ℤ) (preferences : List ℕ) (found : Areas) (limit : ℕ)
+    → cause (given kinds literals [] found limit) ≡ cause (given kinds literals preferences found limit)
 unfolding cause
-same-cause kinds literals preferences A A-marks S S-marks work limit = refl
+same-cause kinds literals preferences found limit = refl
+
+-- Where no cause applies the formula passes.
+passes-if-none : (g : Given) → cause g ≡ 0 → Passes (g .kinds) (g .literals)
+unfolding cause checked
+passes-if-none g none = go (checked (g .kinds) (g .literals)) refl _ none
+  where
+    go : (c : Check) → checked (g .kinds) (g .literals) ≡ c → (later : ℕ) → cond (eqb (cause-number c) 0) later (cause-number c) ≡ 0
+        → Passes (g .kinds) (g .literals)
+    go (Accepted f) e later z = e ∙ ap Accepted (accepted-sizes (g .kinds) (g .literals) e)
+    go (Refused n) e later z =
+        let from-1 = refused-from-1 (cause-1 (g .kinds)) (cause-2 (g .literals)) (cause-3 (length (g .kinds)) (g .literals)) (sizes (g .kinds) (g .literals)) n e in
+        let same : n ≡ 0 = sym (ap (λ (b : Bool). cond b later n) (ne-eqb n 0 (omega arith))) ∙ z in
+        absurd (omega arith)
+
+-- The answers that name a verdict.
+named-true : (a : RunAnswer) → named a ≡ True → a ≡ is-true
+named-true is-false e = let z : _≡_ {A = ℕ} 0 1 = cc in absurd (omega arith)
+named-true is-true e = refl
+named-true spent e = let z : _≡_ {A = ℕ} 0 1 = cc in absurd (omega arith)
+named-true no-room-universal e = let z : _≡_ {A = ℕ} 0 1 = cc in absurd (omega arith)
+named-true no-room-existential e = let z : _≡_ {A = ℕ} 0 1 = cc in absurd (omega arith)
+
+named-false : (a : RunAnswer) → named a ≡ False → a ≡ is-false
+named-false is-false e = refl
+named-false is-true e = let z : _≡_ {A = ℕ} 0 1 = cc in absurd (omega arith)
+named-false spent e = let z : _≡_ {A = ℕ} 0 1 = cc in absurd (omega arith)
+named-false no-room-universal e = let z : _≡_ {A = ℕ} 0 1 = cc in absurd (omega arith)
+named-false no-room-existential e = let z : _≡_ {A = ℕ} 0 1 = cc in absurd (omega arith)
 
 -- No cause applies.
-pub answered : (g : Given) → cause g ≡ 0 → 1 ≤ g .limit → (r : Outcome) (AR AM SR SM W W′ : List ℕ)
-    → Shows (g .kinds) (g .universal-rows) (g .universal-marks) (g .existential-rows) (g .existential-marks) (run (lent g) (g .limit)) r AR AM SR SM W
-    → W′ ≡ replicate (length W) 0 → Ended g r AR AM SR SM W′
-unfolding returned
-answered g no-cause some-limit r AR AM SR SM W W′ shows clear =
-    let yes-0 : accepted g ≡ true = eq-eqb (cause g) 0 no-cause in (
-      returned-so g r
-          (shows .as-returned ∙ sym (ap (λ (b : Bool). cond b (reported (run (lent g) (g .limit))) (refusal (cause g))) yes-0)),
-      (
-        record {
-          A-rows =
-              shows .both .holds-A .in-rows .in-bytes
-              ∙ sym (ap (λ (b : Bool). cond b (row-bytes (run (lent g) (g .limit) .A) (g .universal-rows)) (g .universal-rows)) yes-0);
-          A-marks =
-              shows .both .holds-A .in-marks
-              ∙ sym (ap (λ (b : Bool). cond b (mark-numbers (run (lent g) (g .limit) .A) (g .universal-marks)) (g .universal-marks)) yes-0);
-          S-rows =
-              shows .both .holds-S .in-rows .in-bytes
-              ∙ sym (ap (λ (b : Bool). cond b (row-bytes (run (lent g) (g .limit) .S) (g .existential-rows)) (g .existential-rows)) yes-0);
-          S-marks =
-              shows .both .holds-S .in-marks
-              ∙ sym (ap (λ (b : Bool). cond b (mark-numbers (run (lent g) (g .limit) .S) (g .existential-marks)) (g .existential-marks)) yes-0);
-          area =
-              clear
-              ∙ ap (λ (n : ℕ). replicate n 0) (shows .work-long)
-              ∙ sym (ap (λ (b : Bool). cond b (replicate work-size 0) (g .work)) yes-0);
-        },
-        λ _. record { claim = claim (lent g) (g .limit) some-limit; verdict = verdict-right (lent g) (g .limit) },
-      ),
-    )
+pub answered-so : (g : Given) → cause g ≡ 0 → 1 ≤ g .limit → (r : Outcome) (AR AM SR SM W W′ : List ℕ)
+    → Shows (g .kinds) (g .found .universal-rows) (g .found .universal-marks) (g .found .existential-rows) (g .found .existential-marks) (reached g) r AR AM SR SM W
+    → W′ ≡ replicate (length W) 0 → Ended g r (areas AR AM SR SM W′)
+unfolding returned left verdict
+answered-so g no-cause some-limit r AR AM SR SM W W′ shows clear =
+    let yes-0 : accepted g ≡ true = eq-eqb (cause g) 0 no-cause in
+    let value : r ≡ returned g = shows .as-returned ∙ sym (ap (λ (b : Bool). cond b (reported (reached g)) (refusal (cause g))) yes-0) in
+    let answer-is : r .answer ≡ named (reached g .answer) = ap (λ (o : Outcome). o .answer) (shows .as-returned) in
+    let held-A = shows .both .holds-A in
+    let held-S = shows .both .holds-S in
+    let zero-work : W′ ≡ replicate work-size 0 = clear ∙ ap (λ (n : ℕ). replicate n 0) (shows .work-long) in
+    let holds = claim (lent g) (g .limit) some-limit in
+    let passes = passes-if-none g no-cause in
+    record {
+      returned-so = value;
+      numbered = numbered-so g r value;
+      left-so =
+          rw (held-A .in-rows .in-bytes, held-A .in-marks, held-S .in-rows .in-bytes, held-S .in-marks, zero-work)
+          (sym (ap (λ (b : Bool). cond b (answered (reached g) (g .found)) (g .found)) yes-0));
+      only-true = λ h. verdict-right (lent g) (g .limit) .only-true (named-true (reached g .answer) (sym answer-is ∙ h));
+      only-false = λ h. verdict-right (lent g) (g .limit) .only-false (named-false (reached g .answer) (sym answer-is ∙ h));
+      claim = λ _. holds;
+      tables = λ _. both passes holds;
+    }
+  where
+    both : Passes (g .kinds) (g .literals) → Claim (lent g) (g .limit) → (side : Kind)
+        → TableRight g side (row-part side (areas AR AM SR SM W′)) (mark-part side (areas AR AM SR SM W′)) (count-of side r)
+    both passes holds universal =
+        table-right g passes holds universal (g .found .universal-marks) AR AM (r .universal) (shows .both .holds-A .in-rows .in-bytes) (shows .both .holds-A .in-marks)
+        (ap (λ (o : Outcome). o .universal) (shows .as-returned))
+    both passes holds existential =
+        table-right g passes holds existential (g .found .existential-marks) SR SM (r .existential) (shows .both .holds-S .in-rows .in-bytes) (shows .both .holds-S .in-marks)
+        (ap (λ (o : Outcome). o .existential) (shows .as-returned))
 
 -- ---- the first cause
 
@@ -115,7 +142,7 @@ applies g n u e some-cause =
 
 module _ (kinds : List ℕ) (literals : List ℤ) (A A-marks S S-marks work : List ℕ) (limit : ℕ) where
   abbrev g : Given
-  g = given kinds literals [] A A-marks S S-marks work limit
+  g = given kinds literals [] (areas A A-marks S S-marks work) limit
 
   abbrev later : ℕ
   later = cond (not (tables-fit A A-marks S S-marks)) 4 (cond (not (eqb (length work) work-size)) 5 (cond (eqb limit 0) 6 0))

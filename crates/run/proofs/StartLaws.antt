@@ -12,30 +12,22 @@ use lib.Pow.{pow-lt}
 use lib.ListN.{length, getD, set, replicate, List·getD-eq-default}
 use lib.Seq.{ext-getD, take-all}
 use borrow.Author.Tests.{lt-ltb, le-ltb, eq-eqb, ne-eqb}
-use Rattle.rows.specs.Row.{bit-of, row-of, bytes-of}
-use Rattle.rows.specs.Table.{row-at, bit-set}
+use Rattle.rows.specs.Row.{bit-of, values, row-of, bytes-of}
+use Rattle.rows.specs.Table.{row-at}
+use Rattle.rows.specs.Access.{bit-set}
+use Rattle.rows.proofs.ValueLaws.{length-values, getD-values}
 use Rattle.rows.proofs.RowLaws.{IsRow, length-bytes-of, bytes-of-below, bit-bytes-of, getD-row-of, length-row-of, none-stray, equal-values-equal-bytes}
 use Rattle.rows.proofs.TableLaws.{row-at-inside}
 use Rattle.rows.proofs.WriteLaws.{bit-set-inside, bit-of-bit-set}
-use Rattle.rounds.specs.Run.{preferred}
 use Rattle.growth.specs.Growth.{with-preferred}
 use Rattle.growth.proofs.CountLaws.{length-bit-set}
 
 -- Value q of the preferred ones.
-getD-preferred : (k : ℕ) (f : ℕ → Bool) (q : ℕ) → q < k → getD (preferred k f) q false ≡ f q
-getD-preferred zero f q h = absurd (omega arith)
-getD-preferred (suc k) f zero h = refl
-getD-preferred (suc k) f (suc q) h = getD-preferred k (λ i. f (suc i)) q (omega arith)
-
-length-preferred : (k : ℕ) (f : ℕ → Bool) → length (preferred k f) ≡ k
-length-preferred zero f = refl
-length-preferred (suc k) f = ap suc (length-preferred k (λ i. f (suc i)))
-
-value-preferred : (k : ℕ) (f : ℕ → Bool) (q : ℕ) → Dec (q < k) → ltb q k && f q ≡ getD (preferred k f) q false
-value-preferred k f q (yes h) = ap (λ (v : Bool). v && f q) (lt-ltb q k h) ∙ sym (getD-preferred k f q h)
+value-preferred : (k : ℕ) (f : ℕ → Bool) (q : ℕ) → Dec (q < k) → ltb q k && f q ≡ getD (values k f) q false
+value-preferred k f q (yes h) = ap (λ (v : Bool). v && f q) (lt-ltb q k h) ∙ sym (getD-values k f q h)
 value-preferred k f q (no h) =
     ap (λ (v : Bool). v && f q) (le-ltb q k (omega arith))
-    ∙ sym (List·getD-eq-default (preferred k f) false (omega (arith, length-preferred k f)))
+    ∙ sym (List·getD-eq-default (values k f) false (omega (arith, length-values k f)))
 
 pub row-whole : (row : List ℕ) → length row ≡ 16 → row-at row 0 ≡ row
 row-whole row h = row-at-inside row 0 (omega arith) ∙ take-all 16 row (omega arith)
@@ -124,17 +116,17 @@ module _ (f : ℕ → Bool) where
   is-row-128 : (b : List ℕ) → length b ≡ 16 → ((p : ℕ) → getD b p 0 < 256) → IsRow 128 b
   is-row-128 b long below = record { width = long; below = below; clean = none-stray 128 b (λ k low high. absurd (omega arith)) }
 
-  pub preferred-bytes : (m : ℕ) → m ≤ 128 → with-preferred f m (replicate 16 0) ≡ bytes-of (preferred m f)
+  pub preferred-bytes : (m : ℕ) → m ≤ 128 → with-preferred f m (replicate 16 0) ≡ bytes-of (values m f)
   preferred-bytes m h =
       let row = with-preferred f m (replicate 16 0) in
-      let goal = bytes-of (preferred m f) in
+      let goal = bytes-of (values m f) in
       equal-values-equal-bytes 128 row goal
       (is-row-128 row (length-with-preferred m (replicate 16 0)) (below-256 m h))
-      (is-row-128 goal (length-bytes-of (preferred m f)) (bytes-of-below (preferred m f)))
+      (is-row-128 goal (length-bytes-of (values m f)) (bytes-of-below (values m f)))
       (ext-getD false (row-of 128 row) (row-of 128 goal) (length-row-of 128 row ∙ sym (length-row-of 128 goal)) (λ q below.
       let hq : q < 128 = omega (arith, length-row-of 128 row) in
       getD-row-of 128 row q hq
       ∙ bit-preferred m h q hq
       ∙ value-preferred m f q (decLt q m)
-      ∙ sym (bit-bytes-of (preferred m f) q hq)
+      ∙ sym (bit-bytes-of (values m f) q hq)
       ∙ sym (getD-row-of 128 goal q hq)))

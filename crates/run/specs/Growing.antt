@@ -8,16 +8,15 @@ use mathlib.Core.List.{List, []}
 use mathlib.Core.Option.{Option, none, some}
 use lib.IntN.{ℤ}
 use lib.ListN.{length, getD}
-use Rattle.formula.specs.Formula.{Kind, existential, universal, prefix, clauses}
+use Rattle.formula.specs.Formula.{work-size, Kind, existential, universal, prefix, clauses}
 use Rattle.formula.specs.Meaning.{matrix}
 use Rattle.formula.specs.Causes.{count, checked, sizes}
 use Rattle.formula.specs.declared.Check.the-variants.{Accepted}
 use Rattle.preference.specs.Preference.{prefer}
 use Rattle.rows.specs.Table.{room, table-fits}
-use Rattle.expansion.specs.Side.{other}
+use Rattle.expansion.specs.Side.{side-of, other}
 use Rattle.expansion.specs.Play.{Row}
 use Rattle.expansion.specs.Model.{search}
-use Rattle.search.specs.Search.{work-size, side-of}
 use Rattle.search.specs.declared.Search.{Search}
 use Rattle.search.specs.declared.Search.the-variants.{Found as ModelFound, NoModel, Refused as SearchRefused}
 use Rattle.run.specs.declared.Answer.{Answer}
@@ -138,5 +137,6 @@ pub record Ready (kinds : List ℕ) (literals : List ℤ) (A-rows A-marks S-rows
 pub record FirstCause (g : Given) (result : Checked) : Type 0 where
   pub first : result .cause ≡ cause g
   pub ready : result .cause ≡ 0
-      → Ready (g .kinds) (g .literals) (g .universal-rows) (g .universal-marks) (g .existential-rows) (g .existential-marks) (g .work) (result .universals)
+      → Ready (g .kinds) (g .literals) (g .found .universal-rows) (g .found .universal-marks) (g .found .existential-rows) (g .found .existential-marks)
+      (g .found .work) (result .universals)
   pub some-limit : result .cause ≡ 0 → 1 ≤ g .limit

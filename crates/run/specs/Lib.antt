@@ -1,3 +1,4 @@
--- What `run` returns and leaves, and what its private functions promise each other.
+-- What `run` returns and leaves, all that it promises, and what its private functions promise each other.
 pub mod Outcome
+pub mod Ended
 pub mod Growing

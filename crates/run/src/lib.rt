@@ -1,18 +1,18 @@
 // The run (01, 'The run'): rounds of the two searches over the two row tables, until a verdict, a full table or the limit.
-// `run` promises, for all that is lent, the outcome and every lent byte that the definition (specs/Outcome.antt) gives; of an accepted run
-// the claim and the verdict hold. The model search belongs to `search`, adding rows to a table to `growth`.
+// `run` promises, for all that is lent, the outcome and every lent byte that the definition (specs/Outcome.antt) gives, that its answer is
+// the verdict, and of an accepted run the claim, over 01's run and in the lent tables (specs/Ended.antt). The model search belongs to `search`, adding rows to a table to `growth`.
 // A round costs one search a side, and what the growth of the two tables costs.
 use formula::Check;
 use formula::Formula;
 use growth::Growth;
 use search::Search;
 ghost use mathlib.Core.Path.{_≡_};
-ghost use mathlib.Core.Bool.{true};
 ghost use mathlib.Core.List.{[]};
 ghost use Rattle.search.specs.Search.{outcome as search-outcome, work-after};
 ghost use Rattle.rounds.specs.Run.{run as run-of};
 ghost use Rattle.run.specs.declared.Answer.the-variants.{Spent};
-ghost use Rattle.run.specs.Outcome.{given, lent, accepted, refusal, side-fits, tables-fit, Returned, Left, Proved};
+ghost use Rattle.run.specs.Outcome.{areas, given, lent, refusal, side-fits, tables-fit};
+ghost use Rattle.run.specs.Ended.{Ended};
 ghost use Rattle.run.specs.Growing.{is-found, step-of, said, existential-stop, universal-stop, Extends, Shows, Ready, FirstCause};
 
 pub enum Answer {
@@ -62,9 +62,11 @@ pub fn run(
     work: &mut [u8],
     limit: u32,
 ) -> Outcome
-    ensures returned { λ r. ⌜ Returned (given (now (kinds .entry)) (now (literals .entry)) (now (preferences .entry)) (now («universal_rows» .entry)) (now («universal_marks» .entry)) (now («existential_rows» .entry)) (now («existential_marks» .entry)) (now (work .entry)) limit) r ⌝ }
-    ensures left { λ _. ⌜ Left (given (now (kinds .entry)) (now (literals .entry)) (now (preferences .entry)) (now («universal_rows» .entry)) (now («universal_marks» .entry)) (now («existential_rows» .entry)) (now («existential_marks» .entry)) (now (work .entry)) limit) (now («universal_rows» .exit)) (now («universal_marks» .exit)) (now («existential_rows» .exit)) (now («existential_marks» .exit)) (now (work .exit)) ⌝ }
-    ensures proved { λ _. ⌜ (accepted (given (now (kinds .entry)) (now (literals .entry)) (now (preferences .entry)) (now («universal_rows» .entry)) (now («universal_marks» .entry)) (now («existential_rows» .entry)) (now («existential_marks» .entry)) (now (work .entry)) limit) ≡ true → Proved (given (now (kinds .entry)) (now (literals .entry)) (now (preferences .entry)) (now («universal_rows» .entry)) (now («universal_marks» .entry)) (now («existential_rows» .entry)) (now («existential_marks» .entry)) (now (work .entry)) limit)) ⌝ }
+    ensures { λ r. ⌜ Ended
+        (given (now (kinds .entry)) (now (literals .entry)) (now (preferences .entry))
+        (areas (now («universal_rows» .entry)) (now («universal_marks» .entry)) (now («existential_rows» .entry)) (now («existential_marks» .entry)) (now (work .entry))) limit)
+        r
+        (areas (now («universal_rows» .exit)) (now («universal_marks» .exit)) (now («existential_rows» .exit)) (now («existential_marks» .exit)) (now (work .exit))) ⌝ }
 {
     let checked = check(
         kinds,
@@ -119,7 +121,7 @@ fn check(
     work: &[u8],
     limit: u32,
 ) -> Checked
-    ensures { λ r. ⌜ FirstCause (given (now (kinds .entry)) (now (literals .entry)) [] (now («universal_rows» .entry)) (now («universal_marks» .entry)) (now («existential_rows» .entry)) (now («existential_marks» .entry)) (now (work .entry)) limit) r ⌝ }
+    ensures { λ r. ⌜ FirstCause (given (now (kinds .entry)) (now (literals .entry)) [] (areas (now («universal_rows» .entry)) (now («universal_marks» .entry)) (now («existential_rows» .entry)) (now («existential_marks» .entry)) (now (work .entry))) limit) r ⌝ }
 {
     match Formula::check(kinds, literals) {
         Check::Refused(cause) => Checked {
@@ -200,7 +202,7 @@ fn rounds(
     limit: u32,
 ) -> Outcome
     requires { ⌜ Ready (now kinds) (now literals) (now «universal_rows») (now «universal_marks») (now «existential_rows») (now «existential_marks») (now work) universals ⌝ }
-    ensures { λ r. ⌜ Shows (now (kinds .entry)) (now («universal_rows» .entry)) (now («universal_marks» .entry)) (now («existential_rows» .entry)) (now («existential_marks» .entry)) (run-of (lent (given (now (kinds .entry)) (now (literals .entry)) (now (preferences .entry)) (now («universal_rows» .entry)) (now («universal_marks» .entry)) (now («existential_rows» .entry)) (now («existential_marks» .entry)) [] 0)) limit) r (now («universal_rows» .exit)) (now («universal_marks» .exit)) (now («existential_rows» .exit)) (now («existential_marks» .exit)) (now (work .exit)) ⌝ }
+    ensures { λ r. ⌜ Shows (now (kinds .entry)) (now («universal_rows» .entry)) (now («universal_marks» .entry)) (now («existential_rows» .entry)) (now («existential_marks» .entry)) (run-of (lent (given (now (kinds .entry)) (now (literals .entry)) (now (preferences .entry)) (areas (now («universal_rows» .entry)) (now («universal_marks» .entry)) (now («existential_rows» .entry)) (now («existential_marks» .entry)) []) 0)) limit) r (now («universal_rows» .exit)) (now («universal_marks» .exit)) (now («existential_rows» .exit)) (now («existential_marks» .exit)) (now (work .exit)) ⌝ }
 {
     growth::write_start(preferences, universals, universal_rows, universal_marks);
     let start = Formula::start();

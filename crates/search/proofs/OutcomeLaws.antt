@@ -17,13 +17,14 @@ use Rattle.formula.specs.declared.Formula.{Formula}
 use Rattle.formula.proofs.Accepted.{accepted, accepted-sizes}
 use Rattle.preference.specs.Preference.{prefer}
 use Rattle.rows.specs.Table.{rows-of, room, table-fits, stray-rows}
-use Rattle.expansion.specs.Side.{other}
+use Rattle.expansion.specs.Side.{side-of, other}
 use Rattle.expansion.specs.Play.{Row}
 use Rattle.expansion.specs.Model.{search}
 use Rattle.expansion.proofs.Booleans.{never-both}
+use Rattle.expansion.proofs.Right.{search-right}
 use Rattle.search.specs.declared.Search.{Search}
 use Rattle.search.specs.declared.Search.the-variants.{Found, NoModel, Refused}
-use Rattle.search.specs.Search.{side-of, lent-rows, cause, found, answer, left, outcome, work-after}
+use Rattle.search.specs.Search.{lent-rows, cause, found, answer, left, outcome, work-after, number, outcome-number, Searched}
 use Rattle.search.specs.Whole.{side-kind, Accepting, FoundIs, later-cause, Answered}
 
 -- ---- the causes behind the formula's
@@ -102,18 +103,40 @@ unfolding checked
 checked-positive kinds literals n e z = turned-positive (cause-1 kinds) (cause-2 literals) (cause-3 (length kinds) literals) (sizes kinds literals) n e z
 
 module _ (kinds : List ℕ) (literals : List ℤ) (preferences rows : List ℕ) (lent : ℕ) (universal? : Bool) (w : List ℕ) where
+  number-so : outcome-number kinds literals preferences rows lent universal? w ≡ number (outcome kinds literals preferences rows lent universal? w)
+  unfolding outcome outcome-number
+  number-so = go (eqb (cause kinds literals rows lent universal? w) 0)
+    where
+      go : (b : Bool) → cond b (number (answer (found kinds literals preferences rows lent universal?))) (cause kinds literals rows lent universal? w)
+          ≡ number (cond b (answer (found kinds literals preferences rows lent universal?)) (Refused (cause kinds literals rows lent universal? w)))
+      go true = refl
+      go false = refl
+
+  searched : (r : Search) (u : List ℕ) → r ≡ outcome kinds literals preferences rows lent universal? w → u ≡ work-after kinds literals preferences rows lent universal? w
+      → Searched kinds literals preferences rows lent universal? w r u
+  searched r u e f =
+      record {
+        returned = e;
+        numbered = ap number e ∙ sym number-so;
+        area = f;
+        right = search-right (prefer preferences) (side-of universal?) (prefix kinds) (matrix (clauses literals)) (lent-rows kinds rows lent universal?);
+      }
+
   -- a cause of the formula's is the cause
   cause-first : (n : ℕ) → checked kinds literals ≡ Turned n → cause kinds literals rows lent universal? w ≡ n
   unfolding cause
   cause-first n e = rw e (rw (ne-eqb n 0 (checked-positive kinds literals n e)))
 
-  pub refused-outcome : (n : ℕ) → checked kinds literals ≡ Turned n → Refused n ≡ outcome kinds literals preferences rows lent universal? w
+  refused-outcome : (n : ℕ) → checked kinds literals ≡ Turned n → Refused n ≡ outcome kinds literals preferences rows lent universal? w
   unfolding outcome
   refused-outcome n e = sym (rw (cause-first n e, ne-eqb n 0 (checked-positive kinds literals n e)))
 
-  pub refused-work : (n : ℕ) → checked kinds literals ≡ Turned n → w ≡ work-after kinds literals preferences rows lent universal? w
+  refused-work : (n : ℕ) → checked kinds literals ≡ Turned n → w ≡ work-after kinds literals preferences rows lent universal? w
   unfolding work-after
   refused-work n e = sym (rw (cause-first n e, ne-eqb n 0 (checked-positive kinds literals n e)))
+
+  pub refused-searched : (n : ℕ) → checked kinds literals ≡ Turned n → Searched kinds literals preferences rows lent universal? w (Refused n) w
+  refused-searched n e = searched (Refused n) w (refused-outcome n e) (refused-work n e)
 
   module _ (f : Formula) (passed : checked kinds literals ≡ Passed f) (others side : ℕ) (same-side : side-kind side ≡ side-of universal?) (others-known : others ≡ count (other (side-kind side)) (prefix kinds)) where
     others-same : count (other (side-of universal?)) (prefix kinds) ≡ others
@@ -127,7 +150,7 @@ module _ (kinds : List ℕ) (literals : List ℤ) (preferences rows : List ℕ) 
     unfolding found lent-rows
     found-same = rw (others-same, ← same-side)
 
-    pub answered-outcome : (u : List ℕ) (r : Search) → Answered kinds literals preferences rows lent others side w u r → r ≡ outcome kinds literals preferences rows lent universal? w
+    answered-outcome : (u : List ℕ) (r : Search) → Answered kinds literals preferences rows lent others side w u r → r ≡ outcome kinds literals preferences rows lent universal? w
     unfolding outcome
     answered-outcome u r a = go (later-cause rows lent others w) refl
       where
@@ -135,13 +158,17 @@ module _ (kinds : List ℕ) (literals : List ℤ) (preferences rows : List ℕ) 
         go zero e = a .answered e .0 ∙ sym (rw (cause-later, e, found-same))
         go (suc n) e = a .refused (λ z. omega arith) .0 ∙ sym (rw (cause-later, e, ne-eqb (suc n) 0 (λ z. omega arith)))
 
-    pub answered-work : (u : List ℕ) (r : Search) → Answered kinds literals preferences rows lent others side w u r → u ≡ work-after kinds literals preferences rows lent universal? w
+    answered-work : (u : List ℕ) (r : Search) → Answered kinds literals preferences rows lent others side w u r → u ≡ work-after kinds literals preferences rows lent universal? w
     unfolding work-after
     answered-work u r a = go (later-cause rows lent others w) refl
       where
         go : (n : ℕ) → later-cause rows lent others w ≡ n → u ≡ cond (eqb (cause kinds literals rows lent universal? w) 0) (left (found kinds literals preferences rows lent universal?)) w
         go zero e = a .answered e .1 ∙ sym (rw (cause-later, e, found-same))
         go (suc n) e = a .refused (λ z. omega arith) .1 ∙ sym (rw (cause-later, e, ne-eqb (suc n) 0 (λ z. omega arith)))
+
+    pub answered-searched : (u : List ℕ) (r : Search) → Answered kinds literals preferences rows lent others side w u r
+        → Searched kinds literals preferences rows lent universal? w r u
+    answered-searched u r a = searched r u (answered-outcome u r a) (answered-work u r a)
 
 -- ---- the numbers of unknowns
 

@@ -1,33 +1,26 @@
 -- What a search returns and leaves, for everything that is lent: 01's causes 1 to 5, 7 and 8 in order, then the first model.
 -- Assumes nothing.
 use Prim.Native.Nat.{ℕ, _-_}
-use mathlib.Core.Bool.{Bool, true, false, not, cond}
+use mathlib.Core.Path.{_≡_}
+use mathlib.Core.Bool.{Bool, not, cond}
 use mathlib.Core.List.{List, _++_}
 use mathlib.Core.Option.{Option, none, some}
 use lib.Dec.{eqb, ltb}
 use lib.IntN.{ℤ}
 use lib.ListN.{length, replicate}
-use Rattle.formula.specs.Formula.{Kind, existential, universal, prefix, clauses}
+use Rattle.formula.specs.Formula.{work-size, prefix, clauses}
 use Rattle.formula.specs.Meaning.{matrix}
-use Rattle.formula.specs.Causes.{checked, number, count}
+use Rattle.formula.specs.Causes.{checked, count, number as cause-number}
 use Rattle.preference.specs.Preference.{prefer}
 use Rattle.rows.specs.Table.{rows-of, table-of, room, table-fits, stray-rows}
-use Rattle.expansion.specs.Side.{other}
+use Rattle.expansion.specs.Side.{side-of, other}
 use Rattle.expansion.specs.Play.{Row}
 use Rattle.expansion.specs.Model.{search}
+use Rattle.expansion.specs.Right.{SearchRight}
 use Rattle.search.specs.declared.Search.{Search}
 use Rattle.search.specs.declared.Search.the-variants.{Found, NoModel, Refused}
 
--- 'A work area of exactly 65,536 bytes.'
-abbrev pub work-size : ℕ
-work-size = 65536
-
--- The side that looks for a model.
-abbrev pub side-of : Bool → Kind
-side-of false = existential
-side-of true = universal
-
--- The lent rows below the count, as values of the other side's unknowns.
+-- The lent rows below the count, as values of the other side's unknowns. The universal side looks for the model if the flag is true.
 unfoldable pub lent-rows : List ℕ → List ℕ → ℕ → Bool → List Row
 lent-rows kinds rows lent universal? = rows-of (count (other (side-of universal?)) (prefix kinds)) lent rows
 
@@ -39,7 +32,7 @@ cause kinds literals rows lent universal? work =
     (cond (not (eqb (length work) work-size)) 5
     (cond (ltb (room rows) lent) 7
     (cond (stray-rows (count (other (side-of universal?)) (prefix kinds)) lent rows) 8 0))) in
-    cond (eqb (number (checked kinds literals)) 0) later (number (checked kinds literals))
+    cond (eqb (cause-number (checked kinds literals)) 0) later (cause-number (checked kinds literals))
 
 -- The rows that the first model yields, or none.
 unfoldable pub found : List ℕ → List ℤ → List ℕ → List ℕ → ℕ → Bool → Option (List Row)
@@ -66,3 +59,22 @@ unfoldable pub work-after : List ℕ → List ℤ → List ℕ → List ℕ → 
 work-after kinds literals preferences rows lent universal? work =
     let answered = left (found kinds literals preferences rows lent universal?) in
     cond (eqb (cause kinds literals rows lent universal? work) 0) answered work
+
+-- The number of each case: 0 for no model, 1 for found; a refusal has its cause's ..
+abbrev pub number : Search → ℕ
+number NoModel = 0
+number Found = 1
+number (Refused cause) = cause
+
+-- .. and the number of the outcome.
+unfoldable pub outcome-number : List ℕ → List ℤ → List ℕ → List ℕ → ℕ → Bool → List ℕ → ℕ
+outcome-number kinds literals preferences rows lent universal? work =
+    let answered = number (answer (found kinds literals preferences rows lent universal?)) in
+    cond (eqb (cause kinds literals rows lent universal? work) 0) answered (cause kinds literals rows lent universal? work)
+
+-- All that `first_model` promises: what it returns and its number, the work area at exit, and that the search over the lent rows is 01's.
+pub record Searched (kinds : List ℕ) (literals : List ℤ) (preferences rows : List ℕ) (lent : ℕ) (universal? : Bool) (work : List ℕ) (result : Search) (work-then : List ℕ) : Type 0 where
+  pub returned : result ≡ outcome kinds literals preferences rows lent universal? work
+  pub numbered : number result ≡ outcome-number kinds literals preferences rows lent universal? work
+  pub area : work-then ≡ work-after kinds literals preferences rows lent universal? work
+  pub right : SearchRight (prefer preferences) (side-of universal?) (prefix kinds) (matrix (clauses literals)) (lent-rows kinds rows lent universal?)

@@ -8,7 +8,7 @@ use mathlib.Core.List.{List}
 use mathlib.Core.Option.{Option, none, some}
 use lib.IntN.{ℤ}
 use lib.ListN.{length, getD, take, replicate}
-use Rattle.formula.specs.Formula.{max-rows, Kind, existential, universal, prefix, clauses}
+use Rattle.formula.specs.Formula.{max-rows, work-size, Kind, existential, universal, prefix, clauses}
 use Rattle.formula.specs.Meaning.{matrix}
 use Rattle.preference.specs.Preference.{prefer}
 use Rattle.formula.specs.Causes.{count}
@@ -19,7 +19,7 @@ use Rattle.expansion.specs.Play.{Row}
 use Rattle.expansion.specs.Model.{search}
 use Rattle.search.specs.declared.Search.{Search}
 use Rattle.search.specs.declared.Search.the-variants.{Refused}
-use Rattle.search.specs.Search.{work-size, answer, left}
+use Rattle.search.specs.Search.{answer, left}
 use Rattle.codes.specs.Clauses.{Encoded}
 use Rattle.search_cells.specs.Changes.{FirstDifference}
 use Rattle.search_cells.specs.Steps.{rows-filled, packed}

@@ -10,7 +10,7 @@ ghost use Rattle.formula.specs.Meaning.{matrix};
 ghost use Rattle.preference.specs.Preference.{prefer};
 ghost use Rattle.rows.specs.Table.{rows-of};
 ghost use Rattle.expansion.specs.Model.{search};
-ghost use Rattle.search.specs.Search.{outcome, work-after};
+ghost use Rattle.search.specs.Search.{Searched};
 ghost use Rattle.search.specs.Whole.{side-kind, Ready, Accepting, Arranged, Decided, OverPlaces, FoundIs, Answered};
 use formula::Check;
 use formula::Formula;
@@ -39,8 +39,7 @@ pub fn first_model(
     universal: bool,
     work: &mut [u8],
 ) -> Search
-    ensures { λ r. ⌜ r ≡ outcome (now (kinds .entry)) (now (literals .entry)) (now (preferences .entry)) (now (rows .entry)) count universal (now (work .entry)) ⌝ }
-    ensures { λ _. ⌜ now (work .exit) ≡ work-after (now (kinds .entry)) (now (literals .entry)) (now (preferences .entry)) (now (rows .entry)) count universal (now (work .entry)) ⌝ }
+    ensures { λ r. ⌜ Searched (now (kinds .entry)) (now (literals .entry)) (now (preferences .entry)) (now (rows .entry)) count universal (now (work .entry)) r (now (work .exit)) ⌝ }
 {
     match Formula::check(kinds, literals) {
         Check::Refused(cause) => Search::Refused(cause),

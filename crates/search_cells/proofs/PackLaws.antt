@@ -15,7 +15,8 @@ use lib.Seq.{ext-getD, getD-drop, take-at, drop-at, take-all, take-nil, take-app
 use borrow.Author.Tests.{eq-eqb, ne-eqb}
 use borrow.Rule.Slice.PartMut.{midOf, postOf, putMid, post-is, mid-len}
 use Rattle.rows.specs.Row.{bit-of, bytes-of}
-use Rattle.rows.specs.Table.{row-at, room, table-of, bit-set, placed}
+use Rattle.rows.specs.Table.{row-at, room, table-of}
+use Rattle.rows.specs.Access.{bit-set, placed}
 use Rattle.rows.proofs.BitLaws.{bits-determine}
 use Rattle.rows.proofs.RowLaws.{bit-in-byte, length-bytes-of, bytes-of-below, bit-bytes-of}
 use Rattle.rows.proofs.TableLaws.{row-at-inside, getD-row-at}

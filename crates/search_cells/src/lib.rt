@@ -8,7 +8,7 @@ ghost use Prim.Native.Nat.{_+_, _≤_, _<_};
 ghost use lib.ListN.{length};
 ghost use Rattle.formula.specs.Formula.{max-unknowns, max-rows, work-size};
 ghost use Rattle.rows.specs.Row.{weight, bytes-of};
-ghost use Rattle.rows.specs.Table.{placed, bit-set};
+ghost use Rattle.rows.specs.Access.{placed, bit-set};
 ghost use Rattle.expansion.specs.Play.{part};
 ghost use Rattle.expansion.specs.Cells.{tabulate};
 ghost use Rattle.search_cells.specs.Cells.{cells, owned};

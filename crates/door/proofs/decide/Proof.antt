@@ -23,13 +23,13 @@ run-requires : tie.Need-run-requires
 run-requires c κs = search needs
 
 number-requires : tie.Need-number-requires
-number-requires c κs = returned-small (c .before .before .before .before .before .before .run .ensures .0)
+number-requires c κs = returned-small (c .before .before .before .before .before .before .run .ensures)
 
 same-length : tie.Need-same-length
 same-length c = search needs
 
 returns : tie.Need-returns
-returns c = decided-so (c .before .before .before .before .before .before .before .run .ensures .0) (c .before .before .before .before .before .before .before .run .ensures .1 .0) (c .number .ensures)
+returns c = decided-so (c .before .before .before .before .before .before .before .run .ensures) (c .number .ensures)
 
 pub decide-spec : {M : Type 1} → statement M
 decide-spec =

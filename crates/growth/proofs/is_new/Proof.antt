@@ -2,7 +2,7 @@
 use Prim.Native.Nat.{ℕ}
 use mathlib.Core.Bool.{Bool, true, _&&_}
 use mathlib.Core.List.{List}
-use Rattle.rows.specs.Table.{first-place}
+use Rattle.rows.specs.Access.{first-place}
 use Rattle.growth.specs.Growth.{is-absent, is-new}
 use mathlib.Core.Path.{_≡_, sym, ap, _∙_}
 use borrow.Author.Needs.{needs}

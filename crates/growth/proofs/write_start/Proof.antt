@@ -1,7 +1,7 @@
 -- `growth::write_start` meets its contract. The loop's invariant: the bits passed are set that are preferred. Assumes nothing.
 use mathlib.Core.Bool.{Bool, true, false}
 use mathlib.Core.List.{List}
-use Rattle.rows.specs.Table.{bit-set, rows-written, marks-written}
+use Rattle.rows.specs.Access.{bit-set, rows-written, marks-written}
 use Rattle.growth.proofs.CountLaws.{with-preferred-next, length-bit-set}
 use Prim.Native.Nat.{ℕ, _≤_, _-_}
 use mathlib.Core.Path.{_≡_, refl, sym, ap, _∙_}

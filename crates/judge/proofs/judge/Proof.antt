@@ -40,7 +40,7 @@ returns c =
     promised-if-found (given .kinds .now) (given .literals .now) (given .claim) (given .rows .now) (given .count) (given .work .now)
     (c .before .before .before .before .before .before .before .before .before .before .before .counted .result) (c .before .before .before .before .before .before .before .before .before .before .before .counted .ensures)
     Search.Found (c .before .before .before .before .enum-told .given .1)
-    (c .before .before .before .before .before .before .before .before .first-model .ensures .0) refl
+    (c .before .before .before .before .before .before .before .before .first-model .ensures .returned) refl
     (c .before .before .clear .last .0) (c .before .before .clear .ensures ∙ ap (λ (n : ℕ). replicate n 0) kept)
 
 same-length-2 : tie.Need-same-length-2
@@ -51,8 +51,8 @@ returns-2 c =
     let given = c .before .before .before .before .before .before .before .before .before .before .before .args in
     promised-unless-found (given .kinds .now) (given .literals .now) (given .claim) (given .rows .now) (given .count) (given .work .now)
     (c .before .before .before .before .before .before .before .counted .result) (c .before .before .before .before .before .before .before .counted .ensures)
-    Search.NoModel (c .enum-told2 .given .1) (c .before .before .before .before .first-model .ensures .0) refl
-    (c .before .before .before .before .first-model .last .1 .1 .1 .1 .1 .1 .0) (c .before .before .before .before .first-model .ensures .1)
+    Search.NoModel (c .enum-told2 .given .1) (c .before .before .before .before .first-model .ensures .returned) refl
+    (c .before .before .before .before .first-model .last .1 .1 .1 .1 .1 .1 .0) (c .before .before .before .before .first-model .ensures .area)
 
 same-length-3 : tie.Need-same-length-3
 same-length-3 c = search needs
@@ -62,8 +62,8 @@ returns-3 c =
     let given = c .before .before .before .before .before .before .before .before .before .before .before .before .args in
     promised-unless-found (given .kinds .now) (given .literals .now) (given .claim) (given .rows .now) (given .count) (given .work .now)
     (c .before .before .before .before .before .before .before .before .counted .result) (c .before .before .before .before .before .before .before .before .counted .ensures)
-    (Search.Refused (c .before .cause .given .0 .0)) (c .before .cause .given .1) (c .before .before .before .before .before .first-model .ensures .0) refl
-    (c .before .before .before .before .before .first-model .last .1 .1 .1 .1 .1 .1 .0) (c .before .before .before .before .before .first-model .ensures .1)
+    (Search.Refused (c .before .cause .given .0 .0)) (c .before .cause .given .1) (c .before .before .before .before .before .first-model .ensures .returned) refl
+    (c .before .before .before .before .before .first-model .last .1 .1 .1 .1 .1 .1 .0) (c .before .before .before .before .before .first-model .ensures .area)
 
 pub judge-spec : {M : Type 1} → statement M
 judge-spec =

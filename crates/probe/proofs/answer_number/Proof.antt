@@ -1,6 +1,6 @@
 -- `probe::answer_number` meets its contract. Assumes nothing.
 use mathlib.Core.Path.{sym, ap, _∙_}
-use Rattle.run.specs.Outcome.{number-of}
+use Rattle.probe.specs.Numbers.{answer-number}
 use borrow.Author.Needs.{needs}
 use Rattle.probe.proofs.answer_number.Statement.{statement}
 use Rattle.probe.proofs.answer_number.Tie as tie
@@ -42,7 +42,7 @@ returns-5 : tie.Need-returns-5
 returns-5 c = search needs
 
 returns-6 : tie.Need-returns-6
-returns-6 c = c .refusal-number .ensures ∙ sym (ap number-of (c .before .before .answer .given .1))
+returns-6 c = c .refusal-number .ensures ∙ sym (ap answer-number (c .before .before .answer .given .1))
 
 pub answer-number-spec : {M : Type 1} → statement M
 answer-number-spec =

@@ -17,7 +17,7 @@ same-length c = search needs
 returns : tie.Need-returns
 returns c =
     let search = c .before .before .before .first-model .ensures in
-    (c .search-number .ensures ∙ ap search-number (search .0), search .1)
+    (c .search-number .ensures ∙ ap search-number (search .returned), search .area)
 
 pub probe-first-model-spec : {M : Type 1} → statement M
 probe-first-model-spec =

@@ -17,7 +17,7 @@ same-length c = search needs
 returns : tie.Need-returns
 returns c =
     let judge = c .before .before .before .judge .ensures in
-    (c .judge-number .ensures ∙ ap judge-number (judge .0), judge .1 .0)
+    (c .judge-number .ensures ∙ ap judge-number (judge .returned), judge .area)
 
 pub probe-judge-spec : {M : Type 1} → statement M
 probe-judge-spec = tie.close (tie.spec judge-requires judge-number-requires same-length returns)

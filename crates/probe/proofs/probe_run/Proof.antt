@@ -28,7 +28,7 @@ same-length-5 c = search needs
 returns : tie.Need-returns
 returns c =
     let run = c .before .before .before .before .before .before .before .before .before .before .before .run .ensures in
-    (reported (c .answer-number .ensures) (run .0), run .1 .0)
+    (reported (c .answer-number .ensures) (run .returned-so), run .left-so)
 
 pub probe-run-spec : {M : Type 1} → statement M
 probe-run-spec =

@@ -4,7 +4,7 @@ use mathlib.Core.Bool.{false}
 use Prim.Native.Nat.{ℕ, _-_, _≤_, _<_}
 use native.Mathlib.Omega.{arith}
 use borrow.Author.Count.{below-none, below-more}
-use Rattle.rows.specs.Table.{equal-rows}
+use Rattle.rows.specs.Access.{equal-rows}
 use Rattle.rows.proofs.TableLaws.{below-count}
 use Rattle.rows.proofs.FindLaws.{equal-rows-inside, equal-rows-outside, equal-rows-other-outside, first-place-found, first-place-none}
 use Rattle.rows.proofs.find.Statement.{statement}

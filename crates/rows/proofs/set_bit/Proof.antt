@@ -5,7 +5,7 @@ use lib.Bits.{bitOr}
 use lib.ListN.{getD, set}
 use borrow.Author.Needs.{needs}
 use borrow.Author.Tests.{le-ltb}
-use Rattle.rows.specs.Table.{bit-set}
+use Rattle.rows.specs.Access.{bit-set}
 use Rattle.rows.proofs.BitLaws.{bit-weight}
 use Rattle.rows.proofs.TableLaws.{inside-true, inside-false}
 use Rattle.rows.proofs.WriteLaws.{bit-set-inside}

@@ -3,7 +3,7 @@ use mathlib.Core.Path.{refl, sym, ap, _∙_}
 use lib.ListN.{length}
 use borrow.Author.Needs.{needs}
 use borrow.Author.Tests.{lt-ltb, le-ltb}
-use Rattle.rows.specs.Table.{placed, rows-written, marks-written}
+use Rattle.rows.specs.Access.{placed, rows-written, marks-written}
 use Rattle.rows.proofs.TableLaws.{inside-true, inside-false, row-at-inside}
 use Rattle.rows.proofs.WriteLaws.{rows-written-inside, marks-written-inside}
 use Rattle.rows.proofs.write.Statement.{statement}

@@ -21,19 +21,19 @@ same-length : tie.Need-same-length
 same-length c = search needs
 
 returns : tie.Need-returns
-returns c = (ap is-found (sym (c .enum-told .given .1) ∙ c .before .before .before .before .first-model .ensures .0), c .before .before .before .before .first-model .ensures .1)
+returns c = (ap is-found (sym (c .enum-told .given .1) ∙ c .before .before .before .before .first-model .ensures .returned), c .before .before .before .before .first-model .ensures .area)
 
 same-length-2 : tie.Need-same-length-2
 same-length-2 c = search needs
 
 returns-2 : tie.Need-returns-2
-returns-2 c = (ap is-found (sym (c .enum-told2 .given .1) ∙ c .before .before .before .before .first-model .ensures .0), c .before .before .before .before .first-model .ensures .1)
+returns-2 c = (ap is-found (sym (c .enum-told2 .given .1) ∙ c .before .before .before .before .first-model .ensures .returned), c .before .before .before .before .first-model .ensures .area)
 
 same-length-3 : tie.Need-same-length-3
 same-length-3 c = search needs
 
 returns-3 : tie.Need-returns-3
-returns-3 c = (ap is-found (sym (c .enum-told3 .given .1) ∙ c .before .before .before .before .first-model .ensures .0), c .before .before .before .before .first-model .ensures .1)
+returns-3 c = (ap is-found (sym (c .enum-told3 .given .1) ∙ c .before .before .before .before .first-model .ensures .returned), c .before .before .before .before .first-model .ensures .area)
 
 pub finds-spec : {M : Type 1} → statement M
 finds-spec =

@@ -6,7 +6,7 @@ use mathlib.Core.List.{List}
 use native.Mathlib.Omega.{arith}
 use lib.ListN.{length, replicate}
 use Rattle.preference.specs.Preference.{prefer}
-use Rattle.rows.specs.Table.{rows-written, marks-written}
+use Rattle.rows.specs.Access.{rows-written, marks-written}
 use Rattle.growth.specs.Growth.{with-preferred}
 use Rattle.run.specs.Growing.{Ready}
 use Rattle.run.proofs.LoopLaws.{Going, fresh-going, number-in-marks, run-stopped, run-stopped-back, round-made, run-spent}

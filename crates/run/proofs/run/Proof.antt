@@ -1,8 +1,8 @@
 -- `run::run` meets its contract. Assumes nothing.
 use mathlib.Core.Path.{_≡_, refl, sym, _∙_}
 use native.Mathlib.Omega.{arith}
-use Rattle.run.specs.Outcome.{given, cause}
-use Rattle.run.proofs.OutcomeLaws.{refused-so, same-cause, answered}
+use Rattle.run.specs.Outcome.{areas, given, cause}
+use Rattle.run.proofs.OutcomeLaws.{refused-so, same-cause, answered-so}
 use Rattle.run.proofs.run.Statement.{statement}
 use Rattle.run.proofs.run.Tie as tie
 
@@ -30,8 +30,10 @@ same-length-5 c = refl
 returns : tie.Need-returns
 returns c =
     let q = c .before .before .before .before .before .before .before .before .before .before .before .before .before .before .before .args in
-    let first : cause (given (q .kinds .now) (q .literals .now) (q .preferences .now) (q .universal-rows .now) (q .universal-marks .now) (q .existential-rows .now) (q .existential-marks .now) (q .work .now) (q .limit)) ≡ c .before .before .check .result .cause = sym (same-cause (q .kinds .now) (q .literals .now) (q .preferences .now) (q .universal-rows .now) (q .universal-marks .now) (q .existential-rows .now) (q .existential-marks .now) (q .work .now) (q .limit)) ∙ sym (c .before .before .check .ensures .first) in
-    refused-so (given (q .kinds .now) (q .literals .now) (q .preferences .now) (q .universal-rows .now) (q .universal-marks .now) (q .existential-rows .now) (q .existential-marks .now) (q .work .now) (q .limit)) (c .before .before .check .result .cause) (c .refused .result) first (omega (arith, c .before .if1 .taken)) (c .refused .ensures)
+    let found = areas (q .universal-rows .now) (q .universal-marks .now) (q .existential-rows .now) (q .existential-marks .now) (q .work .now) in
+    let g = given (q .kinds .now) (q .literals .now) (q .preferences .now) found (q .limit) in
+    let first : cause g ≡ c .before .before .check .result .cause = sym (same-cause (q .kinds .now) (q .literals .now) (q .preferences .now) found (q .limit)) ∙ sym (c .before .before .check .ensures .first) in
+    refused-so g (c .before .before .check .result .cause) (c .refused .result) first (omega (arith, c .before .if1 .taken)) (c .refused .ensures)
 
 rounds-requires : tie.Need-rounds-requires
 rounds-requires c κs = c .before .before .before .before .before .before .check .ensures .ready (c .before .before .before .before .before .if1 .left)
@@ -57,8 +59,12 @@ same-length-10 c = c .before .before .clear .kept .0 ∙ c .before .before .befo
 returns-2 : tie.Need-returns-2
 returns-2 c =
     let q = c .before .before .before .before .before .before .before .before .before .before .before .before .before .before .before .before .before .before .before .before .before .before .before .before .before .before .before .before .before .before .before .before .before .before .args in
-    let none : cause (given (q .kinds .now) (q .literals .now) (q .preferences .now) (q .universal-rows .now) (q .universal-marks .now) (q .existential-rows .now) (q .existential-marks .now) (q .work .now) (q .limit)) ≡ 0 = sym (same-cause (q .kinds .now) (q .literals .now) (q .preferences .now) (q .universal-rows .now) (q .universal-marks .now) (q .existential-rows .now) (q .existential-marks .now) (q .work .now) (q .limit)) ∙ sym (c .before .before .before .before .before .before .before .before .before .before .before .before .before .before .before .before .before .before .before .before .before .check .ensures .first) ∙ c .before .before .before .before .before .before .before .before .before .before .before .before .before .before .before .before .before .before .before .before .if1 .left in
-    answered (given (q .kinds .now) (q .literals .now) (q .preferences .now) (q .universal-rows .now) (q .universal-marks .now) (q .existential-rows .now) (q .existential-marks .now) (q .work .now) (q .limit)) none (c .before .before .before .before .before .before .before .before .before .before .before .before .before .before .before .before .before .before .before .before .before .check .ensures .some-limit (c .before .before .before .before .before .before .before .before .before .before .before .before .before .before .before .before .before .before .before .before .if1 .left)) (c .before .before .before .before .before .before .before .before .before .before .before .before .before .before .rounds .result) _ _ _ _ _ _ (c .before .before .before .before .before .before .before .before .before .before .before .before .before .before .rounds .ensures) (c .before .before .clear .ensures)
+    let found = areas (q .universal-rows .now) (q .universal-marks .now) (q .existential-rows .now) (q .existential-marks .now) (q .work .now) in
+    let g = given (q .kinds .now) (q .literals .now) (q .preferences .now) found (q .limit) in
+    let checked = c .before .before .before .before .before .before .before .before .before .before .before .before .before .before .before .before .before .before .before .before .before .check .ensures in
+    let passed = c .before .before .before .before .before .before .before .before .before .before .before .before .before .before .before .before .before .before .before .before .if1 .left in
+    let none : cause g ≡ 0 = sym (same-cause (q .kinds .now) (q .literals .now) (q .preferences .now) found (q .limit)) ∙ sym (checked .first) ∙ passed in
+    answered-so g none (checked .some-limit passed) (c .before .before .before .before .before .before .before .before .before .before .before .before .before .before .rounds .result) _ _ _ _ _ _ (c .before .before .before .before .before .before .before .before .before .before .before .before .before .before .rounds .ensures) (c .before .before .clear .ensures)
 
 pub run-spec : {M : Type 1} → statement M
 run-spec =

@@ -1,0 +1,62 @@
+-- All that `run` promises: what it returns and leaves for everything that is lent, demand 2 of its answer, and demand 3 of every accepted
+-- run, over 01's run and in the lent tables themselves.
+-- Assumes nothing.
+use Prim.Native.Nat.{ℕ, _-_, _<_}
+use mathlib.Core.Path.{_≡_}
+use mathlib.Core.Logic.{_≢_}
+use mathlib.Core.Bool.{true, false, cond}
+use mathlib.Core.List.{List, map}
+use lib.ListN.{length, getD, take}
+use Rattle.formula.specs.Formula.{Kind, existential, universal, prefix}
+use Rattle.formula.specs.Causes.{count}
+use Rattle.formula.specs.Meaning.{verdict}
+use Rattle.rows.specs.Table.{row-at, rows-of}
+use Rattle.rounds.specs.Run.{Entry, rows, number, run}
+use Rattle.rounds.specs.Claim.{table, Finished, Claim}
+use Rattle.run.specs.declared.Answer.the-variants.{False, True}
+use Rattle.run.specs.declared.Outcome.{Outcome}
+use Rattle.run.specs.Outcome.{Areas, Given, lent, cause, accepted, reached, number-of, returned, row-bytes, left}
+
+-- A side's rows, marks and count.
+abbrev pub row-part : Kind → Areas → List ℕ
+row-part universal a = a .universal-rows
+row-part existential a = a .existential-rows
+
+abbrev pub mark-part : Kind → Areas → List ℕ
+mark-part universal a = a .universal-marks
+mark-part existential a = a .existential-marks
+
+abbrev pub count-of : Kind → Outcome → ℕ
+count-of universal r = r .universal
+count-of existential r = r .existential
+
+-- Finished round r has left a row below the count: its mark is r, and its sixteen bytes are those of no row below the count of the table
+-- before the round.
+pub record NewBytes (r : ℕ) (before : List ℕ) (before-count : ℕ) (rows-left marks-left : List ℕ) (number : ℕ) : Type 0 where
+  pub place : ℕ
+  pub below : place < number
+  pub marked : getD marks-left place 0 ≡ r
+  pub new : (i : ℕ) → i < before-count → row-at before i ≢ row-at rows-left place
+
+-- A side's tables at exit, read below the count that is returned.
+pub record TableRight (g : Given) (side : Kind) (rows-left marks-left : List ℕ) (number : ℕ) : Type 0 where
+  -- They are those of 01's run.
+  pub rows-read : rows-of (count side (prefix (g .kinds))) number rows-left ≡ rows (table side (reached g))
+  pub marks-read : take number marks-left ≡ map (λ (x : Entry). x .mark) (table side (reached g))
+  -- 'In neither table .. at the end, are two rows below its count equal.'
+  pub different : (i j : ℕ) → i < number → j < number → row-at rows-left i ≡ row-at rows-left j → i ≡ j
+  -- 'For every finished round r, each table .. has a row with mark r that is equal to no row of that table after round r - 1', which is what the
+  -- same call with the limit r - 1 leaves.
+  pub new-rows : (r : ℕ) → Finished (lent g) (g .limit) r
+      → NewBytes r (row-bytes (table side (run (lent g) (r - 1))) (row-part side (g .found))) (length (table side (run (lent g) (r - 1))))
+      rows-left marks-left number
+
+pub record Ended (g : Given) (r : Outcome) (exit : Areas) : Type 0 where
+  pub returned-so : r ≡ returned g
+  pub numbered : number-of (r .answer) ≡ cond (accepted g) (number (reached g .answer)) (cause g)
+  pub left-so : exit ≡ left g
+  -- 'The verdict is this value of the whole formula': true only where it is true, false only where it is false.
+  pub only-true : r .answer ≡ True → verdict (g .kinds) (g .literals) ≡ true
+  pub only-false : r .answer ≡ False → verdict (g .kinds) (g .literals) ≡ false
+  pub claim : accepted g ≡ true → Claim (lent g) (g .limit)
+  pub tables : accepted g ≡ true → (side : Kind) → TableRight g side (row-part side exit) (mark-part side exit) (count-of side r)
