@@ -46,6 +46,10 @@ marks-fit table marks = eqb (length marks) (room table)
 unfoldable pub handed-back : List ℕ → ℕ → ℕ → List ℕ
 handed-back table count place = cond (ltb place count) (row-at table place) []
 
+-- 'The caller's own': where that part begins in the table, counted in bytes; an empty part begins where the table does.
+unfoldable pub handed-start : List ℕ → ℕ → ℕ → ℕ
+handed-start table count place = cond (ltb place count && inside table place) (16 * place) 0
+
 -- The table with bit k of row i set. It stays as it is if the row is not wholly inside it, or if a row has no bit k.
 unfoldable pub bit-set : List ℕ → ℕ → ℕ → List ℕ
 bit-set table i k =
