@@ -7,21 +7,21 @@ use lib.IntN.{ℤ}
 use lib.ListN.{length, take, drop, length-append}
 use lib.Seq.{take-at}
 use Rattle.run.specs.declared.Outcome.{Outcome}
-use Rattle.run.specs.Outcome.{Given, number-of, Returned, Left}
+use Rattle.run.specs.Outcome.{Given, Returned, Left}
 use Rattle.text.specs.declared.Reading.{Reading}
 use Rattle.text.specs.declared.Reading.the-variants.{Taken, Refused}
 use Rattle.text.specs.Reading.{State, Result, taken, refused, returned, over, Read-so}
-use Rattle.door.specs.Door.{handed-on, number-back, work-back, text-read, answer, work-after, Decided}
+use Rattle.door.specs.Door.{handed-on, door-number, number-back, work-back, text-read, answer, work-after, Decided}
 use Rattle.door.proofs.ReadLaws.{OfText, Results, Passes, read-passes}
 use Rattle.door.proofs.NumberLaws.{run-number-small}
 
 -- The run's number fits, and is what the definition says.
-pub returned-small : {g : Given} {r : Outcome} → Returned g r → number-of (r .answer) ≤ 106
-returned-small {g} R = subst (λ (o : Outcome). number-of (o .answer) ≤ 106) (sym (R .value)) (run-number-small g)
+pub returned-small : {g : Given} {r : Outcome} → Returned g r → door-number (r .answer) ≤ 106
+returned-small {g} R = subst (λ (o : Outcome). door-number (o .answer) ≤ 106) (sym (R .value)) (run-number-small g)
 
 pub decided-so : {g : Given} {r : Outcome} {A A-marks S S-marks work : List ℕ} {n : ℕ} → Returned g r → Left g A A-marks S S-marks work
-    → n ≡ number-of (r .answer) → Decided g n work
-decided-so R L e = record { answered = e ∙ ap (λ (o : Outcome). number-of (o .answer)) (R .value); left = L .area }
+    → n ≡ door-number (r .answer) → Decided g n work
+decided-so R L e = record { answered = e ∙ ap (λ (o : Outcome). door-number (o .answer)) (R .value); left = L .area }
 
 -- The reader returned a refusal.
 result-refused : (result : Result) (n line : ℕ) → Refused n line ≡ returned result → result ≡ refused n line

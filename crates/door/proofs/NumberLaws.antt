@@ -10,10 +10,10 @@ use Rattle.formula.specs.declared.Formula.{Formula}
 use Rattle.formula.specs.declared.Check.the-variants.{Accepted}
 use Rattle.search.specs.Search.{work-size}
 use Rattle.rounds.specs.Run.{Answer, is-false, is-true, spent, no-room-universal, no-room-existential, number, run}
-use Rattle.run.specs.Outcome.{Given, lent, tables-fit, cause, accepted, named, number-of, returned}
-use Rattle.door.specs.Door.{run-number}
+use Rattle.run.specs.Outcome.{Given, lent, tables-fit, cause, accepted, named, returned}
+use Rattle.door.specs.Door.{door-number, run-number}
 
-number-named : (a : Answer) → number-of (named a) ≡ number a
+number-named : (a : Answer) → door-number (named a) ≡ number a
 number-named is-false = refl
 number-named is-true = refl
 number-named spent = refl

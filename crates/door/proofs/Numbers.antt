@@ -6,6 +6,7 @@ use mathlib.Core.Bool.{Bool, true, false, not, cond}
 use mathlib.Core.List.{List}
 use lib.Dec.{eqb}
 use lib.ListN.{length, replicate}
+use Rattle.formula.specs.Meaning.{verdict}
 use Rattle.rows.specs.Table.{table-fits}
 use Rattle.search.specs.Search.{work-size}
 use Rattle.rounds.specs.Run.{number, run}
@@ -71,6 +72,7 @@ module _ (text work : List ℕ) (limit : ℕ) where
     taken-number = answer-taken ∙ run-refused-or-answered (handed s) (not (eqb (length work) work-size)) (eqb limit 0) cause-taken
 
     taken-true : answer text work limit ≡ 1 → Verdict text true
+    unfolding verdict
     taken-true one =
         let back : run-number (handed s) ≡ 1 = sym answer-taken ∙ one in
         record {
@@ -82,6 +84,7 @@ module _ (text work : List ℕ) (limit : ℕ) where
         }
 
     taken-false : answer text work limit ≡ 0 → Verdict text false
+    unfolding verdict
     taken-false none =
         let back : run-number (handed s) ≡ 0 = sym answer-taken ∙ none in
         record {
@@ -119,3 +122,8 @@ module _ (text work : List ℕ) (limit : ℕ) where
         only-true = λ one. by-reading (λ s e. taken-true s e one) (λ n line e. absurd (omega (arith, refused-large n line e)));
         only-false = λ none. by-reading (λ s e. taken-false s e none) (λ n line e. absurd (omega (arith, refused-large n line e)));
       }
+
+  -- What is returned and left, and what the number says of them.
+  pub with-numbers : {r : ℕ} {w : List ℕ} → (r ≡ answer text work limit) × (w ≡ work-after text work limit)
+      → (r ≡ answer text work limit) × ((w ≡ work-after text work limit) × NumbersRight text work limit)
+  with-numbers e = (e .0, (e .1, numbers-right))

@@ -9,6 +9,8 @@ use lib.IntN.{ℤ}
 use lib.ListN.{replicate}
 use Rattle.formula.specs.Formula.{max-unknowns, max-entries, max-rows}
 use Rattle.search.specs.Search.{work-size}
+use Rattle.run.specs.declared.Answer.{Answer}
+use Rattle.run.specs.declared.Answer.the-variants.{False, True, Spent, NoRoomUniversal, NoRoomExistential, Refused}
 use Rattle.run.specs.Outcome.{Given, given, accepted, number-of, returned}
 use Rattle.text.specs.Reading.{Result, taken, refused, read}
 
@@ -23,9 +25,18 @@ own-marks = replicate max-rows 0
 abbrev pub handed-on : List ℕ → List ℤ → List ℕ → ℕ → Given
 handed-on kinds literals work limit = given kinds literals [] own-rows own-marks own-rows own-marks work limit
 
--- 'Gets the answer number back, or 100 plus the refusal number': the number of what the run returns, 0 to 4 or 100 plus its cause.
+-- 'Gets the answer number back, or 100 plus the refusal number': the 100 is the door's own.
+abbrev pub door-number : Answer → ℕ
+door-number False = number-of False
+door-number True = number-of True
+door-number Spent = number-of Spent
+door-number NoRoomUniversal = number-of NoRoomUniversal
+door-number NoRoomExistential = number-of NoRoomExistential
+door-number (Refused cause) = 100 + cause
+
+-- The number of what the run returns.
 abbrev pub run-number : Given → ℕ
-run-number g = number-of (returned g .answer)
+run-number g = door-number (returned g .answer)
 
 -- 'A work area of exactly 65,536 bytes, zero after an answer'; a refusal leaves it as found.
 abbrev pub run-work : Given → List ℕ

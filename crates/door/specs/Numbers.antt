@@ -6,8 +6,7 @@ use mathlib.Core.Bool.{Bool, true, false, not, cond}
 use mathlib.Core.List.{List}
 use lib.Dec.{eqb}
 use lib.ListN.{length, replicate}
-use Rattle.formula.specs.Formula.{prefix, clauses}
-use Rattle.formula.specs.Meaning.{meaning, matrix}
+use Rattle.formula.specs.Meaning.{verdict}
 use Rattle.search.specs.Search.{work-size}
 use Rattle.rounds.specs.Run.{number, run}
 use Rattle.run.specs.Outcome.{lent}
@@ -18,7 +17,7 @@ use Rattle.door.specs.Door.{handed-on, text-read, answer, work-after}
 pub record Verdict (text : List ℕ) (value : Bool) : Type 0 where
   pub state : State
   pub read-so : text-read text ≡ taken state
-  pub right : meaning (prefix (state .kinds)) (matrix (clauses (state .literals))) ≡ value
+  pub right : verdict (state .kinds) (state .literals) ≡ value
 
 pub record NumbersRight (text work : List ℕ) (limit : ℕ) : Type 0 where
   -- '100 plus the refusal number .. the text's faults come before 5 and 6': a text that is refused has one of the numbers 109 to 114.
