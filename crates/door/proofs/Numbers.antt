@@ -6,6 +6,7 @@ use mathlib.Core.Bool.{Bool, true, false, not, cond}
 use mathlib.Core.List.{List}
 use lib.Dec.{eqb}
 use lib.ListN.{length, replicate}
+use Rattle.formula.specs.Meaning.{verdict}
 use Rattle.rows.specs.Table.{table-fits}
 use Rattle.formula.specs.Formula.{work-size}
 use Rattle.formula.specs.Meaning.{verdict}
@@ -124,3 +125,8 @@ module _ (text work : List ℕ) (limit : ℕ) where
         only-true = λ one. by-reading (λ s e. taken-true s e one) (λ n line e. absurd (omega (arith, refused-large n line e)));
         only-false = λ none. by-reading (λ s e. taken-false s e none) (λ n line e. absurd (omega (arith, refused-large n line e)));
       }
+
+  -- What is returned and left, and what the number says of them.
+  pub with-numbers : {r : ℕ} {w : List ℕ} → (r ≡ answer text work limit) × (w ≡ work-after text work limit)
+      → (r ≡ answer text work limit) × ((w ≡ work-after text work limit) × NumbersRight text work limit)
+  with-numbers e = (e .0, (e .1, numbers-right))

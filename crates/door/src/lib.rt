@@ -1,5 +1,6 @@
 // The C door (01, 'Text', last paragraph): from a text's bytes, a work area and a limit to one number.
-// `vulzhenn_decide` promises, for every input, the number and every byte of the work area that the definition (specs/Door.antt) gives.
+// `vulzhenn_decide` promises, for every input, the number and every byte of the work area that the definition (specs/Door.antt) gives, and
+// cites what that number says (specs/Numbers.antt).
 // What is read belongs to `text`, what is decided to `run`; here only buffers are made and handed on.
 use formula::Formula;
 use run::Answer;
@@ -7,12 +8,14 @@ use text::Reading;
 ghost use Prim.Native.Nat.{_≤_};
 ghost use mathlib.Core.Path.{_≡_};
 ghost use Rattle.door.specs.Door.{answer-back, handed-on, answer, work-after, Decided};
+ghost use Rattle.door.specs.Numbers.{NumbersRight};
 
 // The answer's number, or 100 plus the number of the refusal.
 #[no_mangle]
 pub extern "C" fn vulzhenn_decide(text: &[u8], work: &mut [u8], limit: u32) -> u32
     ensures answered { λ r. ⌜ r ≡ answer (now (text .entry)) (now (work .entry)) limit ⌝ }
     ensures left { λ _. ⌜ now (work .exit) ≡ work-after (now (text .entry)) (now (work .entry)) limit ⌝ }
+    ensures right { λ _. ⌜ NumbersRight (now (text .entry)) (now (work .entry)) limit ⌝ }
 {
     let mut kinds = [0u8; Formula::UNKNOWNS];
     let mut literals = [0i32; Formula::ENTRIES];

@@ -1,4 +1,5 @@
--- The laws behind the functions' proofs, and what holds of an accepted formula.
+-- The worked verdicts; the laws behind the functions' proofs, and what holds of an accepted formula.
+pub mod Verdicts
 pub mod Places
 pub mod Any
 pub mod Quantifiers

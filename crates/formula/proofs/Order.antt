@@ -3,14 +3,16 @@
 use Prim.Native.Nat.{ℕ, _≤_, _<_}
 use native.Mathlib.Omega.{arith}
 use borrow.Author.Tests.{ltb-true, lt-ltb, le-ltb}
-use mathlib.Core.Path.{_≡_}
-use mathlib.Core.Bool.{true, false, or-true}
+use mathlib.Core.Path.{_≡_, refl, ap, _∙_}
+use mathlib.Core.Bool.{Bool, true, false, or-true, cond}
 use mathlib.Core.List.{List}
 use lib.IntN.{ℤ, natAbs}
 use lib.ListN.{length}
+use Rattle.formula.specs.declared.Check.{Check}
 use Rattle.formula.specs.declared.Check.the-variants.{Accepted, Refused}
+use Rattle.formula.specs.declared.Formula.{Formula}
 use Rattle.formula.specs.Formula.{max-unknowns, max-clauses, max-entries}
-use Rattle.formula.specs.Causes.{any, other-kind, cause-1, zeros, ended, cause-2, beyond, cause-3, sizes, checked}
+use Rattle.formula.specs.Causes.{any, other-kind, cause-1, zeros, ended, cause-2, beyond, cause-3, sizes, refused-if, checked, number, first-cause}
 use Rattle.formula.proofs.Any.{any-implies}
 
 module _ (kinds : List ℕ) where
@@ -66,3 +68,15 @@ module _ (kinds : List ℕ) (literals : List ℤ) where
   pub none-refused : cause-1 kinds ≡ false → cause-2 literals ≡ false → cause-3 (length kinds) literals ≡ false → Accepted (sizes kinds literals) ≡ checked kinds literals
   unfolding checked
   none-refused no-one no-two no-three = rw (no-one, no-two, no-three)
+
+number-refused-if : (a b c : Bool) (f : Formula) → number (refused-if a 1 (refused-if b 2 (refused-if c 3 (Accepted f)))) ≡ cond a 1 (cond b 2 (cond c 3 0))
+number-refused-if true b c f = refl
+number-refused-if false true c f = refl
+number-refused-if false false true f = refl
+number-refused-if false false false f = refl
+
+-- What is answered has the number of the first cause.
+pub numbered : (kinds : List ℕ) (literals : List ℤ) {r : Check} → r ≡ checked kinds literals → (r ≡ checked kinds literals) × (number r ≡ first-cause kinds literals)
+unfolding checked first-cause
+numbered kinds literals e =
+    (e, ap number e ∙ number-refused-if (cause-1 kinds) (cause-2 literals) (cause-3 (length kinds) literals) (sizes kinds literals))

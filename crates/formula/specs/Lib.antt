@@ -1,7 +1,8 @@
--- The definitions of 01's 'Formula', in the order of reading: what is lent, what it means, what is refused; then how the code reads a
--- literal, and where a run starts.
+-- The definitions of 01's 'Formula', in the order of reading: what is lent, what it means, with verdicts that fix it, what is refused; then
+-- how the code reads a literal, and where a run starts.
 pub mod Formula
 pub mod Meaning
+pub mod Verdicts
 pub mod Causes
 pub mod Literal
 pub mod Progress

@@ -7,7 +7,7 @@ ghost use mathlib.Core.Bool.{false};
 ghost use lib.IntN.{natAbs};
 ghost use lib.ListN.{length};
 ghost use Rattle.formula.specs.Formula.{universal, prefix, max-entries};
-ghost use Rattle.formula.specs.Causes.{any, other-kind, zeros, ended, beyond, count, checked};
+ghost use Rattle.formula.specs.Causes.{any, other-kind, zeros, ended, beyond, count, checked, number, first-cause};
 ghost use Rattle.formula.specs.Literal.{magnitude-at, negative-at};
 ghost use Rattle.formula.specs.Progress.{fresh};
 
@@ -58,6 +58,7 @@ impl Formula {
     // The first of causes 1 to 3 that applies, or the sizes.
     pub fn check(kinds: &[u8], literals: &[i32]) -> Check
         ensures { λ r. ⌜ r ≡ checked (now (kinds .entry)) (now (literals .entry)) ⌝ }
+        ensures numbered { λ r. ⌜ number r ≡ first-cause (now (kinds .entry)) (now (literals .entry)) ⌝ }
     {
         let unknowns = kinds.len();
         if unknowns > Formula::UNKNOWNS {

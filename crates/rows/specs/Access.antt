@@ -6,7 +6,7 @@ use mathlib.Core.List.{List, [], _∷_, _++_}
 use lib.Bits.{bitOr}
 use lib.Dec.{eqb, ltb}
 use lib.ListN.{length, getD, take, drop, set}
-use Rattle.rows.specs.Row.{values}
+use Rattle.rows.specs.Row.{values, row-bits}
 use Rattle.rows.specs.Table.{inside, row-at}
 use Rattle.rows.specs.declared.Found.{Found}
 use Rattle.rows.specs.declared.Found.the-variants.{At, Absent}
@@ -15,6 +15,10 @@ use Rattle.rows.specs.declared.Found.the-variants.{At, Absent}
 -- an empty part.'
 unfoldable pub handed-back : List ℕ → ℕ → ℕ → List ℕ
 handed-back table count place = cond (ltb place count) (row-at table place) []
+
+-- 'The caller's own': where that part begins in the table, counted in bytes; an empty part begins where the table does.
+unfoldable pub handed-start : List ℕ → ℕ → ℕ → ℕ
+handed-start table count place = cond (ltb place count && inside table place) (16 * place) 0
 
 -- The table with bit k of row i set. It stays as it is if the row is not wholly inside it, or if a row has no bit k.
 unfoldable pub bit-set : List ℕ → ℕ → ℕ → List ℕ

@@ -8,7 +8,7 @@ ghost use lib.ListN.{length, take, drop, replicate};
 ghost use lib.Seq.{paste};
 ghost use Rattle.rows.specs.Row.{bit-of, stray};
 ghost use Rattle.rows.specs.Table.{row-at, room, table-fits, marks-fit, stray-rows};
-ghost use Rattle.rows.specs.Access.{handed-back, bit-set, same-bytes, equal-rows, first-place, rows-written, marks-written};
+ghost use Rattle.rows.specs.Access.{handed-back, handed-start, bit-set, same-bytes, equal-rows, first-place, rows-written, marks-written};
 
 // A row's bytes, and its bits.
 const BYTES: usize = 16;
@@ -45,6 +45,7 @@ pub fn marks_fit(rows: &[u8], marks: &[u16]) -> bool
 // The row at a place below the count, as the part of the table that holds it.
 pub fn row(rows: &[u8], count: usize, place: usize) -> &[u8]
     ensures { λ r. ⌜ now r ≡ handed-back (now (rows .entry)) count place ⌝ }
+    ensures own { λ r. ⌜ (r .ptr .0 ≡ rows .entry .ptr .0) × (r .ptr .1 ≡ rows .entry .ptr .1 + handed-start (now (rows .entry)) count place) ⌝ }
 {
     if count <= place {
         return &rows[0..0];

@@ -14,7 +14,7 @@ use Rattle.text.specs.Steps.{outcome, settled, held, Sized}
 -- A refusal leaves the tables.
 pub refused-whole : {result : Result} {number line : ℕ} {K : List ℕ} {L : List ℤ} {N : List ℕ} → result ≡ refused number line
     → Read-so result (Refused number line) K L N K L N
-refused-whole e = rw e (record { returns = refl; writes-kinds = refl; writes-literals = refl; writes-names = refl; fitting = tt })
+refused-whole e = rw e (record { returns = refl; numbered = refl; writes-kinds = refl; writes-literals = refl; writes-names = refl; fitting = tt })
 
 pub outcome-refused : (c : Counts) (K N : List ℕ) (L : List ℤ) → (c .cause ≡ 0 → ⊥) → outcome c K N L ≡ refused (c .cause) (c .line)
 unfolding outcome
@@ -45,6 +45,7 @@ module _ {result : Result} (c : Counts) (OK ON : List ℕ) (OL : List ℤ) (size
       rw whole
       (record {
         returns = rw (length-take-le (c .unknowns) ON unknowns-N, length-take-le (c .entries) OL entries-L) refl;
+        numbered = refl;
         writes-kinds = k ∙ over-take (c .unknowns) OK K unknowns-K;
         writes-literals = l ∙ over-take (c .entries) OL L entries-L;
         writes-names = n ∙ over-take (c .unknowns) ON N unknowns-N;

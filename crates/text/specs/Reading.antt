@@ -188,6 +188,16 @@ abbrev pub returned : Result → Reading
 returned (taken s) = Taken (length (s .names)) (length (s .literals)) (s .variables) (s .clauses)
 returned (refused number line) = Refused number line
 
+-- 01's number of each case: 0 for a text that is taken, else the cause's.
+abbrev pub number-of : Reading → ℕ
+number-of (Taken unknowns entries variables clauses) = 0
+number-of (Refused number line) = number
+
+-- The number of the cause for which a text is refused, or 0.
+abbrev pub cause-of : Result → ℕ
+cause-of (taken s) = 0
+cause-of (refused number line) = number
+
 -- 'Writes kinds, literals and the text name of each position, leaves entries past those used'; a refusal leaves all.
 abbrev pub over {ℓ} : {A : Type ℓ} → List A → List A → List A
 over new old = new ++ drop (length new) old
@@ -212,6 +222,7 @@ fits (refused number line) = Unit {0}
 -- What `read` promises: the outcome and each table at exit, from a result and the tables at entry.
 pub record Read-so (result : Result) (outcome : Reading) (kinds : List ℕ) (literals : List ℤ) (names kinds′ : List ℕ) (literals′ : List ℤ) (names′ : List ℕ) : Type 0 where
   pub returns : outcome ≡ returned result
+  pub numbered : number-of outcome ≡ cause-of result
   pub writes-kinds : kinds′ ≡ kinds-after result kinds
   pub writes-literals : literals′ ≡ literals-after result literals
   pub writes-names : names′ ≡ names-after result names

@@ -9,7 +9,7 @@ ghost use lib.ListN.{length, take, drop};
 ghost use Rattle.formula.specs.Formula.{max-unknowns, max-entries};
 ghost use Rattle.lines.specs.Lines.{lines, words};
 ghost use Rattle.lines.specs.Shapes.{is-prefix};
-ghost use Rattle.text.specs.Reading.{max-variables, body as lines-read, body-line as line-read, prefix-line as prefix-read, clause-line as clause-read, kind-of-word};
+ghost use Rattle.text.specs.Reading.{max-variables, body as body-read, body-line as body-line-read, prefix-line as prefix-line-read, clause-line as clause-line-read, kind-of-word};
 ghost use Rattle.text.specs.Steps.{Indexed, Sized, fresh, held, Line-read, All-read};
 use crate::names;
 use crate::opening::Opened;
@@ -38,7 +38,7 @@ pub(crate) fn read_lines(
 ) -> Counts
     requires { ⌜ (length (now kinds) ≡ max-unknowns) × (length (now names) ≡ max-unknowns) × (length (now literals) ≡ max-entries) ⌝ }
     requires { ⌜ (o .at ≤ length (now text)) × (o .line ≤ o .at) × (o .variables ≤ max-variables) ⌝ }
-    ensures { λ r. ⌜ All-read (lines-read (fresh o) (o .line + 1) (lines (drop (o .at) (now (text .entry))))) r (now (kinds .exit)) (now (names .exit)) (now (literals .exit)) ⌝ }
+    ensures { λ r. ⌜ All-read (body-read (fresh o) (o .line + 1) (lines (drop (o .at) (now (text .entry))))) r (now (kinds .exit)) (now (names .exit)) (now (literals .exit)) ⌝ }
 {
     let mut places = [0u8; names::PLACES];
     let mut s = Counts {
@@ -80,7 +80,7 @@ fn body_line(
     places: &mut [u8; names::PLACES],
 ) -> Counts
     requires { ⌜ Sized c (now kinds) (now names) (now literals) × Indexed (take (c .unknowns) (now names)) (now places) ⌝ }
-    ensures { λ r. ⌜ Line-read (line-read (held c (now (kinds .entry)) (now (names .entry)) (now (literals .entry))) (now (line .entry))) c r (now (kinds .exit)) (now (names .exit)) (now (places .exit)) (now (literals .exit)) ⌝ }
+    ensures { λ r. ⌜ Line-read (body-line-read (held c (now (kinds .entry)) (now (names .entry)) (now (literals .entry))) (now (line .entry))) c r (now (kinds .exit)) (now (names .exit)) (now (places .exit)) (now (literals .exit)) ⌝ }
 {
     if binds(line, c.clauses_read) {
         return prefix_line(line, c, kinds, names, places);
@@ -113,7 +113,7 @@ fn prefix_line(
     places: &mut [u8; names::PLACES],
 ) -> Counts
     requires { ⌜ (length (now kinds) ≡ max-unknowns) × (length (now names) ≡ max-unknowns) × (c .unknowns ≤ max-unknowns) × (c .variables ≤ max-variables) × Indexed (take (c .unknowns) (now names)) (now places) ⌝ }
-    ensures { λ r. ⌜ ((L : List ℤ) → Sized c (now (kinds .entry)) (now (names .entry)) L → Line-read (prefix-read (held c (now (kinds .entry)) (now (names .entry)) L) (words (now (line .entry)))) c r (now (kinds .exit)) (now (names .exit)) (now (places .exit)) L) ⌝ }
+    ensures { λ r. ⌜ ((L : List ℤ) → Sized c (now (kinds .entry)) (now (names .entry)) L → Line-read (prefix-line-read (held c (now (kinds .entry)) (now (names .entry)) L) (words (now (line .entry)))) c r (now (kinds .exit)) (now (names .exit)) (now (places .exit)) L) ⌝ }
 {
     let w = lines::next(line, 0);
     let start = w.start;
@@ -149,7 +149,7 @@ fn clause_line(
     places: &[u8; names::PLACES],
 ) -> Counts
     requires { ⌜ (length (now literals) ≡ max-entries) × (c .variables ≤ max-variables) × (c .entries ≤ max-entries) ⌝ }
-    ensures { λ r. ⌜ ((K N : List ℕ) → Sized c K N (now (literals .entry)) → Indexed (take (c .unknowns) N) (now (places .entry)) → Line-read (clause-read (held c K N (now (literals .entry))) (words (now (line .entry)))) c r K N (now (places .entry)) (now (literals .exit))) ⌝ }
+    ensures { λ r. ⌜ ((K N : List ℕ) → Sized c K N (now (literals .entry)) → Indexed (take (c .unknowns) N) (now (places .entry)) → Line-read (clause-line-read (held c K N (now (literals .entry))) (words (now (line .entry)))) c r K N (now (places .entry)) (now (literals .exit))) ⌝ }
 {
     let mut s = c;
     if c.clauses <= c.clauses_read {

@@ -4,6 +4,7 @@ use native.Mathlib.Omega.{arith}
 use lib.Seq.{length-take-le}
 use borrow.Author.Needs.{needs}
 use Rattle.door.proofs.DoorLaws.{refused-of-text, read-refused, refused-back, read-taken, decided-back}
+use Rattle.door.proofs.Numbers.{with-numbers}
 use Rattle.door.proofs.vulzhenn_decide.Statement.{statement}
 use Rattle.door.proofs.vulzhenn_decide.Tie as tie
 
@@ -48,7 +49,8 @@ decide-requires c κs = search needs
 returns : tie.Need-returns
 returns c =
     let q = c .before .before .before .before .before .before .before .before .before .before .before .before .args in
-    refused-back (q .text .now) (q .work .now) (q .limit) (c .before .number .given .0 .0) (c .before .number .given .0 .1 .0) (read-refused (c .before .before .before .before .before .before .read .ensures) (c .before .number .given .1))
+    with-numbers (q .text .now) (q .work .now) (q .limit)
+    (refused-back (q .text .now) (q .work .now) (q .limit) (c .before .number .given .0 .0) (c .before .number .given .0 .1 .0) (read-refused (c .before .before .before .before .before .before .read .ensures) (c .before .number .given .1)))
 
 same-length : tie.Need-same-length
 same-length c = search needs
@@ -56,7 +58,8 @@ same-length c = search needs
 returns-2 : tie.Need-returns-2
 returns-2 c =
     let q = c .before .before .before .before .before .before .before .before .before .before .before .before .before .before .before .before .before .before .args in
-    decided-back (q .text .now) (q .work .now) (q .limit) (read-taken (c .before .before .before .before .before .before .before .before .before .before .before .before .read .ensures) (c .before .before .before .before .before .before .before .unknowns .given .1)) (c .before .before .decide .ensures)
+    with-numbers (q .text .now) (q .work .now) (q .limit)
+    (decided-back (q .text .now) (q .work .now) (q .limit) (read-taken (c .before .before .before .before .before .before .before .before .before .before .before .before .read .ensures) (c .before .before .before .before .before .before .before .unknowns .given .1)) (c .before .before .decide .ensures))
 
 pub vulzhenn-decide-spec : {M : Type 1} → statement M
 vulzhenn-decide-spec =

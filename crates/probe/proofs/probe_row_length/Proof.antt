@@ -9,7 +9,7 @@ row-requires : tie.Need-row-requires
 row-requires c κs = search needs
 
 returns : tie.Need-returns
-returns c = ap length (c .row .ensures)
+returns c = ap length (c .row .ensures .0)
 
 pub probe-row-length-spec : {M : Type 1} → statement M
 probe-row-length-spec = tie.close (tie.spec row-requires returns)

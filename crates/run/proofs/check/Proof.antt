@@ -21,31 +21,31 @@ returns : tie.Need-returns
 returns c =
     let q = c .before .before .before .before .before .before .before .before .before .before .before .before .args in
     tables-refused (q .kinds .now) (q .literals .now) (q .universal-rows .now) (q .universal-marks .now) (q .existential-rows .now) (q .existential-marks .now) (q .work .now) (q .limit)
-    (c .before .before .before .formula .given .0 .0) (sym (c .before .before .before .before .before .check .ensures) ∙ c .before .before .before .formula .given .1) _ (sym (c .before .fits2 .ensures) ∙ c .if1 .left)
+    (c .before .before .before .formula .given .0 .0) (sym (c .before .before .before .before .before .check .ensures .0) ∙ c .before .before .before .formula .given .1) _ (sym (c .before .fits2 .ensures) ∙ c .if1 .left)
 
 returns-2 : tie.Need-returns-2
 returns-2 c =
     let q = c .before .before .before .before .before .before .before .before .before .before .before .before .before .args in
     work-refused (q .kinds .now) (q .literals .now) (q .universal-rows .now) (q .universal-marks .now) (q .existential-rows .now) (q .existential-marks .now) (q .work .now) (q .limit)
-    (c .before .before .before .before .formula .given .0 .0) (sym (c .before .before .before .before .before .before .check .ensures) ∙ c .before .before .before .before .formula .given .1) (sym (c .before .before .fits2 .ensures) ∙ c .before .if1 .taken) _ (c .if2 .taken)
+    (c .before .before .before .before .formula .given .0 .0) (sym (c .before .before .before .before .before .before .check .ensures .0) ∙ c .before .before .before .before .formula .given .1) (sym (c .before .before .fits2 .ensures) ∙ c .before .if1 .taken) _ (c .if2 .taken)
 
 returns-3 : tie.Need-returns-3
 returns-3 c =
     let q = c .before .before .before .before .before .before .before .before .before .before .before .before .before .before .args in
     limit-refused (q .kinds .now) (q .literals .now) (q .universal-rows .now) (q .universal-marks .now) (q .existential-rows .now) (q .existential-marks .now) (q .work .now) (q .limit)
-    (c .before .before .before .before .before .formula .given .0 .0) (sym (c .before .before .before .before .before .before .before .check .ensures) ∙ c .before .before .before .before .before .formula .given .1) (sym (c .before .before .before .fits2 .ensures) ∙ c .before .before .if1 .taken) (c .before .if2 .left) _ (c .if3 .taken)
+    (c .before .before .before .before .before .formula .given .0 .0) (sym (c .before .before .before .before .before .before .before .check .ensures .0) ∙ c .before .before .before .before .before .formula .given .1) (sym (c .before .before .before .fits2 .ensures) ∙ c .before .before .if1 .taken) (c .before .if2 .left) _ (c .if3 .taken)
 
 returns-4 : tie.Need-returns-4
 returns-4 c =
     let q = c .before .before .before .before .before .before .before .before .before .before .args in
     formula-refused (q .kinds .now) (q .literals .now) (q .universal-rows .now) (q .universal-marks .now) (q .existential-rows .now) (q .existential-marks .now) (q .work .now) (q .limit)
-    (c .before .cause .given .0 .0) _ (sym (c .before .before .before .check .ensures) ∙ c .before .cause .given .1)
+    (c .before .cause .given .0 .0) _ (sym (c .before .before .before .check .ensures .0) ∙ c .before .cause .given .1)
 
 returns-5 : tie.Need-returns-5
 returns-5 c =
     let q = c .before .before .before .before .before .before .before .before .before .before .before .before .before .before .args in
     none-applies (q .kinds .now) (q .literals .now) (q .universal-rows .now) (q .universal-marks .now) (q .existential-rows .now) (q .existential-marks .now) (q .work .now) (q .limit)
-    (c .before .before .before .before .before .formula .given .0 .0) (sym (c .before .before .before .before .before .before .before .check .ensures) ∙ c .before .before .before .before .before .formula .given .1) (sym (c .before .before .before .fits2 .ensures) ∙ c .before .before .if1 .taken) (c .before .if2 .left) (c .if3 .left)
+    (c .before .before .before .before .before .formula .given .0 .0) (sym (c .before .before .before .before .before .before .before .check .ensures .0) ∙ c .before .before .before .before .before .formula .given .1) (sym (c .before .before .before .fits2 .ensures) ∙ c .before .before .if1 .taken) (c .before .if2 .left) (c .if3 .left)
 
 pub check-spec : {M : Type 1} → statement M
 check-spec = tie.close (tie.spec check-requires enum-known-cause enum-known-formula fits-requires returns returns-2 returns-3 returns-4 returns-5)

@@ -5,25 +5,25 @@ use borrow.Author.Needs.{needs}
 use mathlib.Core.Path.{_≡_, sym, _∙_}
 use mathlib.Core.Bool.{false}
 use Rattle.formula.specs.Causes.{cause-1, cause-2, cause-3}
-use Rattle.formula.proofs.Order.{cause-1-many, cause-1-other, no-cause-1, cause-2-many, cause-2-zeros, cause-2-last, no-cause-2, cause-3-lowest, refused-1, refused-2, refused-3, none-refused}
+use Rattle.formula.proofs.Order.{cause-1-many, cause-1-other, no-cause-1, cause-2-many, cause-2-zeros, cause-2-last, no-cause-2, cause-3-lowest, refused-1, refused-2, refused-3, none-refused, numbered}
 use Rattle.formula.proofs.Formula.check.Statement.{statement}
 use Rattle.formula.proofs.Formula.check.Tie as tie
 
 returns : tie.Need-returns
-returns c = refused-1 _ _ (cause-1-many _ (omega (arith, c .if1 .taken)))
+returns c = numbered _ _ (refused-1 _ _ (cause-1-many _ (omega (arith, c .if1 .taken))))
 
 has-other-kind-requires : tie.Need-has-other-kind-requires
 has-other-kind-requires c κs = search needs
 
 returns-2 : tie.Need-returns-2
-returns-2 c = refused-1 _ _ (cause-1-other _ (sym (c .before .has-other-kind .ensures) ∙ c .if2 .taken))
+returns-2 c = numbered _ _ (refused-1 _ _ (cause-1-other _ (sym (c .before .has-other-kind .ensures) ∙ c .if2 .taken)))
 
 -- Past the first two tests the kinds are not refused.
 kinds-pass : (c : tie.Else2) → cause-1 (c .before .before .before .before .args .kinds .now) ≡ false
 kinds-pass c = no-cause-1 _ (omega (arith, c .before .before .if1 .left)) (sym (c .before .has-other-kind .ensures) ∙ c .if2 .left)
 
 returns-3 : tie.Need-returns-3
-returns-3 c = refused-2 _ _ (kinds-pass (c .before)) (cause-2-many _ (omega (arith, c .if3 .taken)))
+returns-3 c = numbered _ _ (refused-2 _ _ (kinds-pass (c .before)) (cause-2-many _ (omega (arith, c .if3 .taken))))
 
 count-zeros-requires : tie.Need-count-zeros-requires
 count-zeros-requires c κs = search needs
@@ -32,13 +32,13 @@ cast-clauses : tie.Need-cast-clauses
 cast-clauses c = search needs
 
 returns-4 : tie.Need-returns-4
-returns-4 c = refused-2 _ _ (kinds-pass (c .before .before .before)) (cause-2-zeros _ (omega (arith, c .before .count-zeros .ensures, c .if4 .taken)))
+returns-4 c = numbered _ _ (refused-2 _ _ (kinds-pass (c .before .before .before)) (cause-2-zeros _ (omega (arith, c .before .count-zeros .ensures, c .if4 .taken))))
 
 is-ended-requires : tie.Need-is-ended-requires
 is-ended-requires c κs = search needs
 
 returns-5 : tie.Need-returns-5
-returns-5 c = refused-2 _ _ (kinds-pass (c .before .before .before .before .before)) (cause-2-last _ (sym (c .before .is-ended .ensures) ∙ c .if5 .left))
+returns-5 c = numbered _ _ (refused-2 _ _ (kinds-pass (c .before .before .before .before .before)) (cause-2-last _ (sym (c .before .is-ended .ensures) ∙ c .if5 .left)))
 
 -- Past the next three the entries are within the limits and end in 0.
 entries-pass : (c : tie.Then5) → cause-2 (c .before .before .before .before .before .before .before .before .before .args .literals .now) ≡ false
@@ -53,8 +53,9 @@ has-lowest-requires c κs = search needs
 
 returns-6 : tie.Need-returns-6
 returns-6 c =
-    refused-3 _ _ (kinds-pass (c .before .before .before .before .before .before .before)) (entries-pass (c .before .before))
-    (cause-3-lowest _ _ (omega (arith, c .before .before .before .before .before .before .before .before .before .if1 .left)) (sym (c .before .has-lowest .ensures) ∙ c .if6 .taken))
+    numbered _ _
+    (refused-3 _ _ (kinds-pass (c .before .before .before .before .before .before .before)) (entries-pass (c .before .before))
+    (cause-3-lowest _ _ (omega (arith, c .before .before .before .before .before .before .before .before .before .if1 .left)) (sym (c .before .has-lowest .ensures) ∙ c .if6 .taken)))
 
 cast-has-beyond : tie.Need-cast-has-beyond
 cast-has-beyond c = search needs
@@ -64,7 +65,7 @@ has-beyond-requires c κs = sym (c .before .has-lowest .ensures) ∙ c .if6 .lef
 
 returns-7 : tie.Need-returns-7
 unfolding cause-3
-returns-7 c = refused-3 _ _ (kinds-pass (c .before .before .before .before .before .before .before .before .before)) (entries-pass (c .before .before .before .before)) (sym (c .before .has-beyond .ensures) ∙ c .if7 .taken)
+returns-7 c = numbered _ _ (refused-3 _ _ (kinds-pass (c .before .before .before .before .before .before .before .before .before)) (entries-pass (c .before .before .before .before)) (sym (c .before .has-beyond .ensures) ∙ c .if7 .taken))
 
 count-universals-requires : tie.Need-count-universals-requires
 count-universals-requires c κs = search needs
@@ -73,7 +74,7 @@ returns-8 : tie.Need-returns-8
 unfolding cause-3
 returns-8 c =
     rw (c .count-universals .ensures, c .before .before .before .before .before .before .before .before .count-zeros .ensures)
-    (none-refused _ _ (kinds-pass (c .before .before .before .before .before .before .before .before .before .before)) (entries-pass (c .before .before .before .before .before)) (sym (c .before .before .has-beyond .ensures) ∙ c .before .if7 .left))
+    (numbered _ _ (none-refused _ _ (kinds-pass (c .before .before .before .before .before .before .before .before .before .before)) (entries-pass (c .before .before .before .before .before)) (sym (c .before .before .has-beyond .ensures) ∙ c .before .if7 .left)))
 
 pub check-spec : {M : Type 1} → statement M
 check-spec =
