@@ -1,18 +1,38 @@
 /* Decides a formula from a file, or from standard input, and prints the verdict in words.
  *
  *     rt staticlib door
- *     gcc -O2 -Iinclude examples/decide.c target/staticlib/libdoor.a -o decide
- *     ./decide examples/published/d000-ex4.qdimacs
+ *     gcc -O2 -Iinclude examples/decide.c target/staticlib/libdoor.a -o target/decide
+ *     target/decide examples/published/d000-ex4.qdimacs
+ *
+ * Status 0 if the line was written, whatever it says; 2 for wrong use, input that cannot be read, output that cannot be written.
  */
 #include <stdio.h>
 
 #include "vulzhenn.h"
 
+/* The two row tables, of 256 rows each, are full before so many rounds are made: each round adds a row to both. */
 static const uint32_t LIMIT = 1000;
 
 /* One byte more than is taken, so that a longer text is refused and not cut. */
 static uint8_t text[VULZHENN_TEXT + 1];
 static uint8_t work[VULZHENN_WORK];
+
+/* Prints the words for a number that the call returned; negative if that fails. */
+static int print_words(uint32_t number)
+{
+    switch (number) {
+    case VULZHENN_FALSE:
+        return puts("false");
+    case VULZHENN_TRUE:
+        return puts("true");
+    case VULZHENN_NO_ROOM_UNIVERSAL:
+        return puts("undecided: no room for more universal rows");
+    case VULZHENN_NO_ROOM_EXISTENTIAL:
+        return puts("undecided: no room for more existential rows");
+    default:
+        return printf("refused: number %u\n", (unsigned)(number - VULZHENN_REFUSED));
+    }
+}
 
 int main(int count, char **words)
 {
@@ -30,25 +50,9 @@ int main(int count, char **words)
         perror("decide");
         return 2;
     }
-    uint32_t number = vulzhenn_decide(text, length, work, sizeof work, LIMIT);
-    switch (number) {
-    case VULZHENN_FALSE:
-        puts("false");
-        break;
-    case VULZHENN_TRUE:
-        puts("true");
-        break;
-    case VULZHENN_SPENT:
-        printf("undecided: %u rounds made\n", (unsigned)LIMIT);
-        break;
-    case VULZHENN_NO_ROOM_UNIVERSAL:
-        puts("undecided: no room for more universal rows");
-        break;
-    case VULZHENN_NO_ROOM_EXISTENTIAL:
-        puts("undecided: no room for more existential rows");
-        break;
-    default:
-        printf("refused: number %u\n", (unsigned)(number - VULZHENN_REFUSED));
+    if (print_words(vulzhenn_decide(text, length, work, sizeof work, LIMIT)) < 0 || fflush(stdout) != 0) {
+        perror("decide: standard output");
+        return 2;
     }
     return 0;
 }

@@ -25,7 +25,7 @@ extern "C" {
 /* Answers. */
 #define VULZHENN_FALSE 0
 #define VULZHENN_TRUE 1
-#define VULZHENN_SPENT 2               /* undecided: the limit's rounds were made */
+#define VULZHENN_SPENT 2               /* undecided: the limit's rounds were made; never with a limit from 256 on */
 #define VULZHENN_NO_ROOM_UNIVERSAL 3   /* undecided: more than 256 universal rows are needed */
 #define VULZHENN_NO_ROOM_EXISTENTIAL 4 /* undecided: more than 256 existential rows are needed */
 
@@ -45,6 +45,10 @@ extern "C" {
  * text, text_length   the text's bytes; they are read only
  * work, work_length   the work area, of VULZHENN_WORK bytes, with any content
  * limit               the most rounds, from 1; the program vulzhenn takes 1,000
+ *
+ * The limit bounds rounds, not time. Most formulas are decided in milliseconds, but one round can take for ever: parity formulas of 60 unknowns in
+ * one block take from a second upwards, and a dozen unknowns more ten times as long or longer. A call cannot be broken off, so a caller that needs a
+ * timeout gives the call a process of its own and ends that.
  *
  * Returns one of the answers 0 to 4, and the work area is zero; or one of the refusals 105, 106 and 109 to 114, and the work area is as it
  * was found. No other number is returned, and no other byte is written.

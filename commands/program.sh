@@ -1,0 +1,177 @@
+# shellcheck shell=bash disable=SC2064,SC2094,SC2154
+# What the commands at the root share: a command builds its program where that is needed, hands it one text, prints what it prints, and ends
+# with a status that tells what was printed. A command sources this file, sets
+#     help        what --help prints; its first line is the usage
+# defines
+#     status_of LINE      prints the exit status for the first line that the program printed; 2 for a line that it never prints
+# and calls
+#     command_of CRATE WORDS..    with its own words
+# What is kept lies in target/command: the program as it last passed its check, the log of its build, and a lock.
+
+root=$(dirname "$(dirname "$(readlink -f "${BASH_SOURCE[0]}")")")
+made=$root/target/command
+
+# No program here takes a text of so many bytes, so the rest of a longer one need not be read for it to be refused.
+MOST_BYTES=1048576
+
+say() { printf '%s: %s\n' "$crate" "$*" >&2; }
+
+# A sentence on standard error, and the status for wrong use, unreadable input, a failed build, and output that could not be written.
+fail() {
+    say "$@"
+    exit 2
+}
+
+command_of() {
+    crate=$1 program=$made/$1
+    shift
+    { : 3>&1; } 2>/dev/null || fail "standard output is closed"
+    local input="standard input"
+    case ${1-} in
+    -h | --help)
+        printf '%s\n' "$help" 2>/dev/null || fail "standard output could not be written"
+        exit 0
+        ;;
+    --version)
+        version 2>/dev/null || fail "standard output could not be written"
+        exit 0
+        ;;
+    -) [ $# -eq 1 ] || misused "one text at a time" ;;
+    -*) misused "there is no option $1" ;;
+    *)
+        [ $# -le 1 ] || misused "one file at a time"
+        if [ $# -eq 1 ]; then
+            input=$1
+            [ ! -d "$input" ] || fail "$input is a directory"
+            [ -e "$input" ] || fail "there is no file $input"
+            { exec <"$input"; } 2>/dev/null || fail "cannot open $input"
+        fi
+        ;;
+    esac
+    { : 3<&0; } 2>/dev/null || fail "standard input is closed"
+    is_current || build
+    answer "$input"
+}
+
+misused() { fail "$*; ${help%%$'\n'*}"; }
+
+version() {
+    local commit kit
+    commit=$(git -C "$root" describe --always --dirty) || commit="of no known commit"
+    kit=$(rt version) || kit="none on PATH"
+    printf '%s\n' "$crate $commit" "toolchain: $kit"
+}
+
+# Whether the program passed its check and nothing that it could be made of has changed since the check began. The time compared is that of the
+# file's last change of any kind, which nothing sets back; folders count, since theirs moves on when a file goes.
+is_current() {
+    local changed
+    [ -x "$program" ] || return 1
+    changed=$(find "$root/crates.txt" "$root/crates" -name must-fail -prune -o -newercm "$program" -print -quit) && [ -z "$changed" ]
+}
+
+build() {
+    command -v rt >/dev/null || fail "the program is to be built, which needs the Rattle toolchain, and there is no rt on PATH"
+    { mkdir -p "$made" && : >>"$made/lock"; } 2>/dev/null || fail "the program is to be built, and $root/target cannot be written"
+    {
+        if ! flock -n 9; then
+            say "another call is building; waiting for it"
+            flock 9
+        fi
+        is_current || locked_build
+    } 9>>"$made/lock"
+}
+
+# Proves and builds the program. rt goes on from the crates that it has proved before. What has passed is copied, so that a later check never
+# changes it under a call; its time is that at which the check began.
+locked_build() {
+    local began=$made/$crate.began log=$made/$crate.log
+    say "proving and building the program; log in $log"
+    : >"$began"
+    # rt does not look for the program of a crate that is unchanged
+    [ -x "$root/target/bin/$crate" ] || rm -f "$root/target/stamp/$crate"
+    SECONDS=0
+    set -m # the build is a process group of its own, so that all of it can be ended
+    (cd "$root" && RT_JOBS=${RT_JOBS:-$((3 * $(nproc)))} exec rt check "$crate") >"$log" 2>&1 </dev/null &
+    building=$!
+    set +m
+    local signal
+    for signal in HUP INT TERM; do trap "stop_build $signal" "$signal"; done
+    watch_build "$log"
+    if wait "$building" && cp "$root/target/bin/$crate" "$program.new" && touch -r "$began" "$program.new" && mv -f "$program.new" "$program"; then
+        trap - HUP INT TERM
+    else
+        tail -n 5 "$log" >&2
+        fail "the program did not pass its check, so it is not run; log in $log"
+    fi
+}
+
+# Shows how many crates are proved, and the time, until the build ends: on a terminal in one line that changes, else in a line for each number.
+watch_build() {
+    local all proved shown='' running=yes
+    all=$(crates_needed)
+    while [ "$running" = yes ]; do
+        kill -0 "$building" 2>/dev/null || running=no
+        proved=$(grep -c '^rt: [A-Za-z0-9_]* proved (' "$1")
+        if [ -t 2 ]; then
+            printf '\r%s: %s of %s crates proved, %s s ' "$crate" "$proved" "$all" "$SECONDS" >&2
+        elif [ "$proved" != "$shown" ]; then
+            say "$proved of $all crates proved, $SECONDS s"
+        fi
+        shown=$proved
+        [ "$running" = no ] || sleep 0.5
+    done
+    [ ! -t 2 ] || echo >&2
+}
+
+# How many crates of the repository the program is made of.
+crates_needed() {
+    awk -v crate="$crate" '
+        function visit(name,    i, n, used) {
+            if (name in seen || !(name in uses)) return
+            seen[name] = ++count
+            n = split(uses[name], used, " ")
+            for (i = 1; i <= n; i++) visit(used[i])
+        }
+        { sub(/#.*/, ""); at = index($0, ":") }
+        at { name = substr($0, 1, at - 1); gsub(/[ \t]/, "", name); uses[name] = substr($0, at + 1) }
+        END { visit(crate); print count + 0 }' "$root/crates.txt"
+}
+
+stop_build() { # SIGNAL
+    trap - HUP INT TERM
+    kill -TERM -- "-$building" 2>/dev/null
+    wait "$building" 2>/dev/null
+    [ ! -t 2 ] || echo >&2
+    say "the build was interrupted; the next call goes on from the crates that are proved"
+    kill "-$1" "$$"
+}
+
+# Hands standard input to the program, prints its lines and ends with their status. A text that cannot be read to its end is not handed on, since
+# the program would take what there is for the whole. However this call ends, the program ends with it, and no file is left.
+answer() { # INPUT
+    local room said ended line status signal with=()
+    room=$(mktemp -d 2>/dev/null) || fail "cannot make a temporary folder in ${TMPDIR:-/tmp}"
+    exec 3>"$room/text" 4<"$room/text" 5>"$room/lines" 6<"$room/lines" 7<"$room/lines"
+    rm -rf "$room" # a file lasts as long as it is open
+    said=$(head -c "$MOST_BYTES" 2>&1 >&3) || fail "cannot read $1 to its end (${said#head: })"
+    ! setpriv --pdeathsig KILL true 2>/dev/null || with=(setpriv --pdeathsig KILL)
+    "${with[@]}" "$program" <&4 >&5 3>&- 4<&- 5>&- 6<&- 7<&- &
+    running=$!
+    for signal in HUP INT TERM; do trap "stop_program $signal" "$signal"; done
+    wait "$running"
+    ended=$?
+    trap - HUP INT TERM
+    IFS= read -r line <&6
+    status=$(status_of "$line")
+    [ "$status" -ne 2 ] || fail "the program ended with status $ended and without an answer"
+    cat <&7 2>/dev/null || fail "standard output could not be written"
+    exit "$status"
+}
+
+stop_program() { # SIGNAL
+    trap - HUP INT TERM
+    kill -KILL "$running" 2>/dev/null
+    wait "$running" 2>/dev/null
+    kill "-$1" "$$"
+}
