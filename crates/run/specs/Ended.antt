@@ -1,5 +1,4 @@
--- All that `run` promises: what it returns and leaves for everything that is lent, demand 2 of its answer, and demand 3 of every accepted
--- run, over 01's run and in the lent tables themselves.
+-- All that `run` promises: what it returns and leaves, demand 2, and demand 3 over 01's run and in the lent tables themselves.
 -- Assumes nothing.
 use Prim.Native.Nat.{ℕ, _-_, _<_}
 use mathlib.Core.Path.{_≡_}
@@ -30,8 +29,7 @@ abbrev pub count-of : Kind → Outcome → ℕ
 count-of universal r = r .universal
 count-of existential r = r .existential
 
--- Finished round r has left a row below the count: its mark is r, and its sixteen bytes are those of no row below the count of the table
--- before the round.
+-- Finished round r has left a row below the count, with mark r; its sixteen bytes are those of no row of the table before the round.
 pub record NewBytes (r : ℕ) (before : List ℕ) (before-count : ℕ) (rows-left marks-left : List ℕ) (number : ℕ) : Type 0 where
   pub place : ℕ
   pub below : place < number
