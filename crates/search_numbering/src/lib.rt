@@ -1,5 +1,5 @@
 // The numbers of the copies over sorted rows: by position, then by the first lent row that has the copy. What a copy's number prefers is
-// written into the table of cells (crate `cells`) for each sorted row that has it. `fill` is total: its contract gives every byte of the
+// written into the table of cells (crate `search_cells`) for each sorted row that has it. `fill` is total: its contract gives every byte of the
 // table for whatever is lent. How the rows were sorted is left to the caller.
 // A position costs a pass over the sorted rows, one over the lent rows and one over the cells written.
 ghost use mathlib.Core.Path.{_≡_};

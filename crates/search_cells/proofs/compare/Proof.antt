@@ -1,4 +1,4 @@
--- `cells::compare` meets its contract. The loop's invariant: the steps left give what all the steps give. Assumes nothing.
+-- `search_cells::compare` meets its contract. The loop's invariant: the steps left give what all the steps give. Assumes nothing.
 use Prim.Native.Nat.{_-_, _≤_}
 use mathlib.Core.Path.{_≡_, sym, _∙_}
 use native.Mathlib.Omega.{arith}

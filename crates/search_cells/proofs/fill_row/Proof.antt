@@ -1,4 +1,4 @@
--- `cells::fill_row` meets its contract. The loop's invariant: the steps left give what all the steps give, and the row's next bit is the
+-- `search_cells::fill_row` meets its contract. The loop's invariant: the steps left give what all the steps give, and the row's next bit is the
 -- number of the other side's unknowns among the positions passed. Assumes nothing.
 use Prim.Native.Nat.{_-_, _≤_}
 use mathlib.Core.Path.{_≡_, refl, sym, ap, _∙_}

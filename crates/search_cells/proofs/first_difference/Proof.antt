@@ -1,4 +1,4 @@
--- `cells::first_difference` meets its contract. The loop's invariant: the search from the position reached on finds what the whole search finds.
+-- `search_cells::first_difference` meets its contract. The loop's invariant: the search from the position reached on finds what the whole search finds.
 -- Assumes nothing.
 use Prim.Native.Nat.{_-_, _≤_}
 use mathlib.Core.Path.{_≡_, sym, _∙_}

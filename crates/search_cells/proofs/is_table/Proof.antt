@@ -1,4 +1,4 @@
--- `cells::is_table` meets its contract. Assumes nothing.
+-- `search_cells::is_table` meets its contract. Assumes nothing.
 use borrow.Author.Tests.{eq-eqb, ne-eqb, le-leb, lt-leb}
 use Rattle.search_cells.specs.Steps.{fits}
 use Rattle.search_cells.proofs.is_table.Statement.{statement}

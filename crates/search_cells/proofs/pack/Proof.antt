@@ -1,4 +1,4 @@
--- `cells::pack` meets its contract. The loop's invariant: the rows passed are packed, and all behind them is as it was. Assumes nothing.
+-- `search_cells::pack` meets its contract. The loop's invariant: the rows passed are packed, and all behind them is as it was. Assumes nothing.
 use Prim.Native.Nat.{_-_, _*_, _≤_}
 use mathlib.Core.Path.{_≡_, refl, sym, _∙_}
 use native.Mathlib.Omega.{arith}

@@ -1,4 +1,4 @@
--- `cells::pack_row` meets its contract. The loop's invariant: the own values at the positions passed stand in the row. Assumes nothing.
+-- `search_cells::pack_row` meets its contract. The loop's invariant: the own values at the positions passed stand in the row. Assumes nothing.
 use Prim.Native.Nat.{_+_, _-_, _*_}
 use mathlib.Core.Path.{_≡_}
 use mathlib.Core.Logic.{⊎-elim}

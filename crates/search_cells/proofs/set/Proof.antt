@@ -1,4 +1,4 @@
--- `cells::set` meets its contract. Assumes nothing.
+-- `search_cells::set` meets its contract. Assumes nothing.
 use Prim.Native.Nat.{_+_, _*_}
 use native.Mathlib.Omega.{arith}
 use lib.ListN.{length-set}

@@ -1,4 +1,4 @@
--- `cells::set_if` meets its contract. Assumes nothing.
+-- `search_cells::set_if` meets its contract. Assumes nothing.
 use borrow.Author.Needs.{needs}
 use Rattle.search_cells.proofs.set_if.Statement.{statement}
 use Rattle.search_cells.proofs.set_if.Tie as tie

@@ -1,4 +1,4 @@
--- `cells::value` meets its contract. Assumes nothing.
+-- `search_cells::value` meets its contract. Assumes nothing.
 use mathlib.Core.Path.{sym}
 use native.Mathlib.Omega.{arith}
 use Rattle.search_cells.proofs.CellLaws.{value-at}

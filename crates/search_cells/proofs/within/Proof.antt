@@ -1,4 +1,4 @@
--- `cells::within` meets its contract. Assumes nothing.
+-- `search_cells::within` meets its contract. Assumes nothing.
 use native.Mathlib.Omega.{arith}
 use borrow.Author.Tests.{le-leb, lt-leb}
 use Rattle.search_cells.proofs.within.Statement.{statement}

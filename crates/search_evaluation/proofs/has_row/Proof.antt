@@ -1,4 +1,4 @@
--- `evaluation::has_row` meets its contract. Assumes nothing.
+-- `search_evaluation::has_row` meets its contract. Assumes nothing.
 use native.Mathlib.Omega.{arith}
 use mathlib.Core.Path.{sym, ap}
 use mathlib.Core.Bool.{Bool, _&&_}

@@ -1,4 +1,4 @@
--- `evaluation::is_satisfied` meets its contract. Assumes nothing.
+-- `search_evaluation::is_satisfied` meets its contract. Assumes nothing.
 use mathlib.Core.Path.{sym, ap, _∙_}
 use mathlib.Core.Bool.{Bool, _&&_}
 use Rattle.search_evaluation.specs.Evaluation.{is-true, is-satisfied}

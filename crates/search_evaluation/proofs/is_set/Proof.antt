@@ -1,4 +1,4 @@
--- `evaluation::is_set` meets its contract. Assumes nothing.
+-- `search_evaluation::is_set` meets its contract. Assumes nothing.
 use Rattle.search_evaluation.proofs.CellReads.{set-by}
 use borrow.Author.Needs.{needs}
 use Rattle.search_evaluation.proofs.is_set.Statement.{statement}

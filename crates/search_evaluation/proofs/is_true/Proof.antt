@@ -1,4 +1,4 @@
--- `evaluation::is_true` meets its contract. Assumes nothing.
+-- `search_evaluation::is_true` meets its contract. Assumes nothing.
 use native.Mathlib.Omega.{arith}
 use Prim.Native.Nat.{_%_}
 use mathlib.Core.Path.{ap}

@@ -1,4 +1,4 @@
--- `evaluation::lives_on` meets its contract. The loop's invariant: the clause lives if the codes left say so. Assumes nothing.
+-- `search_evaluation::lives_on` meets its contract. The loop's invariant: the clause lives if the codes left say so. Assumes nothing.
 use Prim.Native.Nat.{_-_}
 use mathlib.Core.Path.{sym, _∙_}
 use lib.ListN.{length}

@@ -1,4 +1,4 @@
--- `evaluation::look_on` meets its contract. The loop's invariant: what the codes left make of the unit is what all codes show. Assumes nothing.
+-- `search_evaluation::look_on` meets its contract. The loop's invariant: what the codes left make of the unit is what all codes show. Assumes nothing.
 use Prim.Native.Nat.{_-_}
 use mathlib.Core.Path.{sym, _∙_}
 use lib.ListN.{length}

@@ -1,4 +1,4 @@
--- `evaluation::matrix_on` meets its contract. The loop's invariant: the matrix is that of the codes left. Assumes nothing.
+-- `search_evaluation::matrix_on` meets its contract. The loop's invariant: the matrix is that of the codes left. Assumes nothing.
 use Prim.Native.Nat.{_-_}
 use mathlib.Core.Path.{sym, _∙_}
 use lib.ListN.{length}

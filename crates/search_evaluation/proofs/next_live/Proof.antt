@@ -1,4 +1,4 @@
--- `evaluation::next_live` meets its contract. Assumes nothing.
+-- `search_evaluation::next_live` meets its contract. Assumes nothing.
 use mathlib.Core.Path.{sym, _∙_}
 use native.Mathlib.Omega.{arith}
 use Rattle.search_evaluation.specs.Evaluation.{next-live-at}

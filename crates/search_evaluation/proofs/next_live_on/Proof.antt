@@ -1,4 +1,4 @@
--- `evaluation::next_live_on` meets its contract. The loop's invariant: the clause sought is the one that the codes left lead to. Assumes nothing.
+-- `search_evaluation::next_live_on` meets its contract. The loop's invariant: the clause sought is the one that the codes left lead to. Assumes nothing.
 use Prim.Native.Nat.{_-_}
 use mathlib.Core.Path.{sym, _∙_}
 use lib.ListN.{length}

@@ -1,4 +1,4 @@
--- `evaluation::position` meets its contract. Assumes nothing.
+-- `search_evaluation::position` meets its contract. Assumes nothing.
 use native.Mathlib.Omega.{arith}
 use Rattle.search_evaluation.proofs.position.Statement.{statement}
 use Rattle.search_evaluation.proofs.position.Tie as tie

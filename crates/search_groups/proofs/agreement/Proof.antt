@@ -1,4 +1,4 @@
--- `groups::agreement` meets its contract. Assumes nothing.
+-- `search_groups::agreement` meets its contract. Assumes nothing.
 use native.Mathlib.Omega.{arith}
 use mir.Facts.{fits-8-64}
 use Rattle.search_groups.proofs.ScanLaws.{agreement-none, agreement-is}

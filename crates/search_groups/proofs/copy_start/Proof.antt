@@ -1,4 +1,4 @@
--- `groups::copy_start` meets its contract. The invariant: the copy of row i goes back as far as that of the rows up to `from`. Assumes nothing.
+-- `search_groups::copy_start` meets its contract. The invariant: the copy of row i goes back as far as that of the rows up to `from`. Assumes nothing.
 use Prim.Native.Nat.{_-_, _≤_}
 use mathlib.Core.Bool.{true, false}
 use mathlib.Core.Path.{_≡_, sym, _∙_}

@@ -1,4 +1,4 @@
--- `groups::is_open` meets its contract. Assumes nothing.
+-- `search_groups::is_open` meets its contract. Assumes nothing.
 use native.Mathlib.Omega.{arith}
 use borrow.Author.Needs.{needs}
 use Rattle.search_groups.proofs.ScanLaws.{is-open-own, is-open-other}

@@ -1,4 +1,4 @@
--- `groups::parted_at` meets its contract. Assumes nothing.
+-- `search_groups::parted_at` meets its contract. Assumes nothing.
 use Prim.Native.Nat.{min}
 use mathlib.Core.Path.{_≡_, sym, _∙_}
 use native.Mathlib.Omega.{arith}

@@ -1,4 +1,4 @@
--- `groups::parting` meets its contract. The loop's invariant: mid is the earliest of the rows before i. Assumes nothing.
+-- `search_groups::parting` meets its contract. The loop's invariant: mid is the earliest of the rows before i. Assumes nothing.
 use Prim.Native.Nat.{ℕ, _+_, _-_, _≤_, _<_}
 use mathlib.Core.Path.{_≡_, sym, ap, _∙_}
 use native.Mathlib.Omega.{arith}

@@ -1,4 +1,4 @@
--- `groups::repeats` meets its contract. Assumes nothing.
+-- `search_groups::repeats` meets its contract. Assumes nothing.
 use native.Mathlib.Omega.{arith}
 use mir.Facts.{fits-16-64}
 use Rattle.search_groups.proofs.ScanLaws.{is-repeated-past, is-repeated-is}

@@ -1,4 +1,4 @@
--- `groups::stand` meets its contract. The loop's invariant: the first open position is that from `at` on. Assumes nothing.
+-- `search_groups::stand` meets its contract. The loop's invariant: the first open position is that from `at` on. Assumes nothing.
 use Prim.Native.Nat.{_-_}
 use mathlib.Core.Bool.{true, false}
 use mathlib.Core.Path.{_≡_, sym, _∙_}

@@ -1,4 +1,4 @@
--- `numbering::cell` meets its contract. Assumes nothing.
+-- `search_numbering::cell` meets its contract. Assumes nothing.
 use borrow.Author.Tests.{eq-eqb, ne-eqb}
 use Rattle.search_numbering.proofs.cell.Statement.{statement}
 use Rattle.search_numbering.proofs.cell.Tie as tie

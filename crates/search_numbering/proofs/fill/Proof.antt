@@ -1,4 +1,4 @@
--- `numbering::fill` meets its contract. Assumes nothing.
+-- `search_numbering::fill` meets its contract. Assumes nothing.
 use mathlib.Core.Path.{sym, _∙_}
 use lib.ListN.{length}
 use borrow.Author.Needs.{needs}

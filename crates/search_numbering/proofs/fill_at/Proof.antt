@@ -1,4 +1,4 @@
--- `numbering::fill_at` meets its contract. Assumes nothing.
+-- `search_numbering::fill_at` meets its contract. Assumes nothing.
 use native.Mathlib.Omega.{arith}
 use Rattle.search_numbering.proofs.FillSteps.{zeros-at, number-behind, notes-fill}
 use borrow.Author.Needs.{needs}

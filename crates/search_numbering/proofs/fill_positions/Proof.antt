@@ -1,4 +1,4 @@
--- `numbering::fill_positions` meets its contract. The loop's invariant: what the positions left make of the table, numbered on, is what all make
+-- `search_numbering::fill_positions` meets its contract. The loop's invariant: what the positions left make of the table, numbered on, is what all make
 -- of the lent one. Assumes nothing.
 use Prim.Native.Nat.{_*_, _-_, _≤_}
 use mathlib.Core.Path.{_≡_, refl, sym, ap, _∙_}

@@ -1,4 +1,4 @@
--- `numbering::group` meets its contract. The loop's invariant: the places passed have the first places of their copies, and `start` is the last of
+-- `search_numbering::group` meets its contract. The loop's invariant: the places passed have the first places of their copies, and `start` is the last of
 -- them. Assumes nothing.
 use Prim.Native.Nat.{_+_, _-_, _≤_}
 use mathlib.Core.Path.{_≡_, refl, sym, ap, _∙_}

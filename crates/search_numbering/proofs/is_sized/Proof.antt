@@ -1,4 +1,4 @@
--- `numbering::is_sized` meets its contract. Assumes nothing.
+-- `search_numbering::is_sized` meets its contract. Assumes nothing.
 use borrow.Author.Tests.{lt-leb, le-leb, eq-eqb, ne-eqb}
 use Rattle.search_numbering.proofs.is_sized.Statement.{statement}
 use Rattle.search_numbering.proofs.is_sized.Tie as tie

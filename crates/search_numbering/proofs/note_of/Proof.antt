@@ -1,4 +1,4 @@
--- `numbering::note_of` meets its contract. Assumes nothing.
+-- `search_numbering::note_of` meets its contract. Assumes nothing.
 use mathlib.Core.Path.{sym, ap, _∙_}
 use borrow.Author.Needs.{needs}
 use Rattle.search_numbering.specs.Wants.{note}

@@ -1,4 +1,4 @@
--- `numbering::number_copies` meets its contract. The loop's invariant: the copies of the rows passed are noted. Assumes nothing.
+-- `search_numbering::number_copies` meets its contract. The loop's invariant: the copies of the rows passed are noted. Assumes nothing.
 use Prim.Native.Nat.{_+_, _-_, _≤_, _<_}
 use mathlib.Core.Path.{_≡_, ap, _∙_}
 use mathlib.Core.Logic.{⊎-elim}

@@ -1,4 +1,4 @@
--- `numbering::write` meets its contract. The loop's invariant: the cells of the places passed are written. Assumes nothing.
+-- `search_numbering::write` meets its contract. The loop's invariant: the cells of the places passed are written. Assumes nothing.
 use Prim.Native.Nat.{ℕ, _*_, _-_, _≤_}
 use mathlib.Core.Path.{_≡_, refl, ap, _∙_}
 use native.Mathlib.Omega.{arith}

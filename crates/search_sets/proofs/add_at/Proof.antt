@@ -1,4 +1,4 @@
--- `sets::add_at` meets its contract. Assumes nothing.
+-- `search_sets::add_at` meets its contract. Assumes nothing.
 use native.Mathlib.Omega.{arith}
 use Prim.Native.Nat.{ℕ, _+_, _*_, _/_, _%_}
 use mathlib.Core.Path.{ap}

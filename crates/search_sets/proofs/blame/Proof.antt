@@ -1,4 +1,4 @@
--- `sets::blame` meets its contract. The loop's invariant: the codes to come make of the sets what all of them make of the first ones.
+-- `search_sets::blame` meets its contract. The loop's invariant: the codes to come make of the sets what all of them make of the first ones.
 -- Assumes nothing.
 use Prim.Native.Nat.{_-_}
 use mathlib.Core.Path.{_≡_, refl, sym, _∙_}

@@ -1,4 +1,4 @@
--- `sets::excuse` meets its contract. The loop's invariant: the positions before p are followed. Assumes nothing.
+-- `search_sets::excuse` meets its contract. The loop's invariant: the positions before p are followed. Assumes nothing.
 use Prim.Native.Nat.{_-_, _≤_, _<_}
 use mathlib.Core.Path.{_≡_, sym, _∙_}
 use native.Mathlib.Omega.{arith}

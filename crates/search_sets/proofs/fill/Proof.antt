@@ -1,4 +1,4 @@
--- `sets::fill` meets its contract. Assumes nothing.
+-- `search_sets::fill` meets its contract. Assumes nothing.
 use mathlib.Core.Path.{sym, _∙_}
 use native.Mathlib.Omega.{arith}
 use lib.ListN.{length}

@@ -1,4 +1,4 @@
--- `sets::has` meets its contract. Assumes nothing.
+-- `search_sets::has` meets its contract. Assumes nothing.
 use mathlib.Core.Path.{sym, _∙_}
 use lib.ListN.{length}
 use Rattle.search_sets.proofs.TestLaws.{numbers-within}

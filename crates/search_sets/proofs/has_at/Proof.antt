@@ -1,4 +1,4 @@
--- `sets::has_at` meets its contract. Assumes nothing.
+-- `search_sets::has_at` meets its contract. Assumes nothing.
 use mathlib.Core.Path.{refl}
 use Rattle.search_sets.specs.Sets.{bit-at}
 use borrow.Author.Needs.{needs}

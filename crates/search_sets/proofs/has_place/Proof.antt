@@ -1,4 +1,4 @@
--- `sets::has_place` meets its contract. Assumes nothing.
+-- `search_sets::has_place` meets its contract. Assumes nothing.
 use mathlib.Core.Path.{sym, ap}
 use mathlib.Core.Bool.{Bool, _&&_}
 use native.Mathlib.Omega.{arith}

@@ -1,4 +1,4 @@
--- `sets::join` meets its contract. Assumes nothing.
+-- `search_sets::join` meets its contract. Assumes nothing.
 use Rattle.search_sets.specs.Sets.{words-joined}
 use borrow.Author.Needs.{needs}
 use Rattle.search_sets.proofs.join.Statement.{statement}

@@ -1,4 +1,4 @@
--- `sets::meet` meets its contract. Assumes nothing.
+-- `search_sets::meet` meets its contract. Assumes nothing.
 use Rattle.search_sets.specs.Sets.{words-met}
 use borrow.Author.Needs.{needs}
 use Rattle.search_sets.proofs.meet.Statement.{statement}

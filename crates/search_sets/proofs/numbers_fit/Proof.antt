@@ -1,4 +1,4 @@
--- `sets::numbers_fit` meets its contract. Assumes nothing.
+-- `search_sets::numbers_fit` meets its contract. Assumes nothing.
 use mathlib.Core.Path.{sym, _∙_}
 use Rattle.search_sets.specs.Sets.{numbers-fit}
 use borrow.Author.Needs.{needs}

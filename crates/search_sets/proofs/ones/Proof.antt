@@ -1,4 +1,4 @@
--- `sets::ones` meets its contract. Assumes nothing.
+-- `search_sets::ones` meets its contract. Assumes nothing.
 use mathlib.Core.Path.{_≡_, ap, _∙_}
 use Prim.Native.Nat.{ℕ, _-_, _^_, min}
 use lib.Pow.{pow-pos}

@@ -1,4 +1,4 @@
--- `sets::ones_above` meets its contract. Assumes nothing.
+-- `search_sets::ones_above` meets its contract. Assumes nothing.
 use mathlib.Core.Path.{_≡_, ap}
 use Prim.Native.Nat.{ℕ, _-_, _^_, min}
 use native.Mathlib.Omega.{arith}

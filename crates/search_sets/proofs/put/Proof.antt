@@ -1,4 +1,4 @@
--- `sets::put` meets its contract. Assumes nothing.
+-- `search_sets::put` meets its contract. Assumes nothing.
 use mathlib.Core.Path.{refl}
 use native.Mathlib.Omega.{arith}
 use lib.ListN.{length-set}

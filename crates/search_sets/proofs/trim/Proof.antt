@@ -1,4 +1,4 @@
--- `sets::trim` meets its contract. The loop's invariant: the sets before p are trimmed. Assumes nothing.
+-- `search_sets::trim` meets its contract. The loop's invariant: the sets before p are trimmed. Assumes nothing.
 use Prim.Native.Nat.{ℕ, _-_, _≤_}
 use mathlib.Core.Path.{_≡_, sym, ap₂, _∙_}
 use native.Mathlib.Omega.{arith}

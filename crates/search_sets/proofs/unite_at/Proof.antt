@@ -1,4 +1,4 @@
--- `sets::unite_at` meets its contract. Assumes nothing.
+-- `search_sets::unite_at` meets its contract. Assumes nothing.
 use Rattle.search_sets.specs.Sets.{set-joined}
 use borrow.Author.Needs.{needs}
 use Rattle.search_sets.proofs.unite_at.Statement.{statement}
