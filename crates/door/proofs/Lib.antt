@@ -1,5 +1,4 @@
--- What holds of every text that is read, and of every number that the door returns.
-pub mod ReadLaws
+-- What holds of every number that the door returns.
 pub mod NumberLaws
 pub mod DoorLaws
 pub mod Numbers

@@ -11,9 +11,10 @@ use Rattle.formula.specs.declared.Formula.{Formula}
 use Rattle.formula.specs.declared.Check.the-variants.{Accepted}
 use Rattle.rounds.specs.Run.{Answer, is-false, is-true, spent, no-room-universal, no-room-existential, number}
 use Rattle.run.specs.Outcome.{Given, tables-fit, cause, accepted, reached, named, returned}
-use Rattle.door.specs.Door.{answer-back, run-number}
+use Rattle.run.specs.Numbers.{one-number}
+use Rattle.door.specs.Door.{run-number}
 
-number-named : (a : Answer) → answer-back (named a) ≡ number a
+number-named : (a : Answer) → one-number (named a) ≡ number a
 number-named is-false = refl
 number-named is-true = refl
 number-named spent = refl

@@ -6,27 +6,23 @@ use mathlib.Core.Bool.{Bool, true, false, not, cond}
 use mathlib.Core.List.{List}
 use lib.Dec.{eqb}
 use lib.ListN.{length, replicate}
-use Rattle.formula.specs.Meaning.{verdict}
-use Rattle.rows.specs.Table.{table-fits}
 use Rattle.formula.specs.Formula.{work-size}
 use Rattle.formula.specs.Meaning.{verdict}
 use Rattle.rounds.specs.Run.{number}
-use Rattle.run.specs.Outcome.{Given, lent, side-fits, tables-fit, cause, accepted, reached, answered, left}
+use Rattle.run.specs.Outcome.{Given, lent, cause, accepted, reached, answered, left}
 use Rattle.rounds.proofs.Verdict.{verdict-right}
-use Rattle.text.specs.Reading.{State, Result, taken, refused}
-use Rattle.door.specs.Door.{own-rows, own-marks, handed-on, run-number, run-work, number-back, work-back, text-read, answer, work-after}
+use Rattle.text.specs.Reading.{State, Result, taken, refused, text-read}
+use Rattle.text.proofs.TextLaws.{Results, Passes, read-passes}
+use Rattle.decision.specs.Decision.{handed-on}
+use Rattle.decision.proofs.DecisionLaws.{cause-so}
+use Rattle.door.specs.Door.{run-number, number-back, work-back, answer, work-after}
 use Rattle.door.specs.Numbers.{Verdict, NumbersRight}
-use Rattle.door.proofs.ReadLaws.{Results, Passes, read-passes}
 use Rattle.door.proofs.NumberLaws.{number-small, number-1, number-0, run-numbered}
 use Rattle.door.proofs.DoorLaws.{refused-of-text, refused-back}
 
-own-rows-fit : tables-fit own-rows own-marks own-rows own-marks ≡ true
-unfolding tables-fit side-fits table-fits
-own-rows-fit = refl
-
 -- By what a run's number is: an answer with the work area zero, or a cause with the work area as found.
 module _ (g : Given) where
-  run-zero : run-number g ≤ 4 → run-work g ≡ replicate work-size 0
+  run-zero : run-number g ≤ 4 → left g .work ≡ replicate work-size 0
   unfolding left
   run-zero small = go (accepted g) refl
     where
@@ -34,7 +30,7 @@ module _ (g : Given) where
       go true e = refl
       go false e = absurd (omega (arith, run-numbered g false e))
 
-  run-found : 100 ≤ run-number g → run-work g ≡ g .found .work
+  run-found : 100 ≤ run-number g → left g .work ≡ g .found .work
   unfolding left
   run-found large = go (accepted g) refl
     where
@@ -63,13 +59,12 @@ module _ (text work : List ℕ) (limit : ℕ) where
     unfolding answer
     answer-taken = ap (λ (r : Result). number-back r work limit) e
 
-    work-taken : work-after text work limit ≡ run-work (handed s)
+    work-taken : work-after text work limit ≡ left (handed s) .work
     unfolding work-after
     work-taken = ap (λ (r : Result). work-back r work limit) e
 
     cause-taken : cause (handed s) ≡ cond (not (eqb (length work) work-size)) 5 (cond (eqb limit 0) 6 0)
-    unfolding cause
-    cause-taken = let passes = subst (Results Passes) e (read-passes text 128 8192 128) in rw (passes, own-rows-fit) refl
+    cause-taken = cause-so (s .kinds) (s .literals) work limit (subst (Results Passes) e (read-passes text 128 8192 128) .accepted)
 
     taken-number : answer text work limit ≡ cond (not (eqb (length work) work-size)) 105 (cond (eqb limit 0) 106 (number (reached (handed s) .answer)))
     taken-number = answer-taken ∙ run-refused-or-answered (handed s) (not (eqb (length work) work-size)) (eqb limit 0) cause-taken

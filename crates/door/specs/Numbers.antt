@@ -10,8 +10,9 @@ use Rattle.formula.specs.Formula.{work-size}
 use Rattle.formula.specs.Meaning.{verdict}
 use Rattle.rounds.specs.Run.{number}
 use Rattle.run.specs.Outcome.{reached}
-use Rattle.text.specs.Reading.{State, taken, refused}
-use Rattle.door.specs.Door.{handed-on, text-read, answer, work-after}
+use Rattle.text.specs.Reading.{State, taken, refused, text-read}
+use Rattle.decision.specs.Decision.{handed-on}
+use Rattle.door.specs.Door.{answer, work-after}
 
 -- The text was taken, and its formula has this value.
 pub record Verdict (text : List ℕ) (value : Bool) : Type 0 where

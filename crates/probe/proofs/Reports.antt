@@ -5,12 +5,13 @@ use mathlib.Core.Path.{_≡_, ap, _∙_}
 use Rattle.run.specs.declared.Outcome.{Outcome}
 use Rattle.run.specs.Outcome.{Given}
 use Rattle.run.specs.Outcome as run
-use Rattle.probe.specs.Numbers.{answer-number, Reported}
+use Rattle.run.specs.Numbers.{one-number}
+use Rattle.probe.specs.Numbers.{Reported}
 
-pub reported : {g : Given} {o : Outcome} {r : ℕ} → r ≡ answer-number (o .answer) → o ≡ run.returned g → Reported g r (o .round) (o .universal) (o .existential)
+pub reported : {g : Given} {o : Outcome} {r : ℕ} → r ≡ one-number (o .answer) → o ≡ run.returned g → Reported g r (o .round) (o .universal) (o .existential)
 reported numbered returned =
     record {
-      numbered = numbered ∙ ap (λ (o : Outcome). answer-number (o .answer)) returned;
+      numbered = numbered ∙ ap (λ (o : Outcome). one-number (o .answer)) returned;
       round-reached = ap (λ (o : Outcome). o .round) returned;
       universals = ap (λ (o : Outcome). o .universal) returned;
       existentials = ap (λ (o : Outcome). o .existential) returned;

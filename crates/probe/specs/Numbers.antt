@@ -7,9 +7,8 @@ use Rattle.search.specs.declared.Search.{Search}
 use Rattle.search.specs.declared.Search.the-variants.{Found, NoModel, Refused}
 use Rattle.judge.specs.declared.Judgement.{Judgement}
 use Rattle.judge.specs.declared.Judgement.the-variants.{NotBorneOut, Accepted, Refused as JudgeRefused}
-use Rattle.run.specs.declared.Answer.{Answer}
-use Rattle.run.specs.declared.Answer.the-variants.{False, True, Spent, NoRoomUniversal, NoRoomExistential, Refused as RunRefused}
 use Rattle.run.specs.Outcome.{Given, returned}
+use Rattle.run.specs.Numbers.{one-number}
 
 -- A search: 0 for no model, 1 for found, 100 plus the number of a refusal.
 abbrev pub search-number : Search → ℕ
@@ -23,15 +22,6 @@ judge-number NotBorneOut = 0
 judge-number Accepted = 1
 judge-number (JudgeRefused cause) = 100 + cause
 
--- A run: 01's answer numbers, 100 plus the number of a refusal.
-abbrev pub answer-number : Answer → ℕ
-answer-number False = 0
-answer-number True = 1
-answer-number Spent = 2
-answer-number NoRoomUniversal = 3
-answer-number NoRoomExistential = 4
-answer-number (RunRefused cause) = 100 + cause
-
 -- A value: 1 for true.
 abbrev pub value-number : Bool → ℕ
 value-number false = 0
@@ -39,7 +29,7 @@ value-number true = 1
 
 -- What a run returns: the number of its answer, the round and the counts.
 pub record Reported (g : Given) (answer round universal existential : ℕ) : Type 0 where
-  pub numbered : answer ≡ answer-number (returned g .answer)
+  pub numbered : answer ≡ one-number (returned g .answer)
   pub round-reached : round ≡ returned g .round
   pub universals : universal ≡ returned g .universal
   pub existentials : existential ≡ returned g .existential

@@ -2,7 +2,6 @@
 // and content. Each promises what the function that it calls promises. Of a row that is handed back the length and each byte are told, since
 // an exported function returns no reference.
 use judge::Judgement;
-use run::Answer;
 use search::Search;
 ghost use mathlib.Core.Path.{_≡_};
 ghost use Prim.Native.Nat.{_+_};
@@ -12,7 +11,7 @@ ghost use Rattle.rows.specs.Access.{handed-back};
 ghost use Rattle.search.specs.Search.{outcome, work-after};
 ghost use Rattle.judge.specs.Judge.{outcome as judge-outcome, work-after as judge-work-after};
 ghost use Rattle.run.specs.Outcome.{areas, given, left as run-left};
-ghost use Rattle.probe.specs.Numbers.{search-number, judge-number, answer-number, value-number, Reported};
+ghost use Rattle.probe.specs.Numbers.{search-number, judge-number, value-number, Reported};
 
 // The first model of one side over rows of the other.
 #[no_mangle]
@@ -107,20 +106,7 @@ pub extern "C" fn probe_run(
     *universal = end.universal;
     *existential = end.existential;
     let answer = end.answer;
-    answer_number(answer)
-}
-
-fn answer_number(answer: Answer) -> u64
-    ensures { λ r. ⌜ r ≡ answer-number answer ⌝ }
-{
-    match answer {
-        Answer::False => 0,
-        Answer::True => 1,
-        Answer::Spent => 2,
-        Answer::NoRoomUniversal => 3,
-        Answer::NoRoomExistential => 4,
-        Answer::Refused(cause) => refusal_number(cause),
-    }
+    run::one_number(answer)
 }
 
 // The length of the row that is handed back.

@@ -34,7 +34,7 @@ refused-from-1 false false true f n e = let same : 3 ≡ n = cc in omega arith
 refused-from-1 false false false f n e = let z : _≡_ {A = ℕ} 0 1 = cc in absurd (omega arith)
 
 -- The number is that of the definition's answer.
-number-named : (a : RunAnswer) → number-of (named a) ≡ number a
+pub number-named : (a : RunAnswer) → number-of (named a) ≡ number a
 number-named is-false = refl
 number-named is-true = refl
 number-named spent = refl

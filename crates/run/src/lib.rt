@@ -11,8 +11,9 @@ ghost use mathlib.Core.List.{[]};
 ghost use Rattle.search.specs.Search.{outcome as search-outcome, work-after};
 ghost use Rattle.rounds.specs.Run.{run as run-of};
 ghost use Rattle.run.specs.declared.Answer.the-variants.{Spent};
-ghost use Rattle.run.specs.Outcome.{areas, given, lent, refusal, side-fits, tables-fit};
+ghost use Rattle.run.specs.Outcome.{areas, given, lent, number-of, refusal, side-fits, tables-fit};
 ghost use Rattle.run.specs.Ended.{Ended};
+ghost use Rattle.run.specs.Numbers.{one-number};
 ghost use Rattle.run.specs.Growing.{is-found, step-of, said, existential-stop, universal-stop, Extends, Shows, Ready, FirstCause};
 
 pub enum Answer {
@@ -97,6 +98,34 @@ pub fn run(
     );
     rows::clear(work);
     end
+}
+
+// 01's number of an answer; a refusal has its cause's.
+pub fn number(answer: Answer) -> u32
+    ensures { λ r. ⌜ r ≡ number-of answer ⌝ }
+{
+    match answer {
+        Answer::False => 0,
+        Answer::True => 1,
+        Answer::Spent => 2,
+        Answer::NoRoomUniversal => 3,
+        Answer::NoRoomExistential => 4,
+        Answer::Refused(cause) => cause,
+    }
+}
+
+// An answer as one number: that of a refusal has 100 added.
+pub fn one_number(answer: Answer) -> u64
+    ensures { λ r. ⌜ r ≡ one-number answer ⌝ }
+{
+    match answer {
+        Answer::False => 0,
+        Answer::True => 1,
+        Answer::Spent => 2,
+        Answer::NoRoomUniversal => 3,
+        Answer::NoRoomExistential => 4,
+        Answer::Refused(cause) => 100 + cause as u64,
+    }
 }
 
 fn refused(cause: u32) -> Outcome

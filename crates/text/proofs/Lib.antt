@@ -1,4 +1,4 @@
--- The laws that the proofs of the functions cite, callees first.
+-- The laws that the proofs of the functions cite, callees first; then what a caller of `read` goes on with.
 pub mod Tables
 pub mod Places
 pub mod Negation
@@ -6,3 +6,5 @@ pub mod ProblemLaws
 pub mod NameLaws
 pub mod BodyLaws
 pub mod ReadingLaws
+pub mod TextLaws
+pub mod FrontLaws

@@ -227,3 +227,7 @@ pub record Read-so (result : Result) (outcome : Reading) (kinds : List ℕ) (lit
   pub writes-literals : literals′ ≡ literals-after result literals
   pub writes-names : names′ ≡ names-after result names
   pub fitting : fits result
+
+-- The reading of a text with tables of 01's lengths: what its bytes alone give.
+abbrev pub text-read : Bytes → Result
+text-read text = read text max-unknowns max-entries max-unknowns

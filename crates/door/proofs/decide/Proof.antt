@@ -1,46 +1,35 @@
--- `door::decide` meets its contract, from what `run` promises of what is handed on. Assumes nothing.
-use borrow.Author.Needs.{needs}
-use Rattle.door.proofs.DoorLaws.{returned-small, decided-so}
+-- `door::decide` meets its contract, from what `decision::decide` promises. Assumes nothing.
+use native.Mathlib.Omega.{arith}
+use mathlib.Core.Path.{ap, _∙_}
+use mir.Syntax.{w32}
+use borrow.Author.Needs.{needs, fits-under}
+use Rattle.run.specs.declared.Outcome.{Outcome}
+use Rattle.run.specs.Numbers.{one-number}
+use Rattle.door.proofs.DoorLaws.{returned-small}
 use Rattle.door.proofs.decide.Statement.{statement}
 use Rattle.door.proofs.decide.Tie as tie
 
-slice-aggregate-run : tie.Need-slice-aggregate-run
-slice-aggregate-run c = search needs
+decide-requires : tie.Need-decide-requires
+decide-requires c κs = search needs
 
-slice-aggregate-run-2 : tie.Need-slice-aggregate-run-2
-slice-aggregate-run-2 c = search needs
+one-number-requires : tie.Need-one-number-requires
+one-number-requires c κs = search needs
 
-slice-aggregate-run-3 : tie.Need-slice-aggregate-run-3
-slice-aggregate-run-3 c = search needs
-
-slice-aggregate-run-4 : tie.Need-slice-aggregate-run-4
-slice-aggregate-run-4 c = search needs
-
-slice-aggregate-run-5 : tie.Need-slice-aggregate-run-5
-slice-aggregate-run-5 c = search needs
-
-run-requires : tie.Need-run-requires
-run-requires c κs = search needs
-
-number-requires : tie.Need-number-requires
-number-requires c κs = returned-small (c .before .before .before .before .before .before .run .ensures)
+cast-result : tie.Need-cast-result
+cast-result c = fits-under w32 _ 4294967296 (omega (arith, c .one-number .ensures, returned-small _ (c .before .before .before .decide .ensures .0))) tt
 
 same-length : tie.Need-same-length
 same-length c = search needs
 
 returns : tie.Need-returns
-returns c = decided-so (c .before .before .before .before .before .before .before .run .ensures) (c .number .ensures)
+returns c = (c .one-number .ensures ∙ ap (λ (o : Outcome). one-number (o .answer)) (c .before .before .before .decide .ensures .0), c .before .before .before .decide .ensures .1)
 
 pub decide-spec : {M : Type 1} → statement M
 decide-spec =
     tie.close
     (tie.spec
-    slice-aggregate-run
-    slice-aggregate-run-2
-    slice-aggregate-run-3
-    slice-aggregate-run-4
-    slice-aggregate-run-5
-    run-requires
-    number-requires
+    decide-requires
+    one-number-requires
+    cast-result
     same-length
     returns)

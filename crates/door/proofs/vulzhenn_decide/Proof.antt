@@ -3,7 +3,8 @@ use mathlib.Core.Path.{sym}
 use native.Mathlib.Omega.{arith}
 use lib.Seq.{length-take-le}
 use borrow.Author.Needs.{needs}
-use Rattle.door.proofs.DoorLaws.{refused-of-text, read-refused, refused-back, read-taken, decided-back}
+use Rattle.text.proofs.FrontLaws.{read-refused, read-taken}
+use Rattle.door.proofs.DoorLaws.{refused-of-text, refused-back, decided-back}
 use Rattle.door.proofs.Numbers.{with-numbers}
 use Rattle.door.proofs.vulzhenn_decide.Statement.{statement}
 use Rattle.door.proofs.vulzhenn_decide.Tie as tie

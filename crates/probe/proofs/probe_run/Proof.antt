@@ -7,8 +7,8 @@ use Rattle.probe.proofs.probe_run.Tie as tie
 run-requires : tie.Need-run-requires
 run-requires c κs = search needs
 
-answer-number-requires : tie.Need-answer-number-requires
-answer-number-requires c κs = search needs
+one-number-requires : tie.Need-one-number-requires
+one-number-requires c κs = search needs
 
 same-length : tie.Need-same-length
 same-length c = search needs
@@ -28,14 +28,14 @@ same-length-5 c = search needs
 returns : tie.Need-returns
 returns c =
     let run = c .before .before .before .before .before .before .before .before .before .before .before .run .ensures in
-    (reported (c .answer-number .ensures) (run .returned-so), run .left-so)
+    (reported (c .one-number .ensures) (run .returned-so), run .left-so)
 
 pub probe-run-spec : {M : Type 1} → statement M
 probe-run-spec =
     tie.close
     (tie.spec
     run-requires
-    answer-number-requires
+    one-number-requires
     same-length
     same-length-2
     same-length-3

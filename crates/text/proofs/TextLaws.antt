@@ -1,12 +1,13 @@
--- What holds of every text: a cause's number is one of 9 to 14, and of a text that is taken causes 1 to 3 don't apply.
+-- What holds of every text: a cause's number is one of 9 to 14 and its line within the text's lines or right behind them; of a text that is
+-- taken causes 1 to 3 don't apply, and V and C are within their limits.
 -- Assumes nothing.
 use Prim.Native.Nat.{ℕ, zero, suc, _+_, _-_, _≤_, _<_}
 use native.Mathlib.Omega.{arith}
-use mathlib.Core.Path.{_≡_, refl, ap, _∙_}
+use mathlib.Core.Path.{_≡_, refl, ap, subst, _∙_}
 use mathlib.Core.Bool.{Bool, true, false, cond, not, _&&_, true≢false, false≢true}
 use mathlib.Core.List.{List, [], _∷_, _++_}
-use borrow.Author.Tests.{ltb-true, ltb-false, le-ltb, eqb-false}
-use lib.Dec.{eqb, ltb}
+use borrow.Author.Tests.{ltb-true, ltb-false, leb-true, le-ltb, eqb-false}
+use lib.Dec.{eqb, leb, ltb}
 use lib.IntN.{ℤ, pos, negsuc, natAbs}
 use lib.ListN.{length, length-append}
 use lib.Seq.{getD-append-seam}
@@ -15,11 +16,11 @@ use Rattle.formula.specs.declared.Check.the-variants.{Accepted}
 use Rattle.formula.specs.Causes.{any, other-kind, zeros, ended, is-zero as is-end, beyond, checked, sizes, cause-3}
 use Rattle.formula.proofs.Any.{or-none}
 use Rattle.formula.proofs.Order.{no-cause-1, no-cause-2}
-use Rattle.lines.specs.Lines.{Bytes, Line, ended as line-ended, unended, lines, words, fourth, third, first, rest, same}
+use Rattle.lines.specs.Lines.{Bytes, Line, ended as line-ended, unended, in-front, pieces, as-lines, lines, words, fourth, third, first, rest, same}
 use Rattle.lines.specs.Numbers.{number, unsigned, negative, is-zero, is-literal}
 use Rattle.lines.specs.Shapes.{is-comment, is-problem, is-prefix, is-clause, is-trimmed, is-empty, closed-by-zero, a-word}
-use Rattle.text.specs.Reading.{max-variables, State, Step, went, fault, unless, place-from, position, name-cause, bind, bind-all, kind-of-word, prefix-line, literal-cause, signed, entry, add-entry, add-entries, clause-read, clause-line, body-line, step, Result, taken, refused, go-on, body, problem-cause, opened, problem, after-comments, lent-well, read}
+use Rattle.text.specs.Reading.{max-bytes, max-variables, State, Step, went, fault, unless, place-from, position, name-cause, bind, bind-all, kind-of-word, prefix-line, literal-cause, signed, entry, add-entry, add-entries, clause-read, clause-line, body-line, step, Result, taken, refused, go-on, body, problem-cause, opened, problem, after-comments, lent-well, read}
 use Rattle.text.proofs.NameLaws.{name-cause-zero, literal-cause-zero}
 
 -- A number of the text's causes.
 pub record OfText (n : ℕ) : Type 0 where
@@ -36,6 +37,7 @@ record Kept (s : State) (z : ℕ) : Type 0 where
   as-many : length (s .kinds) ≡ length (s .names)
   few-names : length (s .names) ≤ max-unknowns
   few-literals : length (s .literals) ≤ max-entries
+  few-variables : s .variables ≤ max-variables
   few-clauses : s .clauses ≤ max-clauses
   counted : zeros (s .literals) ≡ z
   within : any (beyond (length (s .names))) (s .literals) ≡ false
@@ -146,6 +148,7 @@ bind-whole kind s v known room w =
             as-many = omega (arith, length-behind (s .kinds) kind, length-behind (s .names) v, K .as-many);
             few-names = omega (arith, length-behind (s .names) v);
             few-literals = K .few-literals;
+            few-variables = K .few-variables;
             few-clauses = K .few-clauses;
             counted = K .counted;
             within =
@@ -230,6 +233,7 @@ add-kept s z n m room near count K =
       as-many = K .as-many;
       few-names = K .few-names;
       few-literals = omega (arith, length-behind (s .literals) z);
+      few-variables = K .few-variables;
       few-clauses = K .few-clauses;
       counted = count;
       within = any-behind (beyond (length (s .names))) (s .literals) z (K .within) near;
@@ -285,6 +289,7 @@ clause-counted (went s) c =
             as-many = c .kept .as-many;
             few-names = c .kept .few-names;
             few-literals = c .kept .few-literals;
+            few-variables = c .kept .few-variables;
             few-clauses = c .kept .few-clauses;
             counted = c .kept .counted;
             within = c .kept .within;
@@ -338,19 +343,24 @@ problem-cause-of-text line = go (is-problem line) (ltb max-variables (number (th
     go true false false = (λ some. omega arith, omega arith)
     go false b c = (λ some. omega arith, omega arith)
 
-problem-cause-zero : (line : Bytes) → problem-cause line ≡ 0 → number (fourth (words line)) ≤ max-clauses
+-- V and C of a p line without a cause.
+abbrev Ranged : List Bytes → Type 0
+Ranged ws = (number (third ws) ≤ max-variables) × (number (fourth ws) ≤ max-clauses)
+
+problem-cause-zero : (line : Bytes) → problem-cause line ≡ 0 → Ranged (words line)
 unfolding problem-cause
 problem-cause-zero line none =
-    go (is-problem line) (ltb max-variables (number (third (words line)))) (ltb max-clauses (number (fourth (words line)))) refl none
+    go (is-problem line) (ltb max-variables (number (third (words line)))) (ltb max-clauses (number (fourth (words line)))) refl refl none
   where
-    go : (a b c : Bool) → ltb max-clauses (number (fourth (words line))) ≡ c → _≡_ {A = ℕ} (cond a (cond b 11 (cond c 11 0)) 10) 0
-        → number (fourth (words line)) ≤ max-clauses
-    go true true c e none = absurd (omega arith)
-    go true false true e none = absurd (omega arith)
-    go true false false e none = ltb-false max-clauses (number (fourth (words line))) e
-    go false b c e none = absurd (omega arith)
+    go : (a b c : Bool) → ltb max-variables (number (third (words line))) ≡ b → ltb max-clauses (number (fourth (words line))) ≡ c
+        → _≡_ {A = ℕ} (cond a (cond b 11 (cond c 11 0)) 10) 0 → Ranged (words line)
+    go true true c e f none = absurd (omega arith)
+    go true false true e f none = absurd (omega arith)
+    go true false false e f none =
+        (ltb-false max-variables (number (third (words line))) e, ltb-false max-clauses (number (fourth (words line))) f)
+    go false b c e f none = absurd (omega arith)
 
-opened-whole : (ws : List Bytes) → number (fourth ws) ≤ max-clauses → Whole (opened ws)
+opened-whole : (ws : List Bytes) → Ranged ws → Whole (opened ws)
 unfolding opened
 opened-whole ws few =
     record {
@@ -360,7 +370,8 @@ opened-whole ws few =
             as-many = refl;
             few-names = omega arith;
             few-literals = omega arith;
-            few-clauses = few;
+            few-variables = few .0;
+            few-clauses = few .1;
             counted = refl;
             within = refl;
           };
@@ -390,13 +401,15 @@ read-whole text kinds literals names =
     cond-so (Results Whole) (lent-well text kinds literals names) (after-comments 1 (lines text)) (refused 9 0) (λ _. comments-whole (lines text) 1)
     (λ _. record { from-9 = omega arith; to-14 = omega arith })
 
--- None of causes 1 to 3 applies to a formula that was read.
-abbrev pub Passes : State → Type 0
-Passes s = checked (s .kinds) (s .literals) ≡ Accepted (sizes (s .kinds) (s .literals))
+-- None of causes 1 to 3 applies to a formula that was read, and V and C are in range.
+pub record Passes (s : State) : Type 0 where
+  pub accepted : checked (s .kinds) (s .literals) ≡ Accepted (sizes (s .kinds) (s .literals))
+  pub few-variables : s .variables ≤ max-variables
+  pub few-clauses : s .clauses ≤ max-clauses
 
-whole-passes : (s : State) → Whole s → Passes s
+whole-accepted : (s : State) → Whole s → checked (s .kinds) (s .literals) ≡ Accepted (sizes (s .kinds) (s .literals))
 unfolding checked cause-3
-whole-passes s w =
+whole-accepted s w =
     let K = w .kept in
     let few : length (s .kinds) ≤ max-unknowns = omega (arith, K .as-many, K .few-names) in
     let no-3 : cause-3 (length (s .kinds)) (s .literals) ≡ false = rw (K .as-many) (K .within) in
@@ -412,4 +425,71 @@ results-so P Q implies (refused n line) p = p
 
 pub read-passes : (text : Bytes) (kinds literals names : ℕ) → Results Passes (read text kinds literals names)
 read-passes text kinds literals names =
-    results-so Whole Passes whole-passes (read text kinds literals names) (read-whole text kinds literals names)
+    results-so Whole Passes
+    (λ s w. record { accepted = whole-accepted s w; few-variables = w .kept .few-variables; few-clauses = w .kept .few-clauses })
+    (read text kinds literals names) (read-whole text kinds literals names)
+
+-- A refusal's line is at most the number of lines and one.
+abbrev To : ℕ → Result → Type 0
+To m (taken s) = Unit {0}
+To m (refused n line) = line ≤ m
+
+go-on-to : (m : ℕ) (t : Step) (k : ℕ) (more : State → Result) → k ≤ m → ((s : State) → To m (more s)) → To m (go-on t k more)
+go-on-to m (fault n) k more small then = small
+go-on-to m (went s) k more small then = then s
+
+body-to : (ls : List Line) (s : State) (k m : ℕ) → k + length ls ≤ m → To m (body s k ls)
+body-to [] s k m small = cond-so (To m) (eqb (s .clauses-read) (s .clauses)) (taken s) (refused 14 k) (λ _. tt) (λ _. omega arith)
+body-to (l ∷ ls) s k m small = go-on-to m (step s l) k (λ t. body t (suc k) ls) (omega arith) (λ t. body-to ls t (suc k) m (omega arith))
+
+problem-to : (ls : List Line) (k m : ℕ) → k + length ls ≤ m → To m (problem k ls)
+problem-to [] k m small = omega arith
+problem-to (unended line ∷ ls) k m small = omega arith
+problem-to (line-ended line ∷ ls) k m small =
+    go-on-to m (unless (problem-cause line) (went (opened (words line)))) k (λ t. body t (suc k) ls) (omega arith)
+    (λ t. body-to ls t (suc k) m (omega arith))
+
+comments-to : (ls : List Line) (k m : ℕ) → k + length ls ≤ m → To m (after-comments k ls)
+comments-to [] k m small = problem-to [] k m small
+comments-to (unended line ∷ ls) k m small = problem-to (unended line ∷ ls) k m small
+comments-to (line-ended line ∷ ls) k m small =
+    cond-so (To m) (is-comment line) (after-comments (suc k) ls) (problem k (line-ended line ∷ ls)) (λ _. comments-to ls (suc k) m (omega arith))
+    (λ _. problem-to (line-ended line ∷ ls) k m small)
+
+-- A text has no more lines than bytes.
+in-front-more : (b : Bool) (x : ℕ) (ps : List Bytes) → length (in-front b x ps) ≤ 1 + length ps
+in-front-more true x ps = omega arith
+in-front-more false x [] = omega arith
+in-front-more false x (p ∷ ps) = omega arith
+
+pieces-many : (b : ℕ) (xs : Bytes) → length (pieces b xs) ≤ 1 + length xs
+pieces-many b [] = omega arith
+pieces-many b (x ∷ xs) = omega (arith, in-front-more (eqb x b) x (pieces b xs), pieces-many b xs)
+
+as-lines-many : (ps : List Bytes) → length (as-lines ps) ≤ length ps
+as-lines-many [] = omega arith
+as-lines-many ([] ∷ []) = omega arith
+as-lines-many ((x ∷ xs) ∷ []) = omega arith
+as-lines-many (p ∷ q ∷ ps) = omega (arith, as-lines-many (q ∷ ps))
+
+lines-many : (text : Bytes) → length (lines text) ≤ 1 + length text
+unfolding lines
+lines-many text = omega (arith, as-lines-many (pieces 10 text), pieces-many 10 text)
+
+short-if-lent-well : (text : Bytes) (kinds literals names : ℕ) → lent-well text kinds literals names ≡ true → length text ≤ max-bytes
+short-if-lent-well text kinds literals names well = go (leb (length text) max-bytes) refl well
+  where
+    go : (b : Bool) → leb (length text) max-bytes ≡ b → (b && eqb kinds max-unknowns && eqb literals max-entries && eqb names max-unknowns) ≡ true
+        → length text ≤ max-bytes
+    go true e w = leb-true (length text) max-bytes e
+    go false e w = absurd (false≢true w)
+
+read-to : (text : Bytes) (kinds literals names : ℕ) → To (2 + max-bytes) (read text kinds literals names)
+unfolding read
+read-to text kinds literals names =
+    cond-so (To (2 + max-bytes)) (lent-well text kinds literals names) (after-comments 1 (lines text)) (refused 9 0)
+    (λ well. comments-to (lines text) 1 (2 + max-bytes) (omega (arith, lines-many text, short-if-lent-well text kinds literals names well)))
+    (λ _. omega arith)
+
+pub refused-line : (text : Bytes) (kinds literals names n line : ℕ) → read text kinds literals names ≡ refused n line → line ≤ 2 + max-bytes
+refused-line text kinds literals names n line e = subst (To (2 + max-bytes)) e (read-to text kinds literals names)

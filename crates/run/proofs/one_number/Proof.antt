@@ -1,9 +1,9 @@
--- `probe::answer_number` meets its contract. Assumes nothing.
-use mathlib.Core.Path.{sym, ap, _∙_}
-use Rattle.probe.specs.Numbers.{answer-number}
+-- `one_number` meets its contract: the sum fits, and the case's number is the definition's. Assumes nothing.
+use mathlib.Core.Path.{sym, ap}
 use borrow.Author.Needs.{needs}
-use Rattle.probe.proofs.answer_number.Statement.{statement}
-use Rattle.probe.proofs.answer_number.Tie as tie
+use Rattle.run.specs.Numbers.{one-number}
+use Rattle.run.proofs.one_number.Statement.{statement}
+use Rattle.run.proofs.one_number.Tie as tie
 
 enum-told : tie.Need-enum-told
 enum-told c = search needs
@@ -23,8 +23,11 @@ enum-told-5 c = search needs
 enum-known-answer : tie.Need-enum-known-answer
 enum-known-answer c = search needs
 
-refusal-number-requires : tie.Need-refusal-number-requires
-refusal-number-requires c κs = search needs
+cast-result : tie.Need-cast-result
+cast-result c = search needs
+
+add-result : tie.Need-add-result
+add-result c = search needs
 
 returns : tie.Need-returns
 returns c = search needs
@@ -42,10 +45,10 @@ returns-5 : tie.Need-returns-5
 returns-5 c = search needs
 
 returns-6 : tie.Need-returns-6
-returns-6 c = c .refusal-number .ensures ∙ sym (ap answer-number (c .before .before .answer .given .1))
+returns-6 c = sym (ap one-number (c .before .answer .given .1))
 
-pub answer-number-spec : {M : Type 1} → statement M
-answer-number-spec =
+pub one-number-spec : {M : Type 1} → statement M
+one-number-spec =
     tie.close
     (tie.spec
     enum-told
@@ -54,7 +57,8 @@ answer-number-spec =
     enum-told-4
     enum-told-5
     enum-known-answer
-    refusal-number-requires
+    cast-result
+    add-result
     returns
     returns-2
     returns-3

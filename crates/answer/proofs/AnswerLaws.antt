@@ -1,0 +1,83 @@
+-- From what `read`, `decide` and the writers promise to what `answer` prints. Assumes nothing.
+use Prim.Native.Nat.{ℕ, _≤_}
+use native.Mathlib.Omega.{arith}
+use mathlib.Core.Path.{_≡_, refl, sym, ap, subst, _∙_}
+use mathlib.Core.Bool.{Bool, true, false, cond}
+use mathlib.Core.List.{List, _++_}
+use lib.Dec.{eqb, leb}
+use lib.IntN.{ℤ}
+use lib.ListN.{length, take, drop, replicate, length-replicate, length-append}
+use Rattle.formula.specs.Formula.{work-size, universal, existential}
+use Rattle.formula.specs.Causes.{checked, sizes}
+use Rattle.formula.specs.declared.Check.the-variants.{Accepted}
+use Rattle.rounds.proofs.Bounds.{count-in-room}
+use Rattle.run.specs.declared.Outcome.{Outcome}
+use Rattle.run.specs.Outcome.{number-of, reported, returned}
+use Rattle.run.proofs.OutcomeLaws.{number-named}
+use Rattle.text.specs.Reading.{max-variables, max-bytes, State, Result, taken, refused, text-read}
+use Rattle.text.proofs.TextLaws.{Results, Passes, read-passes, refused-line}
+use Rattle.text.proofs.FrontLaws.{Front}
+use Rattle.report.specs.Report.{result-lines, refusal-line, put, put-count}
+use Rattle.decision.specs.Decision.{handed-on, own-lent}
+use Rattle.decision.proofs.DecisionLaws.{returned-so}
+use Rattle.answer.specs.Printed.{round-limit, settled, result-of, shown, printed}
+
+-- A formula that passes: what the run returns, and the lines of it.
+module _ (kinds : List ℕ) (literals : List ℤ) (passes : checked kinds literals ≡ Accepted (sizes kinds literals)) where
+  whole : eqb (length (replicate {A = ℕ} work-size 0)) work-size ≡ true
+  whole = ap (λ (n : ℕ). eqb n work-size) (length-replicate {A = ℕ} work-size 0)
+
+  module _ {r : Outcome} (e : r ≡ returned (handed-on kinds literals (replicate work-size 0) round-limit)) where
+    reported-so : r ≡ reported (settled kinds literals)
+    reported-so = e ∙ returned-so kinds literals (replicate work-size 0) round-limit passes whole refl
+
+    pub universal-few : r .universal ≤ 256
+    universal-few = subst (λ (o : Outcome). o .universal ≤ 256) (sym reported-so) (count-in-room (own-lent kinds literals) round-limit universal (omega arith))
+
+    pub existential-few : r .existential ≤ 256
+    existential-few = subst (λ (o : Outcome). o .existential ≤ 256) (sym reported-so) (count-in-room (own-lent kinds literals) round-limit existential (omega arith))
+
+    pub lines-so : (variables clauses : ℕ) {n : ℕ} → n ≡ number-of (r .answer)
+        → result-lines n variables clauses (r .round) (r .universal) (r .existential) ≡ result-of kinds literals variables clauses
+    unfolding result-of
+    lines-so variables clauses numbered =
+        ap (λ (k : ℕ). result-lines k variables clauses (r .round) (r .universal) (r .existential)) numbered
+        ∙ ap (λ (o : Outcome). result-lines (number-of (o .answer)) variables clauses (o .round) (o .universal) (o .existential)) reported-so
+        ∙ ap (λ (k : ℕ). result-lines k variables clauses (settled kinds literals .round) (length (settled kinds literals .A)) (length (settled kinds literals .S)))
+        (number-named (settled kinds literals .answer))
+
+module _ (text : List ℕ) where
+  -- A text that is refused.
+  pub refused-printed : {n line : ℕ} → text-read text ≡ refused n line → refusal-line n line ≡ printed text
+  unfolding printed
+  refused-printed e = ap shown (sym e)
+
+  pub line-small : {n line : ℕ} → text-read text ≡ refused n line → line ≤ 65538
+  line-small {n} {line} e = refused-line text 128 8192 128 n line e
+
+  -- A text that is taken: its formula stands at the front of the tables.
+  module _ {u e v c : ℕ} {kinds : List ℕ} {literals : List ℤ} (f : Front (text-read text) u e v c kinds literals) where
+    passes-so : Passes (f .state)
+    passes-so = subst (Results Passes) (f .whole) (read-passes text 128 8192 128)
+
+    pub front-passes : checked (take u kinds) (take e literals) ≡ Accepted (sizes (take u kinds) (take e literals))
+    front-passes = rw (f .kinds-front, f .literals-front) (passes-so .accepted)
+
+    pub variables-small : v ≤ 32767
+    variables-small = omega (arith, f .variables-so, passes-so .few-variables)
+
+    pub clauses-small : c ≤ 2048
+    clauses-small = omega (arith, f .clauses-so, passes-so .few-clauses)
+
+    pub taken-printed : result-of (take u kinds) (take e literals) v c ≡ printed text
+    unfolding printed
+    taken-printed = rw (f .kinds-front, f .literals-front, f .variables-so, f .clauses-so) (ap shown (sym (f .whole)))
+
+-- What was put into a buffer is no longer than it.
+pub within : (bytes buffer : List ℕ) {r : ℕ} {after : List ℕ} → r ≡ put-count bytes buffer → after ≡ put bytes buffer → r ≤ length after
+unfolding put put-count
+within bytes buffer {r} {after} counted written = go (leb (length bytes) (length buffer)) counted written
+  where
+    go : (b : Bool) → r ≡ cond b (length bytes) 0 → after ≡ cond b (bytes ++ drop (length bytes) buffer) buffer → r ≤ length after
+    go true e f = omega (arith, e, ap length f, length-append bytes (drop (length bytes) buffer))
+    go false e f = omega (arith, e)

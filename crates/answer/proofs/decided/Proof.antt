@@ -1,0 +1,48 @@
+-- `decided` meets its contract, from what `decide`, `number` and `result` promise. Assumes nothing.
+use native.Mathlib.Omega.{arith}
+use mathlib.Core.Path.{ap, _∙_}
+use mir.Syntax.{w32}
+use borrow.Author.Needs.{needs, fits-under}
+use Rattle.report.specs.Report.{put, put-count}
+use Rattle.answer.proofs.AnswerLaws.{universal-few, existential-few, lines-so}
+use Rattle.answer.proofs.decided.Statement.{statement}
+use Rattle.answer.proofs.decided.Tie as tie
+
+slice-aggregate-decide : tie.Need-slice-aggregate-decide
+slice-aggregate-decide c = search needs
+
+decide-requires : tie.Need-decide-requires
+decide-requires c κs = search needs
+
+number-requires : tie.Need-number-requires
+number-requires c κs = search needs
+
+cast-result : tie.Need-cast-result
+cast-result c = fits-under w32 _ 4294967296 (omega (arith, universal-few (c .before .before .before .before .before .before .before .before .args .kinds .now) (c .before .before .before .before .before .before .before .before .args .literals .now) (c .before .before .before .before .before .before .before .before .pre) (c .before .before .before .before .decide .ensures .0))) tt
+
+cast-result-2 : tie.Need-cast-result-2
+cast-result-2 c = fits-under w32 _ 4294967296 (omega (arith, existential-few (c .before .before .before .before .before .before .before .before .before .args .kinds .now) (c .before .before .before .before .before .before .before .before .before .args .literals .now) (c .before .before .before .before .before .before .before .before .before .pre) (c .before .before .before .before .before .decide .ensures .0))) tt
+
+result-requires : tie.Need-result-requires
+result-requires c κs = search needs
+
+same-length : tie.Need-same-length
+same-length c = search needs
+
+returns : tie.Need-returns
+returns c =
+    let lines = lines-so (c .before .before .before .before .before .before .before .before .before .before .before .before .args .kinds .now) (c .before .before .before .before .before .before .before .before .before .before .before .before .args .literals .now) (c .before .before .before .before .before .before .before .before .before .before .before .before .pre) (c .before .before .before .before .before .before .before .before .decide .ensures .0) (c .before .before .before .before .before .before .before .before .before .before .before .before .args .variables) (c .before .before .before .before .before .before .before .before .before .before .before .before .args .clauses) (c .before .before .before .before .before .number .ensures) in
+    (c .before .before .result .ensures .0 ∙ ap (λ bytes. put-count bytes (c .before .before .before .before .before .before .before .before .before .before .before .before .args .out .now)) lines, c .before .before .result .ensures .1 ∙ ap (λ bytes. put bytes (c .before .before .before .before .before .before .before .before .before .before .before .before .args .out .now)) lines)
+
+pub decided-spec : {M : Type 1} → statement M
+decided-spec =
+    tie.close
+    (tie.spec
+    slice-aggregate-decide
+    decide-requires
+    number-requires
+    cast-result
+    cast-result-2
+    result-requires
+    same-length
+    returns)

@@ -1,0 +1,32 @@
+-- 01's program: 'The program reads standard input, lends no preferences, 256 rows a side and limit 1,000.'
+-- Assumes nothing.
+use Prim.Native.Nat.{ℕ}
+use mathlib.Core.List.{List}
+use lib.IntN.{ℤ}
+use lib.ListN.{length}
+use Rattle.rounds.specs.Run.{Outcome, run, number}
+use Rattle.text.specs.Reading.{State, Result, taken, refused, text-read}
+use Rattle.report.specs.Report.{result-lines, refusal-line}
+use Rattle.decision.specs.Decision.{own-lent}
+
+abbrev pub round-limit : ℕ
+round-limit = 1000
+
+-- The run of a formula with these tables and this limit.
+abbrev pub settled : List ℕ → List ℤ → Outcome
+settled kinds literals = run (own-lent kinds literals) round-limit
+
+-- 'Line one is `s cnf T V C`, T being 1, 0, or -1 for answers 2 to 4, V and C from the text; line two is `c rounds`, the rounds, `universal`,
+-- the count of A, `existential`, the count of S.'
+unfoldable pub result-of : List ℕ → List ℤ → ℕ → ℕ → List ℕ
+result-of kinds literals variables clauses =
+    let o = settled kinds literals in
+    result-lines (number (o .answer)) variables clauses (o .round) (length (o .A)) (length (o .S))
+
+-- 'A refusal prints only `c refused N L`, number and line.'
+abbrev pub shown : Result → List ℕ
+shown (refused number line) = refusal-line number line
+shown (taken s) = result-of (s .kinds) (s .literals) (s .variables) (s .clauses)
+
+unfoldable pub printed : List ℕ → List ℕ
+printed text = shown (text-read text)

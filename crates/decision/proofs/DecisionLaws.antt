@@ -1,0 +1,43 @@
+-- The run over 256 rows a side: which causes are left, and what is returned where none applies. Assumes nothing.
+use Prim.Native.Nat.{ℕ, _≤_}
+use native.Mathlib.Omega.{arith}
+use mathlib.Core.Path.{_≡_, refl, ap, _∙_}
+use mathlib.Core.Bool.{Bool, true, false, not, cond}
+use mathlib.Core.List.{List}
+use lib.Dec.{eqb}
+use lib.IntN.{ℤ}
+use lib.ListN.{length}
+use Rattle.formula.specs.Causes.{checked, sizes}
+use Rattle.formula.specs.declared.Check.the-variants.{Accepted}
+use Rattle.rows.specs.Table.{table-fits}
+use Rattle.formula.specs.Formula.{work-size}
+use Rattle.rounds.specs.Run.{run}
+use Rattle.run.specs.declared.Outcome.{Outcome}
+use Rattle.run.specs.Outcome.{Areas, Given, lent, side-fits, tables-fit, cause, reported, returned, left}
+use Rattle.run.specs.Ended.{Ended}
+use Rattle.decision.specs.Decision.{own-rows, own-marks, handed-on, own-lent}
+
+own-rows-fit : tables-fit own-rows own-marks own-rows own-marks ≡ true
+unfolding tables-fit side-fits table-fits
+own-rows-fit = refl
+
+module _ (kinds : List ℕ) (literals : List ℤ) (work : List ℕ) (limit : ℕ) where
+  pub lent-so : lent (handed-on kinds literals work limit) ≡ own-lent kinds literals
+  lent-so = refl
+
+  module _ (passes : checked kinds literals ≡ Accepted (sizes kinds literals)) where
+    -- Of a formula that passes, causes 5 and 6 are left.
+    pub cause-so : cause (handed-on kinds literals work limit) ≡ cond (not (eqb (length work) work-size)) 5 (cond (eqb limit 0) 6 0)
+    unfolding cause
+    cause-so = rw (passes, own-rows-fit) refl
+
+    pub returned-so : eqb (length work) work-size ≡ true → eqb limit 0 ≡ false
+        → returned (handed-on kinds literals work limit) ≡ reported (run (own-lent kinds literals) limit)
+    unfolding returned
+    returned-so whole some =
+        let none : cause (handed-on kinds literals work limit) ≡ 0 = cause-so ∙ (rw (whole, some) refl) in
+        rw none refl
+
+-- Of what `run` promises, what `decide` hands on.
+pub ended-so : {g : Given} {r : Outcome} {exit : Areas} → Ended g r exit → (r ≡ returned g) × (exit .work ≡ left g .work)
+ended-so e = (e .returned-so, ap (λ (a : Areas). a .work) (e .left-so))

@@ -1,0 +1,27 @@
+-- 01: 'The program .. lends no preferences, 256 rows a side'; the C door 'lends no preferences, has 256 rows a side of its own'.
+-- Assumes nothing.
+use Prim.Native.Nat.{ℕ, _*_}
+use mathlib.Core.List.{List, []}
+use lib.IntN.{ℤ}
+use lib.ListN.{replicate}
+use Rattle.formula.specs.Formula.{max-rows, prefix, clauses}
+use Rattle.formula.specs.Meaning.{matrix}
+use Rattle.preference.specs.Preference.{prefer}
+use Rattle.rounds.specs.Run.{Lent}
+use Rattle.run.specs.Outcome.{Given, areas, given}
+
+-- '256 rows a side': a row is 16 bytes, and a mark table has one number a row. All are zero when the run begins.
+abbrev pub own-rows : List ℕ
+own-rows = replicate (16 * max-rows) 0
+
+abbrev pub own-marks : List ℕ
+own-marks = replicate max-rows 0
+
+-- What the run is given: the formula, no preferences, rows and marks of its own, the work area and the limit.
+abbrev pub handed-on : List ℕ → List ℤ → List ℕ → ℕ → Given
+handed-on kinds literals work limit = given kinds literals [] (areas own-rows own-marks own-rows own-marks work) limit
+
+-- The same as the run's definition takes it.
+abbrev pub own-lent : List ℕ → List ℤ → Lent
+own-lent kinds literals =
+    record { ks = prefix kinds; phi = matrix (clauses literals); prefer = prefer []; room-A = max-rows; room-S = max-rows }

@@ -1,0 +1,2 @@
+-- The run with no preferences, over 256 rows a side.
+pub mod Decision
