@@ -33,15 +33,23 @@ fn compare_rows(random: &mut Random, times: usize, tally: &mut Tally) {
     }
 }
 
-/// All lengths up to nine and some longer ones, over the first numbers and some of any size.
+/// The numbers below 4,096, those around every power of two up to 2^64 - 1, and some at random.
+fn numbers(random: &mut Random, times: usize) -> Vec<usize> {
+    let mut numbers: Vec<usize> = (0..4096).collect();
+    for k in 0..usize::BITS {
+        let power = 1usize << k;
+        numbers.extend([power - 1, power, power + 1, power.wrapping_neg(), !power]);
+    }
+    numbers.extend((0..200 * times).map(|_| random.next() as usize));
+    numbers
+}
+
+/// None lent, all lengths up to nine and some longer ones.
 fn compare_preferences(random: &mut Random, times: usize, tally: &mut Tally) {
-    for length in (0..10).chain([16, 255, 256, 257, 1000]) {
+    for length in (0..10).chain([16, 255, 256, 257, 300, 1000]) {
         let bytes = random.bytes(length);
         let lent = Lent::new(&bytes);
-        let mut numbers: Vec<usize> = (0..600).collect();
-        numbers.extend([1 << 16, 1 << 32, (1 << 32) + 1, 1 << 63, usize::MAX - 1, usize::MAX]);
-        numbers.extend((0..200 * times).map(|_| random.next() as usize));
-        for i in numbers {
+        for i in numbers(random, times) {
             let got = probe::preference(&lent, i);
             let wanted = u8::from(preference(&bytes, i));
             tally.case(if got == wanted && lent.holds(&bytes) {

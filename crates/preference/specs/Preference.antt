@@ -20,7 +20,8 @@ ones (suc digits) n = n % 2 + ones digits (n / 2)
 unfoldable pub parity : ℕ → Bool
 parity n = odd (ones 8 n)
 
--- 'If no byte is lent, a fixed house table of 256 entries is used: .. preference i is then entry i mod 256.'
+-- 'If no byte is lent, a fixed house table of 256 entries is used: .. preference i is then entry i mod 256.' C-12 of 02 puts
+-- this rule in the table's place.
 abbrev pub house : ℕ → Bool
 house i = parity (i % 256)
 

@@ -9,11 +9,11 @@ use Rattle.preference.proofs.Laws.{prefer-none, prefer-lent}
 use Rattle.preference.proofs.preference.Statement.{statement}
 use Rattle.preference.proofs.preference.Tie as tie
 
-entry-requires : tie.Need-entry-requires
-entry-requires c κs = search needs
+house-requires : tie.Need-house-requires
+house-requires c κs = tt
 
 returns : tie.Need-returns
-returns c = c .entry .ensures ∙ sym (prefer-none (c .before .before .before .args .lent .now) (c .before .before .before .args .i) (omega arith))
+returns c = c .house .ensures ∙ sym (prefer-none (c .before .before .before .args .lent .now) (c .before .before .before .args .i) (omega arith))
 
 rem-result : tie.Need-rem-result
 rem-result c = search needs
@@ -26,4 +26,4 @@ returns-2 c = sym (prefer-lent (c .before .before .before .args .lent .now) (c .
 
 pub preference-spec : {M : Type 1} → statement M
 preference-spec =
-    tie.close (tie.spec entry-requires returns rem-result shared-slice-read-result returns-2)
+    tie.close (tie.spec house-requires returns rem-result shared-slice-read-result returns-2)
