@@ -1,7 +1,6 @@
 -- `fee::rounds_from` meets its contract. Assumes nothing.
 use native.Mathlib.Omega.{arith}
-use native.Mathlib.Numerals.{add-one}
-use mathlib.Core.Path.{sym, _∙_}
+use mathlib.Core.Path.{sym}
 use Rattle.fee.proofs.SumLaws.{next-at, next-past}
 use borrow.Author.Needs.{needs}
 use Rattle.fee.proofs.rounds_from.Statement.{statement}
@@ -27,8 +26,9 @@ less-requires c κs = search needs
 
 returns : tie.Need-returns
 returns c =
-    let q = c .before .before .before .before .before .before .args in (
-      c .less .ensures ∙ rw (c .before .before .before .wide .ensures .0, c .before .wide2 .ensures .0, add-one) (sym (next-at (q .rounds) (q .firsts .now) (q .i) (c .before .before .before .before .if1 .taken))),
+    let q = c .before .before .before .before .before .before .args in
+    let at = next-at (q .rounds) (q .firsts .now) (q .i) (c .before .before .before .before .if1 .taken) in (
+      omega (arith, at, c .less .ensures, c .before .before .before .wide .ensures .0, c .before .wide2 .ensures .0),
       omega (arith, c .less .ensures, c .before .before .before .wide .ensures .1),
     )
 
