@@ -18,10 +18,10 @@ enum-told-2 : tie.Need-enum-told-2
 enum-told-2 c = search needs
 
 returns : tie.Need-returns
-returns c = without-1 (c .before .before .before .before .before .args .kinds .now) (sym (c .before .before .check .ensures) ∙ c .enum-told .given .1)
+returns c = without-1 (c .before .before .before .before .before .args .kinds .now) (sym (c .before .before .check .ensures .0) ∙ c .enum-told .given .1)
 
 returns-2 : tie.Need-returns-2
-returns-2 c = with-1 (c .before .before .before .before .before .args .kinds .now) (sym (c .before .before .check .ensures) ∙ c .enum-told2 .given .1)
+returns-2 c = with-1 (c .before .before .before .before .before .args .kinds .now) (sym (c .before .before .check .ensures .0) ∙ c .enum-told2 .given .1)
 
 pub is-refused-spec : {M : Type 1} → statement M
 is-refused-spec =
