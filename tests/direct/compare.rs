@@ -1,5 +1,6 @@
 //! One call of the engine on lent tables, held against what is wanted: the number and every lent entry. What differs is returned in words.
 
+use crate::fee::Charge;
 use crate::formula::Side;
 use crate::lent::{Entry, Lent};
 use crate::model::TooLong;
@@ -138,4 +139,16 @@ pub fn run_with(given: &Given, wanted: Left) -> Wrong {
         given.work.len(),
         given.limit
     ))
+}
+
+/// The fee of a call, where what it is to answer is known.
+pub fn fee(kinds: &[u8], rounds: u32, wanted: &Charge) -> Wrong {
+    let lent = Lent::new(kinds);
+    let mut cents = Lent::new(&[7]);
+    let number = probe::fee(&lent, rounds, &mut cents);
+    let mut faults = Faults(Vec::new());
+    faults.number("number", number, wanted.number);
+    faults.table("cents", &cents, &[wanted.cents]);
+    faults.table("kinds", &lent, kinds);
+    faults.words(format!("fee, kinds {:?} rounds {}", kinds, rounds))
 }

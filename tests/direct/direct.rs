@@ -4,6 +4,7 @@
 //! usage: direct [TIMES [SEED]]
 
 mod compare;
+mod fees;
 #[path = "../independent/mod.rs"]
 mod independent;
 mod known;
@@ -16,7 +17,7 @@ mod searches;
 use independent::jobs::{self, Job};
 use independent::random::Random;
 use independent::tally::Tally;
-use independent::{draw, formula, lent, model, preference, random, rounds, rows, tally, wanted};
+use independent::{draw, fee, formula, lent, model, preference, random, rounds, rows, tally, wanted};
 use std::time::Instant;
 
 const SEED: u64 = 1;
@@ -33,6 +34,7 @@ fn topics() -> Vec<Topic> {
     topics.push(Box::new(runs::compare_all));
     topics.push(Box::new(refused::compare_all));
     topics.push(Box::new(known::compare_all));
+    topics.push(Box::new(fees::compare_all));
     topics.push(Box::new(parts::compare_all));
     topics
 }

@@ -55,6 +55,8 @@ extern "C" {
         existential: *mut usize,
     ) -> u64;
 
+    fn probe_fee(kinds: *const u8, kinds_length: usize, rounds: u32, cents: *mut u64) -> u64;
+
     fn probe_row_length(rows: *const u8, rows_length: usize, count: usize, place: usize) -> usize;
 
     fn probe_row_byte(rows: *const u8, rows_length: usize, count: usize, place: usize, j: usize) -> u8;
@@ -146,6 +148,10 @@ pub fn run(tables: &mut Tables, limit: u32) -> u64 {
             tables.existential.address_mut(),
         )
     }
+}
+
+pub fn fee(kinds: &Lent<u8>, rounds: u32, cents: &mut Lent<u64>) -> u64 {
+    unsafe { probe_fee(kinds.address(), kinds.length(), rounds, cents.address_mut()) }
 }
 
 /// The bytes of the row that is handed back.

@@ -31,6 +31,12 @@ impl Entry for u32 {
     }
 }
 
+impl Entry for u64 {
+    fn guard(i: usize) -> u64 {
+        0x77 << 40 | i as u64
+    }
+}
+
 impl Entry for usize {
     fn guard(i: usize) -> usize {
         0x77 << 40 | i

@@ -9,6 +9,8 @@ use Rattle.judge.specs.declared.Judgement.{Judgement}
 use Rattle.judge.specs.declared.Judgement.the-variants.{NotBorneOut, Accepted, Refused as JudgeRefused}
 use Rattle.run.specs.Outcome.{Given, returned}
 use Rattle.run.specs.Numbers.{one-number}
+use Rattle.fee.specs.declared.Charge.{Charge}
+use Rattle.fee.specs.declared.Charge.the-variants.{Cents, Refused as ChargeRefused}
 
 -- A search: 0 for no model, 1 for found, 100 plus the number of a refusal.
 abbrev pub search-number : Search → ℕ
@@ -21,6 +23,11 @@ abbrev pub judge-number : Judgement → ℕ
 judge-number NotBorneOut = 0
 judge-number Accepted = 1
 judge-number (JudgeRefused cause) = 100 + cause
+
+-- A charge: 0 for cents, 100 plus the number of a refusal.
+abbrev pub charge-number : Charge → ℕ
+charge-number (Cents amount) = 0
+charge-number (ChargeRefused cause) = 100 + cause
 
 -- A value: 1 for true.
 abbrev pub value-number : Bool → ℕ

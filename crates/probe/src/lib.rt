@@ -1,6 +1,7 @@
 // The public functions of the engine below the program, exported with numbers for their answers, so that tests can lend tables of any size
 // and content. Each promises what the function that it calls promises. Of a row that is handed back the length and each byte are told, since
 // an exported function returns no reference.
+use fee::Charge;
 use judge::Judgement;
 use search::Search;
 ghost use mathlib.Core.Path.{_≡_};
@@ -11,7 +12,8 @@ ghost use Rattle.rows.specs.Access.{handed-back};
 ghost use Rattle.search.specs.Search.{outcome, work-after};
 ghost use Rattle.judge.specs.Judge.{outcome as judge-outcome, work-after as judge-work-after};
 ghost use Rattle.run.specs.Outcome.{areas, given, left as run-left};
-ghost use Rattle.probe.specs.Numbers.{search-number, judge-number, value-number, Reported};
+ghost use Rattle.fee.specs.Fee.{charged, cents as cents-of};
+ghost use Rattle.probe.specs.Numbers.{search-number, judge-number, charge-number, value-number, Reported};
 
 // The first model of one side over rows of the other.
 #[no_mangle]
@@ -107,6 +109,35 @@ pub extern "C" fn probe_run(
     *existential = end.existential;
     let answer = end.answer;
     run::one_number(answer)
+}
+
+// The fee for so many rounds; its cents, 0 on a refusal, are written behind the last reference.
+#[no_mangle]
+pub extern "C" fn probe_fee(kinds: &[u8], rounds: u32, cents: &mut u64) -> u64
+    ensures { λ r. ⌜ r ≡ charge-number (charged (now (kinds .entry)) rounds) ⌝ }
+    ensures { λ _. ⌜ now (cents .exit) ≡ cents-of (charged (now (kinds .entry)) rounds) ⌝ }
+{
+    let charge = fee::fee(rounds, kinds);
+    *cents = charge_cents(charge);
+    charge_number(charge)
+}
+
+fn charge_number(charge: Charge) -> u64
+    ensures { λ r. ⌜ r ≡ charge-number charge ⌝ }
+{
+    match charge {
+        Charge::Cents(_) => 0,
+        Charge::Refused(cause) => refusal_number(cause),
+    }
+}
+
+fn charge_cents(charge: Charge) -> u64
+    ensures { λ r. ⌜ r ≡ cents-of charge ⌝ }
+{
+    match charge {
+        Charge::Cents(amount) => amount,
+        Charge::Refused(_) => 0,
+    }
 }
 
 // The length of the row that is handed back.

@@ -1,5 +1,6 @@
-// Malformed tables, and the number that each gets: a line of digits for formulas (causes 1 to 3, 0 if accepted), and one for row tables
-// (4 if refused, 0 if not).
+// Malformed tables, and the number that each gets, a line each: formulas (causes 1 to 3, 0 if accepted), row tables (4 if refused, 0 if not),
+// and the kinds of a study that is to be charged (1 if refused, 0 if not).
+use fee::Charge;
 use formula::Check;
 use formula::Formula;
 use libc::STDOUT_FILENO;
@@ -7,6 +8,7 @@ use libc::STDOUT_FILENO;
 fn main() {
     formulas();
     tables();
+    fees();
 }
 
 // Prints the digit and a line end.
@@ -57,4 +59,18 @@ fn tables() {
     print(table(&bytes[..17]));
     print(table(&bytes[..4_096]));
     print(table(&bytes));
+}
+
+fn charge(rounds: u32, kinds: &[u8]) -> u8 {
+    match fee::fee(rounds, kinds) {
+        Charge::Refused(cause) => (cause % 10) as u8,
+        Charge::Cents(_) => 0,
+    }
+}
+
+fn fees() {
+    print(charge(9, &[0, 1, 0]));
+    // A kind of 2, also where no round was made.
+    print(charge(9, &[0, 2, 0]));
+    print(charge(0, &[2]));
 }

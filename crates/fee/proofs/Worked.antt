@@ -1,0 +1,8 @@
+-- The fees worked by hand come out, by computation. Assumes nothing.
+use mathlib.Core.Path.{refl}
+use Rattle.fee.specs.Fee.{price, fee-on}
+use Rattle.fee.specs.Worked.{Worked}
+
+pub worked : Worked
+unfolding price fee-on
+worked = record { fees = refl }

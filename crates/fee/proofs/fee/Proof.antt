@@ -1,0 +1,29 @@
+-- `fee::fee` meets its contract. Assumes nothing.
+use mathlib.Core.Path.{refl, _∙_}
+use Rattle.fee.proofs.BuiltInLaws.{built-in-summable, built-in-total}
+use Rattle.fee.proofs.AnswerLaws.{charged-so}
+use borrow.Author.Needs.{needs}
+use Rattle.fee.proofs.fee.Statement.{statement}
+use Rattle.fee.proofs.fee.Tie as tie
+
+slice-aggregate-sum : tie.Need-slice-aggregate-sum
+slice-aggregate-sum c = search needs
+
+slice-aggregate-sum-2 : tie.Need-slice-aggregate-sum-2
+slice-aggregate-sum-2 c = search needs
+
+sum-requires : tie.Need-sum-requires
+sum-requires c κs = built-in-summable
+
+fee-on-requires : tie.Need-fee-on-requires
+fee-on-requires c κs = search needs
+
+returns : tie.Need-returns
+returns c =
+    let q = c .before .before .before .before .before .args in
+    charged-so (q .kinds .now) (q .rounds) (c .before .sum .result) (c .before .sum .ensures ∙ built-in-total (q .rounds)) (c .fee-on .ensures)
+
+pub fee-spec : {M : Type 1} → statement M
+fee-spec =
+    tie.close
+    (tie.spec slice-aggregate-sum slice-aggregate-sum-2 sum-requires fee-on-requires returns)

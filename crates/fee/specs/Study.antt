@@ -1,0 +1,31 @@
+-- Who pays for what (02, C-21), over what a run is lent and returns. Assumes nothing.
+use Prim.Native.Nat.{ℕ}
+use mathlib.Core.Path.{_≡_}
+use mathlib.Core.Bool.{true, false}
+use Rattle.run.specs.declared.Answer.{Answer}
+use Rattle.run.specs.declared.Answer.the-variants.{False, True, Spent, NoRoomUniversal, NoRoomExistential, Refused}
+use Rattle.run.specs.Outcome.{Given, accepted, returned}
+use Rattle.fee.specs.declared.Charge.the-variants.{Cents}
+use Rattle.fee.specs.Fee.{fee, charged}
+
+-- 'Spent and no-room studies pay for the rounds reached; a refused one pays nothing': what a study with this answer pays, given the fee
+-- for the round that it returned.
+abbrev pub pays : Answer → ℕ → ℕ
+pays False fee = fee
+pays True fee = fee
+pays Spent fee = fee
+pays NoRoomUniversal fee = fee
+pays NoRoomExistential fee = fee
+pays (Refused cause) fee = 0
+
+-- What a study pays, a run over all that it is lent.
+unfoldable pub study-fee : Given → ℕ
+study-fee g = pays (returned g .answer) (fee (g .kinds) (returned g .round))
+
+-- For everything that a run can be lent.
+pub record StudyPays (g : Given) : Type 0 where
+  -- An accepted study pays what `fee::fee` answers for the returned round and the kinds, whatever the run's answer.
+  pub accepted-pays : accepted g ≡ true → charged (g .kinds) (returned g .round) ≡ Cents (study-fee g)
+  -- A refused one returns round 0 and pays nothing.
+  pub refused-round : accepted g ≡ false → returned g .round ≡ 0
+  pub refused-pays : accepted g ≡ false → study-fee g ≡ 0
