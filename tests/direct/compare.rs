@@ -152,3 +152,17 @@ pub fn fee(kinds: &[u8], rounds: u32, wanted: &Charge) -> Wrong {
     faults.table("kinds", &lent, kinds);
     faults.words(format!("fee, kinds {:?} rounds {}", kinds, rounds))
 }
+
+/// The same by lent bands.
+pub fn fee_with(firsts: &[u32], prices: &[u32], kinds: &[u8], rounds: u32, wanted: &Charge) -> Wrong {
+    let (lent_firsts, lent_prices, lent_kinds) = (Lent::new(firsts), Lent::new(prices), Lent::new(kinds));
+    let mut cents = Lent::new(&[7]);
+    let number = probe::fee_with(&lent_firsts, &lent_prices, &lent_kinds, rounds, &mut cents);
+    let mut faults = Faults(Vec::new());
+    faults.number("number", number, wanted.number);
+    faults.table("cents", &cents, &[wanted.cents]);
+    faults.table("first rounds", &lent_firsts, firsts);
+    faults.table("prices", &lent_prices, prices);
+    faults.table("kinds", &lent_kinds, kinds);
+    faults.words(format!("fee, first rounds {:?} prices {:?} kinds {:?} rounds {}", firsts, prices, kinds, rounds))
+}

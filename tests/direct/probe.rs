@@ -57,6 +57,17 @@ extern "C" {
 
     fn probe_fee(kinds: *const u8, kinds_length: usize, rounds: u32, cents: *mut u64) -> u64;
 
+    fn probe_fee_with(
+        firsts: *const u32,
+        firsts_length: usize,
+        prices: *const u32,
+        prices_length: usize,
+        kinds: *const u8,
+        kinds_length: usize,
+        rounds: u32,
+        cents: *mut u64,
+    ) -> u64;
+
     fn probe_row_length(rows: *const u8, rows_length: usize, count: usize, place: usize) -> usize;
 
     fn probe_row_byte(rows: *const u8, rows_length: usize, count: usize, place: usize, j: usize) -> u8;
@@ -152,6 +163,21 @@ pub fn run(tables: &mut Tables, limit: u32) -> u64 {
 
 pub fn fee(kinds: &Lent<u8>, rounds: u32, cents: &mut Lent<u64>) -> u64 {
     unsafe { probe_fee(kinds.address(), kinds.length(), rounds, cents.address_mut()) }
+}
+
+pub fn fee_with(firsts: &Lent<u32>, prices: &Lent<u32>, kinds: &Lent<u8>, rounds: u32, cents: &mut Lent<u64>) -> u64 {
+    unsafe {
+        probe_fee_with(
+            firsts.address(),
+            firsts.length(),
+            prices.address(),
+            prices.length(),
+            kinds.address(),
+            kinds.length(),
+            rounds,
+            cents.address_mut(),
+        )
+    }
 }
 
 /// The bytes of the row that is handed back.

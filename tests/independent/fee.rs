@@ -1,4 +1,5 @@
-//! The study fee by 02's words: a price for each round, the rise, the rounding. All in numbers so wide that nothing wraps.
+//! The study fee by 02's words: a price for each round, built in or by lent bands, the rise, the rounding. All in numbers so wide that
+//! nothing wraps.
 
 use super::formula::formula_cause;
 
@@ -82,4 +83,30 @@ fn charged(sum: u128, kinds: &[u8]) -> Charge {
 /// The fee by the built-in prices.
 pub fn fee(kinds: &[u8], rounds: u32) -> Charge {
     charged(sum(u64::from(rounds), &BEGINNINGS, &price), kinds)
+}
+
+/// 'Columns of unlike length, a table of no band or over 16, or whose first band doesn't begin at round 1.'
+fn is_no_table(firsts: &[u32], prices: &[u32]) -> bool {
+    firsts.len() != prices.len() || firsts.is_empty() || firsts.len() > 16 || firsts[0] != 1
+}
+
+/// 'Bands whose first rounds don't rise or a price over 100,000 cents.'
+fn is_out_of_order(firsts: &[u32], prices: &[u32]) -> bool {
+    firsts.windows(2).any(|pair| pair[1] <= pair[0]) || prices.iter().any(|&price| price > 100_000)
+}
+
+/// The fee by lent bands: 'a round costs the price of the last band that begins no later'.
+pub fn fee_with(firsts: &[u32], prices: &[u32], kinds: &[u8], rounds: u32) -> Charge {
+    if is_no_table(firsts, prices) {
+        return refused(21);
+    }
+    if is_out_of_order(firsts, prices) {
+        return refused(22);
+    }
+    let beginnings: Vec<u64> = firsts.iter().map(|&first| u64::from(first)).collect();
+    let price = |round: u64| {
+        let last = beginnings.iter().rposition(|&beginning| beginning <= round).expect("the first band begins at round 1");
+        u128::from(prices[last])
+    };
+    charged(sum(u64::from(rounds), &beginnings, &price), kinds)
 }

@@ -1,11 +1,12 @@
 -- Cause 1 without literals, and what is answered. Assumes nothing.
 use Prim.Native.Nat.{ℕ, zero, suc, _≤_}
 use native.Mathlib.Omega.{arith}
-use mathlib.Core.Path.{_≡_, refl, ap, _∙_}
+use native.Mathlib.Nat.{suc-ne-zero}
+use mathlib.Core.Path.{_≡_, refl, sym, ap, _∙_}
 use mathlib.Core.Bool.{Bool, true, false, cond}
 use mathlib.Core.List.{List, []}
-use borrow.Author.Tests.{ltb-false}
-use lib.Dec.{ltb}
+use borrow.Author.Tests.{ltb-false, ne-eqb}
+use lib.Dec.{eqb, ltb}
 use lib.ListN.{length}
 use Rattle.formula.specs.declared.Check.the-variants.{Accepted, Refused as RefusedFormula}
 use Rattle.formula.specs.declared.Formula.{Formula}
@@ -13,7 +14,9 @@ use Rattle.formula.specs.Formula.{max-unknowns}
 use Rattle.formula.specs.Causes.{any, other-kind, cause-1, cause-2, cause-3, sizes, refused-if, checked}
 use Rattle.formula.proofs.Any.{or-none}
 use Rattle.fee.specs.declared.Charge.{Charge}
+use Rattle.fee.specs.declared.Charge.the-variants.{Refused}
 use Rattle.fee.specs.Fee.{price, total, fee, fee-on, cause, answer, charged, number, cents, Charged}
+use Rattle.fee.specs.Bands.{price-with, cause-21, cause-22, cause-with, Loads, fee-with, charged-with, ChargedWith}
 
 if-accepted : (b : Bool) (s f : Formula) → refused-if b 1 (Accepted s) ≡ Accepted f → false ≡ b
 if-accepted false s f e = refl
@@ -43,6 +46,30 @@ number-of-answer (suc n) amount = refl
 cents-of-answer : (b : Bool) (amount : ℕ) → cents (answer (cond b 1 0) amount) ≡ cond b 0 amount
 cents-of-answer true amount = refl
 cents-of-answer false amount = refl
+
+cents-of-number : (n amount : ℕ) → cents (answer n amount) ≡ cond (eqb n 0) amount 0
+cents-of-number zero amount = refl
+cents-of-number (suc n) amount = rw (ne-eqb (suc n) 0 (suc-ne-zero n))
+
+module _ (firsts prices kinds : List ℕ) (rounds : ℕ) {r : Charge} where
+  answered-so : r ≡ answer (cause-with firsts prices kinds) (fee-with firsts prices kinds rounds) → ChargedWith firsts prices kinds rounds r
+  unfolding charged-with
+  answered-so same =
+      record {
+        value = same;
+        numbered = ap number same ∙ number-of-answer (cause-with firsts prices kinds) (fee-with firsts prices kinds rounds);
+        amount = ap cents same ∙ cents-of-number (cause-with firsts prices kinds) (fee-with firsts prices kinds rounds);
+      }
+
+  pub refused-21 : cause-21 firsts prices ≡ true → r ≡ Refused 21 → ChargedWith firsts prices kinds rounds r
+  refused-21 one e = answered-so (e ∙ sym (rw one))
+
+  pub refused-22 : cause-21 firsts prices ≡ false → cause-22 firsts prices ≡ true → r ≡ Refused 22 → ChargedWith firsts prices kinds rounds r
+  refused-22 no-one two e = answered-so (e ∙ sym (rw (no-one, two)))
+
+  pub charged-with-so : (sum : ℕ) → Loads firsts prices → sum ≡ total (price-with firsts prices) rounds → r ≡ answer (cause kinds) (fee-on sum kinds)
+      → ChargedWith firsts prices kinds rounds r
+  charged-with-so sum l sums e = answered-so (e ∙ ap (λ (s : ℕ). answer (cause kinds) (fee-on s kinds)) sums ∙ sym (rw (l .no-21, l .no-22)))
 
 pub charged-so : (kinds : List ℕ) (rounds sum : ℕ) {r : Charge} → sum ≡ total price rounds → r ≡ answer (cause kinds) (fee-on sum kinds) → Charged kinds rounds r
 unfolding charged

@@ -1,7 +1,10 @@
 -- The laws behind the functions' proofs, and the proofs of the statements.
 pub mod ChangeLaws
 pub mod SumLaws
-pub mod BuiltInLaws
 pub mod AnswerLaws
+pub mod LoadLaws
+pub mod RisingLaws
+pub mod BandLaws
+pub mod BandsRight
 pub mod Worked
 pub mod Study

@@ -8,6 +8,7 @@ use mathlib.Core.List.{List, [], _∷_}
 use lib.ListN.{length, getD, drop, drop-of-length-le}
 use lib.Seq.{drop-cons}
 use Rattle.formula.specs.Formula.{max-unknowns}
+use Rattle.fee.specs.Bands.{max-price}
 use Rattle.fee.specs.ByBands.{from-on, next-on, by-bands}
 
 module _ (rounds : ℕ) (firsts : List ℕ) (i : ℕ) where
@@ -28,11 +29,11 @@ module _ (rounds : ℕ) (firsts : List ℕ) (i : ℕ) where
     pub all-added : length firsts ≤ i → by-bands rounds (drop i firsts) (drop i prices) ≡ 0
     all-added past = rw (drop-of-length-le firsts past)
 
--- A band's cents: 2^32 rounds of 100,000 at most.
-pub band-small : {here own price lent : ℕ} (next : ℕ) → own ≡ here - next → here ≤ 4294967296 → price ≡ lent → lent ≤ 100000 → own * price ≤ 429496729600000
+-- A band's cents: at most 2^32 rounds at the highest price.
+pub band-small : {here own price lent : ℕ} (next : ℕ) → own ≡ here - next → here ≤ 4294967296 → price ≡ lent → lent ≤ max-price → own * price ≤ 4294967296 * max-price
 band-small {here} {own} {price} {lent} next is-own few is-price cheap =
     let fewer : own ≤ 4294967296 = omega arith in
-    let cheaper : price ≤ 100000 = omega arith in
+    let cheaper : price ≤ max-price = omega arith in
     mul-le-mul fewer cheaper
 
 -- The risen sum, with fewer changes than unknowns.

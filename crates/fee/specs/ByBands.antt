@@ -4,6 +4,7 @@ use Prim.Native.Nat.{ℕ, suc, _+_, _*_, _-_, _≤_}
 use mathlib.Core.Path.{_≡_}
 use mathlib.Core.List.{List, [], _∷_}
 use lib.ListN.{length, getD}
+use Rattle.fee.specs.Bands.{max-bands, max-price}
 
 -- How many of the rounds 1 to `rounds` come from a round on.
 abbrev pub from-on : ℕ → ℕ → ℕ
@@ -23,5 +24,5 @@ by-bands rounds (f ∷ fs) (p ∷ ps) = (from-on rounds f - next-on rounds fs) *
 -- Two columns of one length, few and cheap enough that the sum fits 64 bits.
 pub record Summable (firsts prices : List ℕ) : Type 0 where
   pub even : length firsts ≡ length prices
-  pub few : length firsts ≤ 16
-  pub cheap : (i : ℕ) → getD prices i 0 ≤ 100000
+  pub few : length firsts ≤ max-bands
+  pub cheap : (i : ℕ) → getD prices i 0 ≤ max-price

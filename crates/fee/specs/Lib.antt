@@ -1,6 +1,9 @@
--- What a study costs: the rounding, the fee, who pays it, figures worked by hand; then what private functions promise each other.
+-- What a study costs: the rounding, the fee, a chain's own bands, who pays, figures worked by hand; then what private functions promise each
+-- other, and what holds of the bands.
 pub mod Rounding
 pub mod Fee
+pub mod Bands
 pub mod Study
 pub mod Worked
 pub mod ByBands
+pub mod BandsRight

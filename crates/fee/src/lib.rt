@@ -1,15 +1,18 @@
-// What a venue pays for a study (02, C-21): a price for each round, a rise for each change of kind in the prefix, rounded to a cent.
-// `fee` promises for all rounds and kinds the cents that the definition (specs/Fee.antt) gives, or the refusal. It costs as many steps as
-// there are kinds and bands, however many the rounds are. Whose rounds they are, and who pays, is a theorem over the run (specs/Study.antt).
+// What a venue pays for a study (02, C-21, C-22): a price for each round, a rise for each change of kind in the prefix, rounded to a cent.
+// `fee`, by the built-in bands, and `fee_with`, by bands that are lent, promise for every input the cents that the definitions (specs/Fee.antt,
+// specs/Bands.antt) give, or the refusal. They cost as many steps as there are kinds and bands, however many the rounds are. Whose rounds
+// they are, and who pays, is a theorem over the run (specs/Study.antt).
 use formula::Check;
 use formula::Formula;
 ghost use mathlib.Core.Path.{_≡_};
 ghost use Prim.Native.Nat.{_≤_, _<_, _-_, _^_};
+ghost use lib.Dec.{ltb};
 ghost use lib.ListN.{drop};
 ghost use Rattle.formula.specs.Formula.{max-unknowns};
-ghost use Rattle.formula.specs.Causes.{cause-1};
+ghost use Rattle.formula.specs.Causes.{any, cause-1};
 ghost use Rattle.fee.specs.Rounding.{half-up};
 ghost use Rattle.fee.specs.Fee.{changes as changes-of, risen as risen-of, fee-on, cause, answer, Charged};
+ghost use Rattle.fee.specs.Bands.{max-price, cause-21, rises as rises-of, ChargedWith};
 ghost use Rattle.fee.specs.ByBands.{next-on, by-bands, Summable};
 
 // A fee, or the number of the cause that refuses it.
@@ -23,11 +26,81 @@ const FIRSTS: [u32; 3] = [1, 9, 65];
 
 const PRICES: [u32; 3] = [400, 250, 120];
 
+// The limits of bands that are lent.
+const BANDS: usize = 16;
+
+const DEAREST: u32 = 100_000;
+
 // The fee for so many rounds of a study with these kinds.
 pub fn fee(rounds: u32, kinds: &[u8]) -> Charge
     ensures { λ r. ⌜ Charged (now (kinds .entry)) rounds r ⌝ }
 {
     fee_on(sum(&FIRSTS, &PRICES, rounds), kinds)
+}
+
+// The same by the bands of two columns, the first round of each and the price of its rounds.
+pub fn fee_with(firsts: &[u32], prices: &[u32], rounds: u32, kinds: &[u8]) -> Charge
+    ensures { λ r. ⌜ ChargedWith (now (firsts .entry)) (now (prices .entry)) (now (kinds .entry)) rounds r ⌝ }
+{
+    if is_no_table(firsts, prices) {
+        return Charge::Refused(21);
+    }
+    if rises(firsts) {} else {
+        return Charge::Refused(22);
+    }
+    if has_dearer(prices) {
+        return Charge::Refused(22);
+    }
+    fee_on(sum(firsts, prices, rounds), kinds)
+}
+
+// Whether cause 21 applies. The first entry is read only where there is one.
+fn is_no_table(firsts: &[u32], prices: &[u32]) -> bool
+    ensures { λ r. ⌜ r ≡ cause-21 (now (firsts .entry)) (now (prices .entry)) ⌝ }
+{
+    if firsts.len() != prices.len() {
+        return true;
+    }
+    if firsts.len() == 0 {
+        return true;
+    }
+    if firsts.len() > BANDS {
+        return true;
+    }
+    if firsts[0] != 1 {
+        return true;
+    }
+    false
+}
+
+// Whether each first round is above the one before it.
+fn rises(firsts: &[u32]) -> bool
+    ensures { λ r. ⌜ r ≡ rises-of (now (firsts .entry)) ⌝ }
+{
+    let mut rising = true;
+    let mut i = 1;
+    while i < firsts.len() {
+        if firsts[i] <= firsts[i - 1] {
+            rising = false;
+        }
+        i += 1;
+    }
+    rising
+}
+
+// Whether a price is over the highest that may be.
+fn has_dearer(prices: &[u32]) -> bool
+    ensures { λ r. ⌜ r ≡ any (ltb max-price) (now (prices .entry)) ⌝ }
+{
+    let mut found = false;
+    let mut i = 0;
+    while i < prices.len() {
+        if prices[i] > DEAREST {
+            found = true;
+        }
+        i += 1;
+    }
+    found
 }
 
 // The fee on what the rounds cost together. Below 2^50 cents, the risen sum fits 64 bits.

@@ -13,6 +13,7 @@ ghost use Rattle.search.specs.Search.{outcome, work-after};
 ghost use Rattle.judge.specs.Judge.{outcome as judge-outcome, work-after as judge-work-after};
 ghost use Rattle.run.specs.Outcome.{areas, given, left as run-left};
 ghost use Rattle.fee.specs.Fee.{charged, cents as cents-of};
+ghost use Rattle.fee.specs.Bands.{charged-with};
 ghost use Rattle.probe.specs.Numbers.{search-number, judge-number, charge-number, value-number, Reported};
 
 // The first model of one side over rows of the other.
@@ -118,6 +119,23 @@ pub extern "C" fn probe_fee(kinds: &[u8], rounds: u32, cents: &mut u64) -> u64
     ensures { λ _. ⌜ now (cents .exit) ≡ cents-of (charged (now (kinds .entry)) rounds) ⌝ }
 {
     let charge = fee::fee(rounds, kinds);
+    *cents = charge_cents(charge);
+    charge_number(charge)
+}
+
+// The same by lent bands.
+#[no_mangle]
+pub extern "C" fn probe_fee_with(
+    firsts: &[u32],
+    prices: &[u32],
+    kinds: &[u8],
+    rounds: u32,
+    cents: &mut u64,
+) -> u64
+    ensures { λ r. ⌜ r ≡ charge-number (charged-with (now (firsts .entry)) (now (prices .entry)) (now (kinds .entry)) rounds) ⌝ }
+    ensures { λ _. ⌜ now (cents .exit) ≡ cents-of (charged-with (now (firsts .entry)) (now (prices .entry)) (now (kinds .entry)) rounds) ⌝ }
+{
+    let charge = fee::fee_with(firsts, prices, rounds, kinds);
     *cents = charge_cents(charge);
     charge_number(charge)
 }

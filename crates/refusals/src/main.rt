@@ -1,5 +1,5 @@
 // Malformed tables, and the number that each gets, a line each: formulas (causes 1 to 3, 0 if accepted), row tables (4 if refused, 0 if not),
-// and the kinds of a study that is to be charged (1 if refused, 0 if not).
+// studies that are to be charged (1 for the kinds, 21 and 22 for lent bands, 0 if charged).
 use fee::Charge;
 use formula::Check;
 use formula::Formula;
@@ -11,15 +11,15 @@ fn main() {
     fees();
 }
 
-// Prints the digit and a line end.
-fn print(digit: u8) {
-    let line = [48 + digit % 10, 10];
-    io::write_all(STDOUT_FILENO, &line);
+// Prints the number and a line end.
+fn print(number: u32) {
+    io::print_decimal(STDOUT_FILENO, number as u64);
+    io::write_all(STDOUT_FILENO, b"\n");
 }
 
-fn number(kinds: &[u8], literals: &[i32]) -> u8 {
+fn number(kinds: &[u8], literals: &[i32]) -> u32 {
     match Formula::check(kinds, literals) {
-        Check::Refused(cause) => (cause % 10) as u8,
+        Check::Refused(cause) => cause,
         Check::Accepted(_) => 0,
     }
 }
@@ -47,7 +47,7 @@ fn formulas() {
     print(number(&kinds[..2], &[-2, 2, 0, 0]));
 }
 
-fn table(rows: &[u8]) -> u8 {
+fn table(rows: &[u8]) -> u32 {
     if rows::table_fits(rows) { 0 } else { 4 }
 }
 
@@ -61,11 +61,19 @@ fn tables() {
     print(table(&bytes));
 }
 
-fn charge(rounds: u32, kinds: &[u8]) -> u8 {
-    match fee::fee(rounds, kinds) {
-        Charge::Refused(cause) => (cause % 10) as u8,
+fn charge_number(charge: Charge) -> u32 {
+    match charge {
+        Charge::Refused(cause) => cause,
         Charge::Cents(_) => 0,
     }
+}
+
+fn charge(rounds: u32, kinds: &[u8]) -> u32 {
+    charge_number(fee::fee(rounds, kinds))
+}
+
+fn charge_with(firsts: &[u32], prices: &[u32], kinds: &[u8]) -> u32 {
+    charge_number(fee::fee_with(firsts, prices, 9, kinds))
 }
 
 fn fees() {
@@ -73,4 +81,23 @@ fn fees() {
     // A kind of 2, also where no round was made.
     print(charge(9, &[0, 2, 0]));
     print(charge(0, &[2]));
+    bands();
+}
+
+fn bands() {
+    print(charge_with(&[1, 9, 65], &[400, 250, 120], &[0, 1, 0]));
+    // Columns of unlike length, no band, 17 bands, a first band that begins at round 2.
+    print(charge_with(&[1, 9], &[400], &[0, 1, 0]));
+    let none = [0u32; 0];
+    print(charge_with(&none, &none, &[0, 1, 0]));
+    let many = [1u32; 17];
+    print(charge_with(&many, &many, &[0, 1, 0]));
+    print(charge_with(&[2, 9], &[400, 250], &[0, 1, 0]));
+    // First rounds that don't rise, and a price over 100,000 cents.
+    print(charge_with(&[1, 9, 9], &[400, 250, 120], &[0, 1, 0]));
+    print(charge_with(&[1, 9], &[400, 100_001], &[0, 1, 0]));
+    // 21 comes before 22, and 22 before the kinds' 1.
+    print(charge_with(&[2, 2], &[400, 100_001], &[2]));
+    print(charge_with(&[1, 1], &[400, 250], &[2]));
+    print(charge_with(&[1, 9], &[400, 250], &[2]));
 }

@@ -4,6 +4,7 @@ use Prim.Native.Nat.{_+_, _*_, _-_, _≤_}
 use native.Mathlib.Omega.{arith}
 use mathlib.Core.Path.{_≡_}
 use lib.ListN.{length, drop}
+use Rattle.fee.specs.Bands.{max-price}
 use Rattle.fee.specs.ByBands.{by-bands}
 use Rattle.fee.proofs.SumLaws.{band-at, band-small, all-added}
 use borrow.Author.Needs.{needs}
@@ -11,7 +12,7 @@ use Rattle.fee.proofs.sum.Statement.{statement}
 use Rattle.fee.proofs.sum.Tie as tie
 
 abbrev Inv-loop : tie.InvT-loop
-Inv-loop firsts prices rounds total₀ i₀ total i = (total + by-bands rounds (drop i firsts) (drop i prices) ≡ by-bands rounds firsts prices) × (total ≤ i * 429496729600000)
+Inv-loop firsts prices rounds total₀ i₀ total i = (total + by-bands rounds (drop i firsts) (drop i prices) ≡ by-bands rounds firsts prices) × (total ≤ i * (4294967296 * max-price))
 
 abbrev μ-loop : tie.MeasureT-loop
 μ-loop firsts prices rounds total₀ i₀ total i = length firsts - i
