@@ -24,17 +24,19 @@ fn many_rounds() -> impl Iterator<Item = u32> {
     ((1 << 31) - 3..=(1 << 31) + 3).chain(u32::MAX - 20..=u32::MAX)
 }
 
-/// How many amounts lay on the half, and how many as near to it as their prices allow.
+/// How many amounts lay on the half, and how many as near to it as their prices allow. The cents of each are held against the sheet before.
 #[derive(Default)]
 struct Halves {
-    exact: usize,
+    /// Those with an even number of whole cents, and those with an odd one.
+    exact: [usize; 2],
     beside: usize,
 }
 
 impl Halves {
     fn count(&mut self, charge: &fee::Charge, nearest: u128) {
+        assert!(charge.is_right_beside_the_sheet_before(), "{:?}", charge);
         let off = (charge.thousandths % 1_000).abs_diff(500);
-        self.exact += usize::from(off == 0);
+        self.exact[(charge.thousandths / 1_000 % 2) as usize] += usize::from(off == 0);
         self.beside += usize::from(off == nearest);
     }
 }
@@ -199,9 +201,10 @@ pub fn compare_all(random: &mut Random, times: usize, tally: &mut Tally) {
     let lent = lent(random, times, tally);
     built_in_lent(random, tally);
     let seen = refused_bands(random, times, tally);
-    assert!(halves.exact > 0 && halves.beside > 0 && lent.exact > 0 && lent.beside > 0 && !seen.contains(&0));
+    let counts = [halves.exact, lent.exact, [halves.beside, lent.beside]].concat();
+    assert!(!counts.contains(&0) && !seen.contains(&0));
     println!(
-        "fees: {} compared, on the half {} by the built-in bands and {} by lent ones, next to it {} and {}; refused 1, 21, 22: {:?}",
+        "fees: {} compared, on the half {:?} by the built-in bands and {:?} by lent ones, next to it {} and {}; refused 1, 21, 22: {:?}",
         tally.passed + tally.failed - before,
         halves.exact,
         lent.exact,

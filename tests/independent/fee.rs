@@ -1,4 +1,4 @@
-//! The study fee by 02's words: a price for each round, built in or by lent bands, the rise, the rounding. All in numbers so wide that
+//! The study fee by 02's words: a price for each round, built in or by lent bands, the rise, the rounding to the even cent. All in numbers so wide that
 //! nothing wraps.
 
 use super::formula::formula_cause;
@@ -48,8 +48,21 @@ fn risen(sum: u128, changes: u128) -> u128 {
     thousandths
 }
 
-/// 'Rounded once to a cent, half a cent upwards.'
+/// 'An exact half goes to the even cent': of the cents that are nearest, the even ones.
 fn rounded(thousandths: u128) -> u128 {
+    let below = thousandths / 1_000;
+    let off = |cents: u128| (1_000 * cents).abs_diff(thousandths);
+    let nearest = off(below).min(off(below + 1));
+    let all: Vec<u128> = [below, below + 1].into_iter().filter(|&cents| off(cents) == nearest).collect();
+    if all.len() == 1 {
+        all[0]
+    } else {
+        all.into_iter().find(|cents| cents % 2 == 0).expect("one of two neighbours is even")
+    }
+}
+
+/// The sheet before: 'rounded once to a cent, half a cent upwards'.
+fn rounded_before(thousandths: u128) -> u128 {
     let (cents, rest) = (thousandths / 1_000, thousandths % 1_000);
     if 2 * rest >= 1_000 {
         cents + 1
@@ -65,6 +78,18 @@ pub struct Charge {
     pub cents: u64,
     /// What was rounded, in thousandths of a cent.
     pub thousandths: u128,
+}
+
+impl Charge {
+    /// 'Every amount off the half is charged as before'; on the half the cents are even, those of before or one less.
+    pub fn is_right_beside_the_sheet_before(&self) -> bool {
+        let before = rounded_before(self.thousandths) as u64;
+        if self.thousandths % 1_000 == 500 {
+            self.cents == before - before % 2
+        } else {
+            self.cents == before
+        }
+    }
 }
 
 fn refused(cause: u32) -> Charge {

@@ -1,16 +1,15 @@
 -- What holds of every table of bands that loading accepts, and of the built-in bands. Assumes nothing.
-use Prim.Native.Nat.{ℕ, zero, suc, _+_, _*_, _^_, _≤_, _<_}
+use Prim.Native.Nat.{ℕ, zero, suc, _*_, _^_, _≤_, _<_}
 use native.Mathlib.Omega.{arith}
 use native.Mathlib.Nat.{suc-mul, suc-ne-zero, suc-inj}
-use mathlib.Core.Path.{_≡_, refl, sym, ap, _∙_}
+use mathlib.Core.Path.{_≡_, refl, ap, _∙_}
 use mathlib.Core.Bool.{Bool, true, false, cond}
 use mathlib.Core.List.{List, [], _∷_}
 use borrow.Author.Tests.{leb-true, leb-false, lt-leb, le-leb, ltb-false}
 use lib.Dec.{leb, ltb}
 use lib.ListN.{length, getD}
-use Rattle.formula.specs.Causes.{any, cause-1}
+use Rattle.formula.specs.Causes.{any}
 use Rattle.formula.proofs.Any.{or-none}
-use Rattle.fee.specs.declared.Charge.{Charge}
 use Rattle.fee.specs.Fee.{price, total, fee-on, cause, answer, charged}
 use Rattle.fee.specs.Bands.{max-price, last-price, price-with, cause-21, rises, cause-22, Loads, charged-with}
 use Rattle.fee.specs.ByBands.{by-bands}

@@ -6,5 +6,6 @@ pub mod LoadLaws
 pub mod RisingLaws
 pub mod BandLaws
 pub mod BandsRight
+pub mod Halves
 pub mod Worked
 pub mod Study

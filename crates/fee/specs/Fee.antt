@@ -1,4 +1,4 @@
--- The study fee (02, C-21): what the rounds cost, what the changes of kind add to it, and what is answered.
+-- The study fee (02, C-21, its rounding C-23): what the rounds cost, what the changes of kind add to it, and what is answered.
 -- Assumes nothing.
 use Prim.Native.Nat.{ℕ, zero, suc, _+_, _*_}
 use mathlib.Core.Path.{_≡_}
@@ -8,7 +8,7 @@ use lib.Dec.{eqb, leb}
 use Rattle.formula.specs.Causes.{cause-1}
 use Rattle.fee.specs.declared.Charge.{Charge}
 use Rattle.fee.specs.declared.Charge.the-variants.{Cents, Refused}
-use Rattle.fee.specs.Rounding.{half-up}
+use Rattle.fee.specs.Rounding.{nearest-even}
 
 -- 'Rounds 1 to 8 at 400 cents, 9 to 64 at 250, later ones at 120.'
 unfoldable pub price : ℕ → ℕ
@@ -31,7 +31,7 @@ risen sum changes = sum * (1000 + 15 * changes)
 
 -- 'The sum rises .. and is rounded once to a cent.'
 unfoldable pub fee-on : ℕ → List ℕ → ℕ
-fee-on sum kinds = half-up (risen sum (changes kinds))
+fee-on sum kinds = nearest-even (risen sum (changes kinds))
 
 -- 'The fee takes an unsigned 32-bit count of rounds and the kinds ..
 abbrev pub fee : List ℕ → ℕ → ℕ

@@ -1,9 +1,11 @@
--- What a study costs: the rounding, the fee, a chain's own bands, who pays, figures worked by hand; then what private functions promise each
+-- What a study costs: the rounding, the fee, a chain's own bands, who pays, what the new rounding changes, figures worked by hand; then what private functions promise each
 -- other, and what holds of the bands.
 pub mod Rounding
 pub mod Fee
 pub mod Bands
 pub mod Study
+pub mod HalfUp
+pub mod Halves
 pub mod Worked
 pub mod ByBands
 pub mod BandsRight

@@ -1,4 +1,4 @@
-// What a venue pays for a study (02, C-21, C-22): a price for each round, a rise for each change of kind in the prefix, rounded to a cent.
+// What a venue pays for a study (02, C-21 to C-23): a price for each round, a rise for each change of kind in the prefix, rounded to a cent.
 // `fee`, by the built-in bands, and `fee_with`, by bands that are lent, promise for every input the cents that the definitions (specs/Fee.antt,
 // specs/Bands.antt) give, or the refusal. They cost as many steps as there are kinds and bands, however many the rounds are. Whose rounds
 // they are, and who pays, is a theorem over the run (specs/Study.antt).
@@ -10,7 +10,7 @@ ghost use lib.Dec.{ltb};
 ghost use lib.ListN.{drop};
 ghost use Rattle.formula.specs.Formula.{max-unknowns};
 ghost use Rattle.formula.specs.Causes.{any, cause-1};
-ghost use Rattle.fee.specs.Rounding.{half-up};
+ghost use Rattle.fee.specs.Rounding.{nearest-even};
 ghost use Rattle.fee.specs.Fee.{changes as changes-of, risen as risen-of, fee-on, cause, answer, Charged};
 ghost use Rattle.fee.specs.Bands.{max-price, cause-21, rises as rises-of, ChargedWith};
 ghost use Rattle.fee.specs.ByBands.{next-on, by-bands, Summable};
@@ -142,17 +142,24 @@ fn changes(kinds: &[u8]) -> u64
 // In thousandths of a cent.
 fn risen(sum: u64, changes: u64) -> u64
     requires { ⌜ (sum < 2 ^ 50) × (changes < max-unknowns) ⌝ }
-    ensures { λ r. ⌜ (r ≡ risen-of sum changes) × (r < 2 ^ 63) ⌝ }
+    ensures { λ r. ⌜ r ≡ risen-of sum changes ⌝ }
 {
     sum * (1_000 + 15 * changes)
 }
 
-// Thousandths as cents.
+// Thousandths as cents: the nearest, on an exact half the even one.
 fn rounded(thousandths: u64) -> u64
-    requires { ⌜ thousandths < 2 ^ 63 ⌝ }
-    ensures { λ r. ⌜ r ≡ half-up thousandths ⌝ }
+    ensures { λ r. ⌜ r ≡ nearest-even thousandths ⌝ }
 {
-    (thousandths + 500) / 1_000
+    let cents = thousandths / 1_000;
+    let rest = thousandths % 1_000;
+    if rest < 500 {
+        return cents;
+    }
+    if rest > 500 {
+        return cents + 1;
+    }
+    cents + cents % 2
 }
 
 // What the rounds cost together, band by band.

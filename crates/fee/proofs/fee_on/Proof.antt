@@ -2,7 +2,7 @@
 use native.Mathlib.Omega.{arith}
 use mathlib.Core.Path.{sym, ap, _∙_}
 use Rattle.fee.specs.declared.Charge.the-variants.{Cents}
-use Rattle.fee.specs.Rounding.{half-up}
+use Rattle.fee.specs.Rounding.{nearest-even}
 use Rattle.fee.specs.Fee.{risen, fee-on}
 use Rattle.fee.proofs.ChangeLaws.{changes-few}
 use Rattle.fee.proofs.AnswerLaws.{few-kinds}
@@ -33,7 +33,7 @@ unfolding fee-on
 returns-2 c =
     let sum = c .before .before .before .before .before .before .args .sum in
     let passes = sym (c .before .before .before .before .is-refused .ensures) ∙ c .before .before .before .if1 .left in
-    rw passes (ap Cents (c .rounded .ensures ∙ ap half-up (c .before .risen .ensures .0 ∙ ap (risen sum) (c .before .before .changes .ensures))))
+    rw passes (ap Cents (c .rounded .ensures ∙ ap nearest-even (c .before .risen .ensures ∙ ap (risen sum) (c .before .before .changes .ensures))))
 
 pub fee-on-spec : {M : Type 1} → statement M
 fee-on-spec =

@@ -16,7 +16,7 @@ mul-result-2 : tie.Need-mul-result-2
 mul-result-2 c = record { fits = omega (arith, risen-fits (c .args .sum) (c .args .changes) (c .pre .0) (c .pre .1)) }
 
 returns : tie.Need-returns
-returns c = (refl, omega (arith, risen-fits (c .args .sum) (c .args .changes) (c .pre .0) (c .pre .1)))
+returns c = refl
 
 pub risen-spec : {M : Type 1} → statement M
 risen-spec = tie.close (tie.spec mul-result add-result mul-result-2 returns)
