@@ -1,0 +1,5 @@
+pub mod CauseLaws
+pub mod PutLaws
+pub mod RecordLaws
+pub mod RoundTrip
+pub mod Worked
