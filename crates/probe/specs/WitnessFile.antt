@@ -7,19 +7,7 @@ use Rattle.witness.specs.declared.Reading.{Reading}
 use Rattle.witness.specs.declared.Reading.the-variants.{Taken, Refused}
 use Rattle.witness.specs.declared.Written.{Written}
 use Rattle.witness.specs.declared.Written.the-variants.{Length, Refused as Not-written}
-
--- A record by its fields.
-abbrev pub made : ℕ → ℕ → ℕ → ℕ → ℕ → ℕ → ℕ → Record
-made map claim unknowns clauses universal existential rounds =
-    record {
-      map = map;
-      claim = claim;
-      unknowns = unknowns;
-      clauses = clauses;
-      universal = universal;
-      existential = existential;
-      rounds = rounds;
-    }
+use Rattle.witness.specs.File.{made}
 
 -- A reading: 0 for a file that is taken, 100 plus the number of a refusal; and its record, zeros on a refusal.
 abbrev pub reading-number : Reading → ℕ

@@ -5,8 +5,8 @@ use witness::Record;
 use witness::Written;
 ghost use mathlib.Core.Path.{_≡_};
 ghost use lib.ListN.{length, getD};
-ghost use Rattle.witness.specs.File.{reading, rows-back, writing, out-after};
-ghost use Rattle.probe.specs.WitnessFile.{reading-number, record-told, made, RecordTold, writing-number, length-told};
+ghost use Rattle.witness.specs.File.{made, reading, rows-back, writing, out-after};
+ghost use Rattle.probe.specs.WitnessFile.{reading-number, record-told, RecordTold, writing-number, length-told};
 
 // The record of a file, zeros on a refusal.
 #[no_mangle]

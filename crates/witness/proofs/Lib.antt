@@ -1,5 +1,5 @@
-pub mod CauseLaws
+pub mod Examples
+pub mod TestLaws
 pub mod PutLaws
 pub mod RecordLaws
 pub mod RoundTrip
-pub mod Worked

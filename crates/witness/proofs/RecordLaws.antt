@@ -2,19 +2,7 @@
 -- Assumes nothing.
 use Prim.Native.Nat.{ℕ}
 use mathlib.Core.Path.{_≡_, ap, ap₂, _∙_}
-use Rattle.witness.specs.declared.Record.{Record}
-
-abbrev pub made : ℕ → ℕ → ℕ → ℕ → ℕ → ℕ → ℕ → Record
-made map claim unknowns clauses universal existential rounds =
-    record {
-      map = map;
-      claim = claim;
-      unknowns = unknowns;
-      clauses = clauses;
-      universal = universal;
-      existential = existential;
-      rounds = rounds;
-    }
+use Rattle.witness.specs.File.{made}
 
 pub same-record : {a a′ b b′ c c′ d d′ e e′ f f′ g g′ : ℕ} → a ≡ a′ → b ≡ b′ → c ≡ c′ → d ≡ d′ → e ≡ e′ → f ≡ f′ → g ≡ g′
     → made a b c d e f g ≡ made a′ b′ c′ d′ e′ f′ g′

@@ -12,7 +12,8 @@ use lib.Seq.{length-take-le, take-at, drop-at, drop-drop, drop-cons, getD-drop, 
 use Rattle.witness.specs.declared.Record.{Record}
 use Rattle.witness.specs.File.{stands, part, if-stands, two-bytes, word, rows-field, file, has, sizes-at, universal-at, universal-count, existential-at, existential-count, rounds-at, end-of, record-of, side-rows, bad-claim, bad-count, bad-counts, content-cause, file-cause, over-lent, write-cause, rows-back, out-after, size, kept}
 use Rattle.witness.specs.RoundTrip.{WrittenAgain, ReadAgain, RoundTrip}
-use Rattle.witness.proofs.CauseLaws.{stop, pass, passed, accepted, write-taken}
+use Rattle.witness.specs.Steps.{Fitting}
+use Rattle.witness.proofs.TestLaws.{stop, pass, passed, accepted, write-taken}
 use Rattle.witness.proofs.PutLaws.{fields-file, length-fields}
 
 -- Bytes from a word, and a word from bytes.
@@ -130,12 +131,8 @@ rows-within f true at n rows l e fits k =
     (ap (λ (k : ℕ). suc (suc k)) (length-take-le (16 * n) rows (fits refl)) ∙ omega (arith, word-there f true at n (take (16 * n) rows) l e)) k
 rows-within f false at n rows l e fits k = omega arith
 
-pub record Fitting (r : Record) (U E : List ℕ) : Type 0 where
-  pub universal : stands 2 (r .map) ≡ true → 16 * r .universal ≤ length U
-  pub existential : stands 3 (r .map) ≡ true → 16 * r .existential ≤ length E
-
 -- 'Each record that the writer takes is read again unchanged.'
-module _ (r : Record) (U E : List ℕ) (fits : Fitting r U E) where
+module _ (r : Record) (U E : List ℕ) (room : ℕ) (fits : Fitting r U E room) where
   pub record Again : Type 0 where
     pub same : record-of (file r U E) ≡ kept r
     pub whole : length (file r U E) ≡ end-of (file r U E)
@@ -167,11 +164,11 @@ module _ (r : Record) (U E : List ℕ) (fits : Fitting r U E) where
 
   at-3 : drop (existential-at F) F ≡ L3
   unfolding file
-  at-3 = rows-behind F (stands 2 (r .map)) (universal-at F) (r .universal) U L3 at-2 (fits .universal)
+  at-3 = rows-behind F (stands 2 (r .map)) (universal-at F) (r .universal) U L3 at-2 (fits .universal-lent)
 
   at-4 : drop (rounds-at F) F ≡ L4
   unfolding file
-  at-4 = rows-behind F (stands 3 (r .map)) (existential-at F) (r .existential) E L4 at-3 (fits .existential)
+  at-4 = rows-behind F (stands 3 (r .map)) (existential-at F) (r .existential) E L4 at-3 (fits .existential-lent)
 
   at-end : drop (end-of F) F ≡ []
   unfolding file
@@ -187,11 +184,11 @@ module _ (r : Record) (U E : List ℕ) (fits : Fitting r U E) where
 
   in-3 : existential-at F ≤ length F
   unfolding file
-  in-3 = rows-within F (stands 2 (r .map)) (universal-at F) (r .universal) U L3 at-2 (fits .universal) in-2
+  in-3 = rows-within F (stands 2 (r .map)) (universal-at F) (r .universal) U L3 at-2 (fits .universal-lent) in-2
 
   in-4 : rounds-at F ≤ length F
   unfolding file
-  in-4 = rows-within F (stands 3 (r .map)) (existential-at F) (r .existential) E L4 at-3 (fits .existential) in-3
+  in-4 = rows-within F (stands 3 (r .map)) (existential-at F) (r .existential) E L4 at-3 (fits .existential-lent) in-3
 
   in-end : end-of F ≤ length F
   unfolding file
@@ -215,8 +212,8 @@ module _ (r : Record) (U E : List ℕ) (fits : Fitting r U E) where
               claim-there (stands 0 (r .map)) L1,
             ) refl;
         whole = omega (arith, in-end, ap length at-end, length-drop (end-of F) F);
-        universal = rows-there F (stands 2 (r .map)) (universal-at F) (r .universal) U L3 at-2 (fits .universal);
-        existential = rows-there F (stands 3 (r .map)) (existential-at F) (r .existential) E L4 at-3 (fits .existential);
+        universal = rows-there F (stands 2 (r .map)) (universal-at F) (r .universal) U L3 at-2 (fits .universal-lent);
+        existential = rows-there F (stands 3 (r .map)) (existential-at F) (r .existential) E L4 at-3 (fits .existential-lent);
       }
 
 -- A side's rows in an accepted file are as many as it counts.
@@ -284,7 +281,7 @@ read-again : (r : Record) (U E : List ℕ) (room : ℕ) → write-cause r U E ro
 unfolding file-cause
 read-again r U E room e =
     let w = write-taken r U E room e in
-    let again = written-read r U E (record { universal = w .fitting .universal-lent; existential = w .fitting .existential-lent }) in
+    let again = written-read r U E room (w .fitting) in
     let size-of = ap length (sym (fields-file r U E)) ∙ length-fields r U E room (w .fitting) in
     let none : file-cause (file r U E) ≡ 0 =
     pass 18 (ne-eqb (length (file r U E)) 0 (λ z. omega (arith, size-of)))

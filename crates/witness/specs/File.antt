@@ -12,6 +12,19 @@ use Rattle.witness.specs.declared.Reading.the-variants.{Taken, Refused}
 use Rattle.witness.specs.declared.Written.{Written}
 use Rattle.witness.specs.declared.Written.the-variants.{Length, Refused as Not-written}
 
+-- A record by its fields.
+abbrev pub made : ℕ → ℕ → ℕ → ℕ → ℕ → ℕ → ℕ → Record
+made map claim unknowns clauses universal existential rounds =
+    record {
+      map = map;
+      claim = claim;
+      unknowns = unknowns;
+      clauses = clauses;
+      universal = universal;
+      existential = existential;
+      rounds = rounds;
+    }
+
 -- 'The first byte is a bit map.' Bit k of it stands.
 abbrev pub stands : ℕ → ℕ → Bool
 stands k map = eqb (map / 2 ^ k % 2) 1

@@ -82,8 +82,8 @@ pub fn rows(file: &[u8], universal: bool) -> &[u8]
     let at = layout_of(file);
     let end = at.end;
     let record = record_of(file, at);
-    let cause = file_cause(file, end, record);
-    if cause != 0 {
+    let refusal = file_cause(file, end, record);
+    if 0 < refusal {
         return &file[0..0];
     }
     let map = record.map;
@@ -269,8 +269,8 @@ fn size_of(record: Record) -> usize
     let map = record.map;
     let universal = record.universal;
     let existential = record.existential;
-    let sizes = 1 + width(stands(map, CLAIM), 1);
-    let before = sizes + width(stands(map, SIZES), 4);
+    let front = 1 + width(stands(map, CLAIM), 1);
+    let before = front + width(stands(map, SIZES), 4);
     let between = before + width(stands(map, UNIVERSAL), 2 + BYTES * universal as usize);
     let behind = between + width(stands(map, EXISTENTIAL), 2 + BYTES * existential as usize);
     behind + width(stands(map, ROUNDS), 2)

@@ -1,6 +1,6 @@
 -- `witness::content_cause` meets its contract: the definition's tests are the code's. Assumes nothing.
 use mathlib.Core.Path.{_≡_, sym, _∙_}
-use Rattle.witness.proofs.CauseLaws.{stop, pass}
+use Rattle.witness.proofs.TestLaws.{stop, pass}
 use borrow.Author.Needs.{needs}
 use Rattle.witness.proofs.content_cause.Statement.{statement}
 use Rattle.witness.proofs.content_cause.Tie as tie

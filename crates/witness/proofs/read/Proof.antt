@@ -3,7 +3,7 @@ use mathlib.Core.Path.{_≡_, sym, ap, _∙_}
 use borrow.Author.Tests.{eq-eqb, ne-eqb}
 use Rattle.witness.specs.declared.Reading.the-variants.{Taken, Refused}
 use Rattle.witness.specs.File.{file-cause, record-of}
-use Rattle.witness.proofs.CauseLaws.{stop, pass}
+use Rattle.witness.proofs.TestLaws.{stop, pass}
 use Rattle.witness.proofs.RoundTrip.{round-trip}
 use borrow.Author.Needs.{needs}
 use Rattle.witness.proofs.read.Statement.{statement}

@@ -1,4 +1,5 @@
--- `witness::rows` meets its contract: an accepted file has all the bytes that its counts ask for. Assumes nothing.
+-- `witness::rows` meets its contract: an accepted file has all the bytes that its counts ask for.
+-- Assumes nothing.
 use Prim.Native.Nat.{ℕ, _+_, _*_}
 use mathlib.Core.Path.{_≡_, sym, ap, ap₂, _∙_}
 use mathlib.Core.Bool.{Bool, true, false}
@@ -8,7 +9,7 @@ use lib.ListN.{getD, take, drop}
 use borrow.Author.Tests.{eq-eqb, ne-eqb}
 use Rattle.witness.specs.declared.Record.{Record}
 use Rattle.witness.specs.File.{stands, part, if-stands, has, record-of, file-cause, side-rows, rows-back, universal-at, universal-count, existential-at, existential-count}
-use Rattle.witness.proofs.CauseLaws.{stop, pass, accepted}
+use Rattle.witness.proofs.TestLaws.{stop, pass, accepted}
 use borrow.Author.Needs.{needs}
 use Rattle.witness.proofs.rows.Statement.{statement}
 use Rattle.witness.proofs.rows.Tie as tie
@@ -35,7 +36,7 @@ returns : tie.Need-returns
 unfolding rows-back
 returns c =
     let f = c .before .before .before .before .before .before .args .file .now in
-    sym (pass (side-rows (c .before .before .before .before .before .before .args .universal) f) (ne-eqb (file-cause f) 0 (λ e. c .before .if1 .taken (c .before .before .file-cause .ensures ∙ e))))
+    sym (pass (side-rows (c .before .before .before .before .before .before .args .universal) f) (ne-eqb (file-cause f) 0 (λ e. omega (arith, e, c .before .before .file-cause .ensures))))
 
 stands-requires : tie.Need-stands-requires
 stands-requires c κs = search needs
@@ -44,7 +45,8 @@ rows-at-requires : tie.Need-rows-at-requires
 unfolding record-of
 rows-at-requires c κs =
     let f = c .before .before .before .before .before .before .before .args .file .now in
-    let whole = accepted f (sym (c .before .before .before .file-cause .ensures) ∙ c .before .before .if1 .left) .whole in
+    let none : file-cause f ≡ 0 = omega (arith, c .before .before .before .file-cause .ensures) in
+    let whole = accepted f none .whole in
     let there : c .stands .result ≡ has 2 f = c .stands .ensures ∙ ap (λ (r : Record). stands 2 (r .map)) (c .before .before .before .before .record-of .ensures) in
     let width : if-stands (c .stands .result) (2 + 16 * c .before .before .before .before .record-of .result .universal) ≡ if-stands (has 2 f) (2 + 16 * universal-count f) = ap₂ (λ (t : Bool) (r : Record). if-stands t (2 + 16 * r .universal)) there (c .before .before .before .before .record-of .ensures) in
     omega (arith, whole, width, c .before .before .before .before .before .layout-of .ensures .universal)
@@ -54,9 +56,10 @@ unfolding rows-back record-of
 returns-2 c =
     let f = c .before .before .before .before .before .before .before .before .args .file .now in
     let there : c .before .stands .result ≡ has 2 f = c .before .stands .ensures ∙ ap (λ (r : Record). stands 2 (r .map)) (c .before .before .before .before .before .record-of .ensures) in
+    let none : file-cause f ≡ 0 = omega (arith, c .before .before .before .before .file-cause .ensures) in
     let bytes : take (16 * c .before .before .before .before .before .record-of .result .universal) (drop (c .before .before .before .before .before .before .layout-of .result .universal + 2) f) ≡ take (16 * universal-count f) (drop (universal-at f + 2) f) = ap₂ (λ (r : Record) (k : ℕ). take (16 * r .universal) (drop (k + 2) f)) (c .before .before .before .before .before .record-of .ensures) (c .before .before .before .before .before .before .layout-of .ensures .universal) in
     c .rows-at .ensures ∙ ap₂ part there bytes
-    ∙ sym (stop [] (eq-eqb (file-cause f) 0 (sym (c .before .before .before .before .file-cause .ensures) ∙ c .before .before .before .if1 .left)) ∙ ap (λ (u : Bool). side-rows u f) (c .before .before .if2 .taken))
+    ∙ sym (stop [] (eq-eqb (file-cause f) 0 none) ∙ ap (λ (u : Bool). side-rows u f) (c .before .before .if2 .taken))
 
 stands-requires-2 : tie.Need-stands-requires-2
 stands-requires-2 c κs = search needs
@@ -65,7 +68,8 @@ rows-at-requires-2 : tie.Need-rows-at-requires-2
 unfolding record-of
 rows-at-requires-2 c κs =
     let f = c .before .before .before .before .before .before .before .args .file .now in
-    let whole = accepted f (sym (c .before .before .before .file-cause .ensures) ∙ c .before .before .if1 .left) .whole in
+    let none : file-cause f ≡ 0 = omega (arith, c .before .before .before .file-cause .ensures) in
+    let whole = accepted f none .whole in
     let there : c .stands2 .result ≡ has 3 f = c .stands2 .ensures ∙ ap (λ (r : Record). stands 3 (r .map)) (c .before .before .before .before .record-of .ensures) in
     let width : if-stands (c .stands2 .result) (2 + 16 * c .before .before .before .before .record-of .result .existential) ≡ if-stands (has 3 f) (2 + 16 * existential-count f) = ap₂ (λ (t : Bool) (r : Record). if-stands t (2 + 16 * r .existential)) there (c .before .before .before .before .record-of .ensures) in
     omega (arith, whole, width, c .before .before .before .before .before .layout-of .ensures .existential)
@@ -75,9 +79,10 @@ unfolding rows-back record-of
 returns-3 c =
     let f = c .before .before .before .before .before .before .before .before .args .file .now in
     let there : c .before .stands2 .result ≡ has 3 f = c .before .stands2 .ensures ∙ ap (λ (r : Record). stands 3 (r .map)) (c .before .before .before .before .before .record-of .ensures) in
+    let none : file-cause f ≡ 0 = omega (arith, c .before .before .before .before .file-cause .ensures) in
     let bytes : take (16 * c .before .before .before .before .before .record-of .result .existential) (drop (c .before .before .before .before .before .before .layout-of .result .existential + 2) f) ≡ take (16 * existential-count f) (drop (existential-at f + 2) f) = ap₂ (λ (r : Record) (k : ℕ). take (16 * r .existential) (drop (k + 2) f)) (c .before .before .before .before .before .record-of .ensures) (c .before .before .before .before .before .before .layout-of .ensures .existential) in
     c .rows-at2 .ensures ∙ ap₂ part there bytes
-    ∙ sym (stop [] (eq-eqb (file-cause f) 0 (sym (c .before .before .before .before .file-cause .ensures) ∙ c .before .before .before .if1 .left)) ∙ ap (λ (u : Bool). side-rows u f) (c .before .before .if2 .left))
+    ∙ sym (stop [] (eq-eqb (file-cause f) 0 none) ∙ ap (λ (u : Bool). side-rows u f) (c .before .before .if2 .left))
 
 pub rows-spec : {M : Type 1} → statement M
 rows-spec =

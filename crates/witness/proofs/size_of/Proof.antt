@@ -14,8 +14,8 @@ stands-requires c κs = search needs
 width-requires : tie.Need-width-requires
 width-requires c κs = search needs
 
-add-sizes : tie.Need-add-sizes
-add-sizes c = search needs
+add-front : tie.Need-add-front
+add-front c = search needs
 
 stands-requires-2 : tie.Need-stands-requires-2
 stands-requires-2 c κs = search needs
@@ -87,7 +87,7 @@ size-of-spec =
     (tie.spec
     stands-requires
     width-requires
-    add-sizes
+    add-front
     stands-requires-2
     width-requires-2
     add-before
