@@ -1,6 +1,6 @@
 -- The files worked by hand, computed.
 -- Assumes nothing.
-use mathlib.Core.Path.{_≡_, refl}
+use mathlib.Core.Path.{refl}
 use Rattle.witness.specs.File.{file, record-of, file-cause}
 use Rattle.witness.specs.Worked.{WorkedFiles}
 

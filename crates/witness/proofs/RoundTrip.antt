@@ -1,16 +1,16 @@
 -- The file that is written is read again, and what is read is the file that is written.
 -- Assumes nothing.
-use Prim.Native.Nat.{ℕ, zero, suc, _+_, _-_, _*_, _/_, _%_, _^_, _≤_, _<_}
+use Prim.Native.Nat.{ℕ, suc, _+_, _*_, _/_, _≤_, _<_}
 use native.Mathlib.Omega.{arith}
 use mathlib.Core.Path.{_≡_, refl, sym, ap, ap₂, _∙_}
 use mathlib.Core.Bool.{Bool, true, false, cond, _&&_, _||_}
 use mathlib.Core.List.{List, [], _∷_, _++_, append-assoc, append-nil}
-use lib.Dec.{eqb, ltb}
+use lib.Dec.{ltb}
 use lib.ListN.{length, getD, take, drop, length-append, take-append-drop, length-drop, drop-of-length-le}
 use borrow.Author.Tests.{eq-eqb, ne-eqb, le-ltb}
 use lib.Seq.{length-take-le, take-at, drop-at, drop-drop, drop-cons, getD-drop, take-take}
 use Rattle.witness.specs.declared.Record.{Record}
-use Rattle.witness.specs.File.{stands, part, if-stands, two-bytes, word, rows-field, file, has, sizes-at, universal-at, universal-count, existential-at, existential-count, rounds-at, end-of, record-of, side-rows, bad-claim, bad-count, bad-counts, content-cause, file-cause, over-lent, write-cause, rows-back, out-after, size, kept}
+use Rattle.witness.specs.File.{stands, part, if-stands, two-bytes, word, rows-field, file, has, sizes-at, universal-at, universal-count, existential-at, existential-count, rounds-at, end-of, record-of, side-rows, bad-claim, bad-count, bad-counts, content-cause, file-cause, over-lent, write-cause, rows-back, out-after, kept}
 use Rattle.witness.specs.RoundTrip.{WrittenAgain, ReadAgain, RoundTrip}
 use Rattle.witness.specs.Steps.{Fitting}
 use Rattle.witness.proofs.TestLaws.{stop, pass, passed, accepted, write-taken}

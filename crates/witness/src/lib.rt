@@ -4,10 +4,10 @@
 // the judge's to say. Reading and writing are one pass.
 use formula::Formula;
 ghost use mathlib.Core.Path.{_≡_};
-ghost use mathlib.Core.Bool.{Bool, true, _&&_, _||_};
-ghost use mathlib.Core.List.{[], _∷_, _++_};
+ghost use mathlib.Core.Bool.{true, _||_};
+ghost use mathlib.Core.List.{[], _∷_};
 ghost use Prim.Native.Nat.{_+_, _*_, _/_, _%_, _^_, _≤_, _<_};
-ghost use lib.Dec.{eqb, ltb};
+ghost use lib.Dec.{eqb};
 ghost use lib.ListN.{length, getD, take, drop};
 ghost use Rattle.witness.specs.File.{stands as bit-stands, part, if-stands, two-bytes, word, rows-field, end-of, record-of, bad-claim, bad-count, bad-counts, content-cause, file-cause, size, over-lent, write-cause, reading, rows-back, writing, out-after};
 ghost use Rattle.witness.specs.RoundTrip.{RoundTrip};

@@ -1,6 +1,6 @@
 -- `buffer::append` meets its contract: the definition's two cases are those that the code tests.
 -- Assumes nothing.
-use mathlib.Core.Path.{_≡_, sym, _∙_}
+use mathlib.Core.Path.{sym, _∙_}
 use native.Mathlib.Omega.{arith}
 use borrow.Author.Needs.{needs}
 use Rattle.buffer.proofs.Laws.{appended-fits, behind-fits, appended-short, behind-short}

@@ -1,6 +1,6 @@
 -- `witness::byte` meets its contract. Assumes nothing.
-use mathlib.Core.Path.{_≡_, sym}
-use lib.ListN.{getD, List·getD-eq-default}
+use mathlib.Core.Path.{sym}
+use lib.ListN.{List·getD-eq-default}
 use borrow.Author.Needs.{needs}
 use Rattle.witness.proofs.byte.Statement.{statement}
 use Rattle.witness.proofs.byte.Tie as tie

@@ -1,5 +1,5 @@
 -- `witness::content_cause` meets its contract: the definition's tests are the code's. Assumes nothing.
-use mathlib.Core.Path.{_≡_, sym, _∙_}
+use mathlib.Core.Path.{sym, _∙_}
 use Rattle.witness.proofs.TestLaws.{stop, pass}
 use borrow.Author.Needs.{needs}
 use Rattle.witness.proofs.content_cause.Statement.{statement}

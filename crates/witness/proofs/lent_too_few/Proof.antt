@@ -1,5 +1,5 @@
 -- `witness::lent_too_few` meets its contract. Assumes nothing.
-use mathlib.Core.Path.{_≡_, sym, ap, _∙_}
+use mathlib.Core.Path.{sym, ap, _∙_}
 use mathlib.Core.Bool.{Bool, _||_}
 use Rattle.witness.specs.File.{stands, over-lent}
 use borrow.Author.Needs.{needs}
@@ -14,8 +14,9 @@ too-few-requires c κs = search needs
 
 returns : tie.Need-returns
 returns c =
-    let r = c .before .before .before .before .before .args .«record» in
-    sym (ap (λ (t : Bool). t || over-lent (stands 3 (r .map)) (r .existential) (c .before .before .before .before .before .args .existential .now)) (sym (c .before .too-few .ensures ∙ ap (λ (t : Bool). over-lent t (r .universal) (c .before .before .before .before .before .args .universal .now)) (c .before .before .stands .ensures)) ∙ c .if1 .taken))
+    let at-entry = c .before .before .before .before .before .args in
+    let r = at-entry .«record» in
+    sym (ap (λ (t : Bool). t || over-lent (stands 3 (r .map)) (r .existential) (at-entry .existential .now)) (sym (c .before .too-few .ensures ∙ ap (λ (t : Bool). over-lent t (r .universal) (at-entry .universal .now)) (c .before .before .stands .ensures)) ∙ c .if1 .taken))
 
 stands-requires-2 : tie.Need-stands-requires-2
 stands-requires-2 c κs = search needs
@@ -25,9 +26,10 @@ too-few-requires-2 c κs = search needs
 
 returns-2 : tie.Need-returns-2
 returns-2 c =
-    let r = c .before .before .before .before .before .before .before .args .«record» in
-    c .too-few2 .ensures ∙ ap (λ (t : Bool). over-lent t (r .existential) (c .before .before .before .before .before .before .before .args .existential .now)) (c .before .stands2 .ensures)
-    ∙ sym (ap (λ (t : Bool). t || over-lent (stands 3 (r .map)) (r .existential) (c .before .before .before .before .before .before .before .args .existential .now)) (sym (c .before .before .before .too-few .ensures ∙ ap (λ (t : Bool). over-lent t (r .universal) (c .before .before .before .before .before .before .before .args .universal .now)) (c .before .before .before .before .stands .ensures)) ∙ c .before .before .if1 .left))
+    let at-entry = c .before .before .before .before .before .before .before .args in
+    let r = at-entry .«record» in
+    c .too-few2 .ensures ∙ ap (λ (t : Bool). over-lent t (r .existential) (at-entry .existential .now)) (c .before .stands2 .ensures)
+    ∙ sym (ap (λ (t : Bool). t || over-lent (stands 3 (r .map)) (r .existential) (at-entry .existential .now)) (sym (c .before .before .before .too-few .ensures ∙ ap (λ (t : Bool). over-lent t (r .universal) (at-entry .universal .now)) (c .before .before .before .before .stands .ensures)) ∙ c .before .before .if1 .left))
 
 pub lent-too-few-spec : {M : Type 1} → statement M
 lent-too-few-spec =

@@ -24,10 +24,13 @@ join-requires c κs = search needs
 
 returns : tie.Need-returns
 returns c =
-    let f = c .before .before .before .before .before .args .file .now in
-    let at = c .before .before .before .before .before .args .at in
-    let low : c .before .before .byte .result ≡ getD (drop at f) 0 0 = c .before .before .byte .ensures ∙ ap (λ (k : ℕ). getD f k 0) (omega arith) ∙ sym (getD-drop at f 0 0) in
-    let high : c .before .byte2 .result ≡ getD (drop at f) 1 0 = c .before .byte2 .ensures ∙ sym (getD-drop at f 1 0) in
+    let at-entry = c .before .before .before .before .before .args in
+    let byte-call = c .before .before .byte in
+    let byte2-call = c .before .byte2 in
+    let f = at-entry .file .now in
+    let at = at-entry .at in
+    let low : byte-call .result ≡ getD (drop at f) 0 0 = byte-call .ensures ∙ ap (λ (k : ℕ). getD f k 0) (omega arith) ∙ sym (getD-drop at f 0 0) in
+    let high : byte2-call .result ≡ getD (drop at f) 1 0 = byte2-call .ensures ∙ sym (getD-drop at f 1 0) in
     c .join .ensures ∙ ap₂ (λ (a b : ℕ). a + b * 256) low high ∙ sym (ap (λ (t : Bool). if-stands t (word (drop at f))) (c .before .before .before .if1 .taken))
 
 returns-2 : tie.Need-returns-2

@@ -1,6 +1,6 @@
 -- `witness::put_byte` meets its contract. Assumes nothing.
-use Prim.Native.Nat.{ℕ, _+_, _≤_}
-use mathlib.Core.Path.{_≡_, subst}
+use Prim.Native.Nat.{_+_, _≤_}
+use mathlib.Core.Path.{subst}
 use mathlib.Core.Bool.{Bool}
 use mathlib.Core.List.{[], _∷_}
 use native.Mathlib.Omega.{arith}
@@ -13,7 +13,8 @@ use Rattle.witness.proofs.put_byte.Tie as tie
 
 slice-write-out : tie.Need-slice-write-out
 slice-write-out c =
-    let room = subst (λ (t : Bool). c .before .args .at + if-stands t 1 ≤ length (c .before .args .out .now)) (c .if1 .taken) (c .before .pre) in
+    let at-entry = c .before .args in
+    let room = subst (λ (t : Bool). at-entry .at + if-stands t 1 ≤ length (at-entry .out .now)) (c .if1 .taken) (c .before .pre) in
     omega (arith, room)
 
 add-result : tie.Need-add-result
@@ -24,11 +25,14 @@ same-length c = search needs
 
 returns : tie.Need-returns
 returns c =
-    let room = subst (λ (t : Bool). c .before .args .at + if-stands t 1 ≤ length (c .before .args .out .now)) (c .if1 .taken) (c .before .pre) in
-    put-there (c .before .args .there) (c .if1 .taken) (put-one (c .before .args .out .now) (c .before .args .at) (c .before .args .value) (omega (arith, room)))
+    let at-entry = c .before .args in
+    let room = subst (λ (t : Bool). at-entry .at + if-stands t 1 ≤ length (at-entry .out .now)) (c .if1 .taken) (c .before .pre) in
+    put-there (at-entry .there) (c .if1 .taken) (put-one (at-entry .out .now) (at-entry .at) (at-entry .value) (omega (arith, room)))
 
 returns-2 : tie.Need-returns-2
-returns-2 c = put-absent (c .before .args .out .now) (c .before .args .at) (c .before .args .value ∷ []) (c .before .args .there) (c .if1 .left)
+returns-2 c =
+    let at-entry = c .before .args in
+    put-absent (at-entry .out .now) (at-entry .at) (at-entry .value ∷ []) (at-entry .there) (c .if1 .left)
 
 pub put-byte-spec : {M : Type 1} → statement M
 put-byte-spec = tie.close (tie.spec slice-write-out add-result same-length returns returns-2)

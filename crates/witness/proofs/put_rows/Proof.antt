@@ -15,7 +15,8 @@ use Rattle.witness.proofs.put_rows.Tie as tie
 
 put-number-requires : tie.Need-put-number-requires
 put-number-requires c κs =
-    let room = subst (λ (t : Bool). c .before .before .before .before .args .at + if-stands t (2 + 16 * c .before .before .before .before .args .count) ≤ length (c .before .before .before .before .args .out .now)) (c .before .if1 .taken) (c .before .before .before .before .pre .0) in
+    let at-entry = c .before .before .before .before .args in
+    let room = subst (λ (t : Bool). at-entry .at + if-stands t (2 + 16 * at-entry .count) ≤ length (at-entry .out .now)) (c .before .if1 .taken) (c .before .before .before .before .pre .0) in
     omega (arith, room)
 
 mul-end : tie.Need-mul-end
@@ -38,17 +39,24 @@ same-length c = search needs
 
 returns : tie.Need-returns
 returns c =
-    let room = subst (λ (t : Bool). c .before .before .before .before .before .before .before .before .before .before .before .before .args .at + if-stands t (2 + 16 * c .before .before .before .before .before .before .before .before .before .before .before .before .args .count) ≤ length (c .before .before .before .before .before .before .before .before .before .before .before .before .args .out .now)) (c .before .before .before .before .before .before .before .before .before .if1 .taken) (c .before .before .before .before .before .before .before .before .before .before .before .before .pre .0) in
-    let bytes = take (16 * c .before .before .before .before .before .before .before .before .before .before .before .before .args .count) (c .before .before .before .before .before .before .before .before .before .before .before .before .args .rows .now) in
-    let width = length-take-le (16 * c .before .before .before .before .before .before .before .before .before .before .before .before .args .count) (c .before .before .before .before .before .before .before .before .before .before .before .before .args .rows .now) (c .before .before .before .before .before .before .before .before .before .before .before .before .pre .1 (c .before .before .before .before .before .before .before .before .before .if1 .taken)) in
-    let from-start : 16 * c .before .before .before .before .before .before .before .before .before .before .before .before .args .count - 0 ≡ 16 * c .before .before .before .before .before .before .before .before .before .before .before .before .args .count = omega arith in
-    let whole : take (16 * c .before .before .before .before .before .before .before .before .before .before .before .before .args .count - 0) (c .before .before .before .before .before .before .before .before .before .before .before .before .args .rows .now) ≡ bytes = ap (λ (n : ℕ). take n (c .before .before .before .before .before .before .before .before .before .before .before .before .args .rows .now)) from-start in
-    let rows = put-appended (c .before .before .before .before .before .before .before .put-number .last .0) (c .before .before .append .last .0) (c .before .before .before .before .before .before .before .put-number .result) (c .before .before .append .result) bytes (omega (arith, room, width, c .before .before .before .before .before .before .before .put-number .ensures .place, c .before .before .before .before .before .before .before .put-number .kept .0)) (c .before .before .append .ensures .0 ∙ ap (λ (l : List ℕ). place-behind (c .before .before .before .before .before .before .before .put-number .last .0) (c .before .before .before .before .before .before .before .put-number .result) l) whole) (c .before .before .append .ensures .1 ∙ ap (λ (l : List ℕ). appended (c .before .before .before .before .before .before .before .put-number .last .0) (c .before .before .before .before .before .before .before .put-number .result) l) whole) in
-    put-there (c .before .before .before .before .before .before .before .before .before .before .before .before .args .there) (c .before .before .before .before .before .before .before .before .before .if1 .taken)
-    (put-both (c .before .before .before .before .before .before .before .before .before .before .before .before .args .out .now) (c .before .before .before .before .before .before .before .put-number .last .0) (c .before .before .append .last .0) (c .before .before .before .before .before .before .before .before .before .before .before .before .args .at) (c .before .before .before .before .before .before .before .put-number .result) (c .before .before .append .result) (two-bytes (c .before .before .before .before .before .before .before .before .before .before .before .before .args .count)) bytes (c .before .before .before .before .before .before .before .put-number .ensures) rows (omega (arith, room, width, c .before .before .before .before .before .before .before .put-number .ensures .place, rows .place)))
+    let at-entry = c .before .before .before .before .before .before .before .before .before .before .before .before .args in
+    let if1-test = c .before .before .before .before .before .before .before .before .before .if1 in
+    let required = c .before .before .before .before .before .before .before .before .before .before .before .before .pre in
+    let put-number-call = c .before .before .before .before .before .before .before .put-number in
+    let append-call = c .before .before .append in
+    let room = subst (λ (t : Bool). at-entry .at + if-stands t (2 + 16 * at-entry .count) ≤ length (at-entry .out .now)) (if1-test .taken) (required .0) in
+    let bytes = take (16 * at-entry .count) (at-entry .rows .now) in
+    let width = length-take-le (16 * at-entry .count) (at-entry .rows .now) (required .1 (if1-test .taken)) in
+    let from-start : 16 * at-entry .count - 0 ≡ 16 * at-entry .count = omega arith in
+    let whole : take (16 * at-entry .count - 0) (at-entry .rows .now) ≡ bytes = ap (λ (n : ℕ). take n (at-entry .rows .now)) from-start in
+    let rows = put-appended (put-number-call .last .0) (append-call .last .0) (put-number-call .result) (append-call .result) bytes (omega (arith, room, width, put-number-call .ensures .place, put-number-call .kept .0)) (append-call .ensures .0 ∙ ap (λ (l : List ℕ). place-behind (put-number-call .last .0) (put-number-call .result) l) whole) (append-call .ensures .1 ∙ ap (λ (l : List ℕ). appended (put-number-call .last .0) (put-number-call .result) l) whole) in
+    put-there (at-entry .there) (if1-test .taken)
+    (put-both (at-entry .out .now) (put-number-call .last .0) (append-call .last .0) (at-entry .at) (put-number-call .result) (append-call .result) (two-bytes (at-entry .count)) bytes (put-number-call .ensures) rows (omega (arith, room, width, put-number-call .ensures .place, rows .place)))
 
 returns-2 : tie.Need-returns-2
-returns-2 c = put-absent (c .before .before .before .args .out .now) (c .before .before .before .args .at) (rows-field (c .before .before .before .args .count) (c .before .before .before .args .rows .now)) (c .before .before .before .args .there) (c .if1 .left)
+returns-2 c =
+    let at-entry = c .before .before .before .args in
+    put-absent (at-entry .out .now) (at-entry .at) (rows-field (at-entry .count) (at-entry .rows .now)) (at-entry .there) (c .if1 .left)
 
 pub put-rows-spec : {M : Type 1} → statement M
 put-rows-spec =

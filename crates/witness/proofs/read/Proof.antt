@@ -1,5 +1,5 @@
 -- `witness::read` meets its contract. Assumes nothing.
-use mathlib.Core.Path.{_≡_, sym, ap, _∙_}
+use mathlib.Core.Path.{sym, ap, _∙_}
 use borrow.Author.Tests.{eq-eqb, ne-eqb}
 use Rattle.witness.specs.declared.Reading.the-variants.{Taken, Refused}
 use Rattle.witness.specs.File.{file-cause, record-of}
@@ -19,10 +19,15 @@ file-cause-requires : tie.Need-file-cause-requires
 file-cause-requires c κs = (c .before .layout-of .ensures .end, c .record-of .ensures)
 
 returns : tie.Need-returns
-returns c = (ap Taken (c .before .before .record-of .ensures) ∙ sym (stop (Refused (file-cause (c .before .before .before .before .before .args .file .now))) (eq-eqb (file-cause (c .before .before .before .before .before .args .file .now)) 0 (sym (c .before .file-cause .ensures) ∙ c .if1 .taken))), round-trip)
+returns c =
+    let at-entry = c .before .before .before .before .before .args in
+    (ap Taken (c .before .before .record-of .ensures) ∙ sym (stop (Refused (file-cause (at-entry .file .now))) (eq-eqb (file-cause (at-entry .file .now)) 0 (sym (c .before .file-cause .ensures) ∙ c .if1 .taken))), round-trip)
 
 returns-2 : tie.Need-returns-2
-returns-2 c = (ap Refused (c .before .file-cause .ensures) ∙ sym (pass (Taken (record-of (c .before .before .before .before .before .args .file .now))) (ne-eqb (file-cause (c .before .before .before .before .before .args .file .now)) 0 (λ e. c .if1 .left (c .before .file-cause .ensures ∙ e)))), round-trip)
+returns-2 c =
+    let file-cause-call = c .before .file-cause in
+    let at-entry = c .before .before .before .before .before .args in
+    (ap Refused (file-cause-call .ensures) ∙ sym (pass (Taken (record-of (at-entry .file .now))) (ne-eqb (file-cause (at-entry .file .now)) 0 (λ e. c .if1 .left (file-cause-call .ensures ∙ e)))), round-trip)
 
 pub read-spec : {M : Type 1} → statement M
 read-spec =

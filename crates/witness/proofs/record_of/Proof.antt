@@ -1,6 +1,6 @@
 -- `witness::record_of` meets its contract, field by field. Assumes nothing.
 use Prim.Native.Nat.{ℕ, _+_}
-use mathlib.Core.Path.{_≡_, ap, ap₂, _∙_}
+use mathlib.Core.Path.{ap, ap₂, _∙_}
 use mathlib.Core.Bool.{Bool}
 use lib.ListN.{getD, drop}
 use Rattle.witness.specs.File.{stands, if-stands, word, record-of}
@@ -54,8 +54,9 @@ number-requires-5 c κs = search needs
 returns : tie.Need-returns
 unfolding record-of
 returns c =
-    let f = c .before .before .before .before .before .before .before .before .before .before .before .before .before .before .args .file .now in
-    let at = c .before .before .before .before .before .before .before .before .before .before .before .before .before .before .args .at in
+    let at-entry = c .before .before .before .before .before .before .before .before .before .before .before .before .before .before .args in
+    let f = at-entry .file .now in
+    let at = at-entry .at in
     let given = c .before .before .before .before .before .before .before .before .before .before .before .before .before .before .pre in
     let field : Bool → ℕ → ℕ = λ t k. if-stands t (word (drop k f)) in
     let map = c .before .before .before .before .before .before .before .before .before .before .before .before .byte .ensures in

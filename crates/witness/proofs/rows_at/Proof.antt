@@ -1,6 +1,6 @@
 -- `witness::rows_at` meets its contract. Assumes nothing.
 use Prim.Native.Nat.{ℕ, _+_, _*_, _-_, _≤_}
-use mathlib.Core.Path.{_≡_, sym, ap, ap₂, _∙_, subst}
+use mathlib.Core.Path.{_≡_, sym, ap, _∙_, subst}
 use mathlib.Core.Bool.{Bool}
 use native.Mathlib.Omega.{arith}
 use lib.ListN.{length, take, drop}
@@ -26,14 +26,16 @@ part-result-start c = search needs
 
 part-result-end : tie.Need-part-result-end
 part-result-end c =
-    let room : c .before .args .at + (2 + 16 * c .before .args .count) ≤ length (c .before .args .file .now) = subst (λ (t : Bool). c .before .args .at + if-stands t (2 + 16 * c .before .args .count) ≤ length (c .before .args .file .now)) (c .if1 .taken) (c .before .pre) in
+    let at-entry = c .before .args in
+    let room : at-entry .at + (2 + 16 * at-entry .count) ≤ length (at-entry .file .now) = subst (λ (t : Bool). at-entry .at + if-stands t (2 + 16 * at-entry .count) ≤ length (at-entry .file .now)) (c .if1 .taken) (c .before .pre) in
     omega (arith, room)
 
 returns : tie.Need-returns
 returns c =
-    let bytes : c .before .before .args .at + 2 + 16 * c .before .before .args .count - (c .before .before .args .at + 2) ≡ 16 * c .before .before .args .count = omega arith in
-    ap (λ (n : ℕ). take n (drop (c .before .before .args .at + 2) (c .before .before .args .file .now))) bytes
-    ∙ sym (ap (λ (t : Bool). part t (take (16 * c .before .before .args .count) (drop (c .before .before .args .at + 2) (c .before .before .args .file .now)))) (c .before .if1 .taken))
+    let at-entry = c .before .before .args in
+    let bytes : at-entry .at + 2 + 16 * at-entry .count - (at-entry .at + 2) ≡ 16 * at-entry .count = omega arith in
+    ap (λ (n : ℕ). take n (drop (at-entry .at + 2) (at-entry .file .now))) bytes
+    ∙ sym (ap (λ (t : Bool). part t (take (16 * at-entry .count) (drop (at-entry .at + 2) (at-entry .file .now)))) (c .before .if1 .taken))
 
 sub-result-2 : tie.Need-sub-result-2
 sub-result-2 c = search needs

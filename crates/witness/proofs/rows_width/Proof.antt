@@ -1,6 +1,6 @@
 -- `witness::rows_width` meets its contract. Assumes nothing.
 use Prim.Native.Nat.{ℕ, _+_, _*_}
-use mathlib.Core.Path.{_≡_, ap, _∙_}
+use mathlib.Core.Path.{ap, _∙_}
 use native.Mathlib.Omega.{arith}
 use Rattle.witness.specs.File.{if-stands}
 use borrow.Author.Needs.{needs}
@@ -23,7 +23,9 @@ width-requires : tie.Need-width-requires
 width-requires c κs = search needs
 
 returns : tie.Need-returns
-returns c = (c .width .ensures .0 ∙ ap (λ (n : ℕ). if-stands (c .before .before .before .args .there) (2 + 16 * n)) (c .before .number .ensures), omega (arith, c .width .ensures .1, c .before .number .ok))
+returns c =
+    let number-call = c .before .number in
+    (c .width .ensures .0 ∙ ap (λ (n : ℕ). if-stands (c .before .before .before .args .there) (2 + 16 * n)) (number-call .ensures), omega (arith, c .width .ensures .1, number-call .ok))
 
 pub rows-width-spec : {M : Type 1} → statement M
 rows-width-spec =

@@ -1,5 +1,5 @@
 -- `witness::size_of` meets its contract. Assumes nothing.
-use Prim.Native.Nat.{ℕ, _+_, _*_}
+use Prim.Native.Nat.{_+_, _*_}
 use mathlib.Core.Path.{_≡_, ap, _∙_}
 use mathlib.Core.Bool.{Bool}
 use native.Mathlib.Omega.{arith}
@@ -73,11 +73,15 @@ add-result c = search needs
 
 returns : tie.Need-returns
 returns c =
+    let width-call = c .before .before .before .before .before .before .before .before .width in
+    let width2-call = c .before .before .before .before .before .before .width2 in
+    let width3-call = c .before .before .before .before .width3 in
+    let width4-call = c .before .before .width4 in
     let r = c .before .before .before .before .before .before .before .before .before .before .args .«record» in
-    let claim : c .before .before .before .before .before .before .before .before .width .result ≡ if-stands (stands 0 (r .map)) 1 = c .before .before .before .before .before .before .before .before .width .ensures .0 ∙ ap (λ (t : Bool). if-stands t 1) (c .before .before .before .before .before .before .before .before .before .stands .ensures) in
-    let sizes : c .before .before .before .before .before .before .width2 .result ≡ if-stands (stands 1 (r .map)) 4 = c .before .before .before .before .before .before .width2 .ensures .0 ∙ ap (λ (t : Bool). if-stands t 4) (c .before .before .before .before .before .before .before .stands2 .ensures) in
-    let universal : c .before .before .before .before .width3 .result ≡ if-stands (stands 2 (r .map)) (2 + 16 * r .universal) = c .before .before .before .before .width3 .ensures .0 ∙ ap (λ (t : Bool). if-stands t (2 + 16 * r .universal)) (c .before .before .before .before .before .stands3 .ensures) in
-    let existential : c .before .before .width4 .result ≡ if-stands (stands 3 (r .map)) (2 + 16 * r .existential) = c .before .before .width4 .ensures .0 ∙ ap (λ (t : Bool). if-stands t (2 + 16 * r .existential)) (c .before .before .before .stands4 .ensures) in
+    let claim : width-call .result ≡ if-stands (stands 0 (r .map)) 1 = width-call .ensures .0 ∙ ap (λ (t : Bool). if-stands t 1) (c .before .before .before .before .before .before .before .before .before .stands .ensures) in
+    let sizes : width2-call .result ≡ if-stands (stands 1 (r .map)) 4 = width2-call .ensures .0 ∙ ap (λ (t : Bool). if-stands t 4) (c .before .before .before .before .before .before .before .stands2 .ensures) in
+    let universal : width3-call .result ≡ if-stands (stands 2 (r .map)) (2 + 16 * r .universal) = width3-call .ensures .0 ∙ ap (λ (t : Bool). if-stands t (2 + 16 * r .universal)) (c .before .before .before .before .before .stands3 .ensures) in
+    let existential : width4-call .result ≡ if-stands (stands 3 (r .map)) (2 + 16 * r .existential) = width4-call .ensures .0 ∙ ap (λ (t : Bool). if-stands t (2 + 16 * r .existential)) (c .before .before .before .stands4 .ensures) in
     let rounds : c .width5 .result ≡ if-stands (stands 4 (r .map)) 2 = c .width5 .ensures .0 ∙ ap (λ (t : Bool). if-stands t 2) (c .before .stands5 .ensures) in
     omega (arith, claim, sizes, universal, existential, rounds)
 

@@ -1,5 +1,5 @@
 -- `witness::wrong_counts` meets its contract. Assumes nothing.
-use mathlib.Core.Path.{_≡_, sym, ap, _∙_}
+use mathlib.Core.Path.{sym, ap, _∙_}
 use mathlib.Core.Bool.{Bool, _||_}
 use Rattle.witness.specs.File.{stands, bad-count}
 use borrow.Author.Needs.{needs}
