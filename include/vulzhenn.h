@@ -9,6 +9,19 @@
 #include <stddef.h>
 #include <stdint.h>
 
+/* The witness file, in which rows are sent: byte 0 is a bit map, and after it come only the fields whose bit stands, in this order, numbers of two
+ * bytes low byte first.
+ *
+ *     bit 0 (weight 1)    the claim, 1 byte: 0 or 1
+ *     bit 1 (weight 2)    the number of unknowns, 2 bytes; the number of clauses, 2 bytes
+ *     bit 2 (weight 4)    the count of universal rows, 2 bytes: 1 to 256; then 16 bytes a row
+ *     bit 3 (weight 8)    the same for existential rows
+ *     bit 4 (weight 16)   rounds, 2 bytes
+ *
+ * Bits 5 to 7 are 0, and nothing follows the last field, so the longest file has 8,204 bytes. Bit k of a row, byte k div 8 and weight 2^(k mod 8), is the
+ * value of the k-th unknown of that kind, from 0. crates/witness reads and writes such files.
+ */
+
 #ifdef __cplusplus
 extern "C" {
 #endif

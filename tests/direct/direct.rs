@@ -13,6 +13,8 @@ mod probe;
 mod refused;
 mod runs;
 mod searches;
+mod witness;
+mod witness_probe;
 
 use independent::jobs::{self, Job};
 use independent::random::Random;
@@ -36,6 +38,7 @@ fn topics() -> Vec<Topic> {
     topics.push(Box::new(known::compare_all));
     topics.push(Box::new(fees::compare_all));
     topics.push(Box::new(parts::compare_all));
+    topics.push(Box::new(witness::compare_all));
     topics
 }
 

@@ -1,2 +1,3 @@
 -- What the exported functions return, as numbers.
 pub mod Numbers
+pub mod WitnessFile

@@ -101,17 +101,12 @@ fn deliver(out: &mut [u8], text: &[u8]) -> usize
     append(out, 0, text)
 }
 
-// All of `part` into `out` from `at` on: the place behind it.
+// All of `part` into `out` from `at` on, where it fits: the place behind it.
 fn append(out: &mut [u8], at: usize, part: &[u8]) -> usize
     requires { ⌜ at + length (now part) ≤ length (now out) ⌝ }
     ensures { λ r. ⌜ r ≡ at + length (now (part .entry)) ⌝ }
     ensures { λ r. ⌜ now (out .exit) ≡ take at (now (out .entry)) ++ now (part .entry) ++ drop r (now (out .entry)) ⌝ }
     ensures { λ r. ⌜ take r (now (out .exit)) ≡ take at (now (out .entry)) ++ now (part .entry) ⌝ }
 {
-    let mut i = 0;
-    while i < part.len() {
-        out[at + i] = part[i];
-        i += 1;
-    }
-    at + i
+    buffer::append(out, at, part)
 }

@@ -1,81 +1,32 @@
--- `report::append` meets its contract. The loop's invariant: the first i bytes of `part` stand in `out` from `at` on, and nothing else of
--- `out` has changed. Assumes nothing.
-use mathlib.Core.Path.{_≡_, _∙_, sym, ap}
-use mathlib.Core.List.{List, _++_}
-use Prim.Native.Nat.{ℕ, _≤_, _+_, _-_}
-use native.Mathlib.Numerals.{add-one}
+-- `report::append` meets its contract: the part fits, so the buffer is the definition's with the part in it.
+-- Assumes nothing.
+use mathlib.Core.Path.{_≡_, _∙_, ap}
+use mathlib.Core.List.{_++_}
+use Prim.Native.Nat.{_+_}
 use native.Mathlib.Omega.{arith}
-use lib.ListN.{length, take, drop, set, getD, length-set, length-append, length-take}
-use lib.Seq.{paste, paste-zero, paste-suc, take-at, take-length}
+use lib.ListN.{length, take, drop, length-append, length-take}
+use lib.Seq.{take-at}
+use borrow.Author.Needs.{needs}
+use Rattle.buffer.proofs.Laws.{appended-fits, behind-fits}
 use Rattle.report.proofs.append.Statement.{statement}
 use Rattle.report.proofs.append.Tie as tie
 
-abbrev Inv-loop : tie.InvT-loop
-Inv-loop out₀ at part i₀ out i = (i ≤ length part) × (length out ≡ length out₀) × (out ≡ paste out₀ at part i)
+append-requires : tie.Need-append-requires
+append-requires c κs = tt
 
-abbrev μ-loop : tie.MeasureT-loop
-μ-loop out₀ at part i₀ out i = length part - i
+same-length : tie.Need-same-length
+same-length c = search needs
 
-loop-holds : tie.Need-loop-holds Inv-loop μ-loop
-loop-holds c = (omega arith, omega arith, paste-zero (c .args .out .now) (c .args .at) (c .args .part .now))
-
-shared-slice-read-out : tie.Need-shared-slice-read-out Inv-loop μ-loop
-shared-slice-read-out c = omega arith
-
-add-out : tie.Need-add-out Inv-loop μ-loop
-add-out c = omega arith
-
-slice-write-out : tie.Need-slice-write-out Inv-loop μ-loop
-slice-write-out c = omega arith
-
-add-i : tie.Need-add-i Inv-loop μ-loop
-add-i c = omega arith
-
-loop-less : tie.Need-loop-less Inv-loop μ-loop
-loop-less c = omega arith
-
-loop-again : tie.Need-loop-again Inv-loop μ-loop
-loop-again c =
-    let out₀ = c .before .before .before .args .out .now in
-    let part = c .before .before .before .args .part .now in
-    let at = c .before .before .before .args .at in
-    let i = c .before .before .loop .i in (
-      omega arith,
-      simp length-set (omega arith),
-      ap (λ (l : List ℕ). set l (at + i) (getD part i 0)) (c .before .before .loop .inv .2)
-          ∙ paste-suc out₀ at part i 0 (omega arith) (omega arith)
-          ∙ ap (paste out₀ at part) (sym (add-one i)),
-    )
-
-add-result : tie.Need-add-result Inv-loop μ-loop
-add-result c = omega arith
-
-same-length : tie.Need-same-length Inv-loop μ-loop
-same-length c = c .before .loop .inv .1
-
-returns : tie.Need-returns Inv-loop μ-loop
+returns : tie.Need-returns
 returns c =
-    let out₀ = c .before .before .args .out .now in
-    let part = c .before .before .args .part .now in
-    let at = c .before .before .args .at in
-    let all : c .before .loop .i ≡ length part = omega arith in
-    let pasted : c .before .loop .out ≡ take at out₀ ++ part ++ drop (at + c .before .loop .i) out₀ = c .before .loop .inv .2 ∙ simp (all, take-length) in
-    let head : length (take at out₀ ++ part) ≡ at + c .before .loop .i = simp (length-append, length-take) (omega arith) in
-    (omega arith, (pasted, ap (take (at + c .before .loop .i)) pasted ∙ take-at (take at out₀ ++ part) (drop (at + c .before .loop .i) out₀) (at + c .before .loop .i) head))
+    let given = c .before .before .before .before .before .before .args in
+    let out = given .out .now in
+    let part = given .part .now in
+    let at = given .at in
+    let place : c .before .before .append .result ≡ at + length part = c .before .before .append .ensures .0 ∙ behind-fits out at part (c .before .before .before .before .before .before .pre) in
+    let whole = c .before .before .append .ensures .1 ∙ appended-fits out at part (c .before .before .before .before .before .before .pre) in
+    let head : length (take at out ++ part) ≡ at + length part = simp (length-append, length-take) (omega (arith, c .before .before .before .before .before .before .pre)) in
+    (place, rw place (whole, ap (take (at + length part)) whole ∙ take-at (take at out ++ part) (drop (at + length part) out) (at + length part) head))
 
 pub append-spec : {M : Type 1} → statement M
-append-spec =
-    tie.close
-    (tie.spec
-    Inv-loop
-    μ-loop
-    loop-holds
-    shared-slice-read-out
-    add-out
-    slice-write-out
-    add-i
-    loop-less
-    loop-again
-    add-result
-    same-length
-    returns)
+append-spec = tie.close (tie.spec append-requires same-length returns)

@@ -1,0 +1,5 @@
+pub mod Examples
+pub mod TestLaws
+pub mod PutLaws
+pub mod RecordLaws
+pub mod RoundTrip

@@ -1,0 +1,18 @@
+-- `witness::join` meets its contract.
+-- Assumes nothing.
+use native.Mathlib.Omega.{arith}
+use borrow.Author.Needs.{needs}
+use Rattle.witness.proofs.join.Statement.{statement}
+use Rattle.witness.proofs.join.Tie as tie
+
+mul-result : tie.Need-mul-result
+mul-result c = search needs
+
+add-result : tie.Need-add-result
+add-result c = search needs
+
+returns : tie.Need-returns
+returns c = omega arith
+
+pub join-spec : {M : Type 1} → statement M
+join-spec = tie.close (tie.spec mul-result add-result returns)

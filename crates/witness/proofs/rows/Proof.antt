@@ -1,0 +1,112 @@
+-- `witness::rows` meets its contract: an accepted file has all the bytes that its counts ask for.
+-- Assumes nothing.
+use Prim.Native.Nat.{ℕ, _+_, _*_}
+use mathlib.Core.Path.{_≡_, sym, ap, ap₂, _∙_}
+use mathlib.Core.Bool.{Bool}
+use mathlib.Core.List.{[]}
+use native.Mathlib.Omega.{arith}
+use lib.ListN.{take, drop}
+use borrow.Author.Tests.{eq-eqb, ne-eqb}
+use Rattle.witness.specs.declared.Record.{Record}
+use Rattle.witness.specs.File.{stands, part, if-stands, has, record-of, file-cause, side-rows, rows-back, universal-at, universal-count, existential-at, existential-count}
+use Rattle.witness.proofs.TestLaws.{stop, pass, accepted}
+use borrow.Author.Needs.{needs}
+use Rattle.witness.proofs.rows.Statement.{statement}
+use Rattle.witness.proofs.rows.Tie as tie
+
+layout-of-requires : tie.Need-layout-of-requires
+layout-of-requires c κs = search needs
+
+record-of-requires : tie.Need-record-of-requires
+record-of-requires c κs = c .layout-of .ensures
+
+file-cause-requires : tie.Need-file-cause-requires
+file-cause-requires c κs = (c .before .layout-of .ensures .end, c .record-of .ensures)
+
+sub-result : tie.Need-sub-result
+sub-result c = search needs
+
+part-result-start : tie.Need-part-result-start
+part-result-start c = search needs
+
+part-result-end : tie.Need-part-result-end
+part-result-end c = search needs
+
+returns : tie.Need-returns
+unfolding rows-back
+returns c =
+    let at-entry = c .before .before .before .before .before .before .args in
+    let f = at-entry .file .now in
+    sym (pass (side-rows (at-entry .universal) f) (ne-eqb (file-cause f) 0 (λ e. omega (arith, e, c .before .before .file-cause .ensures))))
+
+stands-requires : tie.Need-stands-requires
+stands-requires c κs = search needs
+
+rows-at-requires : tie.Need-rows-at-requires
+unfolding record-of
+rows-at-requires c κs =
+    let record-of-call = c .before .before .before .before .record-of in
+    let f = c .before .before .before .before .before .before .before .args .file .now in
+    let none : file-cause f ≡ 0 = omega (arith, c .before .before .before .file-cause .ensures) in
+    let whole = accepted f none .whole in
+    let there : c .stands .result ≡ has 2 f = c .stands .ensures ∙ ap (λ (r : Record). stands 2 (r .map)) (record-of-call .ensures) in
+    let width : if-stands (c .stands .result) (2 + 16 * record-of-call .result .universal) ≡ if-stands (has 2 f) (2 + 16 * universal-count f) = ap₂ (λ (t : Bool) (r : Record). if-stands t (2 + 16 * r .universal)) there (record-of-call .ensures) in
+    omega (arith, whole, width, c .before .before .before .before .before .layout-of .ensures .universal)
+
+returns-2 : tie.Need-returns-2
+unfolding rows-back record-of
+returns-2 c =
+    let stands-call = c .before .stands in
+    let record-of-call = c .before .before .before .before .before .record-of in
+    let layout-of-call = c .before .before .before .before .before .before .layout-of in
+    let f = c .before .before .before .before .before .before .before .before .args .file .now in
+    let there : stands-call .result ≡ has 2 f = stands-call .ensures ∙ ap (λ (r : Record). stands 2 (r .map)) (record-of-call .ensures) in
+    let none : file-cause f ≡ 0 = omega (arith, c .before .before .before .before .file-cause .ensures) in
+    let bytes : take (16 * record-of-call .result .universal) (drop (layout-of-call .result .universal + 2) f) ≡ take (16 * universal-count f) (drop (universal-at f + 2) f) = ap₂ (λ (r : Record) (k : ℕ). take (16 * r .universal) (drop (k + 2) f)) (record-of-call .ensures) (layout-of-call .ensures .universal) in
+    c .rows-at .ensures ∙ ap₂ part there bytes
+    ∙ sym (stop [] (eq-eqb (file-cause f) 0 none) ∙ ap (λ (u : Bool). side-rows u f) (c .before .before .if2 .taken))
+
+stands-requires-2 : tie.Need-stands-requires-2
+stands-requires-2 c κs = search needs
+
+rows-at-requires-2 : tie.Need-rows-at-requires-2
+unfolding record-of
+rows-at-requires-2 c κs =
+    let record-of-call = c .before .before .before .before .record-of in
+    let f = c .before .before .before .before .before .before .before .args .file .now in
+    let none : file-cause f ≡ 0 = omega (arith, c .before .before .before .file-cause .ensures) in
+    let whole = accepted f none .whole in
+    let there : c .stands2 .result ≡ has 3 f = c .stands2 .ensures ∙ ap (λ (r : Record). stands 3 (r .map)) (record-of-call .ensures) in
+    let width : if-stands (c .stands2 .result) (2 + 16 * record-of-call .result .existential) ≡ if-stands (has 3 f) (2 + 16 * existential-count f) = ap₂ (λ (t : Bool) (r : Record). if-stands t (2 + 16 * r .existential)) there (record-of-call .ensures) in
+    omega (arith, whole, width, c .before .before .before .before .before .layout-of .ensures .existential)
+
+returns-3 : tie.Need-returns-3
+unfolding rows-back record-of
+returns-3 c =
+    let stands2-call = c .before .stands2 in
+    let record-of-call = c .before .before .before .before .before .record-of in
+    let layout-of-call = c .before .before .before .before .before .before .layout-of in
+    let f = c .before .before .before .before .before .before .before .before .args .file .now in
+    let there : stands2-call .result ≡ has 3 f = stands2-call .ensures ∙ ap (λ (r : Record). stands 3 (r .map)) (record-of-call .ensures) in
+    let none : file-cause f ≡ 0 = omega (arith, c .before .before .before .before .file-cause .ensures) in
+    let bytes : take (16 * record-of-call .result .existential) (drop (layout-of-call .result .existential + 2) f) ≡ take (16 * existential-count f) (drop (existential-at f + 2) f) = ap₂ (λ (r : Record) (k : ℕ). take (16 * r .existential) (drop (k + 2) f)) (record-of-call .ensures) (layout-of-call .ensures .existential) in
+    c .rows-at2 .ensures ∙ ap₂ part there bytes
+    ∙ sym (stop [] (eq-eqb (file-cause f) 0 none) ∙ ap (λ (u : Bool). side-rows u f) (c .before .before .if2 .left))
+
+pub rows-spec : {M : Type 1} → statement M
+rows-spec =
+    tie.close
+    (tie.spec
+    layout-of-requires
+    record-of-requires
+    file-cause-requires
+    sub-result
+    part-result-start
+    part-result-end
+    returns
+    stands-requires
+    rows-at-requires
+    returns-2
+    stands-requires-2
+    rows-at-requires-2
+    returns-3)
