@@ -15,11 +15,13 @@ mod runs;
 mod searches;
 mod witness;
 mod witness_probe;
+mod sheets;
 
 use independent::jobs::{self, Job};
 use independent::random::Random;
 use independent::tally::Tally;
 use independent::{draw, fee, formula, lent, model, preference, random, rounds, rows, tally, wanted};
+use independent::{draw, formula, lent, model, preference, random, rounds, rows, season, seasons, tally, wanted};
 use std::time::Instant;
 
 const SEED: u64 = 1;
@@ -39,6 +41,7 @@ fn topics() -> Vec<Topic> {
     topics.push(Box::new(fees::compare_all));
     topics.push(Box::new(parts::compare_all));
     topics.push(Box::new(witness::compare_all));
+    topics.push(Box::new(sheets::compare_all));
     topics
 }
 

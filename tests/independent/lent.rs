@@ -1,5 +1,7 @@
 //! Tables that are lent with guard entries before and behind, so that a write outside shows.
 
+use super::season::Study;
+
 const GUARD: usize = 24;
 
 pub trait Entry: Copy + PartialEq + std::fmt::Debug {
@@ -37,6 +39,9 @@ impl Entry for u64 {
     }
 }
 
+impl Entry for Study {
+    fn guard(i: usize) -> Study {
+        Study { answer: [0, 5][i % 2], rounds: u32::MAX - i as u32, fee: 1 + 100_000_000 * (i as u32 % 2) }
 impl Entry for usize {
     fn guard(i: usize) -> usize {
         0x77 << 40 | i
