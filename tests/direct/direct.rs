@@ -1,5 +1,5 @@
-//! The engine's functions on tables that this test lends, compared with 01's rules written apart: the number that is returned and every
-//! entry of every table, with guard entries around each. Cases are drawn from a seed.
+//! The engine's functions on tables that this test lends, compared with 01's rules, and 02's for the season sheet, written apart: the number that
+//! is returned and every entry of every table, with guard entries around each. Cases are drawn from a seed.
 //!
 //! usage: direct [TIMES [SEED]]
 

@@ -38,8 +38,8 @@ fn compare_text(random: &mut Random, text: &[u8], tally: &mut Tally) {
     tally.case(if got == count && out.holds(&left) && lent.holds(text) {
         None
     } else {
-        let shown = String::from_utf8_lossy(&text[..text.len().min(100)]);
-        Some(format!("season text of {} bytes, {:?}.., room {}: got {}, wanted {:?}", text.len(), shown, room, got, String::from_utf8_lossy(&printed)))
+        let (shown, wanted) = (String::from_utf8_lossy(&text[..text.len().min(100)]), String::from_utf8_lossy(&printed));
+        Some(format!("season text of {} bytes, {:?}.., room {}: got {}, wanted {:?}", text.len(), shown, room, got, wanted))
     });
 }
 

@@ -12,8 +12,8 @@ fn good(random: &mut Random, rounds: usize) -> Study {
     Study { answer: random.below(5) as u32, rounds: random.below(rounds) as u32, fee: random.below(1 + HIGHEST_FEE as usize) as u32 }
 }
 
-/// A table of a given length: studies that are taken, with few different numbers of rounds so that the most are tied, or of any size; then in
-/// half of the cases one to three numbers at their ends, some of them at the first or the last study.
+/// A table of a given length: studies that are taken, some with few different numbers of rounds, so that the most are tied. In half of the cases
+/// one to three numbers are then put at their ends, some of them at the first or the last study.
 pub fn table(random: &mut Random, length: usize) -> Vec<Study> {
     let rounds = random.pick(&[1, 2, 3, 300, 1 << 32]);
     let mut table: Vec<Study> = (0..length).map(|_| good(random, rounds)).collect();
@@ -60,11 +60,13 @@ pub fn faulty_tables() -> Vec<Vec<Study>> {
     for length in [1, 2, 3, 100, STUDIES - 1, STUDIES, STUDIES + 1, 5_000] {
         all.push(vec![full; length]);
         for filling in [plain, none] {
-            for (first, last) in [(answer, plain), (fee, plain), (plain, answer), (plain, fee), (fee, answer), (answer, fee), (fee, fee), (full, plain), (plain, full), (full, full)] {
-                let mut table = vec![filling; length];
-                table[0] = first;
-                table[length - 1] = last;
-                all.push(table);
+            for first in [filling, answer, fee, full] {
+                for last in [filling, answer, fee, full] {
+                    let mut table = vec![filling; length];
+                    table[0] = first;
+                    table[length - 1] = last;
+                    all.push(table);
+                }
             }
         }
     }
@@ -85,12 +87,15 @@ pub fn writable(mut table: Vec<Study>) -> Vec<Study> {
     table
 }
 
-/// Lines of other shapes, and some that are records at an end of what is taken.
-const LINES: [&str; 40] = [
-    "", " ", "0", "0 0", "0 0 0", "0 0 0 0", " 0 0 0", "0 0 0 ", "0  0 0", "0 0  0", "0\t0 0", "0 0\t0", "0 0 0\r", "00 0 0", "0 01 0", "0 0 00", "-1 0 0", "0 -0 0",
-    "+1 0 0", "1 2 3x", "x", "c", "c 1 2 3", "1,2,3", "1 2 3.0", "0 999999999 0", "0 1000000000 0", "0 0 1000000000", "1000000000 0 0", "999999999 0 0", "5 0 0",
-    "4 0 100000000", "4 0 100000001", "0 0123456789 0", "0 0 0\0", "\0", "1 2 3\x0b", "1 2\n3", "1\n2 3", "1 \n2 3 4",
-];
+/// Lines of other shapes, and some that are records at an end of what is taken, parted by a bar each.
+const LINES: &str =
+    "| |0|0 0|0 0 0|0 0 0 0| 0 0 0|0 0 0 |0  0 0|0 0  0|0\t0 0|0 0\t0|0 0 0\r|00 0 0|0 01 0|0 0 00|-1 0 0|0 -0 0|+1 0 0|1 2 3x|x|c|\
+    c 1 2 3|1,2,3|1 2 3.0|0 999999999 0|0 1000000000 0|0 0 1000000000|1000000000 0 0|999999999 0 0|5 0 0|4 0 100000000|4 0 100000001|\
+    0 0123456789 0|0 0 0\0|\0|1 2 3\x0b|1 2\n3|1\n2 3|1 \n2 3 4";
+
+/// What stands before and behind such a line.
+const AROUND: [(&str, &str); 7] =
+    [("", ""), ("", "\n"), ("0 1 2\n", "\n"), ("", "\n0 1 2\n"), ("5 1 2\n", "\n"), ("", "\n0 1 999999999\n"), ("1 2 3\n4 5 6\n", "")];
 
 /// Damages a text: a line of another shape, a byte more, less or other, two lines joined, or an end that is cut.
 pub fn damage(random: &mut Random, text: &[u8]) -> Vec<u8> {
@@ -106,10 +111,11 @@ pub fn damage(random: &mut Random, text: &[u8]) -> Vec<u8> {
             _ => {
                 let mut lines: Vec<Vec<u8>> = text.split(|&byte| byte == b'\n').map(<[u8]>::to_vec).collect();
                 let i = random.below(lines.len());
+                let other = random.pick(&LINES.split('|').collect::<Vec<_>>()).into();
                 if random.chance(1, 2) {
-                    lines[i] = random.pick(&LINES).into();
+                    lines[i] = other;
                 } else {
-                    lines.insert(i, random.pick(&LINES).into());
+                    lines.insert(i, other);
                 }
                 text = lines.join(&b'\n');
             }
@@ -121,8 +127,8 @@ pub fn damage(random: &mut Random, text: &[u8]) -> Vec<u8> {
 /// Texts at the limits: each shape of a line, alone, first and last; every length about the longest; as many lines as there can be.
 pub fn texts() -> Vec<Vec<u8>> {
     let mut all = vec![b"".to_vec()];
-    for line in LINES {
-        for (front, back) in [("", ""), ("", "\n"), ("0 1 2\n", "\n"), ("", "\n0 1 2\n"), ("5 1 2\n", "\n"), ("", "\n0 1 999999999\n"), ("1 2 3\n4 5 6\n", "")] {
+    for line in LINES.split('|') {
+        for (front, back) in AROUND {
             all.push(format!("{}{}{}", front, line, back).into());
         }
     }

@@ -4,9 +4,8 @@ use mathlib.Core.Path.{_≡_}
 use mathlib.Core.Bool.{Bool, true, false}
 use lib.Dec.{ltb}
 use borrow.Author.Tests.{lt-ltb, le-ltb}
-use Rattle.season.specs.declared.tally.Tally.{Tally}
 use Rattle.season.specs.declared.Summary.{Summary}
-use Rattle.season.specs.declared.Summary.the-variants.{Page, Refused}
+use Rattle.season.specs.declared.Summary.the-variants.{Refused}
 use Rattle.season.specs.Season.{max-studies, refused-if}
 
 pub first-cause : (n : ℕ) (x : Summary) → max-studies < n → Refused 23 ≡ refused-if (ltb max-studies n) 23 x

@@ -1,18 +1,16 @@
 -- Adding the studies one by one, from the first, gives the page over all of them. Assumes nothing.
-use Prim.Native.Nat.{ℕ, suc, _+_, _*_, _^_, _<_, _≤_, max}
+use Prim.Native.Nat.{ℕ, suc, _+_, _^_, _<_, _≤_, max}
 use native.Mathlib.Omega.{arith}
 use native.Mathlib.Nat.{add-zero, zero-add, add-assoc, max-eq-left, max-eq-right, max-le}
-use native.Mathlib.Numerals.{add-one}
 use mathlib.Core.Path.{_≡_, refl, sym, ap, _∙_}
 use mathlib.Core.Bool.{Bool, true, false, cond, _||_}
-use mathlib.Core.Logic.{_⊎_, inl, inr}
 use mathlib.Core.List.{List, [], _∷_}
 use lib.Dec.{eqb, ltb, leb}
 use lib.ListN.{length}
-use borrow.Author.Tests.{lt-ltb, le-ltb, lt-leb, eq-eqb, ne-eqb, ltb-true, ltb-false, leb-false}
+use borrow.Author.Tests.{lt-ltb, le-ltb, lt-leb, eq-eqb, ne-eqb, ltb-true, ltb-false}
 use Rattle.season.specs.declared.Study.{Study}
 use Rattle.season.specs.declared.tally.Tally.{Tally}
-use Rattle.season.specs.Season.{bit, sum, max-studies, max-answer, max-fee, most, first-with, any, with-answer, refused-if, summary, sheet}
+use Rattle.season.specs.Season.{bit, sum, max-studies, max-answer, max-fee, most, first-with, any, summary}
 use Rattle.season.specs.Tally.{fresh, one-more, added, closed, leads, Room}
 use Rattle.season.proofs.Fits.{bit-small}
 

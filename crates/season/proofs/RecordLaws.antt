@@ -10,7 +10,7 @@ use borrow.Author.Tests.{lt-ltb, le-ltb, eq-eqb, ne-eqb}
 use lib.Dec.{eqb}
 use lib.ListN.{length, take, drop, set, length-set, length-drop, drop-of-length-le}
 use lib.Seq.{drop-cons, take-suc-set}
-use Rattle.lines.specs.Lines.{Bytes, Line, ended, unended, lines, pieces}
+use Rattle.lines.specs.Lines.{Bytes, Line, lines, pieces}
 use Rattle.lines.specs.Numbers.{no-number}
 use Rattle.lines.specs.Places.{before}
 use Rattle.lines.proofs.Spans.{before-le}

@@ -1,10 +1,10 @@
 -- What the private functions that add up promise; no public contract rests on it. Assumes nothing.
 use Prim.Native.Nat.{ℕ, _+_, _*_, _≤_}
-use mathlib.Core.Bool.{Bool, true, false, cond, _||_}
+use mathlib.Core.Bool.{Bool, false, cond, _||_}
 use lib.Dec.{eqb, leb, ltb}
 use Rattle.season.specs.declared.tally.Tally.{Tally}
 use Rattle.season.specs.declared.Summary.{Summary}
-use Rattle.season.specs.declared.Summary.the-variants.{Page, Refused}
+use Rattle.season.specs.declared.Summary.the-variants.{Page}
 use Rattle.season.specs.Season.{bit, max-studies, max-answer, max-fee, refused-if}
 
 -- Nothing has been added.

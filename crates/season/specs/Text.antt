@@ -33,6 +33,7 @@ unfoldable pub is-record : Line → Bool
 is-record (ended line) = three-numbers (pieces 32 line)
 is-record (unended line) = false
 
+-- The study of a line; that of a line without LF is never asked for, since the text is refused.
 unfoldable pub record-of : Line → Study
 record-of (ended line) = study (pieces 32 line)
 record-of (unended line) = study (pieces 32 line)

@@ -1,6 +1,6 @@
 -- `probe::page_number` meets its contract. Assumes nothing.
 use borrow.Author.Tests.{ne-eqb}
-use mathlib.Core.Path.{_≡_, sym, ap, _∙_}
+use mathlib.Core.Path.{sym, ap, _∙_}
 use Rattle.season.specs.declared.Summary.{Summary}
 use Rattle.probe.specs.Numbers.{season-number}
 use borrow.Author.Needs.{needs}

@@ -1,8 +1,8 @@
 -- `season::records::read` meets its contract: row i is the record of line i. Assumes nothing.
 use Prim.Native.Nat.{_-_}
-use mathlib.Core.Path.{sym, _∙_}
+use mathlib.Core.Path.{_∙_}
 use native.Mathlib.Omega.{arith}
-use lib.ListN.{length, length-replicate}
+use lib.ListN.{length}
 use Rattle.season.proofs.RecordLaws.{found-within, Filling, begun, line-ends, line-good, row-free, row-filled, all-filled}
 use borrow.Author.Needs.{needs}
 use Rattle.season.proofs.records.read.Statement.{statement}

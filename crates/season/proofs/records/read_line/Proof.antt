@@ -1,5 +1,5 @@
 -- `season::records::read_line` meets its contract: the three pieces are tested one by one. Assumes nothing.
-use mathlib.Core.Path.{sym, refl, _∙_}
+use mathlib.Core.Path.{sym, _∙_}
 use mathlib.Core.Bool.{false≢true}
 use native.Mathlib.Omega.{arith}
 use lib.ListN.{length-take}

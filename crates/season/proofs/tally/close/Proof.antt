@@ -1,5 +1,4 @@
 -- `season::tally::close` meets its contract: the tests stand in the order of the causes. Assumes nothing.
-use native.Mathlib.Omega.{arith}
 use mathlib.Core.Path.{refl}
 use Rattle.season.specs.Tally.{closed}
 use Rattle.season.proofs.Closing.{first-cause, later, here, next}

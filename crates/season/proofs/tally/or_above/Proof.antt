@@ -1,12 +1,11 @@
+-- `season::tally::or_above` meets its contract. Assumes nothing.
 use borrow.Author.Needs.{needs}
 use Rattle.season.proofs.tally.or_above.Statement.{statement}
 use Rattle.season.proofs.tally.or_above.Tie as tie
 
--- src/lib.rt:137:9
 returns : tie.Need-returns
 returns c = search needs
 
--- src/lib.rt:133:1
 returns-2 : tie.Need-returns-2
 returns-2 c = rw (c .if1 .left)
 
