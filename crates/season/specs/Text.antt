@@ -14,8 +14,11 @@ use Rattle.season.specs.declared.Summary.the-variants.{Page, Refused}
 use Rattle.season.specs.Season.{summary}
 
 -- 'Numbers of at most 9 digits, no leading zero.'
+abbrev pub max-digits : ℕ
+max-digits = 9
+
 abbrev pub number : Bytes → ℕ
-number w = number-within 9 w
+number w = number-within max-digits w
 
 abbrev pub is-number : Bytes → Bool
 is-number w = ltb (number w) no-number

@@ -10,6 +10,9 @@ ghost use Rattle.season.specs.Steps.{Parted, Line-read, Checked-so};
 use crate::Study;
 use lines::numbers;
 
+// The most digits of a number.
+const DIGITS: usize = 9;
+
 // The number of the first line that is no record, 0 for none, and how many lines stand before it.
 pub(crate) struct Checked {
     pub(crate) other: u32,
@@ -82,15 +85,15 @@ fn read_line(line: &[u8]) -> Line
     }
     let a = spaces.first;
     let b = spaces.second;
-    let answer = numbers::number(&line[..a], 9);
+    let answer = numbers::number(&line[..a], DIGITS);
     if numbers::NO_NUMBER <= answer {
         return no_line();
     }
-    let rounds = numbers::number(&line[a + 1..b], 9);
+    let rounds = numbers::number(&line[a + 1..b], DIGITS);
     if numbers::NO_NUMBER <= rounds {
         return no_line();
     }
-    let fee = numbers::number(&line[b + 1..], 9);
+    let fee = numbers::number(&line[b + 1..], DIGITS);
     if numbers::NO_NUMBER <= fee {
         return no_line();
     }
