@@ -13,15 +13,14 @@ mod probe;
 mod refused;
 mod runs;
 mod searches;
+mod sheets;
 mod witness;
 mod witness_probe;
-mod sheets;
 
 use independent::jobs::{self, Job};
 use independent::random::Random;
 use independent::tally::Tally;
-use independent::{draw, fee, formula, lent, model, preference, random, rounds, rows, tally, wanted};
-use independent::{draw, formula, lent, model, preference, random, rounds, rows, season, seasons, tally, wanted};
+use independent::{draw, fee, formula, lent, model, preference, random, rounds, rows, season, seasons, tally, wanted};
 use std::time::Instant;
 
 const SEED: u64 = 1;

@@ -1,7 +1,6 @@
 //! 01's rules, written from its words apart from the engine: the formula, its meaning by brute force, preferences, rows, copies and the
-//! first model, the run, the judge, the reader, the fee (02), and what the program prints and the C function returns. With them what the tests share: random
-//! first model, the run, the judge, the reader, the witness file, and what the program prints and the C function returns. With them what the tests share: random
-//! first model, the run, the judge, the reader, and what the program prints and the C function returns; and 02's season sheet. With them what the tests share: random
+//! first model, the run, the judge, the reader, the fee, the witness file and the season sheet (02), and what the program prints and the C function
+//! returns. With them what the tests share: random
 //! cases, lent tables with guards, the count of cases, jobs on several threads.
 
 // No test uses all of it.

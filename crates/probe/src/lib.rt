@@ -18,8 +18,7 @@ ghost use Rattle.judge.specs.Judge.{outcome as judge-outcome, work-after as jud
 ghost use Rattle.run.specs.Outcome.{areas, given, left as run-left};
 ghost use Rattle.fee.specs.Fee.{charged, cents as cents-of};
 ghost use Rattle.fee.specs.Bands.{charged-with};
-ghost use Rattle.probe.specs.Numbers.{search-number, judge-number, charge-number, value-number, Reported};
-ghost use Rattle.probe.specs.Numbers.{search-number, judge-number, value-number, Reported, season-number};
+ghost use Rattle.probe.specs.Numbers.{search-number, judge-number, charge-number, season-number, value-number, Reported};
 ghost use Rattle.report.specs.Report.{put, put-count};
 ghost use Rattle.season.specs.Season.{summary};
 ghost use Rattle.season.specs.Text.{printed};
