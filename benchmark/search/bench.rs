@@ -11,7 +11,7 @@ mod time;
 use draw::Sizes;
 use formula::{Side, WORK};
 use formulas::Case;
-use independent::{draw, formula, lent, preference, random};
+use independent::{draw, formula, lent, preference, random, season};
 use lent::Lent;
 use random::Random;
 
@@ -198,6 +198,25 @@ fn measure_stack(random: &mut Random) {
             }),
         );
     }
+    measure_season();
+}
+
+fn measure_season() {
+    let studies = Lent::new(&[season::Study { answer: 4, rounds: 999_999_999, fee: 100_000_000 }; 4_096]);
+    line_of_stack(
+        "season: a table of 4,096 studies",
+        stack::taken(&mut || {
+            probe::season(&studies, 7);
+        }),
+    );
+    let text = Lent::new("4 999999999 100000000\n".repeat(4_096).as_bytes());
+    let mut out = Lent::new(&[0; 256]);
+    line_of_stack(
+        "season: the same as text, to the printed bytes",
+        stack::taken(&mut || {
+            probe::season_text(&text, &mut out);
+        }),
+    );
 }
 
 fn main() {

@@ -1,5 +1,5 @@
-//! The engine's functions on tables that this test lends, compared with 01's rules written apart: the number that is returned and every
-//! entry of every table, with guard entries around each. Cases are drawn from a seed.
+//! The engine's functions on tables that this test lends, compared with 01's rules, and 02's for the season sheet, written apart: the number that
+//! is returned and every entry of every table, with guard entries around each. Cases are drawn from a seed.
 //!
 //! usage: direct [TIMES [SEED]]
 
@@ -13,13 +13,14 @@ mod probe;
 mod refused;
 mod runs;
 mod searches;
+mod sheets;
 mod witness;
 mod witness_probe;
 
 use independent::jobs::{self, Job};
 use independent::random::Random;
 use independent::tally::Tally;
-use independent::{draw, fee, formula, lent, model, preference, random, rounds, rows, tally, wanted};
+use independent::{draw, fee, formula, lent, model, preference, random, rounds, rows, season, seasons, tally, wanted};
 use std::time::Instant;
 
 const SEED: u64 = 1;
@@ -39,6 +40,7 @@ fn topics() -> Vec<Topic> {
     topics.push(Box::new(fees::compare_all));
     topics.push(Box::new(parts::compare_all));
     topics.push(Box::new(witness::compare_all));
+    topics.push(Box::new(sheets::compare_all));
     topics
 }
 

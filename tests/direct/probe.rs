@@ -2,6 +2,7 @@
 
 use crate::formula::Side;
 use crate::lent::Lent;
+use crate::season::Study;
 
 extern "C" {
     fn probe_first_model(
@@ -73,6 +74,10 @@ extern "C" {
     fn probe_row_byte(rows: *const u8, rows_length: usize, count: usize, place: usize, j: usize) -> u8;
 
     fn probe_preference(lent: *const u8, lent_length: usize, i: usize) -> u8;
+
+    fn probe_season(studies: *const Study, studies_length: usize, which: u32) -> u64;
+
+    fn probe_season_text(text: *const u8, text_length: usize, out: *mut u8, out_length: usize) -> usize;
 }
 
 pub fn first_model(
@@ -190,4 +195,12 @@ pub fn row(rows: &Lent<u8>, count: usize, place: usize) -> Vec<u8> {
 
 pub fn preference(lent: &Lent<u8>, i: usize) -> u8 {
     unsafe { probe_preference(lent.address(), lent.length(), i) }
+}
+
+pub fn season(studies: &Lent<Study>, which: u32) -> u64 {
+    unsafe { probe_season(studies.address(), studies.length(), which) }
+}
+
+pub fn season_text(text: &Lent<u8>, out: &mut Lent<u8>) -> usize {
+    unsafe { probe_season_text(text.address(), text.length(), out.address_mut(), out.length()) }
 }

@@ -1,5 +1,7 @@
 //! Tables that are lent with guard entries before and behind, so that a write outside shows.
 
+use super::season::Study;
+
 const GUARD: usize = 24;
 
 pub trait Entry: Copy + PartialEq + std::fmt::Debug {
@@ -34,6 +36,12 @@ impl Entry for u32 {
 impl Entry for u64 {
     fn guard(i: usize) -> u64 {
         0x77 << 40 | i as u64
+    }
+}
+
+impl Entry for Study {
+    fn guard(i: usize) -> Study {
+        Study { answer: [0, 5][i % 2], rounds: u32::MAX - i as u32, fee: 1 + 100_000_000 * (i as u32 % 2) }
     }
 }
 

@@ -1,6 +1,6 @@
 //! 01's rules, written from its words apart from the engine: the formula, its meaning by brute force, preferences, rows, copies and the
-//! first model, the run, the judge, the reader, the fee (02), and what the program prints and the C function returns. With them what the tests share: random
-//! first model, the run, the judge, the reader, the witness file, and what the program prints and the C function returns. With them what the tests share: random
+//! first model, the run, the judge, the reader, the fee, the witness file and the season sheet (02), and what the program prints and the C function
+//! returns. With them what the tests share: random
 //! cases, lent tables with guards, the count of cases, jobs on several threads.
 
 // No test uses all of it.
@@ -19,6 +19,8 @@ pub mod random;
 pub mod reader;
 pub mod rounds;
 pub mod rows;
+pub mod season;
+pub mod seasons;
 pub mod tally;
 pub mod wanted;
 pub mod witness;

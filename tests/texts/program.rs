@@ -1,4 +1,4 @@
-//! The built program on standard input, held against all that it is to print.
+//! The built programs on standard input, held against all that they are to print.
 
 use crate::answers;
 use crate::model::TooLong;
@@ -7,13 +7,19 @@ use crate::reader::{Read, Refusal};
 use std::io::{self, Write};
 use std::process::{Command, Output, Stdio};
 
-const PROGRAM: &str = "target/bin/vulzhenn";
-const SCRIPT: &str = "./vulzhenn";
+/// A program, and the script of the repository that calls it.
+pub struct Program {
+    built: &'static str,
+    script: &'static str,
+}
+
+const VULZHENN: Program = Program { built: "target/bin/vulzhenn", script: "./vulzhenn" };
+pub const SHEET: Program = Program { built: "target/bin/sheet", script: "./sheet" };
 
 /// Runs it and says what is not as wanted, if anything. Returned with the wanted lines.
 pub fn compare(random: &mut Random, text: &[u8], read: &Result<Read, Refusal>, looks: usize) -> Result<(String, Option<String>), TooLong> {
     let wanted = answers::printed(read, looks)?;
-    let wrong = match run(random, text) {
+    let wrong = match run(&VULZHENN, random, text) {
         Ok(printed) if printed == wanted => None,
         Ok(printed) => Some(format!("printed {:?}, wanted {:?}", printed, wanted)),
         Err(words) => Some(words),
@@ -21,9 +27,9 @@ pub fn compare(random: &mut Random, text: &[u8], read: &Result<Read, Refusal>, l
     Ok((wanted, wrong))
 }
 
-/// What the program prints. The text comes from a pipe; once in a hundred times from a file that is named to the script of the repository.
-fn run(random: &mut Random, text: &[u8]) -> Result<String, String> {
-    let output = if random.chance(1, 100) { from_a_file(random, text) } else { from_a_pipe(random, text) };
+/// What a program prints. The text comes from a pipe; once in a hundred times from a file that is named to the script of the repository.
+pub fn run(program: &Program, random: &mut Random, text: &[u8]) -> Result<String, String> {
+    let output = if random.chance(1, 100) { from_a_file(program, random, text) } else { from_a_pipe(program, random, text) };
     let output = output.map_err(|error| error.to_string())?;
     if !output.stderr.is_empty() || !output.status.success() {
         return Err(format!("ended with {}, {:?}", output.status, String::from_utf8_lossy(&output.stderr)));
@@ -31,17 +37,17 @@ fn run(random: &mut Random, text: &[u8]) -> Result<String, String> {
     String::from_utf8(output.stdout).map_err(|error| error.to_string())
 }
 
-fn from_a_file(random: &mut Random, text: &[u8]) -> io::Result<Output> {
-    let path = format!("target/texts-{:x}.qdimacs", random.next());
+fn from_a_file(program: &Program, random: &mut Random, text: &[u8]) -> io::Result<Output> {
+    let path = format!("target/texts-{:x}", random.next());
     std::fs::write(&path, text)?;
-    let output = Command::new(SCRIPT).arg(&path).output();
+    let output = Command::new(program.script).arg(&path).output();
     std::fs::remove_file(&path)?;
     output
 }
 
 /// The text is written in pieces.
-fn from_a_pipe(random: &mut Random, text: &[u8]) -> io::Result<Output> {
-    let mut child = Command::new(PROGRAM).stdin(Stdio::piped()).stdout(Stdio::piped()).stderr(Stdio::piped()).spawn()?;
+fn from_a_pipe(program: &Program, random: &mut Random, text: &[u8]) -> io::Result<Output> {
+    let mut child = Command::new(program.built).stdin(Stdio::piped()).stdout(Stdio::piped()).stderr(Stdio::piped()).spawn()?;
     let mut input = child.stdin.take().unwrap();
     let size = random.pick(&[7, 100, 4_096, 65_536, 1 << 20]).max(text.len() / 50);
     for piece in text.chunks(size) {

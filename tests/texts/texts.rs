@@ -1,5 +1,5 @@
-//! Texts through the C function, linked from its static library, and through the built program: numbers, printed lines and lent bytes are
-//! compared with 01's rules written apart. Cases are drawn from a seed.
+//! Texts through the C function, linked from its static library, and through the built programs: numbers, printed lines and lent bytes are
+//! compared with 01's rules, and 02's for the season sheet, written apart. Cases are drawn from a seed.
 //!
 //! usage: texts [TIMES [SEED]]
 
@@ -11,11 +11,12 @@ mod independent;
 mod limits;
 mod play;
 mod program;
+mod sheets;
 mod write;
 
 use formulas::Formula;
 use independent::jobs::{self, Job};
-use independent::{answers, draw, formula, lent, model, random, reader, tally};
+use independent::{answers, draw, formula, lent, model, random, reader, season, seasons, tally};
 use play::{Player, Seen, Way};
 use random::Random;
 use std::collections::BTreeMap;
@@ -175,6 +176,7 @@ fn main() {
     let mut found = Tally::new();
     look_for_all(Way::Door, &players, &mut found);
     look_for_all(Way::Program, &players, &mut found);
+    sheets::compare_all(seed, times, &mut found);
     let tally = Tally::sum(players.into_iter().map(|player| player.tally).chain([found]).collect());
     tally.end(start)
 }

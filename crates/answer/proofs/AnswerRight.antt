@@ -7,12 +7,14 @@ use mathlib.Core.List.{List}
 use Prim.Native.String.{String}
 use mathlib.Core.Logic.{_⊎_, inl, inr}
 use lib.ListN.{length}
+use Rattle.formula.specs.Formula.{universal, existential}
 use Rattle.formula.specs.Meaning.{verdict}
 use Rattle.rounds.specs.Run.{Answer, is-false, is-true, spent, no-room-universal, no-room-existential, Outcome}
 use Rattle.rounds.proofs.Verdict.{verdict-right}
-use Rattle.rounds.proofs.Bounds.{next-round-in-room}
+use Rattle.rounds.proofs.RunLaws.{run-reached}
+use Rattle.rounds.proofs.Bounds.{count-in-room, next-round-in-room}
 use Rattle.text.specs.Reading.{State, Result as Reading, taken, refused, text-read}
-use Rattle.text.proofs.TextLaws.{Results, Passes, read-passes}
+use Rattle.text.proofs.TextLaws.{Results, Passes, read-passes, refused-line}
 use Rattle.report.specs.Report.{refusal-line}
 use Rattle.decision.specs.Decision.{own-lent}
 use Rattle.answer.specs.Printed.{round-limit, settled, result-of, shown, printed}
@@ -34,7 +36,7 @@ module _ (text : List ℕ) where
         let of-text = subst (Results Passes) e (read-passes text 128 8192 128) in
         record {
           one-form = inl (subst (λ (bytes : List ℕ). Begins bytes "c refused ") (sym refused-printed) (refusal-begins n line));
-          short = subst (λ (bytes : List ℕ). length bytes ≤ 128) (sym refused-printed) (refusal-short n line);
+          short = subst (λ (bytes : List ℕ). length bytes ≤ 128) (sym refused-printed) (refusal-short n line (omega (arith, of-text .to-14)) (omega (arith, refused-line text 128 8192 128 n line e)));
           refusal =
               λ _. record { n = n; line = line; read-so = e; from-9 = of-text .from-9; to-14 = of-text .to-14; printed-so = refused-printed };
           only-true = λ b. absurd (refusal-not-true n line (begins-so "s cnf 1 " b));
@@ -93,9 +95,13 @@ module _ (text : List ℕ) where
 
     pub when-taken : AnswerRight text
     when-taken =
+        let passes : Passes s = subst (Results Passes) e (read-passes text 128 8192 128) in
+        let l = own-lent (s .kinds) (s .literals) in
         record {
           one-form = form (o .answer) refl;
-          short = subst (λ (bytes : List ℕ). length bytes ≤ 128) (sym taken-printed) (result-short _ _ _ _ _ _);
+          short = subst (λ (bytes : List ℕ). length bytes ≤ 128) (sym taken-printed) (result-short _ _ _ _ _ _ (omega (arith, passes .few-variables)) (omega (arith, passes .few-clauses))
+              (omega (arith, run-reached l round-limit .round-A, count-in-room l round-limit universal (omega arith))) (omega (arith, count-in-room l round-limit universal (omega arith)))
+              (omega (arith, count-in-room l round-limit existential (omega arith))));
           refusal = λ b. absurd (result-no-refusal _ _ _ _ _ (o .answer) (begins "c refused " b));
           only-true = λ b. (result, right-true (true-if-1 _ _ _ _ _ (o .answer) (begins "s cnf 1 " b)));
           only-false = λ b. (result, right-false (false-if-0 _ _ _ _ _ (o .answer) (begins "s cnf 0 " b)));

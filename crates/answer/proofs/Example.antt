@@ -32,7 +32,7 @@ abbrev state : State
 state = record { variables = 2; clauses = 2; kinds = kinds; names = 1 ∷ 2 ∷ []; literals = literals; clauses-read = 2 }
 
 read-so : text-read text ≡ taken state
-unfolding read lines words Numbers.number Numbers.number-shape Numbers.unsigned is-comment is-trimmed is-problem is-prefix is-clause problem-cause opened body-line prefix-line clause-line name-cause literal-cause entry position
+unfolding read lines words Numbers.number-within Numbers.number-shape Numbers.unsigned is-comment is-trimmed is-problem is-prefix is-clause problem-cause opened body-line prefix-line clause-line name-cause literal-cause entry position
 read-so = refl
 
 -- The run has ended in round 2.

@@ -1,6 +1,6 @@
 -- The first line of a text from a place on. Assumes nothing.
 use Prim.Native.Nat.{ℕ, suc, _+_, _-_, _≤_, _<_}
-use mathlib.Core.Path.{_≡_, refl, _∙_}
+use mathlib.Core.Path.{_≡_, refl}
 use mathlib.Core.Bool.{Bool, true, false}
 use mathlib.Core.List.{[], _∷_}
 use native.Mathlib.Nat.{add-zero}
@@ -9,11 +9,11 @@ use native.Mathlib.Omega.{arith}
 use borrow.Author.Tests.{eqb-true}
 use lib.Dec.{eqb}
 use lib.ListN.{length, getD, take, drop, length-drop, drop-of-length-le}
-use lib.Seq.{drop-cons, drop-drop, getD-drop, take-all}
+use lib.Seq.{drop-cons, getD-drop, take-all}
 use Rattle.lines.specs.Lines.{Bytes, pieces, ended, unended, as-lines, remainder, lines}
 use Rattle.lines.specs.Shapes.{is-comment}
 use Rattle.lines.specs.Places.{before, more-if-not}
-use Rattle.lines.proofs.Pieces.{after, pieces-first}
+use Rattle.lines.proofs.Pieces.{after, pieces-first, pieces-from}
 
 -- A piece with others behind it is a line.
 as-lines-cons : (p : Bytes) (xs : Bytes) → as-lines (p ∷ pieces 10 xs) ≡ ended p ∷ as-lines (pieces 10 xs)
@@ -28,7 +28,7 @@ module _ (text : Bytes) (at end : ℕ) (e : end ≡ at + before 10 (drop at text
   width = omega arith
 
   pieces-here : pieces 10 (drop at text) ≡ take (end - at) (drop at text) ∷ after 10 (drop end text)
-  pieces-here = pieces-first 10 (drop at text) ∙ rw (width, drop-drop, e) refl
+  pieces-here = pieces-from 10 text at end e
 
   pub lines-line : end < length text → lines (drop at text) ≡ ended (take (end - at) (drop at text)) ∷ lines (drop (end + 1) text)
   unfolding lines

@@ -26,6 +26,12 @@ pieces-first b (x ∷ xs) = go (eqb x b) (pieces-first b xs)
     go true ih = refl
     go false ih = ap (onto x) ih
 
+-- The first piece from a place on, up to the first b.
+pub pieces-from : (b : ℕ) (l : Bytes) (at end : ℕ) → end ≡ at + before b (drop at l) → pieces b (drop at l) ≡ take (end - at) (drop at l) ∷ after b (drop end l)
+pieces-from b l at end e =
+    let width : end - at ≡ before b (drop at l) = omega arith in
+    pieces-first b (drop at l) ∙ rw (width, drop-drop, e) refl
+
 filled-after : (l : Bytes) → filled (after 32 (drop (before 32 l) l)) ≡ words (drop (before 32 l) l)
 unfolding words
 filled-after [] = refl

@@ -1,5 +1,5 @@
 -- Words compared, and their decimal value, at a place in the word. Assumes nothing.
-use Prim.Native.Nat.{ℕ, suc, _+_, _-_, _*_, _^_, _≤_, _<_}
+use Prim.Native.Nat.{ℕ, suc, _+_, _-_, _*_, _^_, _≤_, _<_, min}
 use mathlib.Core.Path.{_≡_, refl, ap, sym, _∙_}
 use mathlib.Core.Bool.{Bool, true, false, cond, _&&_, false≢true}
 use mathlib.Core.List.{[], _∷_}
@@ -11,7 +11,7 @@ use lib.Dec.{leb, eqb}
 use lib.ListN.{length, getD, take, drop, length-drop, drop-of-length-le}
 use lib.Seq.{drop-cons, take-all}
 use Rattle.lines.specs.Lines.{Bytes, same}
-use Rattle.lines.specs.Numbers.{is-digit, all-digits, is-zero, value, no-number, number-shape, number, negative, unsigned}
+use Rattle.lines.specs.Numbers.{is-digit, all-digits, is-zero, value, no-number, number-shape, number-within, max-digits, number, negative, unsigned}
 
 and-false : (a : Bool) → (a && false) ≡ false
 and-false true = refl
@@ -54,30 +54,30 @@ decimal-end w i v h = rw (drop-of-length-le w h) refl
 pub one-digit-more : (i v d : ℕ) → v < 10 ^ i → d < 10 → v * 10 + d < 10 ^ (i + 1)
 one-digit-more i v d h k = let e : 10 ^ (i + 1) ≡ 10 ^ i * 10 = rw (add-one, pow-suc) refl in omega arith
 
-pub few-digits : (i v : ℕ) → v < 10 ^ i → i ≤ 5 → v < 100000
-few-digits i v h k = let p : 10 ^ i ≤ 10 ^ 5 = pow-le-pow-right (omega arith) k in omega arith
+pub few-digits : (i v : ℕ) → v < 10 ^ i → i ≤ 9 → v < no-number
+few-digits i v h k = let p : 10 ^ i ≤ 10 ^ 9 = pow-le-pow-right (omega arith) k in omega arith
 
-module _ (w : Bytes) where
-  pub number-short : length w < 1 → number w ≡ no-number
-  unfolding number number-shape
+module _ (most : ℕ) (w : Bytes) where
+  pub number-short : length w < 1 → number-within most w ≡ no-number
+  unfolding number-within number-shape
   number-short h = rw (lt-leb 1 (length w) h) refl
 
-  pub number-long : 5 < length w → number w ≡ no-number
-  unfolding number number-shape
-  number-long h = rw (le-leb 1 (length w) (omega arith), lt-leb (length w) 5 h) refl
+  pub number-long : min most 9 < length w → number-within most w ≡ no-number
+  unfolding number-within number-shape
+  number-long h = rw (le-leb 1 (length w) (omega arith), lt-leb (length w) (min most 9) h) refl
 
-  module _ (one : 1 ≤ length w) (five : length w ≤ 5) where
-    pub number-single : length w ≡ 1 → number w ≡ decimal-from 0 w
-    unfolding number number-shape
-    number-single h = rw (le-leb 1 (length w) one, le-leb (length w) 5 five, eq-eqb (length w) 1 h) refl
+  module _ (one : 1 ≤ length w) (few : length w ≤ min most 9) where
+    pub number-single : length w ≡ 1 → number-within most w ≡ decimal-from 0 w
+    unfolding number-within number-shape
+    number-single h = rw (le-leb 1 (length w) one, le-leb (length w) (min most 9) few, eq-eqb (length w) 1 h) refl
 
-    pub number-leading : (length w ≡ 1 → ⊥) → getD w 0 0 ≡ 48 → number w ≡ no-number
-    unfolding number number-shape
-    number-leading h k = rw (le-leb 1 (length w) one, le-leb (length w) 5 five, ne-eqb (length w) 1 h, k) refl
+    pub number-leading : (length w ≡ 1 → ⊥) → getD w 0 0 ≡ 48 → number-within most w ≡ no-number
+    unfolding number-within number-shape
+    number-leading h k = rw (le-leb 1 (length w) one, le-leb (length w) (min most 9) few, ne-eqb (length w) 1 h, k) refl
 
-    pub number-decimal : (length w ≡ 1 → ⊥) → (getD w 0 0 ≡ 48 → ⊥) → number w ≡ decimal-from 0 w
-    unfolding number number-shape
-    number-decimal h k = rw (le-leb 1 (length w) one, le-leb (length w) 5 five, ne-eqb (length w) 1 h, ne-eqb (getD w 0 0) 48 k) refl
+    pub number-decimal : (length w ≡ 1 → ⊥) → (getD w 0 0 ≡ 48 → ⊥) → number-within most w ≡ decimal-from 0 w
+    unfolding number-within number-shape
+    number-decimal h k = rw (le-leb 1 (length w) one, le-leb (length w) (min most 9) few, ne-eqb (length w) 1 h, ne-eqb (getD w 0 0) 48 k) refl
 
 -- A number is 0 only as the single digit 0.
 value-some : (v : ℕ) (w : Bytes) → 1 ≤ v → decimal-from v w ≡ 0 → ⊥
@@ -97,14 +97,14 @@ first-some d ds h e = go (leb 48 d) (leb d 57) refl e
     go false b p e = omega arith
 
 longer-some : (w : Bytes) → (length w ≡ 1 → ⊥) → number w ≡ 0 → ⊥
-longer-some [] h e = omega (arith, number-short [] (omega arith))
-longer-some (d ∷ ds) h e = go (leb (length (d ∷ ds)) 5) (eqb d 48) refl refl
+longer-some [] h e = omega (arith, number-short max-digits [] (omega arith))
+longer-some (d ∷ ds) h e = go (leb (length (d ∷ ds)) max-digits) (eqb d 48) refl refl
   where
-    go : (a b : Bool) → leb (length (d ∷ ds)) 5 ≡ a → eqb d 48 ≡ b → ⊥
-    go false b p q = omega (arith, number-long (d ∷ ds) (leb-false (length (d ∷ ds)) 5 p))
-    go true true p q = omega (arith, number-leading (d ∷ ds) (omega arith) (leb-true (length (d ∷ ds)) 5 p) h (eqb-true d 48 q))
+    go : (a b : Bool) → leb (length (d ∷ ds)) max-digits ≡ a → eqb d 48 ≡ b → ⊥
+    go false b p q = omega (arith, number-long max-digits (d ∷ ds) (leb-false (length (d ∷ ds)) max-digits p))
+    go true true p q = omega (arith, number-leading max-digits (d ∷ ds) (omega arith) (leb-true (length (d ∷ ds)) max-digits p) h (eqb-true d 48 q))
     go true false p q =
-        first-some d ds (eqb-false d 48 q) (sym (number-decimal (d ∷ ds) (omega arith) (leb-true (length (d ∷ ds)) 5 p) h (eqb-false d 48 q)) ∙ e)
+        first-some d ds (eqb-false d 48 q) (sym (number-decimal max-digits (d ∷ ds) (omega arith) (leb-true (length (d ∷ ds)) max-digits p) h (eqb-false d 48 q)) ∙ e)
 
 pub zero-longer : (w : Bytes) → (length w ≡ 1 → ⊥) → is-zero w ≡ false
 zero-longer w h = ne-eqb (number w) 0 (longer-some w h)
@@ -115,7 +115,7 @@ zero-single (d ∷ y ∷ ys) h = absurd (omega arith)
 zero-single (d ∷ []) h = go (eqb d 48) refl
   where
     one : number (d ∷ []) ≡ decimal-from 0 (d ∷ [])
-    one = number-single (d ∷ []) (omega arith) (omega arith) h
+    one = number-single max-digits (d ∷ []) (omega arith) (omega arith) h
 
     go : (t : Bool) → eqb d 48 ≡ t → is-zero (d ∷ []) ≡ t
     go true q = eq-eqb (number (d ∷ [])) 0 (one ∙ rw (eqb-true d 48 q) refl)

@@ -1,5 +1,5 @@
 -- Words as numbers, names and literals. Assumes nothing.
-use Prim.Native.Nat.{ℕ, _+_, _-_, _*_}
+use Prim.Native.Nat.{ℕ, _+_, _-_, _*_, min}
 use mathlib.Core.Bool.{Bool, true, false, cond, not, _&&_, _||_}
 use mathlib.Core.List.{List, [], _∷_}
 use lib.Dec.{leb, ltb, eqb}
@@ -14,21 +14,28 @@ abbrev pub all-digits : Bytes → Bool
 all-digits [] = true
 all-digits (d ∷ ds) = is-digit d && all-digits ds
 
--- 'Numbers have no leading zero (0 itself stands) and at most 5 digits.'
-unfoldable pub number-shape : Bytes → Bool
-number-shape w = leb 1 (length w) && leb (length w) 5 && (eqb (length w) 1 || not (eqb (getD w 0 0) 48)) && all-digits w
+-- 'Numbers have no leading zero (0 itself stands)', and no more digits than a text allows, which is never over nine.
+unfoldable pub number-shape : ℕ → Bytes → Bool
+number-shape most w = leb 1 (length w) && leb (length w) (min most 9) && (eqb (length w) 1 || not (eqb (getD w 0 0) 48)) && all-digits w
 
 -- The decimal value of digits, after digits of the value v.
 abbrev pub value : ℕ → Bytes → ℕ
 value v [] = v
 value v (d ∷ ds) = value (v * 10 + (d - 48)) ds
 
--- What stands for the value of a word that is no number: more than five digits make.
+-- What stands for the value of a word that is no number: more than nine digits make.
 abbrev pub no-number : ℕ
-no-number = 100000
+no-number = 1000000000
 
-unfoldable pub number : Bytes → ℕ
-number w = cond (number-shape w) (value 0 w) no-number
+unfoldable pub number-within : ℕ → Bytes → ℕ
+number-within most w = cond (number-shape most w) (value 0 w) no-number
+
+-- 'At most 5 digits', in 01's texts.
+abbrev pub max-digits : ℕ
+max-digits = 5
+
+abbrev pub number : Bytes → ℕ
+number w = number-within max-digits w
 
 abbrev pub is-number : Bytes → Bool
 is-number w = ltb (number w) no-number

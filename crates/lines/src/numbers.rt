@@ -4,10 +4,13 @@ ghost use mathlib.Core.Bool.{cond};
 ghost use Prim.Native.Nat.{_≤_};
 ghost use lib.ListN.{length};
 ghost use Rattle.lines.specs.Lines.{same as same-bytes};
-ghost use Rattle.lines.specs.Numbers.{number as number-of, all-digits, value, no-number, is-zero as zero-shape, is-name as name-shape, is-literal as literal-shape, negative as has-minus, unsigned};
+ghost use Rattle.lines.specs.Numbers.{number as number-of, number-within, all-digits, value, no-number, is-zero as zero-shape, is-name as name-shape, is-literal as literal-shape, negative as has-minus, unsigned};
 
 // What stands for the value of a word that is no number.
-pub(crate) const NO_NUMBER: usize = 100_000;
+pub const NO_NUMBER: usize = 1_000_000_000;
+
+// The most digits of a number in 01's texts.
+pub const DIGITS: usize = 5;
 
 // Whether two words are the same.
 pub fn same(a: &[u8], b: &[u8]) -> bool
@@ -26,15 +29,18 @@ pub fn same(a: &[u8], b: &[u8]) -> bool
     true
 }
 
-// The value of a word as a number, NO_NUMBER if it is none.
-pub fn number(word: &[u8]) -> usize
-    ensures { λ r. ⌜ r ≡ number-of (now (word .entry)) ⌝ }
+// The value of a word as a number of at most so many digits, and never over nine; NO_NUMBER if it is none.
+pub fn number(word: &[u8], most: usize) -> usize
+    ensures { λ r. ⌜ r ≡ number-within most (now (word .entry)) ⌝ }
 {
     let n = word.len();
     if n < 1 {
         return NO_NUMBER;
     }
-    if 5 < n {
+    if most < n {
+        return NO_NUMBER;
+    }
+    if 9 < n {
         return NO_NUMBER;
     }
     if n == 1 {
@@ -48,7 +54,7 @@ pub fn number(word: &[u8]) -> usize
 
 // The value of digits, NO_NUMBER if another byte is among them.
 fn decimal(word: &[u8]) -> usize
-    requires { ⌜ length (now word) ≤ 5 ⌝ }
+    requires { ⌜ length (now word) ≤ 9 ⌝ }
     ensures { λ r. ⌜ r ≡ cond (all-digits (now (word .entry))) (value 0 (now (word .entry))) no-number ⌝ }
 {
     let mut v: usize = 0;
@@ -80,7 +86,7 @@ pub fn is_zero(word: &[u8]) -> bool
 pub(crate) fn is_name(word: &[u8]) -> bool
     ensures { λ r. ⌜ r ≡ name-shape (now (word .entry)) ⌝ }
 {
-    let v = number(word);
+    let v = number(word, DIGITS);
     if v < 1 {
         return false;
     }
@@ -102,9 +108,9 @@ pub fn magnitude(word: &[u8]) -> usize
     ensures { λ r. ⌜ r ≡ number-of (unsigned (now (word .entry))) ⌝ }
 {
     if negative(word) {
-        number(&word[1..])
+        number(&word[1..], DIGITS)
     } else {
-        number(word)
+        number(word, DIGITS)
     }
 }
 

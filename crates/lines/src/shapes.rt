@@ -30,8 +30,8 @@ pub fn p_line(line: &[u8]) -> Problem
     let v_end = v.end;
     let c_start = c.start;
     let c_end = c.end;
-    let variables = numbers::number(&line[v_start..v_end]);
-    let clauses = numbers::number(&line[c_start..c_end]);
+    let variables = numbers::number(&line[v_start..v_end], numbers::DIGITS);
+    let clauses = numbers::number(&line[c_start..c_end], numbers::DIGITS);
     if opening.good {} else {
         return Problem {
             good: false,

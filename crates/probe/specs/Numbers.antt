@@ -2,7 +2,8 @@
 -- Assumes nothing.
 use Prim.Native.Nat.{ℕ, _+_}
 use mathlib.Core.Path.{_≡_}
-use mathlib.Core.Bool.{Bool, true, false}
+use mathlib.Core.Bool.{Bool, true, false, cond}
+use lib.Dec.{eqb}
 use Rattle.search.specs.declared.Search.{Search}
 use Rattle.search.specs.declared.Search.the-variants.{Found, NoModel, Refused}
 use Rattle.judge.specs.declared.Judgement.{Judgement}
@@ -11,6 +12,9 @@ use Rattle.run.specs.Outcome.{Given, returned}
 use Rattle.run.specs.Numbers.{one-number}
 use Rattle.fee.specs.declared.Charge.{Charge}
 use Rattle.fee.specs.declared.Charge.the-variants.{Cents, Refused as ChargeRefused}
+use Rattle.season.specs.declared.Sheet.{Sheet}
+use Rattle.season.specs.declared.Summary.{Summary}
+use Rattle.season.specs.declared.Summary.the-variants.{Page, Refused as SeasonRefused}
 
 -- A search: 0 for no model, 1 for found, 100 plus the number of a refusal.
 abbrev pub search-number : Search → ℕ
@@ -40,3 +44,14 @@ pub record Reported (g : Given) (answer round universal existential : ℕ) : Typ
   pub round-reached : round ≡ returned g .round
   pub universals : universal ≡ returned g .universal
   pub existentials : existential ≡ returned g .existential
+
+-- A season's page by number: 1 the studies, 2 to 6 those with answers 0 to 4, 7 the rounds, 8 the fees, 9 the most rounds, 10 the first study
+-- that has them. Number 0 is 100 plus the number of a refusal. Whatever is not there is 0.
+abbrev pub page-number : Sheet → ℕ → ℕ
+page-number s which =
+    cond (eqb which 1) (s .studies) (cond (eqb which 2) (s .«answer_0») (cond (eqb which 3) (s .«answer_1») (cond (eqb which 4) (s .«answer_2») (cond (eqb which 5) (s .«answer_3»)
+    (cond (eqb which 6) (s .«answer_4») (cond (eqb which 7) (s .rounds) (cond (eqb which 8) (s .fees) (cond (eqb which 9) (s .most) (cond (eqb which 10) (s .first) 0)))))))))
+
+unfoldable pub season-number : Summary → ℕ → ℕ
+season-number (Page s) which = page-number s which
+season-number (SeasonRefused cause) which = cond (eqb which 0) (100 + cause) 0

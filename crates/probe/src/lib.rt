@@ -6,6 +6,8 @@ pub mod witness_file;
 use fee::Charge;
 use judge::Judgement;
 use search::Search;
+use season::Study;
+use season::Summary;
 ghost use mathlib.Core.Path.{_≡_};
 ghost use Prim.Native.Nat.{_+_};
 ghost use lib.ListN.{length, getD};
@@ -16,7 +18,10 @@ ghost use Rattle.judge.specs.Judge.{outcome as judge-outcome, work-after as jud
 ghost use Rattle.run.specs.Outcome.{areas, given, left as run-left};
 ghost use Rattle.fee.specs.Fee.{charged, cents as cents-of};
 ghost use Rattle.fee.specs.Bands.{charged-with};
-ghost use Rattle.probe.specs.Numbers.{search-number, judge-number, charge-number, value-number, Reported};
+ghost use Rattle.probe.specs.Numbers.{search-number, judge-number, charge-number, season-number, value-number, Reported};
+ghost use Rattle.report.specs.Report.{put, put-count};
+ghost use Rattle.season.specs.Season.{summary};
+ghost use Rattle.season.specs.Text.{printed};
 
 // The first model of one side over rows of the other.
 #[no_mangle]
@@ -188,4 +193,48 @@ pub extern "C" fn probe_preference(lent: &[u8], i: usize) -> u8
     } else {
         0
     }
+}
+
+// A number of the page over a table of studies, chosen by `which`.
+#[no_mangle]
+pub extern "C" fn probe_season(studies: &[Study], which: u32) -> u64
+    ensures { λ r. ⌜ r ≡ season-number (summary (now (studies .entry))) which ⌝ }
+{
+    page_number(season::summarize(studies), which)
+}
+
+fn page_number(page: Summary, which: u32) -> u64
+    ensures { λ r. ⌜ r ≡ season-number page which ⌝ }
+{
+    match page {
+        Summary::Refused(cause) => cause_number(cause, which),
+        Summary::Page(sheet) => match which {
+            1 => sheet.studies as u64,
+            2 => sheet.answer_0 as u64,
+            3 => sheet.answer_1 as u64,
+            4 => sheet.answer_2 as u64,
+            5 => sheet.answer_3 as u64,
+            6 => sheet.answer_4 as u64,
+            7 => sheet.rounds,
+            8 => sheet.fees,
+            9 => sheet.most as u64,
+            10 => sheet.first as u64,
+            _ => 0,
+        },
+    }
+}
+
+fn cause_number(cause: u32, which: u32) -> u64
+    ensures { λ r. ⌜ r ≡ season-number (Summary.Refused cause) which ⌝ }
+{
+    if which == 0 { refusal_number(cause) } else { 0 }
+}
+
+// The bytes printed for the records of a text.
+#[no_mangle]
+pub extern "C" fn probe_season_text(text: &[u8], out: &mut [u8]) -> usize
+    ensures { λ r. ⌜ r ≡ put-count (printed (now (text .entry))) (now (out .entry)) ⌝ }
+    ensures { λ _. ⌜ now (out .exit) ≡ put (printed (now (text .entry))) (now (out .entry)) ⌝ }
+{
+    season::print(text, out)
 }

@@ -42,11 +42,11 @@ fewest-le places k n small some fewest = go (decLe k places)
     go (no longer) =
         absurd (omega (arith, fewest .2 (omega arith), pow-le-pow-right {n = 10} (omega arith) {i = places} {j = k - 1} (omega arith)))
 
--- An unsigned 32-bit number has at most ten digits.
-module _ (k n : ℕ) (small : n < 2 ^ 32) (fewest : Fewest 10 1 n k) where
-  pub at-most-ten : k ≤ 10
-  at-most-ten = fewest-le 10 k n (omega arith) (omega arith) fewest
+-- An unsigned 64-bit number has at most twenty digits.
+module _ (k n : ℕ) (small : n < 2 ^ 64) (fewest : Fewest 10 1 n k) where
+  pub at-most-twenty : k ≤ 20
+  at-most-twenty = fewest-le 20 k n (omega arith) (omega arith) fewest
 
   pub digits-decimal : digits 10 k n ≡ decimal n
   unfolding decimal
-  digits-decimal = digits-decimal-within 10 k n at-most-ten fewest
+  digits-decimal = digits-decimal-within 20 k n at-most-twenty fewest

@@ -1,2 +1,3 @@
--- The definitions of what the program prints (01's 'Text', last paragraph).
+-- The definitions of what the programs print: a formula's result and a refusal (01's 'Text', last paragraph), and the page over a season.
 pub mod Report
+pub mod Page

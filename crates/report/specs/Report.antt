@@ -20,9 +20,9 @@ decimal-within (suc places) n =
     let front = decimal-within places (n / 10) in
     cond (ltb n 10) [] front ++ ((48 + n % 10) ∷ [])
 
--- The decimal form of an unsigned 32-bit number, which has at most ten digits.
+-- The decimal form of an unsigned 64-bit number, which has at most twenty digits.
 unfoldable pub decimal : ℕ → List ℕ
-decimal n = decimal-within 10 n
+decimal n = decimal-within 20 n
 
 -- 'T being 1, 0, or -1 for answers 2 to 4.'
 abbrev pub truth : ℕ → String
@@ -46,9 +46,13 @@ unfoldable pub result-lines : ℕ → ℕ → ℕ → ℕ → ℕ → ℕ → Li
 result-lines answer variables clauses rounds universal existential =
     line-one answer variables clauses ++ line-two rounds universal existential
 
+-- A label and two numbers, parted by one space, with an LF.
+unfoldable pub pair-line : List ℕ → ℕ → ℕ → List ℕ
+pair-line label first second = label ++ decimal first ++ ascii " " ++ decimal second ++ ascii "\n"
+
 -- 'A refusal prints only `c refused N L`, number and line.'
 unfoldable pub refusal-line : ℕ → ℕ → List ℕ
-refusal-line number line = ascii "c refused " ++ decimal number ++ ascii " " ++ decimal line ++ ascii "\n"
+refusal-line number line = pair-line (ascii "c refused ") number line
 
 -- A lent buffer after a text was put into it: the text, and the bytes past it as found; as found whole if the text is longer.
 unfoldable pub put : List ℕ → List ℕ → List ℕ

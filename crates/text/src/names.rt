@@ -41,7 +41,7 @@ pub(crate) fn bind_all(
         if start == end {
             return Used { count, cause: 0 };
         }
-        let v = numbers::number(&line[start..end]);
+        let v = numbers::number(&line[start..end], numbers::DIGITS);
         if v == 0 {
             return Used { count, cause: 0 };
         }

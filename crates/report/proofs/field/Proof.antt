@@ -1,7 +1,7 @@
--- `report::field` meets its contract: what `io::decimal` makes is the number's decimal form, of at most ten bytes. Assumes nothing.
+-- `report::field` meets its contract: what `io::decimal` makes is the number's decimal form, of at most twenty bytes. Assumes nothing.
 use native.Mathlib.Omega.{arith}
 use borrow.Author.Needs.{needs}
-use Rattle.report.proofs.Decimal.{at-most-ten, digits-decimal}
+use Rattle.report.proofs.Decimal.{at-most-twenty, digits-decimal}
 use Rattle.report.proofs.field.Statement.{statement}
 use Rattle.report.proofs.field.Tie as tie
 
@@ -21,7 +21,7 @@ append-requires-2 : tie.Need-append-requires-2
 append-requires-2 c κs =
     let made = c .before .before .before .before .before .before .decimal in
     let start = (c .before .before .before .before .before .before .before .before .before .before) in
-    omega (arith, at-most-ten (made .result) (start .args .number) (start .fits .number .fits) (made .ensures .1 .0))
+    omega (arith, at-most-twenty (made .result) (start .args .number) (start .fits .number .fits) (made .ensures .1 .0))
 
 same-length : tie.Need-same-length
 same-length c = search needs
@@ -33,7 +33,7 @@ returns c =
     let number = start .args .number in
     let small = start .fits .number .fits in
     let fewest = made .ensures .1 .0 in
-    (omega (arith, at-most-ten (made .result) number small fewest), cc (digits-decimal (made .result) number small fewest))
+    (omega (arith, at-most-twenty (made .result) number small fewest), cc (digits-decimal (made .result) number small fewest))
 
 pub field-spec : {M : Type 1} → statement M
 field-spec =

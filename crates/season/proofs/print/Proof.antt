@@ -1,0 +1,83 @@
+-- `season::print` meets its contract: the tests stand in the order of the causes. Assumes nothing.
+use mathlib.Core.Path.{_≡_, sym, ap, _∙_}
+use native.Mathlib.Omega.{arith}
+use Prim.Native.Nat.{_<_}
+use lib.ListN.{length, take}
+use Rattle.lines.specs.Lines.{lines}
+use Rattle.season.specs.Season.{max-studies, summary}
+use Rattle.season.specs.Text.{records}
+use Rattle.season.proofs.Printing.{printed-long, printed-other, printed-many, printed-page}
+use borrow.Author.Needs.{needs}
+use Rattle.season.proofs.print.Statement.{statement}
+use Rattle.season.proofs.print.Tie as tie
+
+refusal-requires : tie.Need-refusal-requires
+refusal-requires c κs = search needs
+
+same-length : tie.Need-same-length
+same-length c = search needs
+
+returns : tie.Need-returns
+returns c = rw (printed-long (c .before .before .before .before .before .before .before .args .text .now) (c .before .before .before .before .if1 .taken)) (c .before .before .refusal .ensures)
+
+check-requires : tie.Need-check-requires
+check-requires c κs = search needs
+
+refusal-requires-2 : tie.Need-refusal-requires-2
+refusal-requires-2 c κs = search needs
+
+same-length-2 : tie.Need-same-length-2
+same-length-2 c = search needs
+
+returns-2 : tie.Need-returns-2
+returns-2 c = rw (printed-other (c .before .before .before .before .before .before .before .before .before .before .args .text .now) (c .before .before .before .before .before .before .before .if1 .left) (c .before .before .before .before .before .before .check .result .other) (c .before .before .before .before .before .before .check .ensures .right) (c .before .before .before .before .if2 .taken)) (c .before .before .refusal2 .ensures)
+
+refusal-requires-3 : tie.Need-refusal-requires-3
+refusal-requires-3 c κs = search needs
+
+same-length-3 : tie.Need-same-length-3
+same-length-3 c = search needs
+
+returns-3 : tie.Need-returns-3
+returns-3 c =
+    let many : max-studies < length (lines (c .before .before .before .before .before .before .before .before .before .before .before .args .text .now)) = omega (arith, c .before .before .before .before .before .before .before .check .ensures .counted (c .before .before .before .before .before .if2 .left), c .before .before .before .before .if3 .taken) in
+    rw (printed-many (c .before .before .before .before .before .before .before .before .before .before .before .args .text .now) (c .before .before .before .before .before .before .before .before .if1 .left) (c .before .before .before .before .before .before .before .check .result .other) (c .before .before .before .before .before .before .before .check .ensures .right) (c .before .before .before .before .before .if2 .left) many) (c .before .before .refusal3 .ensures)
+
+read-requires : tie.Need-read-requires
+read-requires c κs = (omega arith, sym (c .before .before .before .check .ensures .right) ∙ c .before .if2 .left, omega (arith, c .before .before .before .check .ensures .counted (c .before .if2 .left)))
+
+over-first-requires : tie.Need-over-first-requires
+over-first-requires c κs = search needs
+
+show-requires : tie.Need-show-requires
+show-requires c κs = search needs
+
+same-length-4 : tie.Need-same-length-4
+same-length-4 c = search needs
+
+returns-4 : tie.Need-returns-4
+returns-4 c =
+    let text = c .before .before .before .before .before .before .before .before .before .before .before .before .before .args .text .now in
+    let count = c .before .before .before .before .before .before .before .before .before .check .ensures .counted (c .before .before .before .before .before .before .before .if2 .left) in
+    let page : c .before .before .before .before .over-first .result ≡ summary (records (lines text)) = c .before .before .before .before .over-first .ensures ∙ ap summary (ap (λ k. take k (c .before .before .before .before .before .read .result)) count ∙ c .before .before .before .before .before .read .ensures) in
+    rw (printed-page text (c .before .before .before .before .before .before .before .before .before .before .if1 .left) (c .before .before .before .before .before .before .before .before .before .check .result .other) (c .before .before .before .before .before .before .before .before .before .check .ensures .right) (c .before .before .before .before .before .before .before .if2 .left), ← page) (c .before .before .show .ensures)
+
+pub print-spec : {M : Type 1} → statement M
+print-spec =
+    tie.close
+    (tie.spec
+    refusal-requires
+    same-length
+    returns
+    check-requires
+    refusal-requires-2
+    same-length-2
+    returns-2
+    refusal-requires-3
+    same-length-3
+    returns-3
+    read-requires
+    over-first-requires
+    show-requires
+    same-length-4
+    returns-4)
