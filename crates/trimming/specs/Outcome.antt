@@ -1,6 +1,6 @@
 -- What `trim` returns and leaves, for everything that is lent: 01's causes 1 to 3, then 02's 15, then the trimmed literals.
 -- Assumes nothing.
-use Prim.Native.Nat.{ℕ, _≤_}
+use Prim.Native.Nat.{ℕ}
 use mathlib.Core.Bool.{cond}
 use mathlib.Core.List.{List, _++_}
 use lib.Dec.{eqb, ltb}

@@ -86,7 +86,7 @@ fn always_true_from(table: &[u16], start: usize) -> u16
     ensures { λ r. ⌜ r ≡ true-from (first-clause (drop start (now (table .entry)))) ⌝ }
 {
     if marks::is_always_true(table, start) {
-        0
+        0 // with its end
     } else {
         DROPPED
     }
@@ -276,5 +276,5 @@ fn copy_left(literals: &[i32], table: &[u16], output: &mut [i32]) -> usize
             to += 1;
         }
     }
-    to
+    to // the entries used
 }
