@@ -41,11 +41,9 @@ fn cases() -> Vec<Case> {
     let units: Vec<i32> = [1, 0].into_iter().chain((1..100).flat_map(|v| [-v, v + 1, 0])).collect();
     let one_sign: Vec<i32> = [1, 2, 0].into_iter().chain((2..100).flat_map(|v| [-v, v + 1, 0])).collect();
     let mut through: Vec<i32> = [1, 0].into_iter().chain((1..128).flat_map(|v| [-v, v + 1, 0])).collect();
-    let mut i = 0;
-    while through.len() + 4 <= ENTRIES {
+    for i in 0..CLAUSES as i32 - 128 {
         let name = |step: i32| (i + step) % 128 + 1;
         through.extend([-name(0), -name(43), name(85), 0]);
-        i += 1;
     }
     let halves = [vec![0; 64], vec![1; 64]].concat();
     let reduced = (0..CLAUSES as i32).flat_map(|i| [if i % 3 == 0 { i % 64 + 1 } else { -(i % 64 + 1) }, 65 + i % 64, -(65 + (i + 1) % 64), 0]);

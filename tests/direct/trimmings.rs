@@ -164,7 +164,7 @@ fn large(random: &mut Random) -> (Vec<u8>, Vec<i32>) {
 
 pub fn compare_large(random: &mut Random, times: usize, tally: &mut Tally) {
     let (mut compared, mut most) = (0, 0);
-    for _ in 0..600 * times {
+    for _ in 0..120 * times {
         let (kinds, literals) = large(random);
         let length = room(random, literals.len());
         let output = output(random, length);

@@ -2,7 +2,7 @@
 -- Assumes nothing.
 use Prim.Native.Nat.{ℕ}
 use mathlib.Core.Path.{_≡_, sym, _∙_, ap, ap₂}
-use mathlib.Core.Bool.{Bool, true, false}
+use mathlib.Core.Bool.{Bool, true}
 use mathlib.Core.List.{List}
 use lib.IntN.{ℤ}
 use Rattle.formula.specs.Formula.{prefix, clauses}
@@ -12,7 +12,7 @@ use Rattle.formula.proofs.Accepted.{Accepted, accepting}
 use Rattle.expansion.specs.Play.{Row}
 use Rattle.expansion.specs.Judge.{accepted}
 use Rattle.expansion.proofs.Accepted as judged
-use Rattle.rounds.specs.Run.{Lent, is-true, is-false, run}
+use Rattle.rounds.specs.Run.{Lent}
 use Rattle.rounds.proofs.Verdict.{verdict-right}
 use Rattle.rules.specs.Trimming.{trimmed}
 use Rattle.rules.specs.Proved.{Over, Proved}

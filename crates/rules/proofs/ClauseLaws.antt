@@ -1,20 +1,20 @@
 -- Clauses and the matrix where literals and clauses are dropped: what they are worth, and which unknowns they name.
 -- Assumes nothing.
-use Prim.Native.Nat.{ℕ, zero, suc, _-_, _≤_, _<_}
+use Prim.Native.Nat.{ℕ, zero, suc, _≤_, _<_}
 use native.Mathlib.Omega.{arith}
 use mathlib.Core.Path.{_≡_, refl, sym, _∙_, ap, ap₂, subst}
 use mathlib.Core.Logic.{_⊎_, inl, inr}
-use mathlib.Core.Bool.{Bool, true, false, not, cond, _&&_, _||_, true≢false, false≢true, or-true, or-false, and-false, Bool·beq}
-use mathlib.Core.List.{List, [], _∷_, map}
+use mathlib.Core.Bool.{Bool, true, false, not, cond, _&&_, _||_, true≢false, false≢true, or-true, Bool·beq}
+use mathlib.Core.List.{List, [], _∷_}
 use mathlib.Core.Option.{Option, none, some}
 use lib.Dec.{T, eqb, eqb→eq, eqb-refl}
 use lib.IntN.{ℤ, pos, negsuc, negℤ, natAbs}
-use lib.ListN.{length, getD}
+use lib.ListN.{getD}
 use Rattle.formula.specs.Formula.{Clause}
 use Rattle.formula.specs.Causes.{any}
 use Rattle.formula.specs.Meaning.{literal, clause, matrix}
 use Rattle.rules.specs.Trimming.{same, has, position, keep, behind, without-first, always-true, without-clauses, without-literal, set-true, found}
-use Rattle.rules.proofs.MeaningLaws.{Matrix, Implies, Below, AgreeOff, Ignores, literal-at}
+use Rattle.rules.proofs.MeaningLaws.{Implies, Below, AgreeOff, Ignores, literal-at}
 
 -- ---- tests
 

@@ -1,17 +1,16 @@
 -- The changes, made one at a time with a fresh start after each, come to the same as the rounds.
 -- Assumes nothing.
-use Prim.Native.Nat.{ℕ, zero, suc, _+_, _≤_, _<_}
+use Prim.Native.Nat.{ℕ, zero, suc, _≤_, _<_}
 use native.Mathlib.Omega.{arith}
 use mathlib.Core.Path.{_≡_, refl, sym, _∙_, ap, ap₂, subst}
 use mathlib.Core.Logic.{_⊎_, inl, inr}
-use mathlib.Core.Bool.{Bool, true, false, not, cond, _&&_, _||_, true≢false, false≢true}
-use mathlib.Core.List.{List, [], _∷_, _++_, map}
+use mathlib.Core.Bool.{Bool, true, false, not, cond, _&&_, _||_, false≢true}
+use mathlib.Core.List.{List, [], _∷_, _++_}
 use mathlib.Core.Option.{Option, none, some}
 use lib.IntN.{ℤ, negℤ}
-use lib.ListN.{length}
 use Rattle.formula.specs.Formula.{Kind, existential, universal, Clause}
 use Rattle.formula.specs.Causes.{any}
-use Rattle.rules.specs.Trimming.{has, is-universal, kind-at, keep, behind, first-of, without-first, always-true, rule-1, follows, reducible, in-front, rule-2, lowest-unit, without-clauses, without-literal, set-true, if-some, rule-3, lowest-pure, dropped, rule-4, step, from-step, steps}
+use Rattle.rules.specs.Trimming.{has, is-universal, kind-at, keep, behind, first-of, without-first, always-true, rule-1, follows, reducible, rule-2, lowest-unit, without-clauses, without-literal, set-true, if-some, rule-3, lowest-pure, dropped, rule-4, step, from-step, steps}
 use Rattle.rules.specs.Rounds.{untrue, reduced-clause, reduced, rounds}
 use Rattle.rules.proofs.ClauseLaws.{Every, In, every-in, every-from, in-any, any-in, has-in, in-has, keep-in, true-or-false, never-both}
 use Rattle.rules.proofs.RuleLaws.{none-not-some, some-is}

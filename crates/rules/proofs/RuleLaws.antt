@@ -4,19 +4,19 @@ use Prim.Native.Nat.{ℕ, zero, suc, _+_, _<_}
 use native.Mathlib.Omega.{arith}
 use mathlib.Core.Path.{_≡_, refl, sym, _∙_, ap, ap₂, subst}
 use mathlib.Core.Logic.{_⊎_, inl, inr}
-use mathlib.Core.Bool.{Bool, true, false, not, cond, _&&_, _||_, true≢false, false≢true}
-use mathlib.Core.List.{List, [], _∷_, map}
+use mathlib.Core.Bool.{Bool, true, false, not, cond, _&&_, _||_, false≢true}
+use mathlib.Core.List.{List, [], _∷_}
 use mathlib.Core.Option.{Option, none, some}
 use borrow.Author.Tests.{lt-ltb}
-use lib.Dec.{ltb, leb}
-use lib.IntN.{ℤ, pos, negsuc, negℤ, natAbs, negℤ-negℤ}
+use lib.Dec.{leb}
+use lib.IntN.{ℤ, pos, negsuc, negℤ, negℤ-negℤ}
 use lib.ListN.{length, getD}
 use Rattle.formula.specs.Formula.{Kind, existential, universal, Clause}
 use Rattle.formula.specs.Causes.{any}
 use Rattle.formula.specs.Meaning.{literal, clause, matrix, meaning}
-use Rattle.rules.specs.Trimming.{same, has, is-universal, position, kind-at, keep, behind, first-of, without-first, always-true, rule-1, follows, reducible, in-front, rule-2, unit, lower, lowest-unit, without-clauses, without-literal, set-true, if-some, rule-3, found, one-of, lowest-pure, dropped, rule-4, step}
-use Rattle.rules.proofs.MeaningLaws.{Matrix, Implies, Below, Ignores, both, with-literal, literal-at, UniversalBehind, meaning-same, meaning-set, meaning-reduced}
-use Rattle.rules.proofs.ClauseLaws.{Named, Every, In, sign, true-or-false, never-both, every-in, every-from, in-any, any-in, has-in, in-has, keep-in, without-in, in-clause, clause-in, always-true-is, clause-ignores, literal-is, literal-set, one-name, opposite-named, opposite-position, position-below, matrix-in, set-true-matrix, set-true-ignores, without-clauses-below, without-literal-below, without-literal-none, without-clauses-none}
+use Rattle.rules.specs.Trimming.{has, is-universal, position, kind-at, behind, first-of, without-first, always-true, rule-1, follows, reducible, in-front, rule-2, unit, lower, lowest-unit, without-clauses, without-literal, set-true, if-some, rule-3, found, one-of, lowest-pure, dropped, rule-4, step}
+use Rattle.rules.proofs.MeaningLaws.{Matrix, Below, both, with-literal, literal-at, meaning-same, meaning-set, meaning-reduced}
+use Rattle.rules.proofs.ClauseLaws.{Named, Every, In, sign, true-or-false, never-both, every-in, every-from, in-any, any-in, has-in, in-has, keep-in, without-in, clause-in, always-true-is, clause-ignores, literal-is, literal-set, one-name, opposite-named, opposite-position, position-below, matrix-in, set-true-matrix, set-true-ignores, without-clauses-below, without-literal-below, without-literal-none, without-clauses-none}
 
 -- Every literal names one of n unknowns.
 abbrev pub Within : ℕ → List Clause → Type 0

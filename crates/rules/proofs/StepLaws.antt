@@ -2,19 +2,18 @@
 -- Assumes nothing.
 use Prim.Native.Nat.{ℕ, zero, suc, _+_, _≤_, _<_}
 use native.Mathlib.Omega.{arith}
-use mathlib.Core.Path.{_≡_, refl, sym, _∙_, ap, ap₂, subst}
-use mathlib.Core.Logic.{_⊎_, inl, inr}
-use mathlib.Core.Bool.{Bool, true, false, not, cond, _&&_, _||_, true≢false, false≢true}
-use mathlib.Core.List.{List, [], _∷_, _++_, map}
+use mathlib.Core.Path.{_≡_, refl, sym, _∙_, ap, subst}
+use mathlib.Core.Logic.{inl, inr}
+use mathlib.Core.Bool.{Bool, true, false, not, cond}
+use mathlib.Core.List.{List, [], _∷_}
 use mathlib.Core.Option.{Option, none, some}
-use lib.IntN.{ℤ, pos, negsuc, negℤ, natAbs}
-use lib.ListN.{length, getD, length-append}
+use lib.IntN.{ℤ, pos, negℤ}
+use lib.ListN.{length, length-append}
 use Rattle.formula.specs.Formula.{Kind, existential, universal, Clause}
-use Rattle.formula.specs.Causes.{any}
 use Rattle.formula.specs.Meaning.{matrix, meaning}
-use Rattle.rules.specs.Trimming.{same, has, kind-at, keep, behind, first-of, without-first, always-true, rule-1, reducible, in-front, rule-2, lowest-unit, without-clauses, without-literal, set-true, if-some, rule-3, found, lowest-pure, dropped, rule-4, step, from-step, steps, entries}
-use Rattle.rules.proofs.ClauseLaws.{Named, Every, In, every-in, every-from, in-any, any-in, has-in, in-has, same-itself, keep-in, without-in, true-or-false, never-both}
-use Rattle.rules.proofs.RuleLaws.{Within, none-not-some, some-is, Unit-of, unit-stands, Pure-of, pure-stands, By, by-1, by-2, by-3, by-4, step-by, step-kept}
+use Rattle.rules.specs.Trimming.{same, has, kind-at, keep, behind, first-of, without-first, always-true, rule-1, reducible, in-front, rule-2, lowest-unit, without-clauses, without-literal, set-true, if-some, rule-3, lowest-pure, dropped, rule-4, step, from-step, steps, entries}
+use Rattle.rules.proofs.ClauseLaws.{Named, Every, In, every-in, every-from, any-in, has-in, in-has, same-itself, keep-in, without-in, never-both}
+use Rattle.rules.proofs.RuleLaws.{Within, none-not-some, some-is, unit-stands, Pure-of, pure-stands, By, by-1, by-2, by-3, by-4, step-by, step-kept}
 
 -- The number of entries, zeros included.
 abbrev pub size : List Clause → ℕ

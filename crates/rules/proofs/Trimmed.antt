@@ -1,16 +1,15 @@
 -- Trimming keeps the verdict, its result is accepted, and trimming twice is trimming once.
 -- Assumes nothing.
-use Prim.Native.Nat.{ℕ, zero, suc, _+_, _-_, _≤_, _<_}
+use Prim.Native.Nat.{ℕ, zero, suc, _-_, _≤_, _<_}
 use native.Mathlib.Omega.{arith}
 use native.Mathlib.Numerals.{sub-one}
-use mathlib.Core.Path.{_≡_, refl, sym, _∙_, ap, ap₂, subst}
-use mathlib.Core.Logic.{_⊎_, inl, inr}
-use mathlib.Core.Bool.{Bool, true, false, not, cond, _&&_, _||_, true≢false, false≢true}
-use mathlib.Core.List.{List, [], _∷_, _++_, map}
-use mathlib.Core.Option.{Option, none, some}
+use mathlib.Core.Path.{_≡_, refl, sym, _∙_, ap, subst}
+use mathlib.Core.Bool.{true, false≢true}
+use mathlib.Core.List.{List, [], _∷_, _++_}
+use mathlib.Core.Option.{none}
 use lib.IntN.{ℤ, pos, negsuc, natAbs}
 use lib.ListN.{length, getD, length-map}
-use Rattle.formula.specs.Formula.{Kind, prefix, kind-of, Clause, onto, with-entry, clauses, max-entries, max-clauses}
+use Rattle.formula.specs.Formula.{prefix, kind-of, Clause, onto, clauses}
 use Rattle.formula.specs.Causes.{zeros, is-zero, ended}
 use Rattle.formula.specs.Meaning.{matrix, meaning, verdict}
 use Rattle.formula.proofs.Accepted.{Accepted}

@@ -1,21 +1,20 @@
 -- A table that is laid out clause by clause.
 -- Assumes nothing.
-use Prim.Native.Nat.{ℕ, zero, suc, _+_, _%_, _≤_, _<_}
+use Prim.Native.Nat.{ℕ, suc, _%_, _≤_, _<_}
 use native.Mathlib.Omega.{arith}
-use mathlib.Core.Path.{_≡_, refl, sym, _∙_, ap, ap₂, subst}
-use mathlib.Core.Bool.{Bool, true, false, not, cond, _&&_}
+use mathlib.Core.Path.{_≡_, refl, sym, _∙_, ap, ap₂}
+use mathlib.Core.Bool.{Bool, true, false, cond}
 use mathlib.Core.List.{List, [], _∷_, _++_, map, append-assoc}
-use borrow.Author.Tests.{lt-ltb, le-ltb, ltb-true, ltb-false, ne-eqb}
-use lib.Dec.{eqb, ltb}
+use borrow.Author.Tests.{le-ltb, ltb-true, ne-eqb}
 use lib.IntN.{ℤ, pos}
-use lib.ListN.{length, length-append}
+use lib.ListN.{length}
 use Rattle.formula.specs.Formula.{Clause, clauses}
 use Rattle.rules.specs.Trimming.{keep, entries}
 use Rattle.rules.proofs.ClauseLaws.{Every, Named}
 use Rattle.rules.proofs.RuleLaws.{Within}
 use Rattle.rules.proofs.Trimmed.{clauses-entries}
 use Rattle.marks.specs.Marks.{is-left, ends, first-clause, first-length, marked, mark-clause}
-use Rattle.trimming.specs.Table.{literal-of, left, clauses-left, Entry, Block, standing, gone, inner, whole, Fine, laid, shown, all-shown, Laid}
+use Rattle.trimming.specs.Table.{literal-of, left, clauses-left, Entry, Block, standing, gone, inner, whole, Fine, laid, shown, all-shown}
 use Rattle.trimming.proofs.CodeLaws.{named-code}
 
 -- ---- lists

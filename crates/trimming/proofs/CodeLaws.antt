@@ -3,13 +3,13 @@
 use Prim.Native.Nat.{ℕ, zero, suc, _+_, _*_, _-_, _/_, _%_, _≤_, _<_}
 use native.Mathlib.Omega.{arith}
 use mathlib.Core.Path.{_≡_, refl, sym, _∙_, ap, subst}
-use mathlib.Core.Bool.{Bool, true, false, not, cond, true≢false}
+use mathlib.Core.Bool.{Bool, true, false, not, cond}
 use mathlib.Core.List.{List, _∷_}
 use borrow.Author.Tests.{eqb-true, eqb-false, eq-eqb, ne-eqb}
 use lib.Dec.{eqb}
-use lib.IntN.{ℤ, pos, negsuc, negℤ, natAbs}
+use lib.IntN.{ℤ, pos, negsuc, negℤ}
 use lib.ListN.{getD, List·getD-map}
-use Rattle.formula.specs.Formula.{Kind, existential, universal, kind-of, prefix}
+use Rattle.formula.specs.Formula.{kind-of, prefix}
 use Rattle.codes.specs.Codes.{code-of, opposite}
 use Rattle.rules.specs.Trimming as Trimming
 use Rattle.rules.proofs.ClauseLaws.{Named}

@@ -1,21 +1,20 @@
 -- What marking does to a clause: an entry that is marked is dropped, and any other stays; a clause that is marked whole is gone.
 -- Assumes nothing.
-use Prim.Native.Nat.{ℕ, zero, suc, _+_, _%_, _≤_, _<_}
+use Prim.Native.Nat.{ℕ, _+_, _≤_, _<_}
 use native.Mathlib.Omega.{arith}
 use mathlib.Core.Path.{_≡_, refl, sym, _∙_, ap, ap₂}
-use mathlib.Core.Bool.{Bool, true, false, not, cond, _&&_, _||_, and-false}
-use mathlib.Core.List.{List, [], _∷_, _++_, map}
-use borrow.Author.Tests.{ltb-true, ltb-false, le-ltb, lt-ltb, leb-true, leb-false, le-leb, lt-leb, ne-eqb}
-use lib.Dec.{leb, ltb, eqb}
-use lib.IntN.{ℤ}
+use mathlib.Core.Bool.{Bool, true, false, not, cond, _&&_, _||_}
+use mathlib.Core.List.{List, [], _∷_, map}
+use borrow.Author.Tests.{ltb-true, ltb-false, le-ltb, lt-ltb, leb-true, le-leb, ne-eqb}
+use lib.Dec.{leb, eqb}
 use Rattle.formula.specs.Causes.{any}
 use Rattle.rules.specs.Trimming as Trimming
 use Rattle.rules.specs.Trimming.{keep}
 use Rattle.rules.proofs.ClauseLaws.{Every}
 use Rattle.marks.specs.Marks.{is-left, marked, has}
-use Rattle.trimming.specs.Table.{literal-of, Entry, Block, standing, gone, whole, Fine}
+use Rattle.trimming.specs.Table.{literal-of, Entry}
 use Rattle.trimming.proofs.CodeLaws.{same-code}
-use Rattle.trimming.proofs.BlockLaws.{map-append, left-code, not-left}
+use Rattle.trimming.proofs.BlockLaws.{left-code}
 use Rattle.trimming.proofs.PassLaws.{marked-code}
 
 -- ---- tests over a list

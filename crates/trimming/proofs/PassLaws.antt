@@ -1,18 +1,17 @@
 -- A pass over the clauses of a table, and a walk that changes nothing.
 -- Assumes nothing.
-use Prim.Native.Nat.{ℕ, zero, suc, _+_, _%_, _≤_, _<_}
+use Prim.Native.Nat.{ℕ, _+_, _%_, _≤_, _<_}
 use native.Mathlib.Omega.{arith}
 use mathlib.Core.Path.{_≡_, refl, sym, _∙_, ap, ap₂, subst}
-use mathlib.Core.Bool.{Bool, true, false, not, cond, _&&_}
+use mathlib.Core.Bool.{Bool, true, false, cond, _&&_}
 use mathlib.Core.List.{List, [], _∷_, _++_, map, append-assoc, append-nil}
-use borrow.Author.Tests.{le-ltb}
-use lib.Dec.{leb, ltb}
+use lib.Dec.{leb}
 use lib.ListN.{length, take, drop, length-append, length-map}
 use lib.Seq.{take-at, drop-at}
 use Rattle.formula.specs.Formula.{Clause}
 use Rattle.rules.proofs.ClauseLaws.{Every}
 use Rattle.marks.specs.Marks.{is-left, first-clause, first-length, marked, mark-clause}
-use Rattle.trimming.specs.Table.{literal-of, clauses-left, codes, Entry, Block, standing, gone, inner, whole, Fine, laid, shown, all-shown, Laid, Passed}
+use Rattle.trimming.specs.Table.{clauses-left, codes, Block, standing, gone, inner, whole, Fine, laid, shown, all-shown, Laid, Passed}
 use Rattle.trimming.proofs.BlockLaws.{map-append, every-append, block-clause, block-length, block-marked, laid-append, shown-append, laid-clauses}
 
 -- The clauses before a place, and those from it on.

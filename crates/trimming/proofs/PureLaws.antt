@@ -1,29 +1,28 @@
 -- The lowest unknown in one sign, found in a table with a 1 at each code that the clauses have; and the code that is made true for it.
 -- Assumes nothing.
-use Prim.Native.Nat.{ℕ, zero, suc, _+_, _*_, _/_, _≤_, _<_}
+use Prim.Native.Nat.{ℕ, zero, suc, _+_, _*_, _≤_, _<_}
 use native.Mathlib.Omega.{arith}
 use native.Mathlib.Numerals.{add-one}
 use mathlib.Core.Path.{_≡_, refl, sym, _∙_, ap, ap₂, subst}
-use mathlib.Core.Bool.{Bool, true, false, not, cond, _&&_, _||_, or-assoc, or-comm, false≢true, true≢false}
+use mathlib.Core.Bool.{Bool, true, false, not, cond, _||_, true≢false}
 use mathlib.Core.List.{List, [], _∷_, _++_, map}
-use mathlib.Core.Option.{Option, none, some}
+use mathlib.Core.Option.{Option, some}
 use lib.Dec.{eqb}
 use lib.IntN.{ℤ, pos, negsuc, negℤ}
 use lib.ListN.{length, getD, drop, replicate, length-map, length-replicate, getD-replicate, drop-of-length-le}
 use Rattle.formula.specs.Formula.{Kind, existential, universal, kind-of, prefix, Clause}
-use Rattle.formula.specs.Causes.{any}
 use Rattle.formula.proofs.Places.{drop-front}
 use Rattle.codes.specs.Codes.{opposite}
 use Rattle.rules.specs.Trimming as Trimming
 use Rattle.rules.specs.Trimming.{keep, first-of, if-some, lowest-unit, set-true, rule-3, found, one-of, lowest-pure, dropped, rule-4, kind-at, without-clauses, without-literal}
-use Rattle.rules.proofs.ClauseLaws.{Every, Named, without-literal-none, without-clauses-none}
+use Rattle.rules.proofs.ClauseLaws.{Named, without-literal-none, without-clauses-none}
 use Rattle.rules.proofs.RuleLaws.{pure-stands}
 use Rattle.marks.specs.Marks.{is-left, is-universal, first-clause, first-length, has, noted}
 use Rattle.marks.proofs.Noted.{stands, length-noted, noted-stands}
-use Rattle.trimming.specs.Table.{literal-of, clauses-left, Entry, Block, standing, gone, inner, Fine, shown, all-shown, Laid, literal-or-none, Chosen, Picked, pure-code, one-code, made-true, Next, Found}
+use Rattle.trimming.specs.Table.{literal-of, clauses-left, Block, standing, gone, inner, Fine, shown, all-shown, Laid, literal-or-none, Chosen, Picked, pure-code, one-code, made-true, Next, Found}
 use Rattle.trimming.proofs.CodeLaws.{literal-even, literal-odd, opposite-literal, opposite-bounds, named-code, universal-code}
 use Rattle.trimming.proofs.BlockLaws.{gone-none, entries-of, shown-append, laid-clauses}
-use Rattle.trimming.proofs.PassLaws.{At, Front, front, over, front-fine, at-clause, passed-by, moved, begin, finished}
+use Rattle.trimming.proofs.PassLaws.{At, Front, front, front-fine, at-clause, passed-by, moved, begin, finished}
 use Rattle.trimming.proofs.MarkLaws.{has-literal}
 use Rattle.trimming.proofs.UnitLaws.{nothing-chosen, some-literal}
 

@@ -1,23 +1,21 @@
 -- The pass that reduces every clause: what stands behind the last existential unknown of its clause is dropped.
 -- Assumes nothing.
-use Prim.Native.Nat.{ℕ, zero, suc, _+_, _*_, _/_, _%_, _≤_, _<_}
+use Prim.Native.Nat.{ℕ, suc, _+_, _*_, _/_, _%_, _≤_, _<_}
 use native.Mathlib.Omega.{arith}
-use mathlib.Core.Path.{_≡_, refl, sym, _∙_, ap, ap₂, subst}
-use mathlib.Core.Logic.{inl, inr}
+use mathlib.Core.Path.{_≡_, refl, sym, _∙_, ap, ap₂}
 use mathlib.Core.Bool.{Bool, true, false, not, cond, _&&_, _||_, and-false}
 use mathlib.Core.List.{List, [], _∷_, _++_, map}
-use borrow.Author.Tests.{le-leb, lt-leb, leb-true, leb-false, lt-ltb, le-ltb, ltb-true, ltb-false}
+use borrow.Author.Tests.{le-leb, lt-leb, leb-true, leb-false, lt-ltb, le-ltb, ltb-true}
 use lib.Dec.{leb, ltb, eqb}
-use lib.IntN.{ℤ}
 use lib.ListN.{getD}
-use Rattle.formula.specs.Formula.{Kind, prefix, Clause}
+use Rattle.formula.specs.Formula.{prefix, Clause}
 use Rattle.formula.specs.Causes.{any}
 use Rattle.rules.specs.Trimming as Trimming
 use Rattle.rules.specs.Trimming.{keep, follows, reducible}
 use Rattle.rules.specs.Rounds.{reduced-clause, reduced}
 use Rattle.rules.proofs.ClauseLaws.{Every, In, every-in, every-from, in-any, keep-in}
 use Rattle.marks.specs.Marks.{is-left, is-universal, marked, raised, reducible-from}
-use Rattle.trimming.specs.Table.{literal-of, Entry, Block, standing, gone, inner, whole, Fine, shown}
+use Rattle.trimming.specs.Table.{literal-of, Entry, Block, standing, gone, inner, Fine}
 use Rattle.trimming.proofs.CodeLaws.{position-code, universal-code}
 use Rattle.trimming.proofs.BlockLaws.{map-append, left-code}
 use Rattle.trimming.proofs.PassLaws.{Change, Local}

@@ -1,15 +1,15 @@
 -- The rounds: every clause is reduced, then one literal is made true.
 -- Assumes nothing.
-use Prim.Native.Nat.{ℕ, zero, suc, _+_, _-_, _≤_, _<_}
+use Prim.Native.Nat.{ℕ, zero, suc, _-_, _≤_, _<_}
 use native.Mathlib.Omega.{arith}
-use mathlib.Core.Path.{_≡_, refl, sym, _∙_, ap, ap₂, subst}
+use mathlib.Core.Path.{_≡_, refl, sym, _∙_, ap}
 use mathlib.Core.List.{List}
-use mathlib.Core.Option.{Option, none, some}
+use mathlib.Core.Option.{Option, some}
 use lib.ListN.{length}
 use Rattle.formula.specs.Formula.{Kind, Clause}
 use Rattle.rules.specs.Trimming.{from-step, set-true}
 use Rattle.rules.specs.Rounds.{reduced, set-one, rounds}
-use Rattle.trimming.specs.Table.{literal-of, codes, clauses-left, Laid, Passed, Chosen, made-true, Next}
+use Rattle.trimming.specs.Table.{literal-of, codes, clauses-left, Laid, Passed, made-true, Next}
 
 -- What is left to do gives what all rounds give.
 pub record Settling (ks : List Kind) (all : ℕ) (table₀ table : List ℕ) (left : ℕ) : Type 0 where

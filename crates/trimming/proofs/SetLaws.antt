@@ -1,21 +1,20 @@
 -- The pass that makes a literal true.
 -- Assumes nothing.
-use Prim.Native.Nat.{ℕ, zero, suc, _≤_, _<_}
+use Prim.Native.Nat.{ℕ, _≤_, _<_}
 use native.Mathlib.Omega.{arith}
 use mathlib.Core.Path.{_≡_, refl, sym, _∙_, ap, ap₂}
 use mathlib.Core.Bool.{Bool, true, false, not, cond, _&&_}
 use mathlib.Core.List.{List, [], _∷_, _++_, map}
-use borrow.Author.Tests.{eq-eqb, ne-eqb, eqb-true, eqb-false, le-leb, lt-leb, leb-true, leb-false}
+use borrow.Author.Tests.{ne-eqb, eqb-true, eqb-false, le-leb, leb-true}
 use lib.Dec.{eqb, leb}
 use lib.IntN.{ℤ, negℤ}
 use Rattle.formula.specs.Formula.{Clause}
-use Rattle.formula.specs.Causes.{any}
 use Rattle.codes.specs.Codes.{opposite}
 use Rattle.rules.specs.Trimming as Trimming
 use Rattle.rules.specs.Trimming.{keep, without-clauses, without-literal, set-true}
 use Rattle.rules.proofs.ClauseLaws.{Every}
 use Rattle.marks.specs.Marks.{is-left, marked, has}
-use Rattle.trimming.specs.Table.{literal-of, Entry, Block, standing, gone, inner, whole, Fine, shown, set-from, up-to}
+use Rattle.trimming.specs.Table.{literal-of, Entry, Block, standing, gone, inner, Fine, set-from, up-to}
 use Rattle.trimming.proofs.CodeLaws.{opposite-literal, opposite-bounds, same-code}
 use Rattle.trimming.proofs.BlockLaws.{map-append, keep-append, left-code}
 use Rattle.trimming.proofs.PassLaws.{Change, Local}
@@ -45,9 +44,6 @@ among-one o x = go (eqb o x) refl
 module _ (code : ℕ) (two : 2 ≤ code) (small : code < 258) where
   bounds : (2 ≤ opposite code) × (opposite code < 258)
   bounds = opposite-bounds code two small
-
-  up-to-all : up-to 0 ≡ 511
-  up-to-all = refl
 
   up-to-one : up-to (opposite code) ≡ opposite code
   up-to-one = ap (λ (b : Bool). cond b 511 (opposite code)) (ne-eqb (opposite code) 0 (λ e. let b = bounds .0 in omega arith))

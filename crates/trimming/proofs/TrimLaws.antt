@@ -1,28 +1,26 @@
 -- From the lent literals to what is left of them: the table as it is filled, and the table at the end.
 -- Assumes nothing.
-use Prim.Native.Nat.{ℕ, zero, suc, _+_, _*_, _-_, _%_, _≤_, _<_}
+use Prim.Native.Nat.{ℕ, zero, suc, _+_, _%_, _≤_, _<_}
 use native.Mathlib.Omega.{arith}
-use native.Mathlib.Numerals.{sub-one, add-one}
-use mathlib.Core.Path.{_≡_, refl, sym, _∙_, ap, ap₂, subst}
-use mathlib.Core.Bool.{Bool, true, false, cond, false≢true}
+use native.Mathlib.Numerals.{sub-one}
+use mathlib.Core.Path.{_≡_, refl, sym, _∙_, ap, ap₂}
+use mathlib.Core.Bool.{Bool, true, cond, false≢true}
 use mathlib.Core.List.{List, [], _∷_, _++_, map, append-nil, append-assoc}
 use borrow.Author.Tests.{lt-ltb}
 use lib.IntN.{ℤ, pos, negsuc, natAbs}
 use lib.ListN.{length, getD, drop, length-map, drop-of-length-le}
-use Rattle.formula.specs.Formula.{Kind, prefix, Clause, onto, clauses}
+use Rattle.formula.specs.Formula.{prefix, Clause, onto, clauses}
 use Rattle.formula.specs.Causes.{is-zero, ended}
 use Rattle.formula.proofs.Accepted.{Accepted}
-use Rattle.codes.specs.Codes.{code-of, refused, entry-by-entry}
+use Rattle.codes.specs.Codes.{code-of, entry-by-entry}
 use Rattle.codes.proofs.EncodeLaws.{accepted}
-use Rattle.rules.specs.Trimming.{keep, entries, steps, trimmed}
+use Rattle.rules.specs.Trimming.{entries, steps, trimmed}
 use Rattle.rules.specs.Rounds.{untrue, rounds}
 use Rattle.rules.proofs.ClauseLaws.{Every, Named}
 use Rattle.rules.proofs.RuleLaws.{Within}
-use Rattle.rules.proofs.StepLaws.{size}
 use Rattle.rules.proofs.Trimmed.{size-clauses, within-clauses}
 use Rattle.rules.proofs.InRounds.{in-rounds}
-use Rattle.marks.specs.Marks.{is-left}
-use Rattle.trimming.specs.Table.{literal-of, left, codes, clauses-left, Entry, Block, standing, Fine, laid, Laid, Passed}
+use Rattle.trimming.specs.Table.{left, codes, clauses-left, Entry, Block, standing, Fine, laid, Laid, Passed}
 use Rattle.trimming.proofs.CodeLaws.{literal-code}
 use Rattle.trimming.proofs.BlockLaws.{map-append, left-entries, laid-clauses}
 

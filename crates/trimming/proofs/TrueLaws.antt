@@ -1,14 +1,12 @@
 -- The pass that drops always-true clauses.
 -- Assumes nothing.
-use Prim.Native.Nat.{ℕ, zero, suc, _≤_, _<_}
+use Prim.Native.Nat.{ℕ, _≤_}
 use native.Mathlib.Omega.{arith}
 use mathlib.Core.Path.{_≡_, refl, sym, _∙_, ap, ap₂}
 use mathlib.Core.Bool.{Bool, true, false, not, cond, _&&_}
 use mathlib.Core.List.{List, [], _∷_, _++_, map}
-use borrow.Author.Tests.{ltb-true, ltb-false, lt-ltb, le-ltb}
-use lib.Dec.{ltb}
-use lib.IntN.{ℤ, negℤ}
-use Rattle.formula.specs.Formula.{Clause}
+use borrow.Author.Tests.{ltb-false, lt-ltb, le-ltb}
+use lib.IntN.{negℤ}
 use Rattle.formula.specs.Causes.{any}
 use Rattle.codes.specs.Codes.{opposite}
 use Rattle.rules.specs.Trimming as Trimming
@@ -16,9 +14,9 @@ use Rattle.rules.specs.Trimming.{keep}
 use Rattle.rules.specs.Rounds.{untrue}
 use Rattle.rules.proofs.ClauseLaws.{Every}
 use Rattle.marks.specs.Marks.{is-left, marked, has, clashes, always-true}
-use Rattle.trimming.specs.Table.{literal-of, Entry, Block, standing, gone, inner, whole, Fine, shown, true-from}
+use Rattle.trimming.specs.Table.{literal-of, Entry, Block, standing, gone, inner, Fine, true-from}
 use Rattle.trimming.proofs.CodeLaws.{opposite-literal, opposite-bounds}
-use Rattle.trimming.proofs.BlockLaws.{map-append, keep-append, left-code, gone-none}
+use Rattle.trimming.proofs.BlockLaws.{map-append, keep-append, left-code}
 use Rattle.trimming.proofs.PassLaws.{Change, Local}
 use Rattle.trimming.proofs.MarkLaws.{any-left, marked-goes, none-marked, all-marked, has-literal}
 

@@ -2,21 +2,21 @@
 -- Assumes nothing.
 use Prim.Native.Nat.{ℕ, zero, suc, _+_, _/_, _≤_, _<_}
 use native.Mathlib.Omega.{arith}
-use mathlib.Core.Path.{_≡_, refl, sym, _∙_, ap, ap₂, subst}
+use mathlib.Core.Path.{_≡_, refl, sym, _∙_, ap, subst}
 use mathlib.Core.Logic.{_≢_}
-use mathlib.Core.Bool.{Bool, true, false, not, cond, _&&_}
+use mathlib.Core.Bool.{Bool, true, false, cond}
 use mathlib.Core.List.{List, [], _∷_, _++_, map}
 use mathlib.Core.Option.{Option, none, some}
-use borrow.Author.Tests.{eq-eqb, ne-eqb, eqb-true, eqb-false, le-leb, lt-leb, leb-true, leb-false, ltb-true, ltb-false}
+use borrow.Author.Tests.{ne-eqb, le-leb, lt-leb, leb-true, leb-false, ltb-true, ltb-false}
 use lib.Dec.{leb, ltb, eqb}
 use lib.IntN.{ℤ}
 use lib.ListN.{length, drop}
-use Rattle.formula.specs.Formula.{Kind, prefix, Clause}
+use Rattle.formula.specs.Formula.{prefix, Clause}
 use Rattle.rules.specs.Trimming as Trimming
 use Rattle.rules.specs.Trimming.{keep, lower, lowest-unit}
 use Rattle.rules.proofs.ClauseLaws.{Every}
 use Rattle.marks.specs.Marks.{is-left, is-universal, first-clause, first-length, only, unit}
-use Rattle.trimming.specs.Table.{literal-of, clauses-left, Entry, Block, standing, gone, inner, whole, Fine, laid, shown, all-shown, Laid, literal-or-none, Chosen, Picked, lower-code}
+use Rattle.trimming.specs.Table.{literal-of, clauses-left, Entry, Block, standing, gone, inner, Fine, shown, all-shown, Laid, literal-or-none, Chosen, Picked, lower-code}
 use Rattle.trimming.proofs.CodeLaws.{position-code, universal-code}
 use Rattle.trimming.proofs.BlockLaws.{left-code, gone-none, entries-of, laid-clauses}
 use Rattle.trimming.proofs.PassLaws.{At, Front, front, over, front-fine, at-clause, passed-by, moved, begin}

@@ -5,7 +5,7 @@ use native.Mathlib.Omega.{arith}
 use borrow.Author.Needs.{needs}
 use mathlib.Core.Path.{_≡_, refl, sym, _∙_, ap}
 use mathlib.Core.List.{_++_}
-use lib.ListN.{length, getD, take, drop, length-set}
+use lib.ListN.{length, take, drop, length-set}
 use Rattle.marks.specs.Marks.{first-length, mark-clause}
 use Rattle.marks.proofs.Walks.{length-end, length-moved, length-past, mark-end, mark-more, mark-past}
 use Rattle.marks.proofs.mark.Statement.{statement}

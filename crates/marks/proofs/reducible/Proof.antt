@@ -4,7 +4,7 @@ use Prim.Native.Nat.{_+_, _-_}
 use native.Mathlib.Omega.{arith}
 use borrow.Author.Needs.{needs}
 use mathlib.Core.Path.{_≡_, refl, sym, _∙_, ap}
-use lib.ListN.{length, getD, drop}
+use lib.ListN.{length, drop}
 use Rattle.marks.specs.Marks.{first-clause, reducible-from}
 use Rattle.marks.proofs.Walks.{clause-end, clause-more, clause-past}
 use Rattle.marks.proofs.reducible.Statement.{statement}

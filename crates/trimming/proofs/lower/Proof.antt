@@ -1,6 +1,5 @@
 -- `trimming::lower` meets its contract.
 -- Assumes nothing.
-use native.Mathlib.Omega.{arith}
 use borrow.Author.Tests.{eq-eqb, ne-eqb, lt-ltb, le-ltb}
 use Rattle.trimming.specs.Table.{lower-code}
 use Rattle.trimming.proofs.lower.Statement.{statement}

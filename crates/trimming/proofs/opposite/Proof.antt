@@ -1,6 +1,5 @@
 -- `trimming::opposite` meets its contract.
 -- Assumes nothing.
-use native.Mathlib.Omega.{arith}
 use borrow.Author.Needs.{needs}
 use borrow.Author.Tests.{eq-eqb, ne-eqb}
 use Rattle.codes.specs.Codes.{opposite}
