@@ -9,11 +9,11 @@ use borrow.Author.Tests.{le-ltb, ltb-true, ne-eqb}
 use lib.IntN.{ℤ, pos}
 use lib.ListN.{length}
 use Rattle.formula.specs.Formula.{Clause, clauses}
-use Rattle.rules.specs.Trimming.{keep, entries}
-use Rattle.rules.proofs.ClauseLaws.{Every, Named}
-use Rattle.rules.proofs.RuleLaws.{Within}
-use Rattle.rules.proofs.Trimmed.{clauses-entries}
-use Rattle.marks.specs.Marks.{is-left, ends, first-clause, first-length, marked, mark-clause}
+use Rattle.trimming_rules.specs.Trimming.{keep, entries}
+use Rattle.trimming_rules.proofs.ClauseLaws.{Every, Named}
+use Rattle.trimming_rules.proofs.RuleLaws.{Within}
+use Rattle.trimming_rules.proofs.Trimmed.{clauses-entries}
+use Rattle.trimming_marks.specs.Marks.{is-left, ends, first-clause, first-length, marked, mark-clause}
 use Rattle.trimming.specs.Table.{literal-of, left, clauses-left, Entry, Block, standing, gone, inner, whole, Fine, laid, shown, all-shown}
 use Rattle.trimming.proofs.CodeLaws.{named-code}
 

@@ -11,9 +11,9 @@ use lib.IntN.{ℤ, pos, negsuc, negℤ}
 use lib.ListN.{getD, List·getD-map}
 use Rattle.formula.specs.Formula.{kind-of, prefix}
 use Rattle.codes.specs.Codes.{code-of, opposite}
-use Rattle.rules.specs.Trimming as Trimming
-use Rattle.rules.proofs.ClauseLaws.{Named}
-use Rattle.marks.specs.Marks.{is-universal}
+use Rattle.trimming_rules.specs.Trimming as Trimming
+use Rattle.trimming_rules.proofs.ClauseLaws.{Named}
+use Rattle.trimming_marks.specs.Marks.{is-universal}
 use Rattle.trimming.specs.Table.{literal-of}
 
 -- ---- there and back

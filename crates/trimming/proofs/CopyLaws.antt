@@ -12,9 +12,9 @@ use lib.ListN.{length, getD, take, drop, set, length-append, length-map, length-
 use lib.Seq.{take-all, take-suc, length-take-le, append-snoc, set-at}
 use Rattle.formula.proofs.Places.{drop-front}
 use Rattle.codes.specs.Codes.{code-of}
-use Rattle.rules.specs.Trimming.{keep}
-use Rattle.rules.proofs.StepLaws.{keep-fewer}
-use Rattle.marks.specs.Marks.{is-left}
+use Rattle.trimming_rules.specs.Trimming.{keep}
+use Rattle.trimming_rules.proofs.StepLaws.{keep-fewer}
+use Rattle.trimming_marks.specs.Marks.{is-left}
 use Rattle.trimming.specs.Table.{literal-of, left, codes}
 use Rattle.trimming.proofs.CodeLaws.{literal-code}
 use Rattle.trimming.proofs.BlockLaws.{left-append}

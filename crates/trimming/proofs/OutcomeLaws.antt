@@ -15,9 +15,9 @@ use Rattle.formula.specs.declared.Formula.{Formula}
 use Rattle.formula.specs.Causes as Causes
 use Rattle.formula.specs.Causes.{checked, cause-1, cause-2, cause-3, sizes, refused-if}
 use Rattle.formula.proofs.Accepted.{accepted}
-use Rattle.rules.specs.Trimming.{trimmed}
-use Rattle.rules.specs.Proved.{Proved}
-use Rattle.rules.proofs.Carried.{proved}
+use Rattle.trimming_rules.specs.Trimming.{trimmed}
+use Rattle.trimming_rules.specs.Proved.{Proved}
+use Rattle.trimming_rules.proofs.Carried.{proved}
 use Rattle.trimming.specs.declared.Trimmed.{Trimmed}
 use Rattle.trimming.specs.declared.Trimmed.the-variants.{Entries, Refused}
 use Rattle.trimming.specs.Outcome.{formula-cause, cause, outcome, output-after, number}

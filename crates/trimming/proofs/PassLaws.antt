@@ -9,8 +9,8 @@ use lib.Dec.{leb}
 use lib.ListN.{length, take, drop, length-append, length-map}
 use lib.Seq.{take-at, drop-at}
 use Rattle.formula.specs.Formula.{Clause}
-use Rattle.rules.proofs.ClauseLaws.{Every}
-use Rattle.marks.specs.Marks.{is-left, first-clause, first-length, marked, mark-clause}
+use Rattle.trimming_rules.proofs.ClauseLaws.{Every}
+use Rattle.trimming_marks.specs.Marks.{is-left, first-clause, first-length, marked, mark-clause}
 use Rattle.trimming.specs.Table.{clauses-left, codes, Block, standing, gone, inner, whole, Fine, laid, shown, all-shown, Laid, Passed}
 use Rattle.trimming.proofs.BlockLaws.{map-append, every-append, block-clause, block-length, block-marked, laid-append, shown-append, laid-clauses}
 

@@ -13,12 +13,12 @@ use lib.ListN.{length, getD, drop, replicate, length-map, length-replicate, getD
 use Rattle.formula.specs.Formula.{Kind, existential, universal, kind-of, prefix, Clause}
 use Rattle.formula.proofs.Places.{drop-front}
 use Rattle.codes.specs.Codes.{opposite}
-use Rattle.rules.specs.Trimming as Trimming
-use Rattle.rules.specs.Trimming.{keep, first-of, if-some, lowest-unit, set-true, rule-3, found, one-of, lowest-pure, dropped, rule-4, kind-at, without-clauses, without-literal}
-use Rattle.rules.proofs.ClauseLaws.{Named, without-literal-none, without-clauses-none}
-use Rattle.rules.proofs.RuleLaws.{pure-stands}
-use Rattle.marks.specs.Marks.{is-left, is-universal, first-clause, first-length, has, noted}
-use Rattle.marks.proofs.Noted.{stands, length-noted, noted-stands}
+use Rattle.trimming_rules.specs.Trimming as Trimming
+use Rattle.trimming_rules.specs.Trimming.{keep, first-of, if-some, lowest-unit, set-true, rule-3, found, one-of, lowest-pure, dropped, rule-4, kind-at, without-clauses, without-literal}
+use Rattle.trimming_rules.proofs.ClauseLaws.{Named, without-literal-none, without-clauses-none}
+use Rattle.trimming_rules.proofs.RuleLaws.{pure-stands}
+use Rattle.trimming_marks.specs.Marks.{is-left, is-universal, first-clause, first-length, has, noted}
+use Rattle.trimming_marks.proofs.Noted.{stands, length-noted, noted-stands}
 use Rattle.trimming.specs.Table.{literal-of, clauses-left, Block, standing, gone, inner, Fine, shown, all-shown, Laid, literal-or-none, Chosen, Picked, pure-code, one-code, made-true, Next, Found}
 use Rattle.trimming.proofs.CodeLaws.{literal-even, literal-odd, opposite-literal, opposite-bounds, named-code, universal-code}
 use Rattle.trimming.proofs.BlockLaws.{gone-none, entries-of, shown-append, laid-clauses}

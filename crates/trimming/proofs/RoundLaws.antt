@@ -7,8 +7,8 @@ use mathlib.Core.List.{List}
 use mathlib.Core.Option.{Option, some}
 use lib.ListN.{length}
 use Rattle.formula.specs.Formula.{Kind, Clause}
-use Rattle.rules.specs.Trimming.{from-step, set-true}
-use Rattle.rules.specs.Rounds.{reduced, set-one, rounds}
+use Rattle.trimming_rules.specs.Trimming.{from-step, set-true}
+use Rattle.trimming_rules.specs.Rounds.{reduced, set-one, rounds}
 use Rattle.trimming.specs.Table.{literal-of, codes, clauses-left, Laid, Passed, made-true, Next}
 
 -- What is left to do gives what all rounds give.

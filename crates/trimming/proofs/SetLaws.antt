@@ -10,10 +10,10 @@ use lib.Dec.{eqb, leb}
 use lib.IntN.{ℤ, negℤ}
 use Rattle.formula.specs.Formula.{Clause}
 use Rattle.codes.specs.Codes.{opposite}
-use Rattle.rules.specs.Trimming as Trimming
-use Rattle.rules.specs.Trimming.{keep, without-clauses, without-literal, set-true}
-use Rattle.rules.proofs.ClauseLaws.{Every}
-use Rattle.marks.specs.Marks.{is-left, marked, has}
+use Rattle.trimming_rules.specs.Trimming as Trimming
+use Rattle.trimming_rules.specs.Trimming.{keep, without-clauses, without-literal, set-true}
+use Rattle.trimming_rules.proofs.ClauseLaws.{Every}
+use Rattle.trimming_marks.specs.Marks.{is-left, marked, has}
 use Rattle.trimming.specs.Table.{literal-of, Entry, Block, standing, gone, inner, Fine, set-from, up-to}
 use Rattle.trimming.proofs.CodeLaws.{opposite-literal, opposite-bounds, same-code}
 use Rattle.trimming.proofs.BlockLaws.{map-append, keep-append, left-code}

@@ -12,10 +12,10 @@ use lib.Dec.{leb, ltb, eqb}
 use lib.IntN.{ℤ}
 use lib.ListN.{length, drop}
 use Rattle.formula.specs.Formula.{prefix, Clause}
-use Rattle.rules.specs.Trimming as Trimming
-use Rattle.rules.specs.Trimming.{keep, lower, lowest-unit}
-use Rattle.rules.proofs.ClauseLaws.{Every}
-use Rattle.marks.specs.Marks.{is-left, is-universal, first-clause, first-length, only, unit}
+use Rattle.trimming_rules.specs.Trimming as Trimming
+use Rattle.trimming_rules.specs.Trimming.{keep, lower, lowest-unit}
+use Rattle.trimming_rules.proofs.ClauseLaws.{Every}
+use Rattle.trimming_marks.specs.Marks.{is-left, is-universal, first-clause, first-length, only, unit}
 use Rattle.trimming.specs.Table.{literal-of, clauses-left, Entry, Block, standing, gone, inner, Fine, shown, all-shown, Laid, literal-or-none, Chosen, Picked, lower-code}
 use Rattle.trimming.proofs.CodeLaws.{position-code, universal-code}
 use Rattle.trimming.proofs.BlockLaws.{left-code, gone-none, entries-of, laid-clauses}

@@ -7,7 +7,7 @@ use lib.Dec.{eqb, ltb}
 use lib.IntN.{ℤ}
 use lib.ListN.{length, drop}
 use Rattle.formula.specs.Causes as Causes
-use Rattle.rules.specs.Trimming.{trimmed}
+use Rattle.trimming_rules.specs.Trimming.{trimmed}
 use Rattle.trimming.specs.declared.Trimmed.{Trimmed}
 use Rattle.trimming.specs.declared.Trimmed.the-variants.{Entries, Refused}
 

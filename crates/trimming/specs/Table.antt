@@ -12,9 +12,9 @@ use lib.IntN.{ℤ, pos, negsuc}
 use lib.ListN.{length, getD}
 use Rattle.formula.specs.Formula.{Kind, Clause, clauses}
 use Rattle.codes.specs.Codes.{opposite}
-use Rattle.rules.specs.Trimming.{keep, first-of, set-true, rule-3, found, rule-4}
-use Rattle.rules.proofs.ClauseLaws.{Every}
-use Rattle.marks.specs.Marks.{is-left, has, always-true}
+use Rattle.trimming_rules.specs.Trimming.{keep, first-of, set-true, rule-3, found, rule-4}
+use Rattle.trimming_rules.proofs.ClauseLaws.{Every}
+use Rattle.trimming_marks.specs.Marks.{is-left, has, always-true}
 
 -- The literal of a code; of 0 it is the 0 that ends a clause.
 unfoldable pub literal-of : ℕ → ℤ

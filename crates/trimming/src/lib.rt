@@ -1,8 +1,8 @@
 // Trimming before the run (02, C-13): clauses that settle themselves are dropped, and the verdict stays.
 // `trim` promises, for all that is lent, the answer and every entry of the output table that the definition gives; of every accepted formula
-// the theorems on trimming hold (`rules`). It makes the changes in rounds, which come to the same as one at a time: always-true clauses
+// the theorems on trimming hold (`trimming_rules`). It makes the changes in rounds, which come to the same as one at a time: always-true clauses
 // are dropped once; then in each round every clause is reduced and one literal is made true, at most once an unknown.
-// What one clause tells and loses belongs to `marks`.
+// What one clause tells and loses belongs to `trimming_marks`.
 use formula::Check;
 use formula::Formula;
 ghost use mathlib.Core.Path.{_≡_};
@@ -12,10 +12,10 @@ ghost use lib.ListN.{length, drop, replicate};
 ghost use Rattle.formula.specs.Formula.{prefix, Clause};
 ghost use Rattle.formula.proofs.Accepted.{Accepted as AcceptedFormula};
 ghost use Rattle.codes.specs.Codes.{code-of, opposite as code-opposite};
-ghost use Rattle.marks.specs.Marks.{first-clause};
-ghost use Rattle.rules.specs.Trimming.{set-true, lowest-unit, lowest-pure, trimmed};
-ghost use Rattle.rules.specs.Rounds.{untrue, reduced, rounds};
-ghost use Rattle.rules.specs.Proved.{Proved};
+ghost use Rattle.trimming_marks.specs.Marks.{first-clause};
+ghost use Rattle.trimming_rules.specs.Trimming.{set-true, lowest-unit, lowest-pure, trimmed};
+ghost use Rattle.trimming_rules.specs.Rounds.{untrue, reduced, rounds};
+ghost use Rattle.trimming_rules.specs.Proved.{Proved};
 ghost use Rattle.trimming.specs.Outcome.{formula-cause, cause as cause-of, outcome, output-after, number};
 ghost use Rattle.trimming.specs.Table.{literal-of, left, codes as codes-of, clauses-left, Laid, Passed, Chosen, Picked, Found, lower-code, pure-code, Next, true-from, set-from, up-to as up-to-code};
 
@@ -77,7 +77,7 @@ fn drop_true(table: &mut [u16])
     let mut start = 0;
     while start < table.len() {
         let low = always_true_from(table, start);
-        start = marks::mark(table, start, low, LAST_LEFT);
+        start = trimming_marks::mark(table, start, low, LAST_LEFT);
     }
 }
 
@@ -85,7 +85,7 @@ fn drop_true(table: &mut [u16])
 fn always_true_from(table: &[u16], start: usize) -> u16
     ensures { λ r. ⌜ r ≡ true-from (first-clause (drop start (now (table .entry)))) ⌝ }
 {
-    if marks::is_always_true(table, start) {
+    if trimming_marks::is_always_true(table, start) {
         0 // with its end
     } else {
         DROPPED
@@ -116,8 +116,8 @@ fn reduce(kinds: &[u8], table: &mut [u16])
 {
     let mut start = 0;
     while start < table.len() {
-        let low = marks::reducible(kinds, table, start);
-        start = marks::mark(table, start, low, LAST_LEFT);
+        let low = trimming_marks::reducible(kinds, table, start);
+        start = trimming_marks::mark(table, start, low, LAST_LEFT);
     }
 }
 
@@ -134,7 +134,7 @@ fn next(kinds: &[u8], table: &[u16]) -> u16
     if pure == 0 {
         return 0;
     }
-    if marks::is_universal(kinds, pure) {
+    if trimming_marks::is_universal(kinds, pure) {
         return opposite(pure);
     }
     pure
@@ -147,9 +147,9 @@ fn lowest_unit(kinds: &[u8], table: &[u16]) -> u16
     let mut best: u16 = 0;
     let mut start = 0;
     while start < table.len() {
-        let code = marks::unit(kinds, table, start);
+        let code = trimming_marks::unit(kinds, table, start);
         best = lower(best, code);
-        start = marks::past(table, start);
+        start = trimming_marks::past(table, start);
     }
     best
 }
@@ -181,8 +181,8 @@ fn note_all(table: &[u16], seen: &mut [u8; 258])
 {
     let mut start = 0;
     while start < table.len() {
-        marks::note(table, start, seen);
-        start = marks::past(table, start);
+        trimming_marks::note(table, start, seen);
+        start = trimming_marks::past(table, start);
     }
 }
 
@@ -230,7 +230,7 @@ fn set_true(table: &mut [u16], code: u16)
     let mut start = 0;
     while start < table.len() {
         let low = set_true_from(table, start, code);
-        start = marks::mark(table, start, low, up_to(low));
+        start = trimming_marks::mark(table, start, low, up_to(low));
     }
 }
 
@@ -238,7 +238,7 @@ fn set_true_from(table: &[u16], start: usize, code: u16) -> u16
     requires { ⌜ (2 ≤ code) × (code < 258) ⌝ }
     ensures { λ r. ⌜ r ≡ set-from code (first-clause (drop start (now (table .entry)))) ⌝ }
 {
-    if marks::has(table, start, code) {
+    if trimming_marks::has(table, start, code) {
         0
     } else {
         opposite(code)

@@ -4,7 +4,7 @@ use Prim.Native.Nat.{_-_}
 use native.Mathlib.Omega.{arith}
 use borrow.Author.Needs.{needs}
 use mathlib.Core.Path.{refl}
-use Rattle.rules.specs.Rounds.{untrue}
+use Rattle.trimming_rules.specs.Rounds.{untrue}
 use Rattle.trimming.specs.Table.{true-from}
 use Rattle.trimming.proofs.TrueLaws.{untrue-local, true-dropped}
 use lib.ListN.{length}

@@ -5,8 +5,8 @@ use native.Mathlib.Omega.{arith}
 use borrow.Author.Needs.{needs}
 use mathlib.Core.Path.{refl}
 use Rattle.formula.specs.Formula.{prefix}
-use Rattle.marks.specs.Marks.{reducible-from}
-use Rattle.rules.specs.Rounds.{reduced}
+use Rattle.trimming_marks.specs.Marks.{reducible-from}
+use Rattle.trimming_rules.specs.Rounds.{reduced}
 use Rattle.trimming.proofs.ReduceLaws.{reduced-local, clause-reduced}
 use lib.ListN.{length}
 use Rattle.trimming.proofs.PassLaws.{Passing, passing-begins, passing-more, passing-ends, goes-on}

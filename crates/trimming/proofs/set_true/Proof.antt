@@ -4,7 +4,7 @@ use Prim.Native.Nat.{_-_}
 use native.Mathlib.Omega.{arith}
 use borrow.Author.Needs.{needs}
 use mathlib.Core.Path.{_∙_, ap}
-use Rattle.rules.specs.Trimming.{set-true}
+use Rattle.trimming_rules.specs.Trimming.{set-true}
 use Rattle.trimming.specs.Table.{literal-of, set-from, up-to}
 use Rattle.trimming.proofs.SetLaws.{set-local, literal-set}
 use lib.ListN.{length}

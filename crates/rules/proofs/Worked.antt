@@ -1,9 +1,0 @@
--- The trimmings worked by hand come out as worked.
--- Assumes nothing.
-use mathlib.Core.Path.{refl}
-use Rattle.rules.specs.Trimming.{step, trimmed}
-use Rattle.rules.specs.Worked.{Worked}
-
-pub worked : Worked
-unfolding step trimmed
-worked = refl
