@@ -6,6 +6,7 @@ use crate::lent::{Entry, Lent};
 use crate::model::TooLong;
 use crate::probe;
 use crate::rounds::{Given, Left};
+use crate::trimming;
 use crate::wanted::Lending;
 
 /// The wrong case in words, or `None` if all is as wanted.
@@ -165,4 +166,22 @@ pub fn fee_with(firsts: &[u32], prices: &[u32], kinds: &[u8], rounds: u32, wante
     faults.table("prices", &lent_prices, prices);
     faults.table("kinds", &lent_kinds, kinds);
     faults.words(format!("fee, first rounds {:?} prices {:?} kinds {:?} rounds {}", firsts, prices, kinds, rounds))
+}
+
+/// A trimming, and what it left in the output table.
+pub fn trim(kinds: &[u8], literals: &[i32], output: &[i32]) -> (Wrong, Vec<i32>) {
+    let wanted = trimming::wanted(kinds, literals, output);
+    let lent_kinds = Lent::new(kinds);
+    let lent_literals = Lent::new(literals);
+    let mut lent_output = Lent::new(output);
+    let mut used = Lent::new(&[7]);
+    let number = probe::trim(&lent_kinds, &lent_literals, &mut lent_output, &mut used);
+    let mut faults = Faults(Vec::new());
+    faults.number("number", number, wanted.number);
+    faults.table("used", &used, &[wanted.used]);
+    faults.table("kinds", &lent_kinds, kinds);
+    faults.table("literals", &lent_literals, literals);
+    faults.table("output", &lent_output, &wanted.output);
+    let call = format!("trim, kinds {:?} literals {:?} output of {} entries", kinds, literals, output.len());
+    (faults.words(call), lent_output.content()[..wanted.used].to_vec())
 }

@@ -16,11 +16,12 @@ mod searches;
 mod sheets;
 mod witness;
 mod witness_probe;
+mod trimmings;
 
 use independent::jobs::{self, Job};
 use independent::random::Random;
 use independent::tally::Tally;
-use independent::{draw, fee, formula, lent, model, preference, random, rounds, rows, season, seasons, tally, wanted};
+use independent::{draw, fee, formula, lent, model, preference, random, rounds, rows, season, seasons, tally, wanted, meaning, trimming};
 use std::time::Instant;
 
 const SEED: u64 = 1;
@@ -35,6 +36,8 @@ fn topics() -> Vec<Topic> {
         topics.push(Box::new(move |random, times, tally| searches::compare_group(i, random, times, tally)));
     }
     topics.push(Box::new(runs::compare_all));
+    topics.push(Box::new(trimmings::compare_small));
+    topics.push(Box::new(trimmings::compare_large));
     topics.push(Box::new(refused::compare_all));
     topics.push(Box::new(known::compare_all));
     topics.push(Box::new(fees::compare_all));

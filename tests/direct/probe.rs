@@ -69,6 +69,16 @@ extern "C" {
         cents: *mut u64,
     ) -> u64;
 
+    fn probe_trim(
+        kinds: *const u8,
+        kinds_length: usize,
+        literals: *const i32,
+        literals_length: usize,
+        output: *mut i32,
+        output_length: usize,
+        used: *mut usize,
+    ) -> u64;
+
     fn probe_row_length(rows: *const u8, rows_length: usize, count: usize, place: usize) -> usize;
 
     fn probe_row_byte(rows: *const u8, rows_length: usize, count: usize, place: usize, j: usize) -> u8;
@@ -181,6 +191,20 @@ pub fn fee_with(firsts: &Lent<u32>, prices: &Lent<u32>, kinds: &Lent<u8>, rounds
             kinds.length(),
             rounds,
             cents.address_mut(),
+        )
+    }
+}
+
+pub fn trim(kinds: &Lent<u8>, literals: &Lent<i32>, output: &mut Lent<i32>, used: &mut Lent<usize>) -> u64 {
+    unsafe {
+        probe_trim(
+            kinds.address(),
+            kinds.length(),
+            literals.address(),
+            literals.length(),
+            output.address_mut(),
+            output.length(),
+            used.address_mut(),
         )
     }
 }

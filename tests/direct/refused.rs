@@ -13,7 +13,7 @@ const LOOKS: usize = 2_000_000;
 
 const SIZES: Sizes = Sizes { unknowns: (0, 8), room: (1, 5), density: 2, window: 8, around_a_model: false };
 
-fn spoil_kinds(random: &mut Random, kinds: &mut Vec<u8>) {
+pub fn spoil_kinds(random: &mut Random, kinds: &mut Vec<u8>) {
     if kinds.is_empty() || random.chance(1, 2) {
         kinds.resize(random.pick(&[129, 130, 200, 1000]), 0);
     } else {
@@ -22,7 +22,7 @@ fn spoil_kinds(random: &mut Random, kinds: &mut Vec<u8>) {
     }
 }
 
-fn spoil_literals(random: &mut Random, literals: &mut Vec<i32>) {
+pub fn spoil_literals(random: &mut Random, literals: &mut Vec<i32>) {
     match random.below(3) {
         0 => literals.resize(random.pick(&[8193, 9000]), 0),
         1 => literals.extend(vec![0; 2049]),
@@ -30,7 +30,7 @@ fn spoil_literals(random: &mut Random, literals: &mut Vec<i32>) {
     }
 }
 
-fn spoil_literal(random: &mut Random, n: usize, literals: &mut Vec<i32>) {
+pub fn spoil_literal(random: &mut Random, n: usize, literals: &mut Vec<i32>) {
     let beyond = n as i32 + 1;
     let literal = random.pick(&[beyond, -beyond, beyond + 1, 1000, i32::MIN, i32::MIN + 1, i32::MAX, 1 << 16]);
     let place = random.below(literals.len() + 1);

@@ -1,5 +1,5 @@
 //! 01's rules, written from its words apart from the engine: the formula, its meaning by brute force, preferences, rows, copies and the
-//! first model, the run, the judge, the reader, the fee, the witness file and the season sheet (02), and what the program prints and the C function
+//! first model, the run, the judge, the reader, trimming, the fee, the witness file and the season sheet (02), and what the program prints and the C function
 //! returns. With them what the tests share: random
 //! cases, lent tables with guards, the count of cases, jobs on several threads.
 
@@ -22,5 +22,6 @@ pub mod rows;
 pub mod season;
 pub mod seasons;
 pub mod tally;
+pub mod trimming;
 pub mod wanted;
 pub mod witness;

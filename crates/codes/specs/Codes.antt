@@ -2,10 +2,10 @@
 -- Assumes nothing.
 use Prim.Native.Nat.{ℕ, zero, suc, _+_, _*_, _-_, _/_, _%_}
 use mathlib.Core.Bool.{Bool, cond, _||_}
-use mathlib.Core.List.{List, [], _∷_, _++_}
+use mathlib.Core.List.{List, [], _∷_, _++_, map}
 use lib.Dec.{eqb, ltb}
 use lib.IntN.{ℤ, pos, negsuc}
-use lib.ListN.{length, replicate}
+use lib.ListN.{length, drop, replicate}
 use Rattle.formula.specs.Formula.{max-unknowns}
 use Rattle.formula.specs.Causes.{any, beyond}
 
@@ -74,3 +74,8 @@ used literals places = cond (refused literals places) 0 (length (encoding litera
 abbrev pub filled : List ℤ → List ℕ → List ℕ
 filled literals codes =
     cond (refused literals (length codes)) codes (encoding literals ++ replicate (length codes - length (encoding literals)) 0)
+
+-- The table with the code of each literal at its place, and what it was behind them; or what it was.
+abbrev pub entry-by-entry : List ℤ → List ℕ → List ℕ
+entry-by-entry literals codes =
+    cond (refused literals (length codes)) codes (map code-of literals ++ drop (length literals) codes)

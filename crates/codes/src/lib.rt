@@ -1,16 +1,17 @@
 // The literals of a formula as 16-bit codes: 0 ends a clause, 2v stands for the literal v and 2v + 1 for -v. Each clause names a literal
 // once, its largest code first; a clause with v and -v, which is always true, is left out. `encode` is total: its contract gives the
-// number of entries used and every entry of the table, for whatever is lent. What a formula means is left to `formula`.
+// number of entries used and every entry of the table, for whatever is lent. So is `encode_entries`, which leaves nothing out: each code
+// stands at its literal's place. What a formula means is left to `formula`.
 use formula::Formula;
 ghost use mathlib.Core.Path.{_≡_};
 ghost use Prim.Native.Nat.{_+_, _-_, _≤_, _<_};
 ghost use mathlib.Core.Bool.{false};
-ghost use mathlib.Core.List.{_++_};
+ghost use mathlib.Core.List.{_++_, map};
 ghost use lib.IntN.{natAbs};
-ghost use lib.ListN.{length, take, replicate};
+ghost use lib.ListN.{length, take, drop, replicate};
 ghost use Rattle.formula.specs.Formula.{max-unknowns};
 ghost use Rattle.formula.specs.Causes.{any, beyond};
-ghost use Rattle.codes.specs.Codes.{last-code, code-of, opposite as code-opposite, encoding, used, filled};
+ghost use Rattle.codes.specs.Codes.{last-code, code-of, opposite as code-opposite, encoding, used, filled, entry-by-entry};
 ghost use Rattle.codes.specs.Clauses.{Names, PastClause, Added, ClauseEncoded};
 
 // That of the last unknown's opposite literal.
@@ -42,6 +43,30 @@ pub fn encode(literals: &[i32], codes: &mut [u16]) -> usize
     let end = encode_clauses(literals, codes);
     clear_behind(codes, end);
     end
+}
+
+// Writes the code of each literal at its place. With more literals than places, or a literal beyond the last unknown either way, nothing is changed.
+pub fn encode_entries(literals: &[i32], codes: &mut [u16])
+    ensures { λ _. ⌜ now (codes .exit) ≡ entry-by-entry (now (literals .entry)) (now (codes .entry)) ⌝ }
+{
+    if codes.len() < literals.len() {
+        return;
+    }
+    if has_beyond(literals) {
+        return;
+    }
+    encode_each(literals, codes);
+}
+
+fn encode_each(literals: &[i32], codes: &mut [u16])
+    requires { ⌜ (length (now literals) ≤ length (now codes)) × Names max-unknowns (now literals) ⌝ }
+    ensures { λ _. ⌜ now (codes .exit) ≡ map code-of (now (literals .entry)) ++ drop (length (now (literals .entry))) (now (codes .entry)) ⌝ }
+{
+    let mut i = 0;
+    while i < literals.len() {
+        codes[i] = code_of(literals[i]);
+        i += 1;
+    }
 }
 
 // A loop with one way out, so that the compiler looks at several entries at once.

@@ -15,6 +15,8 @@ use Rattle.fee.specs.declared.Charge.the-variants.{Cents, Refused as ChargeRefu
 use Rattle.season.specs.declared.Sheet.{Sheet}
 use Rattle.season.specs.declared.Summary.{Summary}
 use Rattle.season.specs.declared.Summary.the-variants.{Page, Refused as SeasonRefused}
+use Rattle.trimming.specs.declared.Trimmed.{Trimmed}
+use Rattle.trimming.specs.declared.Trimmed.the-variants.{Entries, Refused as TrimRefused}
 
 -- A search: 0 for no model, 1 for found, 100 plus the number of a refusal.
 abbrev pub search-number : Search → ℕ
@@ -32,6 +34,11 @@ judge-number (JudgeRefused cause) = 100 + cause
 abbrev pub charge-number : Charge → ℕ
 charge-number (Cents amount) = 0
 charge-number (ChargeRefused cause) = 100 + cause
+
+-- A trimming: 0 for trimmed, 100 plus the number of a refusal.
+abbrev pub trim-number : Trimmed → ℕ
+trim-number (Entries used) = 0
+trim-number (TrimRefused cause) = 100 + cause
 
 -- A value: 1 for true.
 abbrev pub value-number : Bool → ℕ

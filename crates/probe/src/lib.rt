@@ -8,6 +8,7 @@ use judge::Judgement;
 use search::Search;
 use season::Study;
 use season::Summary;
+use trimming::Trimmed;
 ghost use mathlib.Core.Path.{_≡_};
 ghost use Prim.Native.Nat.{_+_};
 ghost use lib.ListN.{length, getD};
@@ -18,10 +19,11 @@ ghost use Rattle.judge.specs.Judge.{outcome as judge-outcome, work-after as jud
 ghost use Rattle.run.specs.Outcome.{areas, given, left as run-left};
 ghost use Rattle.fee.specs.Fee.{charged, cents as cents-of};
 ghost use Rattle.fee.specs.Bands.{charged-with};
-ghost use Rattle.probe.specs.Numbers.{search-number, judge-number, charge-number, season-number, value-number, Reported};
+ghost use Rattle.probe.specs.Numbers.{search-number, judge-number, charge-number, season-number, value-number, Reported, trim-number};
 ghost use Rattle.report.specs.Report.{put, put-count};
 ghost use Rattle.season.specs.Season.{summary};
 ghost use Rattle.season.specs.Text.{printed};
+ghost use Rattle.trimming.specs.Outcome.{outcome as trim-outcome, output-after, used as entries-used};
 
 // The first model of one side over rows of the other.
 #[no_mangle]
@@ -162,6 +164,41 @@ fn charge_cents(charge: Charge) -> u64
     match charge {
         Charge::Cents(amount) => amount,
         Charge::Refused(_) => 0,
+    }
+}
+
+// A trimming; the entries used are written behind the last reference, 0 after a refusal.
+#[no_mangle]
+pub extern "C" fn probe_trim(
+    kinds: &[u8],
+    literals: &[i32],
+    output: &mut [i32],
+    used: &mut usize,
+) -> u64
+    ensures { λ r. ⌜ r ≡ trim-number (trim-outcome (now (kinds .entry)) (now (literals .entry)) (now (output .entry))) ⌝ }
+    ensures { λ _. ⌜ now (output .exit) ≡ output-after (now (kinds .entry)) (now (literals .entry)) (now (output .entry)) ⌝ }
+    ensures { λ _. ⌜ now (used .exit) ≡ entries-used (trim-outcome (now (kinds .entry)) (now (literals .entry)) (now (output .entry))) ⌝ }
+{
+    let end = trimming::trim(kinds, literals, output);
+    *used = used_entries(end);
+    trim_number(end)
+}
+
+fn trim_number(answer: Trimmed) -> u64
+    ensures { λ r. ⌜ r ≡ trim-number answer ⌝ }
+{
+    match answer {
+        Trimmed::Entries(_) => 0,
+        Trimmed::Refused(cause) => refusal_number(cause),
+    }
+}
+
+fn used_entries(answer: Trimmed) -> usize
+    ensures { λ r. ⌜ r ≡ entries-used answer ⌝ }
+{
+    match answer {
+        Trimmed::Entries(used) => used,
+        Trimmed::Refused(_) => 0,
     }
 }
 

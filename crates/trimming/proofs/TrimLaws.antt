@@ -1,0 +1,149 @@
+-- From the lent literals to what is left of them: the table as it is filled, and the table at the end.
+-- Assumes nothing.
+use Prim.Native.Nat.{ℕ, zero, suc, _+_, _%_, _≤_, _<_}
+use native.Mathlib.Omega.{arith}
+use native.Mathlib.Numerals.{sub-one}
+use mathlib.Core.Path.{_≡_, refl, sym, _∙_, ap, ap₂}
+use mathlib.Core.Bool.{Bool, true, cond, false≢true}
+use mathlib.Core.List.{List, [], _∷_, _++_, map, append-nil, append-assoc}
+use borrow.Author.Tests.{lt-ltb}
+use lib.IntN.{ℤ, pos, negsuc, natAbs}
+use lib.ListN.{length, getD, drop, length-map, drop-of-length-le}
+use Rattle.formula.specs.Formula.{prefix, Clause, onto, clauses}
+use Rattle.formula.specs.Causes.{is-zero, ended}
+use Rattle.formula.proofs.Accepted.{Accepted}
+use Rattle.codes.specs.Codes.{code-of, entry-by-entry}
+use Rattle.codes.proofs.EncodeLaws.{accepted}
+use Rattle.trimming_rules.specs.Trimming.{entries, steps, trimmed}
+use Rattle.trimming_rules.specs.Rounds.{untrue, rounds}
+use Rattle.trimming_rules.proofs.ClauseLaws.{Every, Named}
+use Rattle.trimming_rules.proofs.RuleLaws.{Within}
+use Rattle.trimming_rules.proofs.Trimmed.{size-clauses, within-clauses}
+use Rattle.trimming_rules.proofs.InRounds.{in-rounds}
+use Rattle.trimming.specs.Table.{left, codes, clauses-left, Entry, Block, standing, Fine, laid, Laid, Passed}
+use Rattle.trimming.proofs.CodeLaws.{literal-code}
+use Rattle.trimming.proofs.BlockLaws.{map-append, left-entries, laid-clauses}
+
+-- ---- entries and their clauses
+
+ended-behind : (z y : ℤ) (zs : List ℤ) → ended (z ∷ y ∷ zs) ≡ ended (y ∷ zs)
+ended-behind z y zs = simp sub-one
+
+-- A literal in front of entries that end in 0.
+onto-entries : (z : ℤ) (cs : List Clause) → 0 < length cs → entries (onto z cs) ≡ z ∷ entries cs
+onto-entries z [] some-clause = absurd (omega arith)
+onto-entries z (c ∷ cs) some-clause = refl
+
+started : (z : ℤ) (zs : List ℤ) → 0 < length (clauses (z ∷ zs))
+started (pos zero) zs = omega arith
+started (pos (suc v)) zs = go (clauses zs)
+  where
+    go : (cs : List Clause) → 0 < length (onto (pos (suc v)) cs)
+    go [] = omega arith
+    go (c ∷ cs) = omega arith
+started (negsuc v) zs = go (clauses zs)
+  where
+    go : (cs : List Clause) → 0 < length (onto (negsuc v) cs)
+    go [] = omega arith
+    go (c ∷ cs) = omega arith
+
+entries-clauses : (zs : List ℤ) → ended zs ≡ true → entries (clauses zs) ≡ zs
+entries-clauses [] e = refl
+entries-clauses (pos zero ∷ []) e = refl
+entries-clauses (pos (suc v) ∷ []) e = absurd (false≢true e)
+entries-clauses (negsuc v ∷ []) e = absurd (false≢true e)
+entries-clauses (pos zero ∷ y ∷ zs) e = ap (λ (l : List ℤ). pos 0 ∷ l) (entries-clauses (y ∷ zs) (sym (ended-behind (pos zero) y zs) ∙ e))
+entries-clauses (pos (suc v) ∷ y ∷ zs) e =
+    onto-entries (pos (suc v)) (clauses (y ∷ zs)) (started y zs) ∙ ap (λ (l : List ℤ). pos (suc v) ∷ l) (entries-clauses (y ∷ zs) (sym (ended-behind (pos (suc v)) y zs) ∙ e))
+entries-clauses (negsuc v ∷ y ∷ zs) e =
+    onto-entries (negsuc v) (clauses (y ∷ zs)) (started y zs) ∙ ap (λ (l : List ℤ). negsuc v ∷ l) (entries-clauses (y ∷ zs) (sym (ended-behind (negsuc v) y zs) ∙ e))
+
+-- ---- the table as it is filled
+
+code-entry : (z : ℤ) → Named 128 z → Entry (code-of z)
+code-entry (pos v) n = let a = n .from-one in let b = n .to-last in record { literal = omega arith; known = omega arith; once = omega arith }
+code-entry (negsuc v) n = let a = n .from-one in let b = n .to-last in record { literal = omega arith; known = omega arith; once = omega arith }
+
+block-of : Clause → Block
+block-of c = standing (map code-of c)
+
+laid-codes : (cs : List Clause) → map code-of (entries cs) ≡ laid (map block-of cs)
+unfolding block-of
+laid-codes [] = refl
+laid-codes (c ∷ cs) =
+    map-append code-of c (pos 0 ∷ entries cs)
+    ∙ ap (λ (l : List ℕ). map code-of c ++ (0 ∷ l)) (laid-codes cs)
+    ∙ sym (append-assoc (map code-of c) (0 ∷ []) (laid (map block-of cs)))
+
+fine-codes : (cs : List Clause) → Within 128 cs → Every Fine (map block-of cs)
+unfolding block-of
+fine-codes [] w = tt
+fine-codes (c ∷ cs) w = (each c (w .0), fine-codes cs (w .1))
+  where
+    each : (c : Clause) → Every (Named 128) c → Every Entry (map code-of c)
+    each [] n = tt
+    each (z ∷ c) n = (code-entry z (n .0), each c (n .1))
+
+small-code : (z : ℤ) → natAbs z ≤ 128 → code-of z < 512
+small-code (pos v) h = omega arith
+small-code (negsuc v) h = omega arith
+
+left-codes : (zs : List ℤ) → ((i : ℕ) → natAbs (getD zs i (pos 0)) ≤ 128) → left (map code-of zs) ≡ zs
+left-codes [] h = refl
+left-codes (z ∷ zs) h = rw (lt-ltb (code-of z) 512 (small-code z (h 0))) (ap₂ _∷_ (literal-code z) (left-codes zs (λ i. h (suc i))))
+
+same-codes : (zs : List ℤ) → ((i : ℕ) → natAbs (getD zs i (pos 0)) ≤ 128) → codes (map code-of zs) ≡ map code-of zs
+same-codes [] h = refl
+same-codes (z ∷ zs) h = ap₂ _∷_ (let s = small-code z (h 0) in let e : code-of z % 512 ≡ code-of z = omega arith in e) (same-codes zs (λ i. h (suc i)))
+
+module _ (kinds : List ℕ) (literals : List ℤ) (a : Accepted kinds literals) where
+  named : (i : ℕ) → natAbs (getD literals i (pos 0)) ≤ 128
+  named i = let h = a .within i in let k = a .few-unknowns in omega arith
+
+  is-ended : ended literals ≡ true
+  is-ended = ap is-zero (a .last-is-zero)
+
+  pub filled-codes : (table : List ℕ) → length table ≡ length literals → entry-by-entry literals table ≡ map code-of literals
+  filled-codes table sized =
+      ap (λ (b : Bool). cond b table (map code-of literals ++ drop (length literals) table)) (accepted literals (length table) (omega arith) (λ i below. named i))
+      ∙ ap (λ (l : List ℕ). map code-of literals ++ l) (drop-of-length-le table {i = length literals} (omega arith))
+      ∙ append-nil (map code-of literals)
+
+  pub codes-laid : (table : List ℕ) → table ≡ map code-of literals → Laid table
+  codes-laid table e =
+      record {
+        blocks = map block-of (clauses literals);
+        is = e ∙ ap (map code-of) (sym (entries-clauses literals is-ended)) ∙ laid-codes (clauses literals);
+        fine = fine-codes (clauses literals) (within-clauses 128 literals named);
+      }
+
+  -- ---- the table at the end
+
+  module _ (table₁ table₂ table₃ : List ℕ) (filled : table₁ ≡ map code-of literals) (true-dropped : Passed untrue table₁ table₂)
+      (settled : Passed (rounds (length table₂ + 1) (prefix kinds)) table₂ table₃) where
+    as-many : length table₂ ≡ length literals
+    as-many = true-dropped .sized ∙ ap length filled ∙ length-map literals code-of
+
+    pub same-codes-left : codes table₃ ≡ map code-of literals
+    same-codes-left = settled .same-codes ∙ true-dropped .same-codes ∙ ap codes filled ∙ same-codes literals named
+
+    lent-clauses : clauses-left table₁ ≡ clauses literals
+    unfolding clauses-left
+    lent-clauses = ap clauses (ap left filled ∙ left-codes literals named)
+
+    all-steps : clauses-left table₃ ≡ steps (length literals) (prefix kinds) (clauses literals)
+    all-steps =
+        let sized = size-clauses literals is-ended in
+        settled .changed
+        ∙ ap (rounds (length table₂ + 1) (prefix kinds)) (true-dropped .changed ∙ ap untrue lent-clauses)
+        ∙ sym (in-rounds (length table₂ + 1) (prefix kinds) (clauses literals) (let m = as-many in omega arith))
+        ∙ ap (λ (n : ℕ). steps n (prefix kinds) (clauses literals)) sized
+
+    pub left-trimmed : left table₃ ≡ trimmed kinds literals
+    unfolding trimmed
+    left-trimmed =
+        let l = settled .laid-out in
+        ap left (l .is)
+        ∙ left-entries (l .blocks) (l .fine)
+        ∙ ap entries (sym (ap clauses-left (l .is) ∙ laid-clauses (l .blocks) (l .fine)))
+        ∙ ap entries all-steps

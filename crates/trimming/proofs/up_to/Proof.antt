@@ -1,0 +1,18 @@
+-- `trimming::up_to` meets its contract.
+-- Assumes nothing.
+use borrow.Author.Tests.{eq-eqb, ne-eqb}
+use Rattle.trimming.proofs.up_to.Statement.{statement}
+use Rattle.trimming.proofs.up_to.Tie as tie
+
+returns : tie.Need-returns
+returns c = rw (eq-eqb (c .before .args .low) 0 (c .if1 .taken))
+
+returns-2 : tie.Need-returns-2
+returns-2 c = rw (ne-eqb (c .before .args .low) 0 (c .if1 .left))
+
+pub up-to-spec : {M : Type 1} → statement M
+up-to-spec =
+    tie.close
+    (tie.spec
+    returns
+    returns-2)

@@ -1,0 +1,84 @@
+-- A table with a 1 at each code that a clause has says which codes it has.
+-- Assumes nothing.
+use Prim.Native.Nat.{ℕ, _<_, _+_, _-_, _%_}
+use native.Mathlib.Omega.{arith}
+use mathlib.Core.Path.{_≡_, refl, _∙_, ap, ap₂}
+use mathlib.Core.Bool.{Bool, true, false, cond, _&&_, _||_}
+use mathlib.Core.List.{List, [], _∷_}
+use borrow.Author.Tests.{ltb-true, ltb-false, eqb-true, eqb-false}
+use lib.Dec.{ltb, eqb}
+use lib.ListN.{length, getD, set, replicate, length-set, length-replicate, getD-replicate}
+use lib.Seq.{getD-set-same, getD-set-other}
+use Rattle.formula.specs.Causes.{any}
+use Rattle.codes.specs.Codes.{opposite}
+use Rattle.trimming_marks.specs.Marks.{has, clashes, always-true, noted-one, noted, noted-clash}
+
+-- Whether a 1 stands at a code.
+abbrev pub stands : List ℕ → ℕ → Bool
+stands seen c = eqb (getD seen c 0) 1
+
+noted-one-stands : (seen : List ℕ) (x c : ℕ) → length seen ≡ 258 → c < 258 → stands (noted-one seen x) c ≡ (eqb c x || stands seen c)
+unfolding noted-one
+noted-one-stands seen x c size small = go (ltb x 258) refl (eqb c x) refl
+  where
+    go : (fits : Bool) → ltb x 258 ≡ fits → (e : Bool) → eqb c x ≡ e → stands (cond fits (set seen x 1) seen) c ≡ (e || stands seen c)
+    go true f true e = ap (λ (y : ℕ). eqb y 1) (ap (λ (k : ℕ). getD (set seen x 1) k 0) (eqb-true c x e) ∙ getD-set-same seen x 1 0 (let l = ltb-true x 258 f in omega arith))
+    go true f false e = ap (λ (y : ℕ). eqb y 1) (getD-set-other seen x c 1 0 (eqb-false c x e))
+    go false f true e = absurd (let l = ltb-false x 258 f in let s = eqb-true c x e in omega arith)
+    go false f false e = refl
+
+length-noted-one : (seen : List ℕ) (x : ℕ) → length (noted-one seen x) ≡ length seen
+unfolding noted-one
+length-noted-one seen x = go (ltb x 258)
+  where
+    go : (fits : Bool) → length (cond fits (set seen x 1) seen) ≡ length seen
+    go true = length-set seen x 1
+    go false = refl
+
+pub length-noted : (seen clause : List ℕ) → length (noted seen clause) ≡ length seen
+length-noted seen [] = refl
+length-noted seen (x ∷ xs) = length-noted (noted-one seen x) xs ∙ length-noted-one seen x
+
+or-swap : (a b c : Bool) → (a || (b || c)) ≡ ((b || a) || c)
+or-swap true true c = refl
+or-swap true false c = refl
+or-swap false true c = refl
+or-swap false false c = refl
+
+pub noted-stands : (clause seen : List ℕ) (c : ℕ) → length seen ≡ 258 → c < 258 → stands (noted seen clause) c ≡ (has c clause || stands seen c)
+noted-stands [] seen c size small = refl
+noted-stands (x ∷ xs) seen c size small =
+    noted-stands xs (noted-one seen x) c (length-noted-one seen x ∙ size) small
+    ∙ ap (λ (b : Bool). has c xs || b) (noted-one-stands seen x c size small)
+    ∙ or-swap (has c xs) (eqb c x) (stands seen c)
+
+or-none : (b : Bool) → (b || false) ≡ b
+or-none true = refl
+or-none false = refl
+
+pub opposite-small : (x : ℕ) → x < 258 → opposite x < 258
+unfolding opposite
+opposite-small x small = go (eqb (x % 2) 0) refl
+  where
+    go : (even : Bool) → eqb (x % 2) 0 ≡ even → cond even (x + 1) (x - 1) < 258
+    go true e = let z = eqb-true (x % 2) 0 e in omega arith
+    go false e = omega arith
+
+noted-clash-is : (clause : List ℕ) (x : ℕ) → noted-clash (noted (replicate 258 0) clause) x ≡ clashes clause x
+unfolding noted-clash
+noted-clash-is clause x = go (ltb x 258) refl
+  where
+    go : (small : Bool) → ltb x 258 ≡ small → (small && stands (noted (replicate 258 0) clause) (opposite x)) ≡ (small && has (opposite x) clause)
+    go true s =
+        let o = opposite-small x (ltb-true x 258 s) in
+        noted-stands clause (replicate 258 0) (opposite x) (length-replicate {A = ℕ} 258 0) o
+        ∙ ap (λ (y : ℕ). has (opposite x) clause || eqb y 1) (getD-replicate {A = ℕ} 258 (opposite x) 0 0 o)
+        ∙ or-none (has (opposite x) clause)
+    go false s = refl
+
+any-same : (f g : ℕ → Bool) → ((x : ℕ) → f x ≡ g x) → (xs : List ℕ) → any f xs ≡ any g xs
+any-same f g e [] = refl
+any-same f g e (x ∷ xs) = ap₂ _||_ (e x) (any-same f g e xs)
+
+pub noted-always-true : (clause : List ℕ) → any (noted-clash (noted (replicate 258 0) clause)) clause ≡ always-true clause
+noted-always-true clause = any-same (noted-clash (noted (replicate 258 0) clause)) (clashes clause) (noted-clash-is clause) clause

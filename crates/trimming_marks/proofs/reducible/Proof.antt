@@ -1,0 +1,68 @@
+-- `trimming_marks::reducible` meets its contract. The loop's invariant: `low` is what the entries passed give.
+-- Assumes nothing.
+use Prim.Native.Nat.{_+_, _-_}
+use native.Mathlib.Omega.{arith}
+use borrow.Author.Needs.{needs}
+use mathlib.Core.Path.{_≡_, refl, sym, _∙_, ap}
+use lib.ListN.{length, drop}
+use Rattle.trimming_marks.specs.Marks.{first-clause, reducible-from}
+use Rattle.trimming_marks.proofs.Walks.{clause-end, clause-more, clause-past}
+use Rattle.trimming_marks.proofs.reducible.Statement.{statement}
+use Rattle.trimming_marks.proofs.reducible.Tie as tie
+
+abbrev Inv-loop : tie.InvT-loop
+Inv-loop kinds table start low₀ i₀ low i =
+    reducible-from kinds 2 (first-clause (drop start table)) ≡ reducible-from kinds low (first-clause (drop i table))
+
+abbrev μ-loop : tie.MeasureT-loop
+μ-loop kinds table start low₀ i₀ low i = length table - i
+
+loop-holds : tie.Need-loop-holds Inv-loop μ-loop
+loop-holds c = refl
+
+mul-x : tie.Need-mul-x Inv-loop μ-loop
+mul-x c = search needs
+
+shared-slice-read-x : tie.Need-shared-slice-read-x Inv-loop μ-loop
+shared-slice-read-x c = search needs
+
+is-end-requires : tie.Need-is-end-requires Inv-loop μ-loop
+is-end-requires c κs = search needs
+
+returns : tie.Need-returns Inv-loop μ-loop
+returns c = sym (c .before .before .before .before .loop .inv ∙ ap (reducible-from (c .before .before .before .before .before .before .before .args .kinds .now) (c .before .before .before .before .loop .low)) (clause-end (c .before .before .before .before .before .before .before .args .table .now) (c .before .before .before .before .loop .i) (c .before .before .before .loop-test .taken) (sym (c .before .is-end .ensures) ∙ c .if1 .taken)))
+
+add-i : tie.Need-add-i Inv-loop μ-loop
+add-i c = omega arith
+
+raised-requires : tie.Need-raised-requires Inv-loop μ-loop
+raised-requires c κs = search needs
+
+loop-less : tie.Need-loop-less Inv-loop μ-loop
+loop-less c = omega arith
+
+loop-again : tie.Need-loop-again Inv-loop μ-loop
+loop-again c =
+    c .before .before .before .before .before .loop .inv
+    ∙ ap (reducible-from (c .before .before .before .before .before .before .before .before .args .kinds .now) (c .before .before .before .before .before .loop .low)) (clause-more (c .before .before .before .before .before .before .before .before .args .table .now) (c .before .before .before .before .before .loop .i) (c .before .before .before .before .loop-test .taken) (sym (c .before .before .is-end .ensures) ∙ c .before .if1 .left))
+    ∙ ap (λ l. reducible-from (c .before .before .before .before .before .before .before .before .args .kinds .now) l (first-clause (drop (c .before .before .before .before .before .loop .i + 1) (c .before .before .before .before .before .before .before .before .args .table .now)))) (sym (c .raised .ensures))
+
+returns-2 : tie.Need-returns-2 Inv-loop μ-loop
+returns-2 c = sym (c .before .loop .inv ∙ ap (reducible-from (c .before .before .before .before .args .kinds .now) (c .before .loop .low)) (clause-past (c .before .before .before .before .args .table .now) (c .before .loop .i) (c .loop-test .left)))
+
+pub reducible-spec : {M : Type 1} → statement M
+reducible-spec =
+    tie.close
+    (tie.spec
+    Inv-loop
+    μ-loop
+    loop-holds
+    mul-x
+    shared-slice-read-x
+    is-end-requires
+    returns
+    add-i
+    raised-requires
+    loop-less
+    loop-again
+    returns-2)
