@@ -27,14 +27,29 @@ pub fn compare(random: &mut Random, text: &[u8], read: &Result<Read, Refusal>, l
     Ok((wanted, wrong))
 }
 
-/// What a program prints. The text comes from a pipe; once in a hundred times from a file that is named to the script of the repository.
+/// What a program prints. The text comes from a pipe; once in a hundred times from a file that is named to the script of the repository, whose exit
+/// status says what the first line does.
 pub fn run(program: &Program, random: &mut Random, text: &[u8]) -> Result<String, String> {
-    let output = if random.chance(1, 100) { from_a_file(program, random, text) } else { from_a_pipe(program, random, text) };
+    let by_script = random.chance(1, 100);
+    let output = if by_script { from_a_file(program, random, text) } else { from_a_pipe(program, random, text) };
     let output = output.map_err(|error| error.to_string())?;
-    if !output.stderr.is_empty() || !output.status.success() {
+    let printed = String::from_utf8(output.stdout).map_err(|error| error.to_string())?;
+    let wanted = if by_script { status(&printed) } else { 0 };
+    if !output.stderr.is_empty() || output.status.code() != Some(wanted) {
         return Err(format!("ended with {}, {:?}", output.status, String::from_utf8_lossy(&output.stderr)));
     }
-    String::from_utf8(output.stdout).map_err(|error| error.to_string())
+    Ok(printed)
+}
+
+/// 10 for true, 20 for false, 1 for a refusal, 0 for undecided and for a page.
+fn status(printed: &str) -> i32 {
+    let begins = |start: &str| printed.starts_with(start);
+    match () {
+        _ if begins("s cnf 1 ") => 10,
+        _ if begins("s cnf 0 ") => 20,
+        _ if begins("c refused ") => 1,
+        _ => 0,
+    }
 }
 
 fn from_a_file(program: &Program, random: &mut Random, text: &[u8]) -> io::Result<Output> {
