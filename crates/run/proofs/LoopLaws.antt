@@ -32,8 +32,8 @@ use Rattle.rounds.proofs.RoundLaws.{Over}
 use Rattle.rounds.proofs.RunLaws.{run-goes-on, run-reached, run-stays}
 use Rattle.rounds.proofs.Bounds.{row-length, next-round-in-room}
 use Rattle.run.proofs.GrowingLaws.{wide-of-sized}
-use Rattle.run.proofs.ExtendLaws.{few-unknowns, most-bytes}
-use Rattle.run.proofs.StartLaws.{row-whole, preferred-bytes}
+use Rattle.run.proofs.ExtendLaws.{most-bytes}
+use Rattle.growth.proofs.PreferredLaws.{row-whole, preferred-bytes}
 use Rattle.run.proofs.HalfLaws.{existential-stopped, universal-stopped, round-finished}
 
 -- ---- the tables that are lent
@@ -121,7 +121,7 @@ module _ (kinds : List ℕ) (literals : List ℤ) (preferences A-found A-marks-f
       let fit = tables-fitting A-found A-marks-found S-found S-marks-found (ready .tables) in
       let row-is : with-preferred (prefer preferences) universals (replicate 16 0) ≡ bytes-of first =
       ap (λ (n : ℕ). with-preferred (prefer preferences) n (replicate 16 0)) (ready .counted)
-      ∙ preferred-bytes (prefer preferences) m (few-unknowns kinds literals (ready .passes) universal) in
+      ∙ preferred-bytes (prefer preferences) m in
       let some-A : 16 ≤ length A-found = least-bytes A-found (fit .0 .0) in
       let place : 0 < room A-found = omega arith in
       let marked : 0 < length A-marks-found = omega (arith, fit .0 .1) in
