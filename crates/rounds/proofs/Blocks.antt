@@ -155,7 +155,8 @@ pub last-behind : (xs ys : List Row) → (ys ≡ [] → ⊥) → In (last-row (x
 last-behind xs [] some = absurd (some refl)
 last-behind xs (y ∷ ys) some = subst (λ (r : Row). In r (y ∷ ys)) (sym (last-append xs y ys)) (last-in y ys)
 
-block-at-most : (side : Kind) (ks : List Kind) → block side ks ≤ count side ks
+-- A block's unknowns are of its side.
+pub block-at-most : (side : Kind) (ks : List Kind) → block side ks ≤ count side ks
 block-at-most side [] = omega arith
 block-at-most existential (existential ∷ ks) = let later = block-at-most existential ks in omega arith
 block-at-most existential (universal ∷ ks) = omega arith

@@ -6,4 +6,5 @@ pub mod ExtendLaws
 pub mod HalfLaws
 pub mod LoopLaws
 pub mod TableClaim
+pub mod OpeningLaws
 pub mod OutcomeLaws
