@@ -141,14 +141,14 @@ begins-take zero row = refl
 begins-take (suc m) [] = refl
 begins-take (suc m) (b ∷ row) = and-eq-true-iff (Bool·beq b b) (begins (take m row) row) .1 (beq-refl b, begins-take m row)
 
-last-in : (x : Row) (xs : List Row) → In (last-row (x ∷ xs)) (x ∷ xs)
-last-in x [] = inl refl
-last-in x (y ∷ xs) = inr (last-in y xs)
-
 last-append : (xs : List Row) (y : Row) (ys : List Row) → last-row (xs ++ (y ∷ ys)) ≡ last-row (y ∷ ys)
 last-append [] y ys = refl
 last-append (x ∷ []) y ys = refl
 last-append (x ∷ z ∷ xs) y ys = last-append (z ∷ xs) y ys
+
+last-in : (x : Row) (xs : List Row) → In (last-row (x ∷ xs)) (x ∷ xs)
+last-in x [] = inl refl
+last-in x (y ∷ xs) = inr (last-in y xs)
 
 -- The last row of a list with more behind it is one of those.
 pub last-behind : (xs ys : List Row) → (ys ≡ [] → ⊥) → In (last-row (xs ++ ys)) ys
