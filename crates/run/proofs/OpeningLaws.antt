@@ -21,8 +21,8 @@ use Rattle.rounds.proofs.Blocks.{block-at-most}
 use Rattle.run.specs.declared.Answer.{Answer}
 use Rattle.run.specs.declared.End.{End}
 use Rattle.run.specs.declared.Outcome.{Outcome}
-use Rattle.run.specs.Outcome.{named, reported, without-opening, row-bytes}
-use Rattle.run.specs.Growing.{Passes, said, opened-from, not-opened, opened-by, with-opening}
+use Rattle.run.specs.Outcome.{named, reported, row-bytes}
+use Rattle.run.specs.Growing.{Passes, said, opened-from, opened-by, with-opening}
 use Rattle.run.proofs.ByteLaws.{row-at-table}
 use Rattle.run.proofs.ExtendLaws.{few-unknowns}
 
@@ -103,23 +103,17 @@ module _ (kinds : List ℕ) (literals : List ℤ) (passes : Passes kinds literal
   unfolding opening
   opening-read = by-answer (o .answer) whole
 
+-- What `opened_by` returns, by what it reads.
+abbrev outcome : End → List ℕ → ℕ → Outcome
+outcome end bits m = record { answer = end .answer; round = end .round; universal = end .universal; existential = end .existential; opening = bits; block = m }
+
+pub opened-read : (end : End) (kinds : List ℕ) (kind : ℕ) (table : List ℕ) (n m place : ℕ) (bits : List ℕ) → m ≡ equal-from-start kind kinds → place ≡ n - 1
+    → bits ≡ first-bits table place m → outcome end bits m ≡ opened-from end kinds kind table n
+opened-read end kinds kind table n m place bits block-is place-is bits-are =
+    let read : bits ≡ first-bits table (n - 1) (equal-from-start kind kinds) =
+    bits-are ∙ ap (λ (i : ℕ). first-bits table i m) place-is ∙ ap (first-bits table (n - 1)) block-is in
+    λ d. outcome end (read d) (block-is d)
+
 -- What `opened` returns, by the answer that it meets.
-module _ (end : End) (kinds A S : List ℕ) (a : Answer) (met : end .answer ≡ a) where
-  abbrev outcome : Answer → List ℕ → ℕ → Outcome
-  outcome b bits m =
-      record { answer = b; round = end .round; universal = end .universal; existential = end .existential; opening = bits; block = m }
-
-  pub opened-met : (kind : ℕ) (table : List ℕ) (n m place : ℕ) (bits : List ℕ) → opened-by a end kinds A S ≡ opened-from end kinds kind table n
-      → m ≡ equal-from-start kind kinds → place ≡ n - 1 → bits ≡ first-bits table place m → outcome a bits m ≡ with-opening end kinds A S
-  opened-met kind table n m place bits is block-is place-is bits-are =
-      let read : bits ≡ first-bits table (n - 1) (equal-from-start kind kinds) =
-      bits-are ∙ ap (λ (i : ℕ). first-bits table i m) place-is ∙ ap (first-bits table (n - 1)) block-is in
-      (λ d. outcome (sym met d) (read d) (block-is d)) ∙ sym is ∙ sym (ap (λ (b : Answer). opened-by b end kinds A S) met)
-
-  pub unopened-met : (r : Outcome) → opened-by a end kinds A S ≡ not-opened end
-      → r ≡ without-opening a (end .round) (end .universal) (end .existential) → r ≡ with-opening end kinds A S
-  unopened-met r is made =
-      made
-      ∙ ap (λ (b : Answer). without-opening b (end .round) (end .universal) (end .existential)) (sym met)
-      ∙ sym is
-      ∙ sym (ap (λ (b : Answer). opened-by b end kinds A S) met)
+pub opened-met : (end : End) (kinds A S : List ℕ) {a : Answer} {r : Outcome} → end .answer ≡ a → r ≡ opened-by a end kinds A S → r ≡ with-opening end kinds A S
+opened-met end kinds A S met made = made ∙ sym (ap (λ (b : Answer). opened-by b end kinds A S) met)

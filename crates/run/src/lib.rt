@@ -1,7 +1,7 @@
 // The run (01, 'The run'): rounds of the two searches over the two row tables, until a verdict, a full table or the limit.
 // `run` promises, for all that is lent, the outcome and every lent byte that the definition (specs/Outcome.antt) gives, that its answer is
-// the verdict, and of an accepted run the opening and the claim, over 01's run and in the lent tables (specs/Ended.antt). The model search belongs to `search`, adding rows to a
-// table to `growth`, the opening's bytes to `opening`.
+// the verdict, and of an accepted run the claim, over 01's run and in the lent tables, and that the opening keeps the verdict (specs/Ended.antt).
+// The model search belongs to `search`, adding rows to a table to `growth`, the opening's bytes to `opening`.
 // A round costs one search a side, and what the growth of the two tables costs.
 use formula::Check;
 use formula::Formula;
@@ -13,10 +13,10 @@ ghost use mathlib.Core.List.{[]};
 ghost use Rattle.search.specs.Search.{outcome as search-outcome, work-after};
 ghost use Rattle.rounds.specs.Run.{run as run-of};
 ghost use Rattle.run.specs.declared.Answer.the-variants.{Spent};
-ghost use Rattle.run.specs.Outcome.{areas, given, lent, number-of, without-opening, side-fits, tables-fit};
+ghost use Rattle.run.specs.Outcome.{areas, given, lent, number-of, side-fits, tables-fit};
 ghost use Rattle.run.specs.Ended.{Ended};
 ghost use Rattle.run.specs.Numbers.{one-number};
-ghost use Rattle.run.specs.Growing.{is-found, step-of, said, existential-stop, universal-stop, with-opening, Extends, Shows, Ready, FirstCause};
+ghost use Rattle.run.specs.Growing.{is-found, step-of, said, existential-stop, universal-stop, opened-from, not-opened, with-opening, Extends, Shows, Ready, FirstCause};
 
 pub enum Answer {
     False,
@@ -98,7 +98,12 @@ pub fn run(
     );
     let cause = checked.cause;
     if cause != 0 {
-        return unopened(Answer::Refused(cause), 0, 0, 0);
+        return unopened(End {
+            answer: Answer::Refused(cause),
+            round: 0,
+            universal: 0,
+            existential: 0,
+        });
     }
     let universals = checked.universals;
     let end = rounds(
@@ -149,45 +154,34 @@ pub fn one_number(answer: Answer) -> u64
 fn opened(end: End, kinds: &[u8], universal_rows: &[u8], existential_rows: &[u8]) -> Outcome
     ensures { λ r. ⌜ r ≡ with-opening end (now (kinds .entry)) (now («universal_rows» .entry)) (now («existential_rows» .entry)) ⌝ }
 {
-    let round = end.round;
     let universal = end.universal;
     let existential = end.existential;
     let answer = end.answer;
     match answer {
-        Answer::True => {
-            let block = opening::block(kinds, EXISTENTIAL);
-            let place = last_place(existential);
-            let opening = opening::first_bits(existential_rows, place, block);
-            Outcome {
-                answer: Answer::True,
-                round,
-                universal,
-                existential,
-                opening,
-                block,
-            }
-        }
-        Answer::False => {
-            let block = opening::block(kinds, UNIVERSAL);
-            let place = last_place(universal);
-            let opening = opening::first_bits(universal_rows, place, block);
-            Outcome {
-                answer: Answer::False,
-                round,
-                universal,
-                existential,
-                opening,
-                block,
-            }
-        }
-        Answer::Spent => unopened(Answer::Spent, round, universal, existential),
-        Answer::NoRoomUniversal => {
-            unopened(Answer::NoRoomUniversal, round, universal, existential)
-        }
-        Answer::NoRoomExistential => {
-            unopened(Answer::NoRoomExistential, round, universal, existential)
-        }
-        Answer::Refused(cause) => unopened(Answer::Refused(cause), round, universal, existential),
+        Answer::True => opened_by(end, kinds, EXISTENTIAL, existential_rows, existential),
+        Answer::False => opened_by(end, kinds, UNIVERSAL, universal_rows, universal),
+        Answer::Spent => unopened(end),
+        Answer::NoRoomUniversal => unopened(end),
+        Answer::NoRoomExistential => unopened(end),
+        Answer::Refused(_) => unopened(end),
+    }
+}
+
+// Opened by the last row below the count, with as many values as the prefix has unknowns of the kind in front.
+fn opened_by(end: End, kinds: &[u8], kind: u8, rows: &[u8], count: usize) -> Outcome
+    ensures { λ r. ⌜ r ≡ opened-from end (now (kinds .entry)) kind (now (rows .entry)) count ⌝ }
+{
+    let block = opening::block(kinds, kind);
+    let place = last_place(count);
+    let opening = opening::first_bits(rows, place, block);
+    let answer = end.answer;
+    Outcome {
+        answer,
+        round: end.round,
+        universal: end.universal,
+        existential: end.existential,
+        opening,
+        block,
     }
 }
 
@@ -201,15 +195,16 @@ fn last_place(count: usize) -> usize
     count - 1
 }
 
-fn unopened(answer: Answer, round: u32, universal: usize, existential: usize) -> Outcome
-    ensures { λ r. ⌜ r ≡ without-opening answer round universal existential ⌝ }
+fn unopened(end: End) -> Outcome
+    ensures { λ r. ⌜ r ≡ not-opened end ⌝ }
 {
     let opening = [0u8; 16];
+    let answer = end.answer;
     Outcome {
         answer,
-        round,
-        universal,
-        existential,
+        round: end.round,
+        universal: end.universal,
+        existential: end.existential,
         opening,
         block: 0,
     }
