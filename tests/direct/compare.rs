@@ -1,13 +1,18 @@
 //! One call of the engine on lent tables, held against what is wanted: the number and every lent entry. What differs is returned in words.
 
 use crate::fee::Charge;
-use crate::formula::Side;
+use crate::formula::{clauses, Side};
 use crate::lent::{Entry, Lent};
+use crate::meaning::{meaning, meaning_behind};
 use crate::model::TooLong;
 use crate::probe;
 use crate::rounds::{Given, Left};
+use crate::rows::decoded;
 use crate::trimming;
 use crate::wanted::Lending;
+
+/// Up to this many unknowns the formula with its opening set is held against the meaning.
+const BRUTE_FORCE: usize = 10;
 
 /// The wrong case in words, or `None` if all is as wanted.
 pub type Wrong = Option<String>;
@@ -113,6 +118,8 @@ pub fn run_with(given: &Given, wanted: Left) -> Wrong {
         round: Lent::new(&[7]),
         universal: Lent::new(&[7]),
         existential: Lent::new(&[7]),
+        opening: Lent::new(&[7; 16]),
+        block: Lent::new(&[7]),
     };
     let number = probe::run(&mut tables, given.limit);
     let mut faults = Faults(Vec::new());
@@ -120,6 +127,13 @@ pub fn run_with(given: &Given, wanted: Left) -> Wrong {
     faults.table("round", &tables.round, &[wanted.round]);
     faults.table("universal count", &tables.universal, &[wanted.universal]);
     faults.table("existential count", &tables.existential, &[wanted.existential]);
+    faults.table("opening", &tables.opening, &wanted.opening);
+    faults.table("block", &tables.block, &[wanted.block]);
+    if wanted.block > 0 && given.kinds.len() <= BRUTE_FORCE {
+        let values = decoded(tables.opening.content(), 0, wanted.block);
+        let clauses = clauses(&given.literals);
+        faults.number("verdict behind the opening", meaning_behind(&given.kinds, &clauses, &values), meaning(&given.kinds, &clauses));
+    }
     faults.table("kinds", &tables.kinds, &given.kinds);
     faults.table("literals", &tables.literals, &given.literals);
     faults.table("preferences", &tables.preferences, &given.preferences);

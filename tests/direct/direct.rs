@@ -21,7 +21,7 @@ mod trimmings;
 use independent::jobs::{self, Job};
 use independent::random::Random;
 use independent::tally::Tally;
-use independent::{draw, fee, formula, lent, model, preference, random, rounds, rows, season, seasons, tally, wanted, meaning, trimming};
+use independent::{draw, fee, formula, lent, meaning, model, preference, random, rounds, rows, season, seasons, tally, trimming, wanted};
 use std::time::Instant;
 
 const SEED: u64 = 1;

@@ -54,6 +54,8 @@ extern "C" {
         round: *mut u32,
         universal: *mut usize,
         existential: *mut usize,
+        opening: *mut u8,
+        block: *mut usize,
     ) -> u64;
 
     fn probe_fee(kinds: *const u8, kinds_length: usize, rounds: u32, cents: *mut u64) -> u64;
@@ -147,6 +149,8 @@ pub struct Tables {
     pub round: Lent<u32>,
     pub universal: Lent<usize>,
     pub existential: Lent<usize>,
+    pub opening: Lent<u8>,
+    pub block: Lent<usize>,
 }
 
 pub fn run(tables: &mut Tables, limit: u32) -> u64 {
@@ -172,6 +176,8 @@ pub fn run(tables: &mut Tables, limit: u32) -> u64 {
             tables.round.address_mut(),
             tables.universal.address_mut(),
             tables.existential.address_mut(),
+            tables.opening.address_mut(),
+            tables.block.address_mut(),
         )
     }
 }

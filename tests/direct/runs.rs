@@ -34,19 +34,23 @@ pub fn compare_all(random: &mut Random, times: usize, tally: &mut Tally) {
     for (name, cases, n, rooms) in [("few unknowns", 30_000, 7, 8), ("few rows", 10_000, 9, 3), ("more unknowns", 5_000, 14, 256)] {
         let (mut compared, mut left_out) = (0, 0);
         let mut answers = [0; 5];
-        let mut most = 0;
+        let (mut most, mut opened) = (0, 0);
         for _ in 0..cases * times {
             let given = given(random, n, rooms);
             match given.left(LOOKS) {
                 Ok(wanted) => {
                     answers[wanted.number as usize] += 1;
                     most = most.max(wanted.round);
+                    opened += usize::from(wanted.block > 0);
                     tally.case(compare::run_with(&given, wanted));
                     compared += 1;
                 }
                 Err(_) => left_out += 1,
             }
         }
-        println!("runs, {}: {} compared, {} left out; answers 0 to 4: {:?}, at most {} rounds", name, compared, left_out, answers, most);
+        println!(
+            "runs, {}: {} compared, {} left out; answers 0 to 4: {:?}, at most {} rounds, {} with an opening",
+            name, compared, left_out, answers, most, opened
+        );
     }
 }

@@ -82,6 +82,8 @@ fn answer(kinds: &[u8], literals: &[i32]) -> u64 {
         round: Lent::new(&[0]),
         universal: Lent::new(&[0]),
         existential: Lent::new(&[0]),
+        opening: Lent::new(&[0; 16]),
+        block: Lent::new(&[0]),
     };
     probe::run(&mut tables, 1000)
 }

@@ -4,7 +4,12 @@ use super::formula::matrix;
 
 /// The value of the whole formula: every unknown is given both values, in the order of the prefix.
 pub fn meaning(kinds: &[u8], clauses: &[Vec<i32>]) -> bool {
-    holds(kinds, clauses, &mut Vec::new())
+    meaning_behind(kinds, clauses, &[])
+}
+
+/// The value of the formula with its first unknowns set.
+pub fn meaning_behind(kinds: &[u8], clauses: &[Vec<i32>], first: &[bool]) -> bool {
+    holds(kinds, clauses, &mut first.iter().map(|&value| Some(value)).collect())
 }
 
 /// The value of the formula whose first unknowns have the values of the play.

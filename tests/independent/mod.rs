@@ -1,6 +1,6 @@
 //! 01's rules, written from its words apart from the engine: the formula, its meaning by brute force, preferences, rows, copies and the
-//! first model, the run, the judge, the reader, trimming, the fee, the witness file and the season sheet (02), and what the program prints and the C function
-//! returns. With them what the tests share: random
+//! first model, the run, the judge, the reader; 02's opening, trimming, fee, witness file and season sheet; and what the program prints and the C
+//! function returns. With them what the tests share: random
 //! cases, lent tables with guards, the count of cases, jobs on several threads.
 
 // No test uses all of it.
@@ -14,6 +14,7 @@ pub mod jobs;
 pub mod lent;
 pub mod meaning;
 pub mod model;
+pub mod opening;
 pub mod preference;
 pub mod random;
 pub mod reader;

@@ -2,6 +2,7 @@
 
 use super::formula::{clauses, count_of, formula_cause, rows_fit, Side, WORK};
 use super::model::{Problem, Row, TooLong};
+use super::opening::opening;
 use super::preference::preference;
 use super::rows::encoded;
 use super::wanted::first_model;
@@ -99,6 +100,8 @@ pub struct Left {
     pub round: u32,
     pub universal: usize,
     pub existential: usize,
+    pub opening: Vec<u8>,
+    pub block: usize,
     pub universal_rows: Vec<u8>,
     pub universal_marks: Vec<u16>,
     pub existential_rows: Vec<u8>,
@@ -130,6 +133,8 @@ impl Given {
             round: 0,
             universal: 0,
             existential: 0,
+            opening: vec![0; 16],
+            block: 0,
             universal_rows: self.universal_rows.clone(),
             universal_marks: self.universal_marks.clone(),
             existential_rows: self.existential_rows.clone(),
@@ -146,6 +151,9 @@ impl Given {
         left.round = outcome.round;
         left.universal = outcome.universal.rows.len();
         left.existential = outcome.existential.rows.len();
+        let opening = opening(&self.kinds, outcome.answer, &outcome.universal.rows, &outcome.existential.rows);
+        left.opening = encoded(&opening).to_vec();
+        left.block = opening.len();
         write(&outcome.universal, &mut left.universal_rows, &mut left.universal_marks);
         write(&outcome.existential, &mut left.existential_rows, &mut left.existential_marks);
         left.work = vec![0; WORK];

@@ -7,7 +7,7 @@ use mathlib.Core.List.{List, _++_}
 use lib.Dec.{eqb, leb}
 use lib.IntN.{ℤ}
 use lib.ListN.{length, take, drop, replicate, length-replicate, length-append}
-use Rattle.formula.specs.Formula.{work-size, universal, existential}
+use Rattle.formula.specs.Formula.{work-size, universal, existential, prefix}
 use Rattle.formula.specs.Causes.{checked, sizes}
 use Rattle.formula.specs.declared.Check.the-variants.{Accepted}
 use Rattle.rounds.proofs.Bounds.{count-in-room}
@@ -28,7 +28,7 @@ module _ (kinds : List ℕ) (literals : List ℤ) (passes : checked kinds litera
   whole = ap (λ (n : ℕ). eqb n work-size) (length-replicate {A = ℕ} work-size 0)
 
   module _ {r : Outcome} (e : r ≡ returned (handed-on kinds literals (replicate work-size 0) round-limit)) where
-    reported-so : r ≡ reported (settled kinds literals)
+    reported-so : r ≡ reported (prefix kinds) (settled kinds literals)
     reported-so = e ∙ returned-so kinds literals (replicate work-size 0) round-limit passes whole refl
 
     pub universal-few : r .universal ≤ 256

@@ -10,7 +10,7 @@ use lib.ListN.{length}
 use Rattle.formula.specs.Causes.{checked, sizes}
 use Rattle.formula.specs.declared.Check.the-variants.{Accepted}
 use Rattle.rows.specs.Table.{table-fits}
-use Rattle.formula.specs.Formula.{work-size}
+use Rattle.formula.specs.Formula.{work-size, prefix}
 use Rattle.rounds.specs.Run.{run}
 use Rattle.run.specs.declared.Outcome.{Outcome}
 use Rattle.run.specs.Outcome.{Areas, Given, lent, side-fits, tables-fit, cause, reported, returned, left}
@@ -32,7 +32,7 @@ module _ (kinds : List ℕ) (literals : List ℤ) (work : List ℕ) (limit : ℕ
     cause-so = rw (passes, own-rows-fit) refl
 
     pub returned-so : eqb (length work) work-size ≡ true → eqb limit 0 ≡ false
-        → returned (handed-on kinds literals work limit) ≡ reported (run (own-lent kinds literals) limit)
+        → returned (handed-on kinds literals work limit) ≡ reported (prefix kinds) (run (own-lent kinds literals) limit)
     unfolding returned
     returned-so whole some =
         let none : cause (handed-on kinds literals work limit) ≡ 0 = cause-so ∙ (rw (whole, some) refl) in

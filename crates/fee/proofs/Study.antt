@@ -10,6 +10,7 @@ use Rattle.formula.specs.declared.Check.{Check}
 use Rattle.formula.specs.Causes.{cause-1, refused-if, checked, number as formula-number}
 use Rattle.rounds.specs.Run.{is-false, is-true, spent, no-room-universal, no-room-existential, run, Answer as RunAnswer}
 use Rattle.run.specs.declared.Outcome.{Outcome}
+use Rattle.formula.specs.Formula.{prefix}
 use Rattle.run.specs.Outcome.{Given, lent, cause, accepted, named, reported, refusal, returned}
 use Rattle.fee.specs.declared.Charge.the-variants.{Cents}
 use Rattle.fee.specs.Fee.{fee, answer, charged}
@@ -34,7 +35,7 @@ first-is-1 false rest e = refl
 
 module _ (g : Given) where
   abbrev outcome-if : Bool → Outcome
-  outcome-if b = cond b (reported (run (lent g) (g .limit))) (refusal (cause g))
+  outcome-if b = cond b (reported (prefix (g .kinds)) (run (lent g) (g .limit))) (refusal (cause g))
 
   kinds-pass : accepted g ≡ true → cause-1 (g .kinds) ≡ false
   unfolding cause checked

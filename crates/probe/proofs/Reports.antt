@@ -8,11 +8,14 @@ use Rattle.run.specs.Outcome as run
 use Rattle.run.specs.Numbers.{one-number}
 use Rattle.probe.specs.Numbers.{Reported}
 
-pub reported : {g : Given} {o : Outcome} {r : ℕ} → r ≡ one-number (o .answer) → o ≡ run.returned g → Reported g r (o .round) (o .universal) (o .existential)
+pub reported : {g : Given} {o : Outcome} {r : ℕ} → r ≡ one-number (o .answer) → o ≡ run.returned g
+    → Reported g r (o .round) (o .universal) (o .existential) (o .opening) (o .block)
 reported numbered returned =
     record {
       numbered = numbered ∙ ap (λ (o : Outcome). one-number (o .answer)) returned;
       round-reached = ap (λ (o : Outcome). o .round) returned;
       universals = ap (λ (o : Outcome). o .universal) returned;
       existentials = ap (λ (o : Outcome). o .existential) returned;
+      opened = ap (λ (o : Outcome). o .opening) returned;
+      block-long = ap (λ (o : Outcome). o .block) returned;
     }

@@ -3,6 +3,7 @@
 use Prim.Native.Nat.{ℕ, _+_}
 use mathlib.Core.Path.{_≡_}
 use mathlib.Core.Bool.{Bool, true, false, cond}
+use mathlib.Core.List.{List}
 use lib.Dec.{eqb}
 use Rattle.search.specs.declared.Search.{Search}
 use Rattle.search.specs.declared.Search.the-variants.{Found, NoModel, Refused}
@@ -45,12 +46,14 @@ abbrev pub value-number : Bool → ℕ
 value-number false = 0
 value-number true = 1
 
--- What a run returns: the number of its answer, the round and the counts.
-pub record Reported (g : Given) (answer round universal existential : ℕ) : Type 0 where
+-- What a run returns: the number of its answer, the round and the counts, the opening and the length of its block.
+pub record Reported (g : Given) (answer round universal existential : ℕ) (opening : List ℕ) (block : ℕ) : Type 0 where
   pub numbered : answer ≡ one-number (returned g .answer)
   pub round-reached : round ≡ returned g .round
   pub universals : universal ≡ returned g .universal
   pub existentials : existential ≡ returned g .existential
+  pub opened : opening ≡ returned g .opening
+  pub block-long : block ≡ returned g .block
 
 -- A season's page by number: 1 the studies, 2 to 6 those with answers 0 to 4, 7 the rounds, 8 the fees, 9 the most rounds, 10 the first study
 -- that has them. Number 0 is 100 plus the number of a refusal. Whatever is not there is 0.

@@ -84,7 +84,7 @@ fn judge_number(answer: Judgement) -> u64
     }
 }
 
-// A whole run; the round and the counts are written behind the last three references.
+// A whole run; the round, the counts, the opening and the length of its block are written behind the last five references.
 #[no_mangle]
 pub extern "C" fn probe_run(
     kinds: &[u8],
@@ -99,8 +99,10 @@ pub extern "C" fn probe_run(
     round: &mut u32,
     universal: &mut usize,
     existential: &mut usize,
+    opening: &mut [u8; 16],
+    block: &mut usize,
 ) -> u64
-    ensures reported { λ r. ⌜ Reported (given (now (kinds .entry)) (now (literals .entry)) (now (preferences .entry)) (areas (now («universal_rows» .entry)) (now («universal_marks» .entry)) (now («existential_rows» .entry)) (now («existential_marks» .entry)) (now (work .entry))) limit) r (now (round .exit)) (now (universal .exit)) (now (existential .exit)) ⌝ }
+    ensures reported { λ r. ⌜ Reported (given (now (kinds .entry)) (now (literals .entry)) (now (preferences .entry)) (areas (now («universal_rows» .entry)) (now («universal_marks» .entry)) (now («existential_rows» .entry)) (now («existential_marks» .entry)) (now (work .entry))) limit) r (now (round .exit)) (now (universal .exit)) (now (existential .exit)) (now (opening .exit)) (now (block .exit)) ⌝ }
     ensures left { λ _. ⌜ areas (now («universal_rows» .exit)) (now («universal_marks» .exit)) (now («existential_rows» .exit)) (now («existential_marks» .exit)) (now (work .exit)) ≡ run-left (given (now (kinds .entry)) (now (literals .entry)) (now (preferences .entry)) (areas (now («universal_rows» .entry)) (now («universal_marks» .entry)) (now («existential_rows» .entry)) (now («existential_marks» .entry)) (now (work .entry))) limit) ⌝ }
 {
     let end = run::run(
@@ -117,6 +119,9 @@ pub extern "C" fn probe_run(
     *round = end.round;
     *universal = end.universal;
     *existential = end.existential;
+    let row = end.opening;
+    *opening = row;
+    *block = end.block;
     let answer = end.answer;
     run::one_number(answer)
 }

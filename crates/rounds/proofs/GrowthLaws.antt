@@ -1,24 +1,27 @@
 -- What a step of a round makes of a table: for either side, the table grown by what a search over the other side's rows yields. Assumes nothing.
 use Prim.Native.Nat.{ℕ, suc, _^_, _≤_, _<_}
 use native.Mathlib.Omega.{arith}
-use mathlib.Core.Path.{_≡_, refl, ap, subst}
+use mathlib.Core.Path.{_≡_, refl, sym, ap, subst, _∙_}
 use mathlib.Core.Bool.{Bool, true, false, not, cond}
 use mathlib.Core.List.{List, [], _∷_, _++_}
 use mathlib.Core.Logic.{_⊎_, ⊎-elim}
 use mathlib.Core.Option.{Option, none, some}
 use lib.Dec.{T, leb, leb→le, nleb→lt}
-use lib.ListN.{length, length-map}
+use lib.ListN.{length, take, length-map}
 use Rattle.formula.specs.Formula.{Kind, existential, universal}
 use Rattle.formula.specs.Causes.{count}
 use Rattle.expansion.specs.Side.{flags, other}
 use Rattle.expansion.specs.Play.{Row, Strategy, part, later-values}
 use Rattle.expansion.specs.Copies.{fresh}
 use Rattle.expansion.specs.Model.{search}
+use Rattle.expansion.proofs.Booleans.{never-both}
 use Rattle.expansion.proofs.Membership.{In, Distinct, in-append-cases, in-append-left, in-append-right, in-map-cases, in-or-not, in-fresh, fresh-in, distinct-append-fresh}
 use Rattle.expansion.proofs.Progress.{Answers, search-answers, yields-fresh}
 use Rattle.expansion.proofs.Counting.{Sized, at-most-all-rows}
 use Rattle.rounds.specs.Run.{Entry, Table, rows, grown, if-fits, Lent}
 use Rattle.rounds.specs.Claim.{Stands, NewRow}
+use Rattle.rounds.specs.Opening.{block, last-row, first-values}
+use Rattle.rounds.proofs.Blocks.{begins, begins-take, same-start, last-behind}
 use Rattle.rounds.proofs.TableLaws.{rows-grown, marks-grown, Extends, extends-grown, grown-new, length-grown}
 
 -- The rows that a side's table has room for.
@@ -65,7 +68,7 @@ fitted n t = by-test (leb (length t) n) (leb→le (length t) n) (nleb→lt (leng
     by-test false le lt = lt tt
 
 -- What a step of round r makes of a side's table t, over the other side's rows: t grows by a new row at least, to u, and a strategy that
--- wins over the other side's rows has all that it yields in u.
+-- wins over the other side's rows has all that it yields in u. Rows of u that begin otherwise than its last row are rows of t.
 pub record Growth (l : Lent) (side : Kind) (r : ℕ) (from : List Row) (t u : Table) : Type 0 where
   pub held : Held l side u
   pub more : suc (length t) ≤ length u
@@ -74,6 +77,7 @@ pub record Growth (l : Lent) (side : Kind) (r : ℕ) (from : List Row) (t u : Ta
   pub marks : (i : ℕ) (x : Entry) → Stands u i x → Stands t i x ⊎ (x .mark ≡ r)
   pub σ : Strategy
   pub answers : Answers side (l .ks) (l .phi) σ (λ x. In x from) (λ x. In x (rows u))
+  pub apart : (x : Row) → In x (rows u) → begins (first-values side (l .ks) (rows u)) x ≡ false → In x (rows t)
 
 module _ (l : Lent) (side : Kind) (r : ℕ) (from : List Row) (t : Table) (held : Held l side t) (new : List Row)
     (found : search (l .prefer) side (l .ks) (l .phi) from ≡ some new) where
@@ -101,6 +105,26 @@ module _ (l : Lent) (side : Kind) (r : ℕ) (from : List Row) (t : Table) (held 
       let most = length-at-most l side (grown r t new) distinct-grown sized-grown in
       omega arith
 
+  -- All that the search yields begins with the same values.
+  starts-alike : (x y : Row) → In x new → In y new → begins (take (block side (l .ks)) y) x ≡ true
+  starts-alike x y in-x in-y =
+      let model = search-answers (l .prefer) side (l .ks) (l .phi) from new found in
+      let p = in-map-cases _ x from (subst (λ (n : List Row). In x n) (model .2) in-x) in
+      let q = in-map-cases _ y from (subst (λ (n : List Row). In y n) (model .2) in-y) in
+      let alike : take (block side (l .ks)) y ≡ take (block side (l .ks)) x =
+      ap (take (block side (l .ks))) (q .1) ∙ same-start side (l .ks) (model .0) (q .0) (p .0) ∙ sym (ap (take (block side (l .ks))) (p .1)) in
+      subst (λ (vs : List Bool). begins vs x ≡ true) (sym alike) (begins-take (block side (l .ks)) x)
+
+  apart-grown : (fresh (rows t) new ≡ [] → ⊥) → (x : Row) → In x (rows (grown r t new))
+      → begins (first-values side (l .ks) (rows (grown r t new))) x ≡ false → In x (rows t)
+  apart-grown adds x h otherwise =
+      let last : In (last-row (rows t ++ fresh (rows t) new)) (fresh (rows t) new) = last-behind (rows t) (fresh (rows t) new) adds in
+      let y : Row = last-row (rows t ++ fresh (rows t) new) in
+      let is-y : last-row (rows (grown r t new)) ≡ y = ap last-row (rows-grown r t new) in
+      ⊎-elim (λ o. o)
+      (λ f. absurd (never-both (subst (λ (z : Row). begins (take (block side (l .ks)) z) x ≡ true) (sym is-y) (starts-alike x y (fresh-in x (rows t) new f) (fresh-in y (rows t) new last))) otherwise))
+      (in-append-cases x (rows t) (fresh (rows t) new) (subst (λ (n : List Row). In x n) (rows-grown r t new) h))
+
   -- A step adds a row: else the two strategies would keep within each other's rows.
   pub growth : (τ : Strategy) → Answers (other side) (l .ks) (l .phi) τ (λ x. In x (rows t)) (λ x. In x from) → (x : Row) → In x from
       → length (grown r t new) ≤ room side l → Growth l side r from t (grown r t new)
@@ -116,4 +140,5 @@ module _ (l : Lent) (side : Kind) (r : ℕ) (from : List Row) (t : Table) (held 
         marks = marks-grown r t (fresh (rows t) new);
         σ = model .0;
         answers = record { wins = model .1 .wins; within = λ y h. yielded-in-grown _ (model .1 .within y h) };
+        apart = apart-grown adds;
       }

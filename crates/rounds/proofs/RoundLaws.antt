@@ -6,19 +6,23 @@ use mathlib.Core.Bool.{Bool, true, false, not, Bool·not-not}
 use mathlib.Core.List.{List, [], _∷_}
 use mathlib.Core.Logic.{_≢_, _⊎_, inl, inr}
 use mathlib.Core.Option.{Option, none, some}
-use lib.ListN.{length}
+use lib.ListN.{length, drop}
 use Rattle.formula.specs.Formula.{Kind, existential, universal}
 use Rattle.formula.specs.Causes.{count}
 use Rattle.formula.specs.Meaning.{meaning}
 use Rattle.rows.proofs.ValueLaws.{length-values}
-use Rattle.expansion.specs.Play.{Row, Strategy}
+use Rattle.expansion.specs.Side.{flags, goal}
+use Rattle.expansion.specs.Play.{Row, Strategy, play}
 use Rattle.expansion.specs.Model.{search}
+use Rattle.expansion.proofs.Booleans.{never-both}
 use Rattle.expansion.proofs.Membership.{In}
 use Rattle.expansion.proofs.Verdict.{none-is-verdict}
 use Rattle.expansion.proofs.Progress.{Answers}
 use Rattle.expansion.proofs.Counting.{Sized}
 use Rattle.rounds.specs.Run.{Entry, Table, rows, Answer, is-false, is-true, spent, no-room-universal, no-room-existential, number, Outcome, outcome, grown, if-fits, Lent, start, step-1, step-2, step-3, step-4, round-of}
 use Rattle.rounds.specs.Claim.{table, no-room, Stands, NewRow}
+use Rattle.rounds.specs.Opening.{block, last-row, first-values, opening, set-to, Opens}
+use Rattle.rounds.proofs.Blocks.{begins, begins-take, block-before, length-first-values, set-not-reached}
 use Rattle.rounds.proofs.TableLaws.{Extends, extends-itself}
 use Rattle.rounds.proofs.GrowthLaws.{Held, Fitted, fitted, Growth, growth, room-below-all-rows}
 
@@ -42,12 +46,15 @@ pub over-not-spent : (a : Answer) → Over a → a ≢ spent
 over-not-spent a over e = subst Over e over
 
 -- After r finished rounds each table has grown r times, and a universal strategy that wins over S has all that it yields in A. At the
--- start S is empty, and any strategy does.
+-- start S is empty, and any strategy does. An existential strategy wins over the rows of A that begin otherwise than the last one.
 pub record Ongoing (l : Lent) (r : ℕ) (o : Outcome) : Type 0 where
   pub count-A : suc r ≤ length (o .A)
   pub count-S : r ≤ length (o .S)
   pub ρ : Strategy
   pub answers : Answers universal (l .ks) (l .phi) ρ (λ s. In s (rows (o .S))) (λ u. In u (rows (o .A)))
+  pub σ : Strategy
+  pub apart : (x : Row) → In x (rows (o .A)) → begins (first-values universal (l .ks) (rows (o .A))) x ≡ false
+      → goal existential (l .phi) (play (flags existential (l .ks)) σ x) ≡ true
 
 -- What holds of the outcome of a run with the limit.
 pub record Reached (l : Lent) (limit : ℕ) (o : Outcome) : Type 0 where
@@ -56,6 +63,7 @@ pub record Reached (l : Lent) (limit : ℕ) (o : Outcome) : Type 0 where
   pub round-A : o .round ≤ length (o .A)
   pub round-S : o .round ≤ suc (length (o .S))
   pub right : Right l (o .answer)
+  pub opened : Opens l o
   pub at-limit : o .answer ≡ spent → o .round ≡ limit
   pub ongoing : o .answer ≡ spent → Ongoing l limit o
 
@@ -75,6 +83,7 @@ each P u e universal = u
 each P u e existential = e
 
 pub start-reached : (l : Lent) → Reached l zero (start l)
+unfolding opening
 start-reached l =
     record {
       held =
@@ -85,6 +94,7 @@ start-reached l =
       round-A = omega arith;
       round-S = omega arith;
       right = tt;
+      opened = record { whole = refl; same-verdict = refl };
       at-limit = λ _. refl;
       ongoing =
           λ _.
@@ -93,9 +103,21 @@ start-reached l =
             count-S = omega arith;
             ρ = λ k r. true;
             answers = record { wins = λ x h. absurd h; within = λ x h. absurd h };
+            σ = λ k r. true;
+            apart = alone;
           };
     }
   where
+    alone : (x : Row) → In x (rows (start l .A)) → begins (first-values universal (l .ks) (rows (start l .A))) x ≡ false
+        → goal existential (l .phi) (play (flags existential (l .ks)) (λ k r. true) x) ≡ true
+    alone x (inl e) otherwise =
+        absurd
+        (never-both
+        (subst (λ (r : Row). begins (first-values universal (l .ks) (rows (start l .A))) r ≡ true) (sym e)
+        (begins-take (block universal (l .ks)) (last-row (rows (start l .A)))))
+        otherwise)
+    alone x (inr h) otherwise = absurd h
+
     only : Sized (count universal (l .ks)) (rows (start l .A))
     only x (inl e) = rw e (length-values (count universal (l .ks)) _)
     only x (inr h) = absurd h
@@ -107,10 +129,10 @@ some-row n (x ∷ t) h = (x .row, inl refl)
 -- Round r + 1 over the tables of b, which r rounds have made.
 module _ (l : Lent) (r : ℕ) (b : Outcome) (before : Reached l r b) (ongoing : Ongoing l r b) where
   -- A round that ends the run, with S or what step 2 has made of it.
-  over : (a : Answer) (S : Table) → Over a → Right l a → Held l existential S → Extends (b .S) S → r ≤ length S
+  over : (a : Answer) (S : Table) → Over a → Right l a → Opens l (outcome a (suc r) (b .A) S) → Held l existential S → Extends (b .S) S → r ≤ length S
       → (a ≡ no-room-existential → S ≡ b .S) → ((i : ℕ) (x : Entry) → Stands S i x → Stands (b .S) i x ⊎ (x .mark ≡ suc r))
       → (a ≢ is-false → a ≢ no-room-existential → NewRow (suc r) (b .S) S S) → Made l (suc r) b (outcome a (suc r) (b .A) S)
-  over a S ends right held extends count-S unchanged marks latest =
+  over a S ends right opened held extends count-S unchanged marks latest =
       let o = outcome a (suc r) (b .A) S in
       record {
         reached =
@@ -120,6 +142,7 @@ module _ (l : Lent) (r : ℕ) (b : Outcome) (before : Reached l r b) (ongoing : 
               round-A = ongoing .count-A;
               round-S = omega arith;
               right = right;
+              opened = opened;
               at-limit = λ e. absurd (over-not-spent a ends e);
               ongoing = λ e. absurd (over-not-spent a ends e);
             };
@@ -133,6 +156,7 @@ module _ (l : Lent) (r : ℕ) (b : Outcome) (before : Reached l r b) (ongoing : 
 
   finished : (A S : Table) → Growth l existential (suc r) (rows (b .A)) (b .S) S → Growth l universal (suc r) (rows S) (b .A) A
       → Made l (suc r) b (outcome spent (suc r) A S)
+  unfolding opening
   finished A S grown-S grown-A =
       let o = outcome spent (suc r) A S in
       let count-A : suc (suc r) ≤ length A = omega (arith, ongoing .count-A, grown-A .more) in
@@ -145,8 +169,18 @@ module _ (l : Lent) (r : ℕ) (b : Outcome) (before : Reached l r b) (ongoing : 
               round-A = omega arith;
               round-S = omega arith;
               right = tt;
+              opened = record { whole = refl; same-verdict = refl };
               at-limit = λ _. refl;
-              ongoing = λ _. record { count-A = count-A; count-S = count-S; ρ = grown-A .σ; answers = grown-A .answers };
+              ongoing =
+                  λ _.
+                  record {
+                    count-A = count-A;
+                    count-S = count-S;
+                    ρ = grown-A .σ;
+                    answers = grown-A .answers;
+                    σ = grown-S .σ;
+                    apart = λ x h otherwise. grown-S .answers .wins x (grown-A .apart x h otherwise);
+                  };
             };
         in-round = refl;
         extends = each (λ side. Extends (table side b) (table side o)) (grown-A .extends) (grown-S .extends);
@@ -167,18 +201,20 @@ module _ (l : Lent) (r : ℕ) (b : Outcome) (before : Reached l r b) (ongoing : 
       }
 
   -- A round that ends the run after step 2.
-  over-later : (a : Answer) (S : Table) → Over a → a ≢ no-room-existential → Right l a → Growth l existential (suc r) (rows (b .A)) (b .S) S
-      → Made l (suc r) b (outcome a (suc r) (b .A) S)
-  over-later a S ends other-answer right grown-S =
-      over a S ends right (grown-S .held) (grown-S .extends) (omega (arith, ongoing .count-S, grown-S .more)) (λ e. absurd (other-answer e))
+  over-later : (a : Answer) (S : Table) → Over a → a ≢ no-room-existential → Right l a → Opens l (outcome a (suc r) (b .A) S)
+      → Growth l existential (suc r) (rows (b .A)) (b .S) S → Made l (suc r) b (outcome a (suc r) (b .A) S)
+  over-later a S ends other-answer right opened grown-S =
+      over a S ends right opened (grown-S .held) (grown-S .extends) (omega (arith, ongoing .count-S, grown-S .more)) (λ e. absurd (other-answer e))
       (grown-S .marks) (λ _ _. grown-S .new-row S (extends-itself S))
 
   -- The steps, each by what it looks at.
   made-4 : (S : Table) (new : List Row) → Growth l existential (suc r) (rows (b .A)) (b .S) S → search (l .prefer) universal (l .ks) (l .phi) (rows S) ≡ some new
       → (m : Option Table) → Fitted (l .room-A) (grown (suc r) (b .A) new) m → Made l (suc r) b (step-4 (suc r) (b .A) S m)
+  unfolding opening
   made-4 S new grown-S found none full =
       over-later no-room-universal S tt (λ e. omega (arith, ap number e))
       (room-below-all-rows l universal (suc r) (rows S) (b .A) (before .held universal) new found full)
+      (record { whole = refl; same-verdict = refl })
       grown-S
   made-4 S new grown-S found (some A) fits =
       let x = some-row (length (b .S)) S (grown-S .more) in
@@ -186,18 +222,56 @@ module _ (l : Lent) (r : ℕ) (b : Outcome) (before : Reached l r b) (ongoing : 
       (subst (λ (u : Table). Growth l universal (suc r) (rows S) (b .A) u) (fits .0)
       (growth l universal (suc r) (rows S) (b .A) (before .held universal) new found (grown-S .σ) (grown-S .answers) (x .0) (x .1) (fits .1)))
 
+  -- True: over the rows of S that begin otherwise than the last one, which stood before the round, the universal side had a model.
+  opened-true : (S : Table) → Growth l existential (suc r) (rows (b .A)) (b .S) S → meaning (l .ks) (l .phi) ≡ true
+      → search (l .prefer) universal (l .ks) (l .phi) (rows S) ≡ none → Opens l (outcome is-true (suc r) (b .A) S)
+  unfolding opening
+  opened-true S grown-S right none-found =
+      let vs = first-values existential (l .ks) (rows S) in
+      let x = some-row (length (b .S)) S (grown-S .more) in
+      let whole : length vs ≡ block existential (l .ks) = length-first-values existential (l .ks) (rows S) (x .0) (x .1) (grown-S .held .sized) in
+      let not-reached =
+      set-not-reached (l .prefer) universal (l .ks) (l .phi) (rows S) (ongoing .ρ) vs (block-before existential (l .ks) (last-row (rows S)))
+      (λ x h otherwise. ongoing .answers .wins x (grown-S .apart x h otherwise)) none-found in
+      record {
+        whole = whole;
+        same-verdict =
+            subst (λ (m : ℕ). meaning (drop m (l .ks)) (set-to vs (l .phi)) ≡ meaning (l .ks) (l .phi)) whole
+            (sym (Bool·not-not (meaning (drop (length vs) (l .ks)) (set-to vs (l .phi)))) ∙ ap not not-reached ∙ sym right);
+      }
+
+  -- False: over the rows of A that begin otherwise than the last one the existential side had a model.
+  opened-false : meaning (l .ks) (l .phi) ≡ false → search (l .prefer) existential (l .ks) (l .phi) (rows (b .A)) ≡ none
+      → Opens l (outcome is-false (suc r) (b .A) (b .S))
+  unfolding opening
+  opened-false right none-found =
+      let vs = first-values universal (l .ks) (rows (b .A)) in
+      let x = some-row r (b .A) (ongoing .count-A) in
+      let whole : length vs ≡ block universal (l .ks) = length-first-values universal (l .ks) (rows (b .A)) (x .0) (x .1) (before .held universal .sized) in
+      let not-reached =
+      set-not-reached (l .prefer) existential (l .ks) (l .phi) (rows (b .A)) (ongoing .σ) vs (block-before universal (l .ks) (last-row (rows (b .A))))
+      (ongoing .apart) none-found in
+      record {
+        whole = whole;
+        same-verdict =
+            subst (λ (m : ℕ). meaning (drop m (l .ks)) (set-to vs (l .phi)) ≡ meaning (l .ks) (l .phi)) whole (not-reached ∙ sym right);
+      }
+
   made-3 : (S : Table) → Growth l existential (suc r) (rows (b .A)) (b .S) S
       → (m : Option (List Row)) → search (l .prefer) universal (l .ks) (l .phi) (rows S) ≡ m → Made l (suc r) b (step-3 l (suc r) (b .A) S m)
   made-3 S grown-S none e =
       let verdict = none-is-verdict (l .prefer) universal (l .ks) (l .phi) (rows S) e in
-      over-later is-true S tt (λ q. omega (arith, ap number q)) (sym (Bool·not-not (meaning (l .ks) (l .phi))) ∙ ap not verdict) grown-S
+      let right : meaning (l .ks) (l .phi) ≡ true = sym (Bool·not-not (meaning (l .ks) (l .phi))) ∙ ap not verdict in
+      over-later is-true S tt (λ q. omega (arith, ap number q)) right (opened-true S grown-S right e) grown-S
   made-3 S grown-S (some new) e = made-4 S new grown-S e (if-fits (l .room-A) (grown (suc r) (b .A) new)) (fitted (l .room-A) (grown (suc r) (b .A) new))
 
   made-2 : (new : List Row) → search (l .prefer) existential (l .ks) (l .phi) (rows (b .A)) ≡ some new
       → (m : Option Table) → Fitted (l .room-S) (grown (suc r) (b .S) new) m → Made l (suc r) b (step-2 l (suc r) (b .A) (b .S) m)
+  unfolding opening
   made-2 new found none full =
       over no-room-existential (b .S) tt
       (room-below-all-rows l existential (suc r) (rows (b .A)) (b .S) (before .held existential) new found full)
+      (record { whole = refl; same-verdict = refl })
       (before .held existential) (extends-itself (b .S)) (ongoing .count-S) (λ _. refl) (λ i x s. inl s) (λ _ n. absurd (n refl))
   made-2 new found (some S) fits =
       let x = some-row r (b .A) (ongoing .count-A) in
@@ -209,7 +283,8 @@ module _ (l : Lent) (r : ℕ) (b : Outcome) (before : Reached l r b) (ongoing : 
   made-1 : (m : Option (List Row)) → search (l .prefer) existential (l .ks) (l .phi) (rows (b .A)) ≡ m
       → Made l (suc r) b (step-1 l (suc r) (b .A) (b .S) m)
   made-1 none e =
-      over is-false (b .S) tt (none-is-verdict (l .prefer) existential (l .ks) (l .phi) (rows (b .A)) e)
+      let right = none-is-verdict (l .prefer) existential (l .ks) (l .phi) (rows (b .A)) e in
+      over is-false (b .S) tt right (opened-false right e)
       (before .held existential) (extends-itself (b .S)) (ongoing .count-S) (λ _. refl) (λ i x s. inl s) (λ n _. absurd (n refl))
   made-1 (some new) e = made-2 new e (if-fits (l .room-S) (grown (suc r) (b .S) new)) (fitted (l .room-S) (grown (suc r) (b .S) new))
 

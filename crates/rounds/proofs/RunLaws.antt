@@ -43,6 +43,7 @@ later l r o over before =
       round-A = before .round-A;
       round-S = before .round-S;
       right = before .right;
+      opened = before .opened;
       at-limit = λ e. absurd (over-not-spent (o .answer) over e);
       ongoing = λ e. absurd (over-not-spent (o .answer) over e);
     }

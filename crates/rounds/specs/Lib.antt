@@ -1,4 +1,5 @@
 -- The definition of 01's 'The run', and the statements of what holds of it.
 pub mod Run
+pub mod Opening
 pub mod Claim
 pub mod Worked

@@ -5,13 +5,14 @@ use mathlib.Core.Path.{_≡_}
 use mathlib.Core.Bool.{Bool, true, false}
 use mathlib.Core.List.{List, [], _∷_, map}
 use lib.IntN.{ℤ, pos, negsuc}
-use lib.ListN.{length}
+use lib.ListN.{length, drop}
 use Rattle.formula.specs.Formula.{max-rows, prefix, clauses}
-use Rattle.formula.specs.Meaning.{matrix}
+use Rattle.formula.specs.Meaning.{matrix, meaning}
 use Rattle.preference.specs.Preference.{prefer}
 use Rattle.expansion.specs.Play.{Row}
 use Rattle.expansion.specs.Judge.{accepted}
 use Rattle.rounds.specs.Run.{under-mark, number, Outcome, run}
+use Rattle.rounds.specs.Opening.{opening, opening-length, set-to}
 
 -- A run worked by hand: what is lent, and what is returned: the answer's number, the round, the counts of A and S.
 pub record WorkedRun : Type 0 where
@@ -124,6 +125,25 @@ worked-runs = K1 ∷ K2 ∷ K3 ∷ K4 ∷ K5 ∷ K6 ∷ K7 ∷ K9 ∷ K10 ∷ K1
 abbrev pub K11 : List Row → Bool
 K11 existential-rows = accepted true (prefix kinds-1) (matrix (clauses literals-1)) existential-rows
 
+-- For the opening, of which 02 has no example. The formula `e 1 0`, `a 2 0`, `1 -2 0`: S comes to hold 0, then 1, and only 1 opens.
+abbrev pub opened-by-last : WorkedRun
+opened-by-last = usual (0 ∷ 1 ∷ []) (pos 1 ∷ negsuc 1 ∷ pos 0 ∷ []) (1 ∷ 2 ∷ 2 ∷ 2 ∷ [])
+
+-- The formula `a 1 2 0`, `2 0`: A comes to hold 01, then 00, and only 00 opens.
+abbrev pub broken-by-last : WorkedRun
+broken-by-last = usual (1 ∷ 1 ∷ []) (pos 2 ∷ pos 0 ∷ []) (0 ∷ 2 ∷ 2 ∷ 1 ∷ [])
+
+-- The opening of a run worked by hand, and its length.
+abbrev pub opened : WorkedRun → List Bool
+opened k = opening (prefix (k .kinds)) (played k)
+
+abbrev pub block-length : WorkedRun → ℕ
+block-length k = opening-length (played k .answer) (prefix (k .kinds))
+
+-- Whether its formula is true with the first unknowns set to some values.
+abbrev pub true-behind : List Bool → WorkedRun → Bool
+true-behind vs k = meaning (drop (length vs) (prefix (k .kinds))) (set-to vs (matrix (clauses (k .literals))))
+
 -- 'Those with * are proved together as one list of the definitions.'
 pub record Worked : Type 0 where
   pub runs : map (λ k. numbers (played k)) worked-runs ≡ map (λ (k : WorkedRun). k .returned) worked-runs
@@ -133,3 +153,14 @@ pub record Worked : Type 0 where
   -- K11: 'rows 0 and 1 accepted; row 1 alone not'.
   pub K11-both : K11 ((false ∷ []) ∷ (true ∷ []) ∷ []) ≡ true
   pub K11-one : K11 ((true ∷ []) ∷ []) ≡ false
+  -- The opening: by the last row, where the first would not do.
+  pub last-opens : map (λ k. numbers (played k)) (opened-by-last ∷ broken-by-last ∷ []) ≡ opened-by-last .returned ∷ broken-by-last .returned ∷ []
+  pub opened-S : played opened-by-last .S ≡ under-mark 1 (false ∷ []) ∷ under-mark 2 (true ∷ []) ∷ []
+  pub opened-so : opened opened-by-last ≡ true ∷ []
+  pub first-opens-not : true-behind (false ∷ []) opened-by-last ≡ false
+  pub broken-A : played broken-by-last .A ≡ under-mark 0 (false ∷ true ∷ []) ∷ under-mark 1 (false ∷ false ∷ []) ∷ []
+  pub broken-so : opened broken-by-last ≡ false ∷ false ∷ []
+  pub first-breaks-not : true-behind (false ∷ true ∷ []) broken-by-last ≡ true
+  pub lengths : map block-length (opened-by-last ∷ broken-by-last ∷ K5 ∷ K6 ∷ K1 ∷ K2 ∷ K12 ∷ K13 ∷ []) ≡ 1 ∷ 2 ∷ 1 ∷ 1 ∷ 0 ∷ 0 ∷ 0 ∷ 0 ∷ []
+  -- K5 and K6 open with row 0; K1, K2, K12 and K13 with nothing.
+  pub openings : map opened (K5 ∷ K6 ∷ K1 ∷ K2 ∷ K12 ∷ K13 ∷ []) ≡ (false ∷ []) ∷ (false ∷ []) ∷ [] ∷ [] ∷ [] ∷ [] ∷ []

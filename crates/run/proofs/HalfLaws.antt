@@ -13,7 +13,7 @@ use Rattle.rows.specs.Table.{room}
 use Rattle.expansion.specs.Play.{Row}
 use Rattle.expansion.specs.Model.{search}
 use Rattle.run.specs.declared.Answer.the-variants.{Spent}
-use Rattle.run.specs.declared.Outcome.{Outcome}
+use Rattle.run.specs.declared.End.{End}
 use Rattle.run.specs.declared.Step.{Step}
 use Rattle.rounds.specs.Run.{Table, rows, grown, if-fits, Lent, outcome, is-false, is-true, spent, no-room-universal, no-room-existential, step-1, step-2, step-3, step-4, round-of, Outcome as RunOutcome, Answer as RunAnswer}
 use Rattle.run.specs.Outcome.{areas, given, lent, named}
@@ -62,14 +62,14 @@ module _ (kinds : List ℕ) (literals : List ℤ) (preferences A-found A-marks-f
   abbrev second : Table → Half
   second S′ = half-of kinds literals preferences universal (room A-found) r S′ A
 
-  abbrev Made : RunOutcome → Outcome → List ℕ → List ℕ → List ℕ → List ℕ → List ℕ → Type 0
+  abbrev Made : RunOutcome → End → List ℕ → List ℕ → List ℕ → List ℕ → List ℕ → Type 0
   Made o = Shows kinds A-found A-marks-found S-found S-marks-found o
 
   ends : round-of l r A S ≡ after-first l r A S first
   unfolding round-of
   ends = end-1 l r A S (search (prefer preferences) existential (prefix kinds) (matrix (clauses literals)) (rows A))
 
-  shown : (o : RunOutcome) (a : RunAnswer) (A′ S′ : Table) (n k : ℕ) (AR AM SR SM W : List ℕ) (result : Outcome) → o ≡ outcome a r A′ S′
+  shown : (o : RunOutcome) (a : RunAnswer) (A′ S′ : Table) (n k : ℕ) (AR AM SR SM W : List ℕ) (result : End) → o ≡ outcome a r A′ S′
       → result ≡ said (named a) r n k → n ≡ length A′ → k ≡ length S′
       → Holds kinds universal A′ A-found A-marks-found AR AM → Holds kinds existential S′ S-found S-marks-found SR SM → length W ≡ 65536
       → Made o result AR AM SR SM W
@@ -79,7 +79,7 @@ module _ (kinds : List ℕ) (literals : List ℤ) (preferences A-found A-marks-f
 
   module _ (AR AM SR SM W : List ℕ) (step : Step) (held-A : Holds kinds universal A A-found A-marks-found AR AM)
       (made : Extended kinds existential S first S-found S-marks-found step SR SM W) where
-    pub existential-stopped : (step .end ≡ 2 → ⊥) → (result : Outcome) → result ≡ said (existential-stop (step .end)) r u x
+    pub existential-stopped : (step .end ≡ 2 → ⊥) → (result : End) → result ≡ said (existential-stop (step .end)) r u x
         → Made (round-of l r A S) result AR AM SR SM W
     unfolding after-first
     existential-stopped stops result told = go first ends made
@@ -96,7 +96,7 @@ module _ (kinds : List ℕ) (literals : List ℤ) (preferences A-found A-marks-f
     -- The first step has grown the existential table; what follows is the second one.
     module _ (goes : step .end ≡ 2) (AR′ AM′ W′ : List ℕ) (back : Step)
         (made-back : Extended kinds universal A (second (half-table S first)) A-found A-marks-found back AR′ AM′ W′) where
-      later : (result : Outcome)
+      later : (result : End)
           → ((S′ : Table) (h : Half) → round-of l r A S ≡ after-second r A S′ h → step .count ≡ length S′
           → Holds kinds existential S′ S-found S-marks-found SR SM
           → Extended kinds universal A h A-found A-marks-found back AR′ AM′ W′ → Made (round-of l r A S) result AR′ AM′ SR SM W′)
@@ -110,7 +110,7 @@ module _ (kinds : List ℕ) (literals : List ℤ) (preferences A-found A-marks-f
           go no-room is m b = absurd (omega (arith, m .ended))
           go (grows S′) is m b = each S′ (second S′) is (m .counted) (m .holds) b
 
-      pub universal-stopped : (back .end ≡ 2 → ⊥) → (result : Outcome) → result ≡ said (universal-stop (back .end)) r u (step .count)
+      pub universal-stopped : (back .end ≡ 2 → ⊥) → (result : End) → result ≡ said (universal-stop (back .end)) r u (step .count)
           → Made (round-of l r A S) result AR′ AM′ SR SM W′
       unfolding after-second
       universal-stopped stops result told = later result go

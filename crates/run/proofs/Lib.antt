@@ -4,7 +4,7 @@ pub mod ByteLaws
 pub mod GrowingLaws
 pub mod ExtendLaws
 pub mod HalfLaws
-pub mod StartLaws
 pub mod LoopLaws
 pub mod TableClaim
+pub mod OpeningLaws
 pub mod OutcomeLaws

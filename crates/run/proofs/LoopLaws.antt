@@ -22,7 +22,7 @@ use Rattle.rows.proofs.WriteLaws.{rows-written-inside, marks-written-inside}
 use Rattle.rows.proofs.RowLaws.{length-bytes-of}
 use Rattle.run.specs.declared.Answer.{Answer}
 use Rattle.run.specs.declared.Answer.the-variants.{False, True, Spent, NoRoomUniversal, NoRoomExistential, Refused}
-use Rattle.run.specs.declared.Outcome.{Outcome}
+use Rattle.run.specs.declared.End.{End}
 use Rattle.run.specs.declared.Step.{Step}
 use Rattle.rounds.specs.Run.{Table, rows, Lent, is-false, is-true, spent, no-room-universal, no-room-existential, round-of, run, Outcome as RunOutcome, Answer as RunAnswer}
 use Rattle.run.specs.Outcome.{areas, given, lent, named, side-fits, tables-fit, row-bytes, mark-numbers}
@@ -32,8 +32,8 @@ use Rattle.rounds.proofs.RoundLaws.{Over}
 use Rattle.rounds.proofs.RunLaws.{run-goes-on, run-reached, run-stays}
 use Rattle.rounds.proofs.Bounds.{row-length, next-round-in-room}
 use Rattle.run.proofs.GrowingLaws.{wide-of-sized}
-use Rattle.run.proofs.ExtendLaws.{few-unknowns, most-bytes}
-use Rattle.run.proofs.StartLaws.{row-whole, preferred-bytes}
+use Rattle.run.proofs.ExtendLaws.{most-bytes}
+use Rattle.growth.proofs.PreferredLaws.{row-whole, preferred-bytes}
 use Rattle.run.proofs.HalfLaws.{existential-stopped, universal-stopped, round-finished}
 
 -- ---- the tables that are lent
@@ -121,7 +121,7 @@ module _ (kinds : List ℕ) (literals : List ℤ) (preferences A-found A-marks-f
       let fit = tables-fitting A-found A-marks-found S-found S-marks-found (ready .tables) in
       let row-is : with-preferred (prefer preferences) universals (replicate 16 0) ≡ bytes-of first =
       ap (λ (n : ℕ). with-preferred (prefer preferences) n (replicate 16 0)) (ready .counted)
-      ∙ preferred-bytes (prefer preferences) m (few-unknowns kinds literals (ready .passes) universal) in
+      ∙ preferred-bytes (prefer preferences) m in
       let some-A : 16 ≤ length A-found = least-bytes A-found (fit .0 .0) in
       let place : 0 < room A-found = omega arith in
       let marked : 0 < length A-marks-found = omega (arith, fit .0 .1) in
@@ -189,7 +189,7 @@ module _ (kinds : List ℕ) (literals : List ℤ) (preferences A-found A-marks-f
         let in-marks = next-round-in-room l made (omega arith) (now-going .going) in
         omega arith
 
-    module _ (next : Outcome) (AR′ AM′ SR′ SM′ W′ : List ℕ)
+    module _ (next : End) (AR′ AM′ SR′ SM′ W′ : List ℕ)
         (shows : Shows kinds A-found A-marks-found S-found S-marks-found (round-of l (made + 1) (run l made .A) (run l made .S)) next AR′ AM′ SR′ SM′ W′) where
       shows-next : Shows kinds A-found A-marks-found S-found S-marks-found (run l (suc made)) next AR′ AM′ SR′ SM′ W′
       shows-next =
@@ -201,15 +201,15 @@ module _ (kinds : List ℕ) (literals : List ℤ) (preferences A-found A-marks-f
           → Going kinds literals preferences A-found A-marks-found S-found S-marks-found limit (next .round) (next .universal) (next .existential) AR′ AM′ SR′ SM′ W′
       goes-further below e =
           let o = run l (suc made) in
-          let ended : o .answer ≡ spent = goes-on-spent (o .answer) (sym (ap (λ (q : Outcome). goes-on (q .answer)) (shows-next .as-returned)) ∙ e) in
-          let reached : next .round ≡ suc made = ap (λ (q : Outcome). q .round) (shows-next .as-returned) ∙ run-reached l (suc made) .at-limit ended in
+          let ended : o .answer ≡ spent = goes-on-spent (o .answer) (sym (ap (λ (q : End). goes-on (q .answer)) (shows-next .as-returned)) ∙ e) in
+          let reached : next .round ≡ suc made = ap (λ (q : End). q .round) (shows-next .as-returned) ∙ run-reached l (suc made) .at-limit ended in
           subst (λ (r : ℕ). Going kinds literals preferences A-found A-marks-found S-found S-marks-found limit r (next .universal) (next .existential) AR′ AM′ SR′ SM′ W′) (sym reached)
           (record {
             passes = now-going .passes;
             going = ended;
             to-limit = below;
-            counted-A = ap (λ (q : Outcome). q .universal) (shows-next .as-returned);
-            counted-S = ap (λ (q : Outcome). q .existential) (shows-next .as-returned);
+            counted-A = ap (λ (q : End). q .universal) (shows-next .as-returned);
+            counted-S = ap (λ (q : End). q .existential) (shows-next .as-returned);
             both = shows-next .both;
             work-long = shows-next .work-long;
           })
@@ -218,12 +218,12 @@ module _ (kinds : List ℕ) (literals : List ℤ) (preferences A-found A-marks-f
           → Shows kinds A-found A-marks-found S-found S-marks-found (run l limit) next AR′ AM′ SR′ SM′ W′
       run-ended below e =
           let o = run l (suc made) in
-          let ended : Over (o .answer) = goes-on-over (o .answer) (sym (ap (λ (q : Outcome). goes-on (q .answer)) (shows-next .as-returned)) ∙ e) in
+          let ended : Over (o .answer) = goes-on-over (o .answer) (sym (ap (λ (q : End). goes-on (q .answer)) (shows-next .as-returned)) ∙ e) in
           subst (λ (q : RunOutcome). Shows kinds A-found A-marks-found S-found S-marks-found q next AR′ AM′ SR′ SM′ W′)
           (sym (run-stays l (suc made) limit below ended))
           shows-next
 
-    abbrev Made : RunOutcome → Outcome → List ℕ → List ℕ → List ℕ → List ℕ → List ℕ → Type 0
+    abbrev Made : RunOutcome → End → List ℕ → List ℕ → List ℕ → List ℕ → List ℕ → Type 0
     Made o = Shows kinds A-found A-marks-found S-found S-marks-found o
 
     -- One round more, by its two steps.
@@ -239,13 +239,13 @@ module _ (kinds : List ℕ) (literals : List ℤ) (preferences A-found A-marks-f
           extends A S A-found S-found S-marks-found (now-going .passes) (now-going .counted-A) (now-going .counted-S) (now-going .both .holds-A .in-rows) (now-going .both .holds-S)
           (now-going .work-long)
 
-      pub run-stopped : (step .end ≡ 2 → ⊥) → (result : Outcome) → result ≡ said (existential-stop (step .end)) (made + 1) u x → Made (run l limit) result AR AM SR′ SM′ W′
+      pub run-stopped : (step .end ≡ 2 → ⊥) → (result : End) → result ≡ said (existential-stop (step .end)) (made + 1) u x → Made (run l limit) result AR AM SR′ SM′ W′
       run-stopped stops result told =
           run-ended result AR AM SR′ SM′ W′
           (existential-stopped kinds literals preferences A-found A-marks-found S-found S-marks-found A S (made + 1) u x (now-going .counted-A) (now-going .counted-S)
           AR AM SR′ SM′ W′ step (now-going .both .holds-A) first stops result told)
           below
-          (ap (λ (o : Outcome). goes-on (o .answer)) told ∙ existential-stops (step .end))
+          (ap (λ (o : End). goes-on (o .answer)) told ∙ existential-stops (step .end))
 
       module _ (goes : step .end ≡ 2) (back : Step) (AR′ AM′ W″ : List ℕ)
           (extends-back : Extends kinds literals preferences SR′ (step .count) true AR AM u (made + 1) W′ back AR′ AM′ W″) where
@@ -256,14 +256,14 @@ module _ (kinds : List ℕ) (literals : List ℤ) (preferences A-found A-marks-f
         second =
             extends-back S′ A S-found A-found A-marks-found (now-going .passes) (first .counted) (now-going .counted-A) (first .holds .in-rows) (now-going .both .holds-A) (first .work-long)
 
-        pub run-stopped-back : (back .end ≡ 2 → ⊥) → (result : Outcome) → result ≡ said (universal-stop (back .end)) (made + 1) u (step .count)
+        pub run-stopped-back : (back .end ≡ 2 → ⊥) → (result : End) → result ≡ said (universal-stop (back .end)) (made + 1) u (step .count)
             → Made (run l limit) result AR′ AM′ SR′ SM′ W″
         run-stopped-back stops result told =
             run-ended result AR′ AM′ SR′ SM′ W″
             (universal-stopped kinds literals preferences A-found A-marks-found S-found S-marks-found A S (made + 1) u x (now-going .counted-A) (now-going .counted-S)
             AR AM SR′ SM′ W′ step (now-going .both .holds-A) first goes AR′ AM′ W″ back second stops result told)
             below
-            (ap (λ (o : Outcome). goes-on (o .answer)) told ∙ universal-stops (back .end))
+            (ap (λ (o : End). goes-on (o .answer)) told ∙ universal-stops (back .end))
 
         pub round-made : back .end ≡ 2
             → Going kinds literals preferences A-found A-marks-found S-found S-marks-found limit (made + 1) (back .count) (step .count) AR′ AM′ SR′ SM′ W″
@@ -274,7 +274,7 @@ module _ (kinds : List ℕ) (literals : List ℤ) (preferences A-found A-marks-f
             AR AM SR′ SM′ W′ step (now-going .both .holds-A) first goes AR′ AM′ W″ back second goes-back)
             below refl
 
-    pub run-spent : limit ≤ made → (result : Outcome) → result ≡ said Spent made u x → Made (run l limit) result AR AM SR SM W
+    pub run-spent : limit ≤ made → (result : End) → result ≡ said Spent made u x → Made (run l limit) result AR AM SR SM W
     run-spent past result told =
         let end : made ≡ limit = omega (arith, now-going .to-limit) in
         let answered : Spent ≡ named (run l made .answer) = ap named (sym (now-going .going)) in

@@ -8,23 +8,26 @@ use lib.Dec.{eqb}
 use lib.IntN.{ℤ}
 use lib.ListN.{length, replicate}
 use borrow.Author.Tests.{eq-eqb, ne-eqb}
-use Rattle.formula.specs.Formula.{work-size, Kind, existential, universal}
+use Rattle.formula.specs.Formula.{work-size, Kind, existential, universal, prefix}
 use Rattle.formula.specs.Meaning.{verdict}
 use Rattle.formula.specs.Causes.{cause-1, cause-2, cause-3, refused-if, checked, sizes, number as cause-number}
 use Rattle.formula.proofs.Accepted.{accepted-sizes}
 use Rattle.formula.specs.declared.Formula.{Formula}
 use Rattle.formula.specs.declared.Check.{Check}
 use Rattle.formula.specs.declared.Check.the-variants.{Accepted, Refused}
+use Rattle.run.specs.declared.End.{End}
 use Rattle.run.specs.declared.Outcome.{Outcome}
 use Rattle.rounds.specs.Run.{is-false, is-true, spent, no-room-universal, no-room-existential, number, Answer as RunAnswer}
 use Rattle.rounds.specs.Claim.{Claim}
 use Rattle.run.specs.declared.Answer.the-variants.{False, True}
 use Rattle.run.specs.Outcome.{Areas, areas, Given, given, lent, tables-fit, cause, accepted, reached, named, number-of, reported, refusal, returned, answered, left}
 use Rattle.run.specs.Ended.{row-part, mark-part, count-of, TableRight, Ended}
-use Rattle.run.specs.Growing.{Passes, Shows, FirstCause}
+use Rattle.run.specs.Growing.{Passes, with-opening, Shows, FirstCause}
 use Rattle.run.proofs.TableClaim.{table-right}
+use Rattle.run.proofs.OpeningLaws.{opening-read}
 use Rattle.rounds.proofs.Claim.{claim}
 use Rattle.rounds.proofs.Verdict.{verdict-right}
+use Rattle.rounds.proofs.Opening.{opening-right}
 
 -- No refused formula has the number 0.
 refused-from-1 : (a b c : Bool) (f : Formula) (n : ℕ) → refused-if a 1 (refused-if b 2 (refused-if c 3 (Accepted f))) ≡ Refused n → 1 ≤ n
@@ -45,7 +48,7 @@ numbered-so : (g : Given) (r : Outcome) → r ≡ returned g → number-of (r .a
 unfolding returned
 numbered-so g r e = ap (λ (o : Outcome). number-of (o .answer)) e ∙ by-test (accepted g)
   where
-    by-test : (b : Bool) → number-of (cond b (reported (reached g)) (refusal (cause g)) .answer) ≡ cond b (number (reached g .answer)) (cause g)
+    by-test : (b : Bool) → number-of (cond b (reported (prefix (g .kinds)) (reached g)) (refusal (cause g)) .answer) ≡ cond b (number (reached g .answer)) (cause g)
     by-test true = number-named (reached g .answer)
     by-test false = refl
 
@@ -54,7 +57,7 @@ pub refused-so : (g : Given) (n : ℕ) (r : Outcome) → cause g ≡ n → 1 ≤
 unfolding returned left
 refused-so g n r e some-cause is =
     let not-0 : accepted g ≡ false = ne-eqb (cause g) 0 (omega arith) in
-    let value : r ≡ returned g = is ∙ ap refusal (sym e) ∙ sym (ap (λ (b : Bool). cond b (reported (reached g)) (refusal (cause g))) not-0) in
+    let value : r ≡ returned g = is ∙ ap refusal (sym e) ∙ sym (ap (λ (b : Bool). cond b (reported (prefix (g .kinds)) (reached g)) (refusal (cause g))) not-0) in
     record {
       returned-so = value;
       numbered = numbered-so g r value;
@@ -62,6 +65,7 @@ refused-so g n r e some-cause is =
       only-true = λ h. let z : _≡_ {A = ℕ} 0 1 = cc (sym h ∙ ap (λ (o : Outcome). o .answer) is) in absurd (omega arith);
       only-false = λ h. let z : _≡_ {A = ℕ} 0 1 = cc (sym h ∙ ap (λ (o : Outcome). o .answer) is) in absurd (omega arith);
       claim = λ yes-0. absurd (true≢false (sym yes-0 ∙ not-0));
+      opened = λ yes-0. absurd (true≢false (sym yes-0 ∙ not-0));
       tables = λ yes-0. absurd (true≢false (sym yes-0 ∙ not-0));
     }
 
@@ -100,19 +104,24 @@ named-false no-room-universal e = let z : _≡_ {A = ℕ} 0 1 = cc in absurd (om
 named-false no-room-existential e = let z : _≡_ {A = ℕ} 0 1 = cc in absurd (omega arith)
 
 -- No cause applies.
-pub answered-so : (g : Given) → cause g ≡ 0 → 1 ≤ g .limit → (r : Outcome) (AR AM SR SM W W′ : List ℕ)
-    → Shows (g .kinds) (g .found .universal-rows) (g .found .universal-marks) (g .found .existential-rows) (g .found .existential-marks) (reached g) r AR AM SR SM W
-    → W′ ≡ replicate (length W) 0 → Ended g r (areas AR AM SR SM W′)
+pub answered-so : (g : Given) → cause g ≡ 0 → 1 ≤ g .limit → (end : End) (r : Outcome) (AR AM SR SM W W′ : List ℕ)
+    → Shows (g .kinds) (g .found .universal-rows) (g .found .universal-marks) (g .found .existential-rows) (g .found .existential-marks) (reached g) end AR AM SR SM W
+    → W′ ≡ replicate (length W) 0 → r ≡ with-opening end (g .kinds) AR SR → Ended g r (areas AR AM SR SM W′)
 unfolding returned left verdict
-answered-so g no-cause some-limit r AR AM SR SM W W′ shows clear =
+answered-so g no-cause some-limit end r AR AM SR SM W W′ shows clear is =
     let yes-0 : accepted g ≡ true = eq-eqb (cause g) 0 no-cause in
-    let value : r ≡ returned g = shows .as-returned ∙ sym (ap (λ (b : Bool). cond b (reported (reached g)) (refusal (cause g))) yes-0) in
-    let answer-is : r .answer ≡ named (reached g .answer) = ap (λ (o : Outcome). o .answer) (shows .as-returned) in
+    let passes = passes-if-none g no-cause in
+    let opens = opening-right (lent g) (g .limit) in
+    let told : r ≡ reported (prefix (g .kinds)) (reached g) =
+    is
+    ∙ (λ d. with-opening (shows .as-returned d) (g .kinds) (shows .both .holds-A .in-rows .in-bytes d) (shows .both .holds-S .in-rows .in-bytes d))
+    ∙ opening-read (g .kinds) (g .literals) passes (g .found .universal-rows) (g .found .existential-rows) (reached g) (opens .whole) in
+    let value : r ≡ returned g = told ∙ sym (ap (λ (b : Bool). cond b (reported (prefix (g .kinds)) (reached g)) (refusal (cause g))) yes-0) in
+    let answer-is : r .answer ≡ named (reached g .answer) = ap (λ (o : Outcome). o .answer) told in
     let held-A = shows .both .holds-A in
     let held-S = shows .both .holds-S in
     let zero-work : W′ ≡ replicate work-size 0 = clear ∙ ap (λ (n : ℕ). replicate n 0) (shows .work-long) in
     let holds = claim (lent g) (g .limit) some-limit in
-    let passes = passes-if-none g no-cause in
     record {
       returned-so = value;
       numbered = numbered-so g r value;
@@ -122,17 +131,18 @@ answered-so g no-cause some-limit r AR AM SR SM W W′ shows clear =
       only-true = λ h. verdict-right (lent g) (g .limit) .only-true (named-true (reached g .answer) (sym answer-is ∙ h));
       only-false = λ h. verdict-right (lent g) (g .limit) .only-false (named-false (reached g .answer) (sym answer-is ∙ h));
       claim = λ _. holds;
-      tables = λ _. both passes holds;
+      opened = λ _. opens;
+      tables = λ _. both told passes holds;
     }
   where
-    both : Passes (g .kinds) (g .literals) → Claim (lent g) (g .limit) → (side : Kind)
+    both : r ≡ reported (prefix (g .kinds)) (reached g) → Passes (g .kinds) (g .literals) → Claim (lent g) (g .limit) → (side : Kind)
         → TableRight g side (row-part side (areas AR AM SR SM W′)) (mark-part side (areas AR AM SR SM W′)) (count-of side r)
-    both passes holds universal =
+    both told passes holds universal =
         table-right g passes holds universal (g .found .universal-marks) AR AM (r .universal) (shows .both .holds-A .in-rows .in-bytes) (shows .both .holds-A .in-marks)
-        (ap (λ (o : Outcome). o .universal) (shows .as-returned))
-    both passes holds existential =
+        (ap (λ (o : Outcome). o .universal) told)
+    both told passes holds existential =
         table-right g passes holds existential (g .found .existential-marks) SR SM (r .existential) (shows .both .holds-S .in-rows .in-bytes) (shows .both .holds-S .in-marks)
-        (ap (λ (o : Outcome). o .existential) (shows .as-returned))
+        (ap (λ (o : Outcome). o .existential) told)
 
 -- ---- the first cause
 

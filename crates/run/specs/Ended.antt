@@ -1,4 +1,4 @@
--- All that `run` promises: what it returns and leaves, demand 2, and demand 3 over 01's run and in the lent tables themselves.
+-- All that `run` promises: what it returns and leaves, demand 2, demand 3 over 01's run and in the lent tables themselves, and 02's opening.
 -- Assumes nothing.
 use Prim.Native.Nat.{ℕ, _-_, _<_}
 use mathlib.Core.Path.{_≡_}
@@ -12,6 +12,7 @@ use Rattle.formula.specs.Meaning.{verdict}
 use Rattle.rows.specs.Table.{row-at, rows-of}
 use Rattle.rounds.specs.Run.{Entry, rows, number, run}
 use Rattle.rounds.specs.Claim.{table, Finished, Claim}
+use Rattle.rounds.specs.Opening.{OpeningRight}
 use Rattle.run.specs.declared.Answer.the-variants.{False, True}
 use Rattle.run.specs.declared.Outcome.{Outcome}
 use Rattle.run.specs.Outcome.{Areas, Given, lent, cause, accepted, reached, number-of, returned, row-bytes, left}
@@ -57,4 +58,6 @@ pub record Ended (g : Given) (r : Outcome) (exit : Areas) : Type 0 where
   pub only-true : r .answer ≡ True → verdict (g .kinds) (g .literals) ≡ true
   pub only-false : r .answer ≡ False → verdict (g .kinds) (g .literals) ≡ false
   pub claim : accepted g ≡ true → Claim (lent g) (g .limit)
+  -- 02: 'The formula with that block set to those values has the same verdict.'
+  pub opened : accepted g ≡ true → OpeningRight (lent g) (g .limit)
   pub tables : accepted g ≡ true → (side : Kind) → TableRight g side (row-part side exit) (mark-part side exit) (count-of side r)

@@ -1,7 +1,7 @@
 -- What the functions below `run` promise each other: how a table's bytes stand for a table of the run, and what a side's step of a round
 -- makes of it.
 -- Assumes nothing.
-use Prim.Native.Nat.{ℕ, zero, suc, _≤_, _<_}
+use Prim.Native.Nat.{ℕ, zero, suc, _-_, _≤_, _<_}
 use mathlib.Core.Path.{_≡_}
 use mathlib.Core.Bool.{Bool, true, false}
 use mathlib.Core.List.{List, []}
@@ -20,14 +20,16 @@ use Rattle.expansion.specs.Model.{search}
 use Rattle.search.specs.declared.Search.{Search}
 use Rattle.search.specs.declared.Search.the-variants.{Found as ModelFound, NoModel, Refused as SearchRefused}
 use Rattle.run.specs.declared.Answer.{Answer}
-use Rattle.run.specs.declared.Answer.the-variants.{False, True, NoRoomUniversal, NoRoomExistential}
+use Rattle.run.specs.declared.Answer.the-variants.{False, True, Spent, NoRoomUniversal, NoRoomExistential, Refused}
 use Rattle.run.specs.declared.Checked.{Checked}
+use Rattle.run.specs.declared.End.{End}
 use Rattle.run.specs.declared.Outcome.{Outcome}
 use Rattle.run.specs.declared.Step.{Step}
 use Rattle.growth.specs.declared.Growth.{Growth}
 use Rattle.growth.specs.declared.Growth.the-variants.{Grown, NoRoom}
+use Rattle.opening.specs.Start.{equal-from-start, first-bits}
 use Rattle.rounds.specs.Run.{Table, rows, grown, if-fits, Outcome as RunOutcome}
-use Rattle.run.specs.Outcome.{Given, tables-fit, cause, reported, row-bytes, mark-numbers}
+use Rattle.run.specs.Outcome.{Given, tables-fit, cause, named, without-opening, row-bytes, mark-numbers}
 
 -- None of the causes 1 to 3 applies.
 abbrev pub Passes : List ℕ → List ℤ → Type 0
@@ -103,7 +105,7 @@ abbrev pub step-of : Growth → ℕ → Step
 step-of (Grown end) n = record { end = 2; count = end }
 step-of NoRoom n = record { end = 1; count = n }
 
-abbrev pub said : Answer → ℕ → ℕ → ℕ → Outcome
+abbrev pub said : Answer → ℕ → ℕ → ℕ → End
 said a r n k = record { answer = a; round = r; universal = n; existential = k }
 
 -- The answer where a side's step ends the run: it has no model, or no room.
@@ -115,14 +117,41 @@ abbrev pub universal-stop : ℕ → Answer
 universal-stop zero = True
 universal-stop (suc end) = NoRoomUniversal
 
+-- The end of a run with the first bits of a table's last row, as many as the prefix has unknowns of a kind in front.
+abbrev pub opened-from : End → List ℕ → ℕ → List ℕ → ℕ → Outcome
+opened-from e kinds kind table n =
+    record {
+      answer = e .answer;
+      round = e .round;
+      universal = e .universal;
+      existential = e .existential;
+      opening = first-bits table (n - 1) (equal-from-start kind kinds);
+      block = equal-from-start kind kinds;
+    }
+
+abbrev pub not-opened : End → Outcome
+not-opened e = without-opening (e .answer) (e .round) (e .universal) (e .existential)
+
+abbrev pub opened-by : Answer → End → List ℕ → List ℕ → List ℕ → Outcome
+opened-by True e kinds A S = opened-from e kinds 0 S (e .existential)
+opened-by False e kinds A S = opened-from e kinds 1 A (e .universal)
+opened-by Spent e kinds A S = not-opened e
+opened-by NoRoomUniversal e kinds A S = not-opened e
+opened-by NoRoomExistential e kinds A S = not-opened e
+opened-by (Refused n) e kinds A S = not-opened e
+
+-- By the answer: true is opened from the existential rows, false from the universal ones.
+abbrev pub with-opening : End → List ℕ → List ℕ → List ℕ → Outcome
+with-opening e kinds A S = opened-by (e .answer) e kinds A S
+
 -- The four lent tables hold an outcome's two.
 pub record HoldsBoth (kinds A-found A-marks-found S-found S-marks-found : List ℕ) (o : RunOutcome) (A-rows A-marks S-rows S-marks : List ℕ) : Type 0 where
   pub holds-A : Holds kinds universal (o .A) A-found A-marks-found A-rows A-marks
   pub holds-S : Holds kinds existential (o .S) S-found S-marks-found S-rows S-marks
 
 -- What is returned and left is that of an outcome.
-pub record Shows (kinds A-found A-marks-found S-found S-marks-found : List ℕ) (o : RunOutcome) (result : Outcome) (A-rows A-marks S-rows S-marks work : List ℕ) : Type 0 where
-  pub as-returned : result ≡ reported o
+pub record Shows (kinds A-found A-marks-found S-found S-marks-found : List ℕ) (o : RunOutcome) (result : End) (A-rows A-marks S-rows S-marks work : List ℕ) : Type 0 where
+  pub as-returned : result ≡ said (named (o .answer)) (o .round) (length (o .A)) (length (o .S))
   pub both : HoldsBoth kinds A-found A-marks-found S-found S-marks-found o A-rows A-marks S-rows S-marks
   pub work-long : length work ≡ work-size
 

@@ -6,12 +6,14 @@ use mathlib.Core.List.{List, _++_, map}
 use lib.Dec.{eqb}
 use lib.IntN.{ℤ}
 use lib.ListN.{length, drop, replicate}
-use Rattle.formula.specs.Formula.{work-size, prefix, clauses}
+use Rattle.formula.specs.Formula.{work-size, Kind, prefix, clauses}
 use Rattle.formula.specs.Meaning.{matrix}
 use Rattle.formula.specs.Causes.{checked, number as cause-number}
 use Rattle.preference.specs.Preference.{prefer}
+use Rattle.rows.specs.Row.{bytes-of}
 use Rattle.rows.specs.Table.{table-of, room, table-fits, marks-fit}
 use Rattle.rounds.specs.Run.{Entry, Table, rows, Lent, run, is-false, is-true, spent, no-room-universal, no-room-existential, Answer as RunAnswer, Outcome as RunOutcome}
+use Rattle.rounds.specs.Opening.{opening, opening-length}
 use Rattle.run.specs.declared.Answer.{Answer}
 use Rattle.run.specs.declared.Answer.the-variants.{False, True, Spent, NoRoomUniversal, NoRoomExistential, Refused}
 use Rattle.run.specs.declared.Outcome.{Outcome}
@@ -91,16 +93,29 @@ number-of NoRoomUniversal = 3
 number-of NoRoomExistential = 4
 number-of (Refused cause) = cause
 
--- 'Returned: the answer, the round reached and made, the counts of A and S.' On a refusal round and counts are 0.
-abbrev pub reported : RunOutcome → Outcome
-reported o = record { answer = named (o .answer); round = o .round; universal = length (o .A); existential = length (o .S) }
+-- 'Returned: the answer, the round reached and made, the counts of A and S.' 02 adds the opening, which comes 'as a row, other bits zero, with the
+-- block's length'.
+abbrev pub reported : List Kind → RunOutcome → Outcome
+reported ks o =
+    record {
+      answer = named (o .answer);
+      round = o .round;
+      universal = length (o .A);
+      existential = length (o .S);
+      opening = bytes-of (opening ks o);
+      block = opening-length (o .answer) ks;
+    }
+
+-- Sixteen zero bytes and the length 0. On a refusal round and counts are 0 too.
+abbrev pub without-opening : Answer → ℕ → ℕ → ℕ → Outcome
+without-opening a r n k = record { answer = a; round = r; universal = n; existential = k; opening = replicate 16 0; block = 0 }
 
 abbrev pub refusal : ℕ → Outcome
-refusal n = record { answer = Refused n; round = 0; universal = 0; existential = 0 }
+refusal n = without-opening (Refused n) 0 0 0
 
 unfoldable pub returned : Given → Outcome
 returned g =
-    let answered = reported (reached g) in
+    let answered = reported (prefix (g .kinds)) (reached g) in
     cond (accepted g) answered (refusal (cause g))
 
 -- The bytes of a table: its rows from the start, and what was found behind them; the same of its marks.

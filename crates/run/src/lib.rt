@@ -1,20 +1,22 @@
 // The run (01, 'The run'): rounds of the two searches over the two row tables, until a verdict, a full table or the limit.
 // `run` promises, for all that is lent, the outcome and every lent byte that the definition (specs/Outcome.antt) gives, that its answer is
-// the verdict, and of an accepted run the claim, over 01's run and in the lent tables (specs/Ended.antt). The model search belongs to `search`, adding rows to a table to `growth`.
+// the verdict, and of an accepted run the claim, over 01's run and in the lent tables, and that the opening keeps the verdict (specs/Ended.antt).
+// The model search belongs to `search`, adding rows to a table to `growth`, the opening's bytes to `opening`.
 // A round costs one search a side, and what the growth of the two tables costs.
 use formula::Check;
 use formula::Formula;
 use growth::Growth;
 use search::Search;
+ghost use Prim.Native.Nat.{_-_};
 ghost use mathlib.Core.Path.{_≡_};
 ghost use mathlib.Core.List.{[]};
 ghost use Rattle.search.specs.Search.{outcome as search-outcome, work-after};
 ghost use Rattle.rounds.specs.Run.{run as run-of};
 ghost use Rattle.run.specs.declared.Answer.the-variants.{Spent};
-ghost use Rattle.run.specs.Outcome.{areas, given, lent, number-of, refusal, side-fits, tables-fit};
+ghost use Rattle.run.specs.Outcome.{areas, given, lent, number-of, side-fits, tables-fit};
 ghost use Rattle.run.specs.Ended.{Ended};
 ghost use Rattle.run.specs.Numbers.{one-number};
-ghost use Rattle.run.specs.Growing.{is-found, step-of, said, existential-stop, universal-stop, Extends, Shows, Ready, FirstCause};
+ghost use Rattle.run.specs.Growing.{is-found, step-of, said, existential-stop, universal-stop, opened-from, not-opened, with-opening, Extends, Shows, Ready, FirstCause};
 
 pub enum Answer {
     False,
@@ -25,13 +27,28 @@ pub enum Answer {
     Refused(u32),
 }
 
-// The answer, the round in which it came, and the counts of the two tables.
+// The answer, the round in which it came, the counts of the two tables; the opening dispatch as a row, and the length of its block.
 pub struct Outcome {
     pub answer: Answer,
     pub round: u32,
     pub universal: usize,
     pub existential: usize,
+    pub opening: [u8; 16],
+    pub block: usize,
 }
+
+// An outcome without its opening.
+struct End {
+    answer: Answer,
+    round: u32,
+    universal: usize,
+    existential: usize,
+}
+
+// The kinds of unknowns.
+const EXISTENTIAL: u8 = 0;
+
+const UNIVERSAL: u8 = 1;
 
 // How a side's step of a round ends.
 const NO_MODEL: u8 = 0;
@@ -81,7 +98,12 @@ pub fn run(
     );
     let cause = checked.cause;
     if cause != 0 {
-        return refused(cause);
+        return unopened(End {
+            answer: Answer::Refused(cause),
+            round: 0,
+            universal: 0,
+            existential: 0,
+        });
     }
     let universals = checked.universals;
     let end = rounds(
@@ -97,7 +119,7 @@ pub fn run(
         limit,
     );
     rows::clear(work);
-    end
+    opened(end, kinds, universal_rows, existential_rows)
 }
 
 // 01's number of an answer; a refusal has its cause's.
@@ -128,14 +150,63 @@ pub fn one_number(answer: Answer) -> u64
     }
 }
 
-fn refused(cause: u32) -> Outcome
-    ensures { λ r. ⌜ r ≡ refusal cause ⌝ }
+// The end with its opening: true is opened by the last existential row, false by the last universal one.
+fn opened(end: End, kinds: &[u8], universal_rows: &[u8], existential_rows: &[u8]) -> Outcome
+    ensures { λ r. ⌜ r ≡ with-opening end (now (kinds .entry)) (now («universal_rows» .entry)) (now («existential_rows» .entry)) ⌝ }
 {
+    let universal = end.universal;
+    let existential = end.existential;
+    let answer = end.answer;
+    match answer {
+        Answer::True => opened_by(end, kinds, EXISTENTIAL, existential_rows, existential),
+        Answer::False => opened_by(end, kinds, UNIVERSAL, universal_rows, universal),
+        Answer::Spent => unopened(end),
+        Answer::NoRoomUniversal => unopened(end),
+        Answer::NoRoomExistential => unopened(end),
+        Answer::Refused(_) => unopened(end),
+    }
+}
+
+// Opened by the last row below the count, with as many values as the prefix has unknowns of the kind in front.
+fn opened_by(end: End, kinds: &[u8], kind: u8, rows: &[u8], count: usize) -> Outcome
+    ensures { λ r. ⌜ r ≡ opened-from end (now (kinds .entry)) kind (now (rows .entry)) count ⌝ }
+{
+    let block = opening::block(kinds, kind);
+    let place = last_place(count);
+    let opening = opening::first_bits(rows, place, block);
+    let answer = end.answer;
     Outcome {
-        answer: Answer::Refused(cause),
-        round: 0,
-        universal: 0,
-        existential: 0,
+        answer,
+        round: end.round,
+        universal: end.universal,
+        existential: end.existential,
+        opening,
+        block,
+    }
+}
+
+// The last place below a count.
+fn last_place(count: usize) -> usize
+    ensures { λ r. ⌜ r ≡ count - 1 ⌝ }
+{
+    if count == 0 {
+        return 0;
+    }
+    count - 1
+}
+
+fn unopened(end: End) -> Outcome
+    ensures { λ r. ⌜ r ≡ not-opened end ⌝ }
+{
+    let opening = [0u8; 16];
+    let answer = end.answer;
+    Outcome {
+        answer,
+        round: end.round,
+        universal: end.universal,
+        existential: end.existential,
+        opening,
+        block: 0,
     }
 }
 
@@ -229,7 +300,7 @@ fn rounds(
     work: &mut [u8],
     universals: usize,
     limit: u32,
-) -> Outcome
+) -> End
     requires { ⌜ Ready (now kinds) (now literals) (now «universal_rows») (now «universal_marks») (now «existential_rows») (now «existential_marks») (now work) universals ⌝ }
     ensures { λ r. ⌜ Shows (now (kinds .entry)) (now («universal_rows» .entry)) (now («universal_marks» .entry)) (now («existential_rows» .entry)) (now («existential_marks» .entry)) (run-of (lent (given (now (kinds .entry)) (now (literals .entry)) (now (preferences .entry)) (areas (now («universal_rows» .entry)) (now («universal_marks» .entry)) (now («existential_rows» .entry)) (now («existential_marks» .entry)) []) 0)) limit) r (now («universal_rows» .exit)) (now («universal_marks» .exit)) (now («existential_rows» .exit)) (now («existential_marks» .exit)) (now (work .exit)) ⌝ }
 {
@@ -284,18 +355,18 @@ fn rounds(
 }
 
 // Step 1 has no model, or step 2 no room.
-fn existential_stop(end: u8, round: u32, universal: usize, existential: usize) -> Outcome
+fn existential_stop(end: u8, round: u32, universal: usize, existential: usize) -> End
     ensures { λ r. ⌜ r ≡ said (existential-stop end) round universal existential ⌝ }
 {
     if end == NO_MODEL {
-        return Outcome {
+        return End {
             answer: Answer::False,
             round,
             universal,
             existential,
         };
     }
-    Outcome {
+    End {
         answer: Answer::NoRoomExistential,
         round,
         universal,
@@ -304,18 +375,18 @@ fn existential_stop(end: u8, round: u32, universal: usize, existential: usize) -
 }
 
 // Step 3 has no model, or step 4 no room.
-fn universal_stop(back: u8, round: u32, universal: usize, existential: usize) -> Outcome
+fn universal_stop(back: u8, round: u32, universal: usize, existential: usize) -> End
     ensures { λ r. ⌜ r ≡ said (universal-stop back) round universal existential ⌝ }
 {
     if back == NO_MODEL {
-        return Outcome {
+        return End {
             answer: Answer::True,
             round,
             universal,
             existential,
         };
     }
-    Outcome {
+    End {
         answer: Answer::NoRoomUniversal,
         round,
         universal,
@@ -323,10 +394,10 @@ fn universal_stop(back: u8, round: u32, universal: usize, existential: usize) ->
     }
 }
 
-fn spent(round: u32, universal: usize, existential: usize) -> Outcome
+fn spent(round: u32, universal: usize, existential: usize) -> End
     ensures { λ r. ⌜ r ≡ said Spent round universal existential ⌝ }
 {
-    Outcome {
+    End {
         answer: Answer::Spent,
         round,
         universal,

@@ -27,7 +27,7 @@ same-length-5 c = search needs
 
 returns : tie.Need-returns
 returns c =
-    let run = c .before .before .before .before .before .before .before .before .before .before .before .run .ensures in
+    let run = c .before .before .before .before .before .before .before .before .before .before .before .before .run .ensures in
     (reported (c .one-number .ensures) (run .returned-so), run .left-so)
 
 pub probe-run-spec : {M : Type 1} → statement M

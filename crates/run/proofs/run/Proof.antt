@@ -9,8 +9,8 @@ use Rattle.run.proofs.run.Tie as tie
 check-requires : tie.Need-check-requires
 check-requires c κs = tt
 
-refused-requires : tie.Need-refused-requires
-refused-requires c κs = tt
+unopened-requires : tie.Need-unopened-requires
+unopened-requires c κs = tt
 
 same-length : tie.Need-same-length
 same-length c = refl
@@ -33,7 +33,7 @@ returns c =
     let found = areas (q .universal-rows .now) (q .universal-marks .now) (q .existential-rows .now) (q .existential-marks .now) (q .work .now) in
     let g = given (q .kinds .now) (q .literals .now) (q .preferences .now) found (q .limit) in
     let first : cause g ≡ c .before .before .check .result .cause = sym (same-cause (q .kinds .now) (q .literals .now) (q .preferences .now) found (q .limit)) ∙ sym (c .before .before .check .ensures .first) in
-    refused-so g (c .before .before .check .result .cause) (c .refused .result) first (omega (arith, c .before .if1 .taken)) (c .refused .ensures)
+    refused-so g (c .before .before .check .result .cause) (c .unopened .result) first (omega (arith, c .before .if1 .taken)) (c .unopened .ensures)
 
 rounds-requires : tie.Need-rounds-requires
 rounds-requires c κs = c .before .before .before .before .before .before .check .ensures .ready (c .before .before .before .before .before .if1 .left)
@@ -41,37 +41,40 @@ rounds-requires c κs = c .before .before .before .before .before .before .check
 clear-requires : tie.Need-clear-requires
 clear-requires c κs = tt
 
+opened-requires : tie.Need-opened-requires
+opened-requires c κs = tt
+
 same-length-6 : tie.Need-same-length-6
-same-length-6 c = c .before .before .before .before .before .before .before .before .before .before .before .before .before .before .rounds .kept .1 .1 .1 .0
+same-length-6 c = c .before .before .before .before .before .before .before .before .before .before .before .before .before .before .before .before .before .rounds .kept .1 .1 .1 .0
 
 same-length-7 : tie.Need-same-length-7
-same-length-7 c = c .before .before .before .before .before .before .before .before .before .before .before .before .before .before .rounds .kept .1 .1 .1 .1 .0
+same-length-7 c = c .before .before .before .before .before .before .before .before .before .before .before .before .before .before .before .before .before .rounds .kept .1 .1 .1 .1 .0
 
 same-length-8 : tie.Need-same-length-8
-same-length-8 c = c .before .before .before .before .before .before .before .before .before .before .before .before .before .before .rounds .kept .1 .1 .1 .1 .1 .0
+same-length-8 c = c .before .before .before .before .before .before .before .before .before .before .before .before .before .before .before .before .before .rounds .kept .1 .1 .1 .1 .1 .0
 
 same-length-9 : tie.Need-same-length-9
-same-length-9 c = c .before .before .before .before .before .before .before .before .before .before .before .before .before .before .rounds .kept .1 .1 .1 .1 .1 .1 .0
+same-length-9 c = c .before .before .before .before .before .before .before .before .before .before .before .before .before .before .before .before .before .rounds .kept .1 .1 .1 .1 .1 .1 .0
 
 same-length-10 : tie.Need-same-length-10
-same-length-10 c = c .before .before .clear .kept .0 ∙ c .before .before .before .before .before .before .before .before .before .before .before .before .before .before .rounds .kept .1 .1 .1 .1 .1 .1 .1 .0
+same-length-10 c = c .before .before .before .before .before .clear .kept .0 ∙ c .before .before .before .before .before .before .before .before .before .before .before .before .before .before .before .before .before .rounds .kept .1 .1 .1 .1 .1 .1 .1 .0
 
 returns-2 : tie.Need-returns-2
 returns-2 c =
-    let q = c .before .before .before .before .before .before .before .before .before .before .before .before .before .before .before .before .before .before .before .before .before .before .before .before .before .before .before .before .before .before .before .before .before .before .args in
+    let q = c .before .before .before .before .before .before .before .before .before .before .before .before .before .before .before .before .before .before .before .before .before .before .before .before .before .before .before .before .before .before .before .before .before .before .before .before .before .args in
     let found = areas (q .universal-rows .now) (q .universal-marks .now) (q .existential-rows .now) (q .existential-marks .now) (q .work .now) in
     let g = given (q .kinds .now) (q .literals .now) (q .preferences .now) found (q .limit) in
-    let checked = c .before .before .before .before .before .before .before .before .before .before .before .before .before .before .before .before .before .before .before .before .before .check .ensures in
-    let passed = c .before .before .before .before .before .before .before .before .before .before .before .before .before .before .before .before .before .before .before .before .if1 .left in
+    let checked = c .before .before .before .before .before .before .before .before .before .before .before .before .before .before .before .before .before .before .before .before .before .before .before .before .check .ensures in
+    let passed = c .before .before .before .before .before .before .before .before .before .before .before .before .before .before .before .before .before .before .before .before .before .before .before .if1 .left in
     let none : cause g ≡ 0 = sym (same-cause (q .kinds .now) (q .literals .now) (q .preferences .now) found (q .limit)) ∙ sym (checked .first) ∙ passed in
-    answered-so g none (checked .some-limit passed) (c .before .before .before .before .before .before .before .before .before .before .before .before .before .before .rounds .result) _ _ _ _ _ _ (c .before .before .before .before .before .before .before .before .before .before .before .before .before .before .rounds .ensures) (c .before .before .clear .ensures)
+    answered-so g none (checked .some-limit passed) (c .before .before .before .before .before .before .before .before .before .before .before .before .before .before .before .before .before .rounds .result) _ _ _ _ _ _ _ (c .before .before .before .before .before .before .before .before .before .before .before .before .before .before .before .before .before .rounds .ensures) (c .before .before .before .before .before .clear .ensures) (c .opened .ensures)
 
 pub run-spec : {M : Type 1} → statement M
 run-spec =
     tie.close
     (tie.spec
     check-requires
-    refused-requires
+    unopened-requires
     same-length
     same-length-2
     same-length-3
@@ -80,6 +83,7 @@ run-spec =
     returns
     rounds-requires
     clear-requires
+    opened-requires
     same-length-6
     same-length-7
     same-length-8

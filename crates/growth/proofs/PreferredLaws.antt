@@ -1,4 +1,4 @@
--- The start: the first universal row as bytes, and the tables that hold it. Assumes nothing.
+-- Bits set one by one in sixteen zero bytes: the bytes of a row that has these values. Assumes nothing.
 use Prim.Native.Nat.{ℕ, zero, suc, _+_, _*_, _/_, _%_, _^_, _≤_, _<_}
 use native.Mathlib.Omega.{arith}
 use native.Mathlib.Decide.{decLt, ℕ-discrete}
@@ -13,14 +13,14 @@ use lib.ListN.{length, getD, set, replicate, List·getD-eq-default}
 use lib.Seq.{ext-getD, take-all}
 use borrow.Author.Tests.{lt-ltb, le-ltb, eq-eqb, ne-eqb}
 use Rattle.rows.specs.Row.{bit-of, values, row-of, bytes-of}
-use Rattle.rows.specs.Table.{row-at}
+use Rattle.rows.specs.Table.{inside, row-at}
 use Rattle.rows.specs.Access.{bit-set}
 use Rattle.rows.proofs.ValueLaws.{length-values, getD-values}
 use Rattle.rows.proofs.RowLaws.{IsRow, length-bytes-of, bytes-of-below, bit-bytes-of, getD-row-of, length-row-of, none-stray, equal-values-equal-bytes}
 use Rattle.rows.proofs.TableLaws.{row-at-inside}
 use Rattle.rows.proofs.WriteLaws.{bit-set-inside, bit-of-bit-set}
 use Rattle.growth.specs.Growth.{with-preferred}
 use Rattle.growth.proofs.CountLaws.{length-bit-set}
 
 -- Value q of the preferred ones.
 value-preferred : (k : ℕ) (f : ℕ → Bool) (q : ℕ) → Dec (q < k) → ltb q k && f q ≡ getD (values k f) q false
@@ -57,6 +57,10 @@ bit-set-below row k long h below true p =
     subst (λ (l : List ℕ). getD l p 0 < 256) (sym (bit-set-inside row 0 k (omega arith) h)) (set-below row (16 * 0 + k / 8) byte small below p)
 bit-set-below row k long h below false p = below p
 
+and-false : (v : Bool) → v && false ≡ false
+and-false true = refl
+and-false false = refl
+
 bit-of-next : (row : List ℕ) (k q : ℕ) → length row ≡ 16 → k < 128 → q < 128 → (v : Bool) → bit-of (cond v (bit-set row 0 k) row) q ≡ bit-of row q || (v && eqb k q)
 bit-of-next row k q long h hq true =
     let set-long : length (bit-set row 0 k) ≡ 16 = length-bit-set row 0 k ∙ long in
@@ -65,9 +69,14 @@ bit-of-next row k q long h hq true =
     ∙ ap (λ (b : List ℕ). bit-of b q || eqb k q) (row-whole row long)
 bit-of-next row k q long h hq false = sym (or-false (bit-of row q))
 
-and-false : (v : Bool) → v && false ≡ false
-and-false true = refl
-and-false false = refl
+-- A row has no bit from 128 on.
+no-such-bit : (row : List ℕ) (k : ℕ) → 128 ≤ k → (v : Bool) → cond v (bit-set row 0 k) row ≡ row
+unfolding bit-set
+no-such-bit row k h true =
+    let place = 16 * 0 + k / 8 in
+    ap (λ (b : Bool). cond b (set row place (bitOr (getD row place 0) (2 ^ (k % 8)))) row)
+    (ap (λ (v : Bool). inside row 0 && v) (le-ltb k 128 h) ∙ and-false (inside row 0))
+no-such-bit row k h false = refl
 
 same-test : (q k : ℕ) → (q ≡ k → ⊥) → Dec (q < k) → ltb q k ≡ ltb q (suc k)
 same-test q k differ (yes b) = lt-ltb q k b ∙ sym (lt-ltb q (suc k) (omega arith))
@@ -101,32 +110,46 @@ module _ (f : ℕ → Bool) where
       go false e = e
 
   -- The bytes stay bytes.
-  below-256 : (k : ℕ) → k ≤ 128 → (p : ℕ) → getD (with-preferred f k (replicate 16 0)) p 0 < 256
-  below-256 zero h p = omega (arith, getD-zeros 16 p)
-  below-256 (suc k) h p = bit-set-below (with-preferred f k (replicate 16 0)) k (omega (arith, length-with-preferred k (replicate 16 0))) (omega arith) (below-256 k (omega arith)) (f k) p
+  below-256 : (k p : ℕ) → getD (with-preferred f k (replicate 16 0)) p 0 < 256
+  below-256 zero p = omega (arith, getD-zeros 16 p)
+  below-256 (suc k) p = go (decLt k 128) (below-256 k)
+    where
+      go : Dec (k < 128) → ((q : ℕ) → getD (with-preferred f k (replicate 16 0)) q 0 < 256) → getD (with-preferred f (suc k) (replicate 16 0)) p 0 < 256
+      go (yes h) below =
+          bit-set-below (with-preferred f k (replicate 16 0)) k (omega (arith, length-with-preferred k (replicate 16 0))) h below (f k) p
+      go (no h) below =
+          subst (λ (row : List ℕ). getD row p 0 < 256) (sym (no-such-bit (with-preferred f k (replicate 16 0)) k (omega arith) (f k))) (below p)
 
   -- Bit q is set if it is passed and preferred.
-  bit-preferred : (k : ℕ) → k ≤ 128 → (q : ℕ) → q < 128 → bit-of (with-preferred f k (replicate 16 0)) q ≡ ltb q k && f q
-  bit-preferred zero h q hq = no-bits q ∙ ap (λ (v : Bool). v && f q) (sym (le-ltb q 0 (omega arith)))
-  bit-preferred (suc k) h q hq =
-      bit-of-next (with-preferred f k (replicate 16 0)) k q (length-with-preferred k (replicate 16 0)) (omega arith) hq (f k)
-      ∙ ap (λ (v : Bool). v || (f k && eqb k q)) (bit-preferred k (omega arith) q hq)
-      ∙ passed f k q (ℕ-discrete q k)
+  bit-preferred : (k q : ℕ) → q < 128 → bit-of (with-preferred f k (replicate 16 0)) q ≡ ltb q k && f q
+  bit-preferred zero q hq = no-bits q ∙ ap (λ (v : Bool). v && f q) (sym (le-ltb q 0 (omega arith)))
+  bit-preferred (suc k) q hq = go (decLt k 128) (bit-preferred k q hq)
+    where
+      go : Dec (k < 128) → bit-of (with-preferred f k (replicate 16 0)) q ≡ ltb q k && f q
+          → bit-of (with-preferred f (suc k) (replicate 16 0)) q ≡ ltb q (suc k) && f q
+      go (yes h) before =
+          bit-of-next (with-preferred f k (replicate 16 0)) k q (length-with-preferred k (replicate 16 0)) h hq (f k)
+          ∙ ap (λ (v : Bool). v || (f k && eqb k q)) before
+          ∙ passed f k q (ℕ-discrete q k)
+      go (no h) before =
+          ap (λ (row : List ℕ). bit-of row q) (no-such-bit (with-preferred f k (replicate 16 0)) k (omega arith) (f k))
+          ∙ before
+          ∙ ap (λ (v : Bool). v && f q) (same-test q k (omega arith) (decLt q k))
 
   is-row-128 : (b : List ℕ) → length b ≡ 16 → ((p : ℕ) → getD b p 0 < 256) → IsRow 128 b
   is-row-128 b long below = record { width = long; below = below; clean = none-stray 128 b (λ k low high. absurd (omega arith)) }
 
-  pub preferred-bytes : (m : ℕ) → m ≤ 128 → with-preferred f m (replicate 16 0) ≡ bytes-of (values m f)
-  preferred-bytes m h =
+  pub preferred-bytes : (m : ℕ) → with-preferred f m (replicate 16 0) ≡ bytes-of (values m f)
+  preferred-bytes m =
       let row = with-preferred f m (replicate 16 0) in
       let goal = bytes-of (values m f) in
       equal-values-equal-bytes 128 row goal
-      (is-row-128 row (length-with-preferred m (replicate 16 0)) (below-256 m h))
+      (is-row-128 row (length-with-preferred m (replicate 16 0)) (below-256 m))
       (is-row-128 goal (length-bytes-of (values m f)) (bytes-of-below (values m f)))
       (ext-getD false (row-of 128 row) (row-of 128 goal) (length-row-of 128 row ∙ sym (length-row-of 128 goal)) (λ q below.
       let hq : q < 128 = omega (arith, length-row-of 128 row) in
       getD-row-of 128 row q hq
-      ∙ bit-preferred m h q hq
+      ∙ bit-preferred m q hq
       ∙ value-preferred m f q (decLt q m)
       ∙ sym (bit-bytes-of (values m f) q hq)
       ∙ sym (getD-row-of 128 goal q hq)))

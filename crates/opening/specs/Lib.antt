@@ -1,0 +1,2 @@
+-- What the two functions return.
+pub mod Start
