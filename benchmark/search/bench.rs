@@ -48,22 +48,6 @@ impl Search {
     }
 }
 
-fn tables(kinds: &[u8], literals: &[i32]) -> probe::Tables {
-    probe::Tables {
-        kinds: Lent::new(kinds),
-        literals: Lent::new(literals),
-        preferences: Lent::new(&[]),
-        universal_rows: Lent::new(&[0; 4096]),
-        universal_marks: Lent::new(&[0; 256]),
-        existential_rows: Lent::new(&[0; 4096]),
-        existential_marks: Lent::new(&[0; 256]),
-        work: Lent::new(&[0; WORK]),
-        round: Lent::new(&[0]),
-        universal: Lent::new(&[0]),
-        existential: Lent::new(&[0]),
-    }
-}
-
 fn line(name: &str, answer: &str, times: &time::Times, target: f64) {
     let wanted = if target > 0.0 { format!("{}", target) } else { "-".to_string() };
     println!("| {} | {} | {:.3} | {:.3} | {} | {} |", name, answer, times.median, times.longest, times.calls, wanted);
@@ -88,7 +72,7 @@ fn time_runs() {
     println!("| Whole run, 256 rows a side, limit 1,000 | Answer | Median, ms | Longest, ms | Calls | Wanted, ms |");
     println!("|---|---|---|---|---|---|");
     for (name, kinds, literals, target) in formulas::runs() {
-        let mut tables = tables(&kinds, &literals);
+        let mut tables = probe::Tables::of(&kinds, &literals);
         let number = probe::run(&mut tables, 1000);
         let word = ["false", "true", "spent", "no room universal", "no room existential"][number as usize];
         let (round, a, s) = (tables.round.content()[0], tables.universal.content()[0], tables.existential.content()[0]);
@@ -190,7 +174,7 @@ fn measure_stack(random: &mut Random) {
         ("whole run: 64 and 64 in turn", alternating, (1..128).flat_map(|k| [k, k + 1, 0]).collect()),
     ];
     for (name, kinds, literals) in runs {
-        let mut tables = tables(&kinds, &literals);
+        let mut tables = probe::Tables::of(&kinds, &literals);
         line_of_stack(
             name,
             stack::taken(&mut || {

@@ -9,7 +9,7 @@ mod probe;
 #[path = "../search/time.rs"]
 mod time;
 
-use independent::{formula, lent};
+use independent::{formula, lent, season};
 use lent::Lent;
 
 const ENTRIES: usize = 8192;

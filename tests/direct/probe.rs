@@ -1,6 +1,6 @@
 //! The functions of the static library, on lent tables.
 
-use crate::formula::Side;
+use crate::formula::{Side, WORK};
 use crate::lent::Lent;
 use crate::season::Study;
 
@@ -151,6 +151,27 @@ pub struct Tables {
     pub existential: Lent<usize>,
     pub opening: Lent<u8>,
     pub block: Lent<usize>,
+}
+
+impl Tables {
+    /// 256 rows a side, all zero, and no preferences.
+    pub fn of(kinds: &[u8], literals: &[i32]) -> Tables {
+        Tables {
+            kinds: Lent::new(kinds),
+            literals: Lent::new(literals),
+            preferences: Lent::new(&[]),
+            universal_rows: Lent::new(&[0; 4096]),
+            universal_marks: Lent::new(&[0; 256]),
+            existential_rows: Lent::new(&[0; 4096]),
+            existential_marks: Lent::new(&[0; 256]),
+            work: Lent::new(&[0; WORK]),
+            round: Lent::new(&[0]),
+            universal: Lent::new(&[0]),
+            existential: Lent::new(&[0]),
+            opening: Lent::new(&[0; 16]),
+            block: Lent::new(&[0]),
+        }
+    }
 }
 
 pub fn run(tables: &mut Tables, limit: u32) -> u64 {

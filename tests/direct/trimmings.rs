@@ -3,8 +3,7 @@
 
 use crate::compare;
 use crate::draw;
-use crate::formula::{clauses, WORK};
-use crate::lent::Lent;
+use crate::formula::clauses;
 use crate::meaning::meaning;
 use crate::probe;
 use crate::random::Random;
@@ -70,21 +69,7 @@ fn chained(random: &mut Random, n: usize) -> Vec<i32> {
 
 /// The answer of a run with the house preferences and 256 rows a side.
 fn answer(kinds: &[u8], literals: &[i32]) -> u64 {
-    let mut tables = probe::Tables {
-        kinds: Lent::new(kinds),
-        literals: Lent::new(literals),
-        preferences: Lent::new(&[]),
-        universal_rows: Lent::new(&[0; 4096]),
-        universal_marks: Lent::new(&[0; 256]),
-        existential_rows: Lent::new(&[0; 4096]),
-        existential_marks: Lent::new(&[0; 256]),
-        work: Lent::new(&[0; WORK]),
-        round: Lent::new(&[0]),
-        universal: Lent::new(&[0]),
-        existential: Lent::new(&[0]),
-        opening: Lent::new(&[0; 16]),
-        block: Lent::new(&[0]),
-    };
+    let mut tables = probe::Tables::of(kinds, literals);
     probe::run(&mut tables, 1000)
 }
 
