@@ -5,7 +5,7 @@ mod independent;
 #[path = "../direct/probe.rs"]
 mod probe;
 
-use independent::{formula, lent, reader};
+use independent::{formula, lent, reader, season};
 use lent::Lent;
 use std::io::{Read, Write};
 
