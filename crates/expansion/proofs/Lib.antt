@@ -2,6 +2,7 @@
 pub mod Booleans
 pub mod Membership
 pub mod Walk
+pub mod CopyCases
 pub mod CopyLaws
 pub mod FirstModel
 pub mod Leading
@@ -11,7 +12,7 @@ pub mod LeadingFirst
 pub mod Game
 pub mod Soundness
 pub mod Verdict
-pub mod Accepted
+pub mod Judged
 pub mod Cuts
 pub mod Node
 pub mod Steps

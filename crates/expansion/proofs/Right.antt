@@ -15,7 +15,7 @@ use Rattle.expansion.specs.Right.{NoModel, SearchRight, JudgeRight}
 use Rattle.expansion.proofs.FirstModel.{values-of, is-model-of-values, first-is-first}
 use Rattle.expansion.proofs.Walk.{walk-none}
 use Rattle.expansion.proofs.Verdict.{yielded-none, search-none}
-use Rattle.expansion.proofs.Accepted.{accepted-exactly, accepted-verdict, zero-rows-never}
+use Rattle.expansion.proofs.Judged.{accepted-exactly, accepted-verdict, zero-rows-never}
 
 module _ (prefer : ℕ → Bool) (side : Kind) (ks : List Kind) (phi : List Bool → Bool) (rows : List Row) where
   first : (new : List Row) → search prefer side ks phi rows ≡ some new

@@ -3,6 +3,7 @@
 pub mod Side
 pub mod Play
 pub mod Copies
+pub mod CopyCases
 pub mod Model
 pub mod Order
 pub mod Judge

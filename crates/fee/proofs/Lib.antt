@@ -8,4 +8,5 @@ pub mod BandLaws
 pub mod BandsRight
 pub mod Halves
 pub mod Worked
+pub mod BandCases
 pub mod Study

@@ -7,5 +7,6 @@ pub mod Study
 pub mod HalfUp
 pub mod Halves
 pub mod Worked
+pub mod BandCases
 pub mod ByBands
 pub mod BandsRight

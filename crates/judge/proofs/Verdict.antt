@@ -10,7 +10,7 @@ use borrow.Author.Tests.{eqb-true}
 use Rattle.formula.specs.Formula.{prefix, clauses}
 use Rattle.formula.specs.Meaning.{matrix, verdict, bit}
 use Rattle.rows.specs.Table.{rows-of}
-use Rattle.expansion.proofs.Accepted.{accepted-verdict}
+use Rattle.expansion.proofs.Judged.{accepted-verdict}
 use Rattle.judge.specs.declared.Judgement.the-variants.{Accepted, Refused}
 use Rattle.judge.specs.Judge.{claims-true, other-claim, width, cause, borne-out, answer, outcome}
 use Rattle.judge.proofs.Causes.{no-cause}

@@ -11,7 +11,7 @@ use Rattle.formula.specs.Meaning.{matrix, meaning, verdict}
 use Rattle.formula.proofs.Accepted.{Accepted, accepting}
 use Rattle.expansion.specs.Play.{Row}
 use Rattle.expansion.specs.Judge.{accepted}
-use Rattle.expansion.proofs.Accepted as judged
+use Rattle.expansion.proofs.Judged as judged
 use Rattle.rounds.specs.Run.{Lent}
 use Rattle.rounds.proofs.Verdict.{verdict-right}
 use Rattle.trimming_rules.specs.Trimming.{trimmed}

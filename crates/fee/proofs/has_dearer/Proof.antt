@@ -51,7 +51,7 @@ loop-again c =
     )
 
 returns : tie.Need-returns Inv-loop μ-loop
-returns c = any-all (ltb max-price) (c .before .before .args .prices .now) (c .before .loop .found) (c .before .loop .i) (c .before .loop .inv .1) (c .loop-test .left)
+returns c = any-all (ltb max-price) (c .before .before .args .prices .now) (c .before .loop .found) (c .before .loop .i) (c .before .loop .inv .1) (omega arith)
 
 pub has-dearer-spec : {M : Type 1} → statement M
 has-dearer-spec =

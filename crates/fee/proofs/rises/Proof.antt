@@ -58,7 +58,7 @@ loop-again c =
     )
 
 returns : tie.Need-returns Inv-loop μ-loop
-returns c = all-seen (c .before .before .args .firsts .now) (c .before .loop .rising) (c .before .loop .i) (c .before .loop .inv .1) (c .loop-test .left)
+returns c = all-seen (c .before .before .args .firsts .now) (c .before .loop .rising) (c .before .loop .i) (c .before .loop .inv .1) (omega arith)
 
 pub rises-spec : {M : Type 1} → statement M
 rises-spec =

@@ -23,7 +23,7 @@ part-result-end c = search needs
 returns : tie.Need-returns
 unfolding handed-back handed-start
 returns c =
-    let over = le-ltb (c .before .before .args .place) (c .before .before .args .count) (c .before .if1 .taken) in
+    let over = le-ltb (c .before .before .args .place) (c .before .before .args .count) (omega arith) in
     (rw over, (refl, rw over (omega arith)))
 
 sub-result-2 : tie.Need-sub-result-2
@@ -39,7 +39,7 @@ returns-2 : tie.Need-returns-2
 unfolding handed-back handed-start
 returns-2 c =
     let given = c .before .before .before .args in
-    let below = lt-ltb (given .place) (given .count) (c .before .before .if1 .left) in
+    let below = lt-ltb (given .place) (given .count) (omega arith) in
     let out = inside-false (given .rows .now) (given .place) (c .before .if2 .taken) in
     (rw (below, row-at-outside (given .rows .now) (given .place) (c .before .if2 .taken)), (refl, rw (below, out) (omega arith)))
 
@@ -63,7 +63,7 @@ unfolding handed-back handed-start
 returns-3 c =
     let given = c .before .before .before .args in
     let width : 16 * given .place + 16 - 16 * given .place ≡ 16 = omega arith in
-    let below = lt-ltb (given .place) (given .count) (c .before .before .if1 .left) in
+    let below = lt-ltb (given .place) (given .count) (omega arith) in
     let here = inside-true (given .rows .now) (given .place) (omega (arith, c .before .if2 .left)) in (
       rw (below, row-at-inside (given .rows .now) (given .place) (c .before .if2 .left))
           (ap (λ (n : ℕ). take n (drop (16 * given .place) (given .rows .now))) width),
