@@ -3,7 +3,8 @@ use Prim.Native.Nat.{ℕ, _+_, _*_, _^_, _<_, _≤_}
 use native.Mathlib.Omega.{arith}
 use mathlib.Core.Path.{_≡_}
 use mathlib.Core.Bool.{Bool, true, false}
-use Rattle.season.specs.Season.{bit, max-studies}
+use Rattle.formula.specs.Meaning.{bit}
+use Rattle.season.specs.Season.{max-studies}
 
 pub bit-small : (b : Bool) → bit b ≤ 1
 bit-small true = omega arith

@@ -10,7 +10,9 @@ use lib.ListN.{length}
 use borrow.Author.Tests.{lt-ltb, le-ltb, lt-leb, eq-eqb, ne-eqb, ltb-true, ltb-false}
 use Rattle.season.specs.declared.Study.{Study}
 use Rattle.season.specs.declared.tally.Tally.{Tally}
-use Rattle.season.specs.Season.{bit, sum, max-studies, max-answer, max-fee, most, first-with, any, summary}
+use Rattle.formula.specs.Causes.{any}
+use Rattle.formula.specs.Meaning.{bit}
+use Rattle.season.specs.Season.{sum, max-studies, max-answer, max-fee, most, first-with, summary}
 use Rattle.season.specs.Tally.{fresh, one-more, added, closed, leads, Room}
 use Rattle.season.proofs.Fits.{bit-small}
 

@@ -1,9 +1,11 @@
 -- The page over a table of studies, and what is refused. Assumes nothing.
 use Prim.Native.Nat.{ℕ, suc, _+_, max}
-use mathlib.Core.Bool.{Bool, true, false, cond, _||_}
+use mathlib.Core.Bool.{Bool, true, false, cond}
 use mathlib.Core.List.{List, [], _∷_}
 use lib.Dec.{eqb, ltb}
 use lib.ListN.{length}
+use Rattle.formula.specs.Causes.{any}
+use Rattle.formula.specs.Meaning.{bit}
 use Rattle.season.specs.declared.Study.{Study}
 use Rattle.season.specs.declared.Sheet.{Sheet}
 use Rattle.season.specs.declared.Summary.{Summary}
@@ -15,10 +17,6 @@ sum number [] = 0
 sum number (s ∷ ss) = number s + sum number ss
 
 -- 'It counts the studies, in all and by answer.'
-abbrev pub bit : Bool → ℕ
-bit true = 1
-bit false = 0
-
 abbrev pub with-answer : ℕ → List Study → ℕ
 with-answer k ss = sum (λ s. bit (eqb (s .answer) k)) ss
 
@@ -57,10 +55,6 @@ abbrev pub max-fee : ℕ
 max-fee = 100000000
 
 -- Whether some study passes a test.
-abbrev pub any : (Study → Bool) → List Study → Bool
-any test [] = false
-any test (s ∷ ss) = test s || any test ss
-
 abbrev pub refused-if : Bool → ℕ → Summary → Summary
 refused-if true number otherwise = Refused number
 refused-if false number otherwise = otherwise

@@ -5,7 +5,8 @@ use lib.Dec.{eqb, leb, ltb}
 use Rattle.season.specs.declared.tally.Tally.{Tally}
 use Rattle.season.specs.declared.Summary.{Summary}
 use Rattle.season.specs.declared.Summary.the-variants.{Page}
-use Rattle.season.specs.Season.{bit, max-studies, max-answer, max-fee, refused-if}
+use Rattle.formula.specs.Meaning.{bit}
+use Rattle.season.specs.Season.{max-studies, max-answer, max-fee, refused-if}
 
 -- Nothing has been added.
 abbrev pub fresh : Tally

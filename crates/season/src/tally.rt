@@ -2,7 +2,7 @@
 ghost use mathlib.Core.Path.{_≡_};
 ghost use mathlib.Core.Bool.{cond, _||_};
 ghost use lib.Dec.{eqb, ltb};
-ghost use Rattle.season.specs.Season.{bit};
+ghost use Rattle.formula.specs.Meaning.{bit};
 ghost use Rattle.season.specs.Tally.{fresh, added, closed, leads, Room};
 use crate::Sheet;
 use crate::Summary;
