@@ -8,14 +8,15 @@ use mathlib.Core.Bool.{Bool, true, false}
 use mathlib.Core.List.{List}
 use mathlib.Core.Logic.{_≢_}
 use lib.Dec.{eqb}
-use lib.ListN.{getD}
+use lib.ListN.{length, getD, set}
+use lib.Seq.{getD-set-same, getD-set-other}
 use borrow.Author.Tests.{eqb-true, eqb-false}
 use Rattle.rows.specs.Row.{bit-of, row-bits}
 use Rattle.rows.specs.Table.{row-at, room}
 use Rattle.rows.proofs.BitLaws.{bits-determine}
 use Rattle.rows.proofs.RowLaws.{bit-in-byte}
 use Rattle.rows.proofs.TableLaws.{getD-row-at}
-use Rattle.forecast.specs.Starts.{AlikeBits, Alike, Shared, Tells}
+use Rattle.forecast.specs.Starts.{AlikeBits, Alike, Shared, Tells, Told}
 
 -- ---- two rows
 
@@ -123,3 +124,13 @@ module _ (t : List ℕ) (i j n s : ℕ) (told : Tells t i j n) (shares : Shared 
       go : Dec (s < n) → Tells t i (j + 1) r
       go (yes h) = let same : n ≡ r = omega arith in subst (λ (x : ℕ). Tells t i (j + 1) x) same (tells-still h)
       go (no h) = let same : s + 1 ≡ r = omega arith in subst (λ (x : ℕ). Tells t i (j + 1) x) same (tells-longer (omega arith))
+
+-- One number more is written.
+pub told-next : (t numbers : List ℕ) (i v : ℕ) → i < length numbers → Told t numbers i → Tells t i i v → Told t (set numbers i v) (i + 1)
+told-next t numbers i v h told here q below = go (decLt q i)
+  where
+    go : Dec (q < i) → Tells t q q (getD (set numbers i v) q 0)
+    go (yes earlier) = subst (λ (x : ℕ). Tells t q q x) (sym (getD-set-other numbers i q v 0 (λ e. omega arith))) (told q earlier)
+    go (no last) =
+        let same : i ≡ q = omega arith in
+        subst (λ (p : ℕ). Tells t p p (getD (set numbers i v) p 0)) same (subst (λ (x : ℕ). Tells t i i x) (sym (getD-set-same numbers i v 0 h)) here)

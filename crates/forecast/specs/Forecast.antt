@@ -8,7 +8,8 @@ use Rattle.formula.specs.Formula.{Kind, existential, universal, prefix, clauses
 use Rattle.formula.specs.Meaning.{matrix}
 use Rattle.rows.specs.Table.{room}
 use Rattle.rounds.specs.Run.{Table, rows, no-room-existential, Lent, round-of}
-use Rattle.forecast.specs.Outcome.{Given, width, lent-rows, copies-over, fits}
+use Rattle.forecast.specs.declared.Outlook.{Outlook}
+use Rattle.forecast.specs.Outcome.{Given, width, lent-rows, copies-over, fits, cause, outcome, number}
 
 -- Tables of a run that hold the lent rows; their marks are free.
 pub record Holds (g : Given) (A S : Table) : Type 0 where
@@ -35,3 +36,9 @@ pub record Bounded (g : Given) : Type 0 where
 pub record ForecastRight (g : Given) : Type 0 where
   pub spared : Spared g
   pub bounded : Bounded g
+
+-- All that `forecast` promises: what it returns and its number, and the statements for every accepted input.
+pub record Foretold (g : Given) (result : Outlook) : Type 0 where
+  pub returned : result ≡ outcome g
+  pub numbered : number result ≡ cause g
+  pub right : cause g ≡ 0 → ForecastRight g

@@ -10,8 +10,8 @@ ghost use lib.ListN.{length};
 ghost use Rattle.formula.specs.Formula.{prefix, max-unknowns, max-rows};
 ghost use Rattle.rows.specs.Table.{row-at, room};
 ghost use Rattle.expansion.specs.Side.{side-of, flags, other};
-ghost use Rattle.forecast.specs.Outcome.{given, table-cause, copies-over, cause as cause-of, outcome, number};
-ghost use Rattle.forecast.specs.Forecast.{ForecastRight};
+ghost use Rattle.forecast.specs.Outcome.{given, table-cause, copies-over};
+ghost use Rattle.forecast.specs.Forecast.{Foretold};
 ghost use Rattle.forecast.specs.Starts.{AlikeBits, Shared, Tells, Told, within, summed};
 
 // The copies over A and over S as they stand, and whether the free existential rows number at least the count of A. A refusal has the number
@@ -36,9 +36,7 @@ pub fn forecast(
     existential_rows: &[u8],
     existential: usize,
 ) -> Outlook
-    ensures { λ r. ⌜ r ≡ outcome (given (now (kinds .entry)) (now (literals .entry)) (now («universal_rows» .entry)) universal (now («existential_rows» .entry)) existential) ⌝ }
-    ensures numbered { λ r. ⌜ number r ≡ cause-of (given (now (kinds .entry)) (now (literals .entry)) (now («universal_rows» .entry)) universal (now («existential_rows» .entry)) existential) ⌝ }
-    ensures proved { λ _. ⌜ (cause-of (given (now (kinds .entry)) (now (literals .entry)) (now («universal_rows» .entry)) universal (now («existential_rows» .entry)) existential) ≡ 0 → ForecastRight (given (now (kinds .entry)) (now (literals .entry)) (now («universal_rows» .entry)) universal (now («existential_rows» .entry)) existential)) ⌝ }
+    ensures proved { λ r. ⌜ Foretold (given (now (kinds .entry)) (now (literals .entry)) (now («universal_rows» .entry)) universal (now («existential_rows» .entry)) existential) r ⌝ }
 {
     match Formula::check(kinds, literals) {
         Check::Refused(cause) => Outlook::Refused(cause),

@@ -7,9 +7,6 @@ use borrow.Author.Count.{below-none, below-more}
 use Rattle.forecast.proofs.StartLaws.{shared-whole, shared-bytes}
 use Rattle.forecast.proofs.shared.Statement.{statement}
 use Rattle.forecast.proofs.shared.Tie as tie
-use Rattle.forecast.proofs.shared.Reads as reads
-use Rattle.forecast.proofs.shared.Lts as lts
-use Rattle.forecast.proofs.alike_bits.Reads as alike-bits-reads
 
 abbrev Inv-loop : tie.InvT-loop
 Inv-loop rows i j x y p₀ p = (p ≤ 16) × ((q : ℕ) → q < p → getD rows (16 * i + q) 0 ≡ getD rows (16 * j + q) 0)

@@ -5,9 +5,6 @@ use lib.ListN.{length}
 use Rattle.forecast.proofs.ToldLaws.{Adding, adding-none, adding-own, adding-other, added-all}
 use Rattle.forecast.proofs.sum.Statement.{statement}
 use Rattle.forecast.proofs.sum.Tie as tie
-use Rattle.forecast.proofs.sum.Reads as reads
-use Rattle.forecast.proofs.sum.Lts as lts
-use Rattle.forecast.proofs.told_by.Reads as told-by-reads
 
 abbrev Inv-loop : tie.InvT-loop
 Inv-loop kinds universal numbers count total₀ before₀ k₀ total before k = Adding kinds universal numbers count total before k

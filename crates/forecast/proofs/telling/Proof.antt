@@ -1,47 +1,44 @@
+-- `forecast::telling` meets its contract. The loop's invariant: the bits tell the row from those passed. Assumes nothing.
+use Prim.Native.Nat.{ℕ, _-_, _≤_}
+use native.Mathlib.Omega.{arith}
+use mathlib.Core.Path.{_≡_, subst}
+use Rattle.forecast.specs.Starts.{Tells}
+use Rattle.forecast.proofs.StartLaws.{tells-none, tells-next}
 use Rattle.forecast.proofs.telling.Statement.{statement}
 use Rattle.forecast.proofs.telling.Tie as tie
-use Rattle.forecast.proofs.telling.Reads as reads
-use Rattle.forecast.proofs.telling.Lts as lts
-use Rattle.forecast.proofs.larger.Reads as larger-reads
-use Rattle.forecast.proofs.shared.Reads as shared-reads
 
 abbrev Inv-loop : tie.InvT-loop
-Inv-loop rows i bits₀ j₀ bits j = ?
+Inv-loop rows i bits₀ j₀ bits j = (j ≤ i) × Tells rows i j bits
 
 abbrev μ-loop : tie.MeasureT-loop
-μ-loop rows i bits₀ j₀ bits j = ?
+μ-loop rows i bits₀ j₀ bits j = i - j
 
--- src/lib.rt:126:5
 loop-holds : tie.Need-loop-holds Inv-loop μ-loop
-loop-holds c = ?
+loop-holds c = (omega arith, tells-none (c .before .args .rows .now) (c .before .args .i))
 
--- src/lib.rt:127:29
 shared-requires : tie.Need-shared-requires Inv-loop μ-loop
-shared-requires c κs = ?
+shared-requires c κs = omega arith
 
--- src/lib.rt:127:29
 add-larger : tie.Need-add-larger Inv-loop μ-loop
-add-larger c = ?
+add-larger c = omega (arith, c .shared .ensures .most)
 
--- src/lib.rt:127:9
 larger-requires : tie.Need-larger-requires Inv-loop μ-loop
-larger-requires c κs = ?
+larger-requires c κs = tt
 
--- src/lib.rt:126:9
 add-j : tie.Need-add-j Inv-loop μ-loop
-add-j c = ?
+add-j c = omega arith
 
--- src/lib.rt:126:5
 loop-less : tie.Need-loop-less Inv-loop μ-loop
-loop-less c = ?
+loop-less c = omega arith
 
--- src/lib.rt:126:5
 loop-again : tie.Need-loop-again Inv-loop μ-loop
-loop-again c = ?
+loop-again c =
+    (omega arith, tells-next (c .before .before .before .before .before .args .rows .now) (c .before .before .before .before .before .args .i) (c .before .before .before .loop .j) (c .before .before .before .loop .bits) (c .before .shared .result) (c .before .before .before .loop .inv .1) (c .before .shared .ensures) (c .larger .result) (c .larger .ensures))
 
--- src/lib.rt:121:1
 returns : tie.Need-returns Inv-loop μ-loop
-returns c = ?
+returns c =
+    let end : c .before .loop .j ≡ c .before .before .before .args .i = omega arith in
+    subst (λ (j : ℕ). Tells (c .before .before .before .args .rows .now) (c .before .before .before .args .i) j (c .before .loop .bits)) end (c .before .loop .inv .1)
 
 pub telling-spec : {M : Type 1} → statement M
 telling-spec =
