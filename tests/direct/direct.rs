@@ -5,6 +5,8 @@
 
 mod compare;
 mod fees;
+mod forecast_probe;
+mod forecasts;
 #[path = "../independent/mod.rs"]
 mod independent;
 mod known;
@@ -41,6 +43,7 @@ fn topics() -> Vec<Topic> {
     topics.push(Box::new(refused::compare_all));
     topics.push(Box::new(known::compare_all));
     topics.push(Box::new(fees::compare_all));
+    topics.push(Box::new(forecasts::compare_all));
     topics.push(Box::new(parts::compare_all));
     topics.push(Box::new(witness::compare_all));
     topics.push(Box::new(sheets::compare_all));

@@ -1,4 +1,5 @@
 -- `forecast::forecast` meets its contract. Assumes nothing.
+use native.Mathlib.Omega.{arith}
 use mathlib.Core.Path.{refl, sym, _∙_}
 use Rattle.formula.proofs.Accepted.{accepted}
 use Rattle.forecast.specs.Outcome.{given, fits}
@@ -42,7 +43,7 @@ copies-requires-2 c κs =
 sub-t19 : tie.Need-sub-t19
 sub-t19 c =
     let g = (given (c .before .before .before .before .before .before .before .before .before .before .before .args .kinds .now) (c .before .before .before .before .before .before .before .before .before .before .before .args .literals .now) (c .before .before .before .before .before .before .before .before .before .before .before .args .universal-rows .now) (c .before .before .before .before .before .before .before .before .before .before .before .args .universal) (c .before .before .before .before .before .before .before .before .before .before .before .args .existential-rows .now) (c .before .before .before .before .before .before .before .before .before .before .before .args .existential)) in
-    tables-fit g (c .before .before .before .before .before .formula .given .0 .0) (sym (c .before .before .before .before .before .before .before .check .ensures .0) ∙ c .before .before .before .before .before .formula .given .1) (c .before .before .before .table-cause .result) (c .before .before .before .table-cause .ensures) (c .before .before .if1 .left) .existential
+    omega (arith, tables-fit g (c .before .before .before .before .before .formula .given .0 .0) (sym (c .before .before .before .before .before .before .before .check .ensures .0) ∙ c .before .before .before .before .before .formula .given .1) (c .before .before .before .table-cause .result) (c .before .before .before .table-cause .ensures) (c .before .before .if1 .left) .existential)
 
 returns-2 : tie.Need-returns-2
 returns-2 c = formula-refused (given (c .before .before .before .before .before .before .before .args .kinds .now) (c .before .before .before .before .before .before .before .args .literals .now) (c .before .before .before .before .before .before .before .args .universal-rows .now) (c .before .before .before .before .before .before .before .args .universal) (c .before .before .before .before .before .before .before .args .existential-rows .now) (c .before .before .before .before .before .before .before .args .existential)) (c .before .cause .given .0 .0) (sym (c .before .before .before .check .ensures .0) ∙ c .before .cause .given .1)

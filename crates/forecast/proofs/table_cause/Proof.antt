@@ -1,4 +1,5 @@
 -- `forecast::table_cause` meets its contract. Assumes nothing.
+use native.Mathlib.Omega.{arith}
 use mathlib.Core.Path.{_≡_, sym, _∙_}
 use mathlib.Core.Bool.{true, false}
 use lib.Dec.{ltb}
@@ -33,7 +34,7 @@ unfolding table-cause
 returns-3 c =
     let fits-A : table-fits (c .before .before .before .before .before .before .before .args .universal-rows .now) ≡ true = sym (c .before .before .before .before .table-fits .ensures) ∙ c .before .before .before .if1 .taken in
     let fits-S : table-fits (c .before .before .before .before .before .before .before .args .existential-rows .now) ≡ true = sym (c .before .before .table-fits2 .ensures) ∙ c .before .if2 .taken in
-    let in-A : ltb (room (c .before .before .before .before .before .before .before .args .universal-rows .now)) (c .before .before .before .before .before .before .before .args .universal) ≡ true = lt-ltb _ _ (c .if3 .taken) in
+    let in-A : ltb (room (c .before .before .before .before .before .before .before .args .universal-rows .now)) (c .before .before .before .before .before .before .before .args .universal) ≡ true = lt-ltb (room (c .before .before .before .before .before .before .before .args .universal-rows .now)) (c .before .before .before .before .before .before .before .args .universal) (omega arith) in
     rw (fits-A, fits-S, in-A)
 
 returns-4 : tie.Need-returns-4
@@ -41,8 +42,8 @@ unfolding table-cause
 returns-4 c =
     let fits-A : table-fits (c .before .before .before .before .before .before .before .before .args .universal-rows .now) ≡ true = sym (c .before .before .before .before .before .table-fits .ensures) ∙ c .before .before .before .before .if1 .taken in
     let fits-S : table-fits (c .before .before .before .before .before .before .before .before .args .existential-rows .now) ≡ true = sym (c .before .before .before .table-fits2 .ensures) ∙ c .before .before .if2 .taken in
-    let in-A : ltb (room (c .before .before .before .before .before .before .before .before .args .universal-rows .now)) (c .before .before .before .before .before .before .before .before .args .universal) ≡ false = le-ltb _ _ (c .before .if3 .left) in
-    let in-S : ltb (room (c .before .before .before .before .before .before .before .before .args .existential-rows .now)) (c .before .before .before .before .before .before .before .before .args .existential) ≡ true = lt-ltb _ _ (c .if4 .taken) in
+    let in-A : ltb (room (c .before .before .before .before .before .before .before .before .args .universal-rows .now)) (c .before .before .before .before .before .before .before .before .args .universal) ≡ false = le-ltb (room (c .before .before .before .before .before .before .before .before .args .universal-rows .now)) (c .before .before .before .before .before .before .before .before .args .universal) (omega arith) in
+    let in-S : ltb (room (c .before .before .before .before .before .before .before .before .args .existential-rows .now)) (c .before .before .before .before .before .before .before .before .args .existential) ≡ true = lt-ltb (room (c .before .before .before .before .before .before .before .before .args .existential-rows .now)) (c .before .before .before .before .before .before .before .before .args .existential) (omega arith) in
     rw (fits-A, fits-S, in-A, in-S)
 
 stray-bit-requires : tie.Need-stray-bit-requires
@@ -53,8 +54,8 @@ unfolding table-cause
 returns-5 c =
     let fits-A : table-fits (c .before .before .before .before .before .before .before .before .before .before .args .universal-rows .now) ≡ true = sym (c .before .before .before .before .before .before .before .table-fits .ensures) ∙ c .before .before .before .before .before .before .if1 .taken in
     let fits-S : table-fits (c .before .before .before .before .before .before .before .before .before .before .args .existential-rows .now) ≡ true = sym (c .before .before .before .before .before .table-fits2 .ensures) ∙ c .before .before .before .before .if2 .taken in
-    let in-A : ltb (room (c .before .before .before .before .before .before .before .before .before .before .args .universal-rows .now)) (c .before .before .before .before .before .before .before .before .before .before .args .universal) ≡ false = le-ltb _ _ (c .before .before .before .if3 .left) in
-    let in-S : ltb (room (c .before .before .before .before .before .before .before .before .before .before .args .existential-rows .now)) (c .before .before .before .before .before .before .before .before .before .before .args .existential) ≡ false = le-ltb _ _ (c .before .before .if4 .left) in
+    let in-A : ltb (room (c .before .before .before .before .before .before .before .before .before .before .args .universal-rows .now)) (c .before .before .before .before .before .before .before .before .before .before .args .universal) ≡ false = le-ltb (room (c .before .before .before .before .before .before .before .before .before .before .args .universal-rows .now)) (c .before .before .before .before .before .before .before .before .before .before .args .universal) (omega arith) in
+    let in-S : ltb (room (c .before .before .before .before .before .before .before .before .before .before .args .existential-rows .now)) (c .before .before .before .before .before .before .before .before .before .before .args .existential) ≡ false = le-ltb (room (c .before .before .before .before .before .before .before .before .before .before .args .existential-rows .now)) (c .before .before .before .before .before .before .before .before .before .before .args .existential) (omega arith) in
     let clean-A : stray-rows (c .before .before .before .before .before .before .before .before .before .before .args .universals) (c .before .before .before .before .before .before .before .before .before .before .args .universal) (c .before .before .before .before .before .before .before .before .before .before .args .universal-rows .now) ≡ true = sym (c .before .stray-bit .ensures) ∙ c .if5 .taken in
     rw (fits-A, fits-S, in-A, in-S, clean-A)
 
@@ -66,8 +67,8 @@ unfolding table-cause
 returns-6 c =
     let fits-A : table-fits (c .before .before .before .before .before .before .before .before .before .before .before .before .args .universal-rows .now) ≡ true = sym (c .before .before .before .before .before .before .before .before .before .table-fits .ensures) ∙ c .before .before .before .before .before .before .before .before .if1 .taken in
     let fits-S : table-fits (c .before .before .before .before .before .before .before .before .before .before .before .before .args .existential-rows .now) ≡ true = sym (c .before .before .before .before .before .before .before .table-fits2 .ensures) ∙ c .before .before .before .before .before .before .if2 .taken in
-    let in-A : ltb (room (c .before .before .before .before .before .before .before .before .before .before .before .before .args .universal-rows .now)) (c .before .before .before .before .before .before .before .before .before .before .before .before .args .universal) ≡ false = le-ltb _ _ (c .before .before .before .before .before .if3 .left) in
-    let in-S : ltb (room (c .before .before .before .before .before .before .before .before .before .before .before .before .args .existential-rows .now)) (c .before .before .before .before .before .before .before .before .before .before .before .before .args .existential) ≡ false = le-ltb _ _ (c .before .before .before .before .if4 .left) in
+    let in-A : ltb (room (c .before .before .before .before .before .before .before .before .before .before .before .before .args .universal-rows .now)) (c .before .before .before .before .before .before .before .before .before .before .before .before .args .universal) ≡ false = le-ltb (room (c .before .before .before .before .before .before .before .before .before .before .before .before .args .universal-rows .now)) (c .before .before .before .before .before .before .before .before .before .before .before .before .args .universal) (omega arith) in
+    let in-S : ltb (room (c .before .before .before .before .before .before .before .before .before .before .before .before .args .existential-rows .now)) (c .before .before .before .before .before .before .before .before .before .before .before .before .args .existential) ≡ false = le-ltb (room (c .before .before .before .before .before .before .before .before .before .before .before .before .args .existential-rows .now)) (c .before .before .before .before .before .before .before .before .before .before .before .before .args .existential) (omega arith) in
     let clean-A : stray-rows (c .before .before .before .before .before .before .before .before .before .before .before .before .args .universals) (c .before .before .before .before .before .before .before .before .before .before .before .before .args .universal) (c .before .before .before .before .before .before .before .before .before .before .before .before .args .universal-rows .now) ≡ false = sym (c .before .before .before .stray-bit .ensures) ∙ c .before .before .if5 .left in
     let clean-S : stray-rows (c .before .before .before .before .before .before .before .before .before .before .before .before .args .existentials) (c .before .before .before .before .before .before .before .before .before .before .before .before .args .existential) (c .before .before .before .before .before .before .before .before .before .before .before .before .args .existential-rows .now) ≡ true = sym (c .before .stray-bit2 .ensures) ∙ c .if6 .taken in
     rw (fits-A, fits-S, in-A, in-S, clean-A, clean-S)
@@ -77,8 +78,8 @@ unfolding table-cause
 returns-7 c =
     let fits-A : table-fits (c .before .before .before .before .before .before .before .before .before .before .before .before .args .universal-rows .now) ≡ true = sym (c .before .before .before .before .before .before .before .before .before .table-fits .ensures) ∙ c .before .before .before .before .before .before .before .before .if1 .taken in
     let fits-S : table-fits (c .before .before .before .before .before .before .before .before .before .before .before .before .args .existential-rows .now) ≡ true = sym (c .before .before .before .before .before .before .before .table-fits2 .ensures) ∙ c .before .before .before .before .before .before .if2 .taken in
-    let in-A : ltb (room (c .before .before .before .before .before .before .before .before .before .before .before .before .args .universal-rows .now)) (c .before .before .before .before .before .before .before .before .before .before .before .before .args .universal) ≡ false = le-ltb _ _ (c .before .before .before .before .before .if3 .left) in
-    let in-S : ltb (room (c .before .before .before .before .before .before .before .before .before .before .before .before .args .existential-rows .now)) (c .before .before .before .before .before .before .before .before .before .before .before .before .args .existential) ≡ false = le-ltb _ _ (c .before .before .before .before .if4 .left) in
+    let in-A : ltb (room (c .before .before .before .before .before .before .before .before .before .before .before .before .args .universal-rows .now)) (c .before .before .before .before .before .before .before .before .before .before .before .before .args .universal) ≡ false = le-ltb (room (c .before .before .before .before .before .before .before .before .before .before .before .before .args .universal-rows .now)) (c .before .before .before .before .before .before .before .before .before .before .before .before .args .universal) (omega arith) in
+    let in-S : ltb (room (c .before .before .before .before .before .before .before .before .before .before .before .before .args .existential-rows .now)) (c .before .before .before .before .before .before .before .before .before .before .before .before .args .existential) ≡ false = le-ltb (room (c .before .before .before .before .before .before .before .before .before .before .before .before .args .existential-rows .now)) (c .before .before .before .before .before .before .before .before .before .before .before .before .args .existential) (omega arith) in
     let clean-A : stray-rows (c .before .before .before .before .before .before .before .before .before .before .before .before .args .universals) (c .before .before .before .before .before .before .before .before .before .before .before .before .args .universal) (c .before .before .before .before .before .before .before .before .before .before .before .before .args .universal-rows .now) ≡ false = sym (c .before .before .before .stray-bit .ensures) ∙ c .before .before .if5 .left in
     let clean-S : stray-rows (c .before .before .before .before .before .before .before .before .before .before .before .before .args .existentials) (c .before .before .before .before .before .before .before .before .before .before .before .before .args .existential) (c .before .before .before .before .before .before .before .before .before .before .before .before .args .existential-rows .now) ≡ false = sym (c .before .stray-bit2 .ensures) ∙ c .if6 .left in
     rw (fits-A, fits-S, in-A, in-S, clean-A, clean-S)
