@@ -20,15 +20,17 @@ extern "C" {
     ) -> u64;
 }
 
-/// What it returns, from places that held other values, and the names of the tables and places that did not stay as they were.
-pub fn forecast(lending: &Lending) -> (Foretold, Vec<&'static str>) {
-    let kinds = Lent::new(&lending.kinds);
-    let literals = Lent::new(&lending.literals);
-    let universal_rows = Lent::new(&lending.universal_rows);
-    let existential_rows = Lent::new(&lending.existential_rows);
-    let mut over_universal = Lent::new(&[7usize]);
-    let mut over_existential = Lent::new(&[9usize]);
-    let number = unsafe {
+pub fn call(
+    kinds: &Lent<u8>,
+    literals: &Lent<i32>,
+    universal_rows: &Lent<u8>,
+    universal: usize,
+    existential_rows: &Lent<u8>,
+    existential: usize,
+    over_universal: &mut Lent<usize>,
+    over_existential: &mut Lent<usize>,
+) -> u64 {
+    unsafe {
         probe_forecast(
             kinds.address(),
             kinds.length(),
@@ -38,12 +40,24 @@ pub fn forecast(lending: &Lending) -> (Foretold, Vec<&'static str>) {
             universal_rows.length(),
             existential_rows.address(),
             existential_rows.length(),
-            lending.universal,
-            lending.existential,
+            universal,
+            existential,
             over_universal.address_mut(),
             over_existential.address_mut(),
         )
-    };
+    }
+}
+
+/// What it returns, from places that held other values, and the names of the tables and places that did not stay as they were.
+pub fn forecast(lending: &Lending) -> (Foretold, Vec<&'static str>) {
+    let kinds = Lent::new(&lending.kinds);
+    let literals = Lent::new(&lending.literals);
+    let universal_rows = Lent::new(&lending.universal_rows);
+    let existential_rows = Lent::new(&lending.existential_rows);
+    let mut over_universal = Lent::new(&[7usize]);
+    let mut over_existential = Lent::new(&[9usize]);
+    let (universal, existential) = (lending.universal, lending.existential);
+    let number = call(&kinds, &literals, &universal_rows, universal, &existential_rows, existential, &mut over_universal, &mut over_existential);
     let foretold = Foretold { number, over_universal: over_universal.content()[0], over_existential: over_existential.content()[0] };
     let kept = [
         ("kinds", kinds.holds(&lending.kinds)),
