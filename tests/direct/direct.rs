@@ -43,10 +43,10 @@ fn topics() -> Vec<Topic> {
     topics.push(Box::new(refused::compare_all));
     topics.push(Box::new(known::compare_all));
     topics.push(Box::new(fees::compare_all));
-    topics.push(Box::new(forecasts::compare_all));
     topics.push(Box::new(parts::compare_all));
     topics.push(Box::new(witness::compare_all));
     topics.push(Box::new(sheets::compare_all));
+    topics.push(Box::new(forecasts::compare_all));
     topics
 }
 
