@@ -1,7 +1,7 @@
 -- What `forecast` returns, for everything that is lent (02, C-17): 01's causes 1 to 4, 7 and 8 in order, then the copies and whether they fit.
 -- Assumes nothing.
 use Prim.Native.Nat.{ℕ, _-_}
-use mathlib.Core.Bool.{Bool, true, false, not, _&&_, _||_, cond}
+use mathlib.Core.Bool.{Bool, not, _&&_, _||_, cond}
 use mathlib.Core.List.{List}
 use lib.Dec.{eqb, leb, ltb}
 use lib.IntN.{ℤ}
@@ -68,7 +68,7 @@ outcome g =
     (fits (g .universals) (g .existential-rows) (g .existentials)) in
     cond (eqb (cause g) 0) answered (Refused (cause g))
 
--- The number of each case: 0 for an answer, a refusal has its cause's; and the values of each case, none after a refusal.
+-- The number of each case: 0 for an answer, a refusal has its cause's; and the copies of each case, none after a refusal.
 abbrev pub number : Outlook → ℕ
 number (Needs over-A over-S fit) = 0
 number (Refused cause) = cause
@@ -80,7 +80,3 @@ over-universal (Refused cause) = 0
 abbrev pub over-existential : Outlook → ℕ
 over-existential (Needs over-A over-S fit) = over-S
 over-existential (Refused cause) = 0
-
-abbrev pub sure-to-fit : Outlook → Bool
-sure-to-fit (Needs over-A over-S fit) = fit
-sure-to-fit (Refused cause) = false
