@@ -65,4 +65,4 @@ unfolding fits
 spared g counted fit l over r A S holds =
     let free = leb-true (g .universals) _ fit in
     room-in-step-2 l r A S
-    (omega (arith, over .of-room, sym (length-rows A) ∙ ap length (holds .universal) ∙ length-rows-of (width universal (g .kinds)) (g .universals) (g .universal-rows), sym (length-rows S) ∙ ap length (holds .existential) ∙ length-rows-of (width existential (g .kinds)) (g .existentials) (g .existential-rows)))
+    (omega (arith, over .of-room, sym (length-rows A) ∙ ap length (holds .of-A) ∙ length-rows-of (width universal (g .kinds)) (g .universals) (g .universal-rows), sym (length-rows S) ∙ ap length (holds .of-S) ∙ length-rows-of (width existential (g .kinds)) (g .existentials) (g .existential-rows)))

@@ -7,14 +7,14 @@ use native.Mathlib.Omega.{arith}
 use mathlib.Core.Path.{_≡_, refl, sym, ap, ap₂, subst, _∙_}
 use mathlib.Core.Bool.{Bool, true, false, not, Bool·beq}
 use mathlib.Core.List.{List, [], _∷_, _++_, map}
-use mathlib.Core.Logic.{inl, inr}
+use mathlib.Core.Logic.{inr}
 use lib.Dec.{eqb, leb, eqb·suc-zero}
 use lib.ListN.{length, getD, take, drop, length-map, length-append}
 use lib.Seq.{ext-getD, getD-take, length-take-le}
 use borrow.Author.Tests.{leb-true, leb-false, le-leb, lt-leb}
 use Rattle.formula.specs.Formula.{Kind, existential, universal, kind-of, prefix}
 use Rattle.formula.specs.Causes.{count}
-use Rattle.rows.specs.Row.{bit-of, weight, row-of}
+use Rattle.rows.specs.Row.{weight, row-of}
 use Rattle.rows.specs.Table.{row-at, room, rows-of}
 use Rattle.rows.proofs.RowLaws.{length-row-of, getD-row-of}
 use Rattle.rows.proofs.TableLaws.{length-rows-of, getD-rows-of, rows-of-next}

@@ -1,14 +1,15 @@
 -- Forecasts worked by hand: equations by computation, rows as numbers.
 -- Assumes nothing.
-use Prim.Native.Nat.{ℕ, zero, suc}
+use Prim.Native.Nat.{ℕ}
 use mathlib.Core.Path.{_≡_}
 use mathlib.Core.Bool.{true, false}
 use mathlib.Core.List.{List, [], _∷_, _++_}
 use lib.IntN.{ℤ, pos, negsuc}
 use lib.ListN.{length, replicate}
+use Rattle.rounds.specs.Worked.{kinds-1, literals-1, kinds-12, literals-12}
 use Rattle.forecast.specs.declared.Outlook.{Outlook}
 use Rattle.forecast.specs.declared.Outlook.the-variants.{Needs, Refused}
-use Rattle.forecast.specs.Outcome.{Given, given, outcome}
+use Rattle.forecast.specs.Outcome.{given, outcome}
 
 -- Rows whose first byte alone is not 0, by its number.
 abbrev pub table : List ℕ → List ℕ
@@ -20,26 +21,12 @@ abbrev pub foreseen : List ℕ → List ℤ → List ℕ → List ℕ → ℕ �
 foreseen kinds literals A S free =
     outcome (given kinds literals (table A) (length A) (table (S ++ replicate free 0)) (length S))
 
--- 'K1 that formula.'
-abbrev pub kinds-1 : List ℕ
-kinds-1 = 1 ∷ 0 ∷ []
-
-abbrev pub literals-1 : List ℤ
-literals-1 = pos 1 ∷ pos 2 ∷ pos 0 ∷ negsuc 0 ∷ negsuc 1 ∷ pos 0 ∷ []
-
--- 'K2 prefix `e 2 0`, `a 1 0`.'
+-- 01's K1 and K12 stand with the runs; 'K2 prefix `e 2 0`, `a 1 0`'.
 abbrev pub kinds-2 : List ℕ
 kinds-2 = 0 ∷ 1 ∷ []
 
 abbrev pub literals-2 : List ℤ
 literals-2 = pos 2 ∷ pos 1 ∷ pos 0 ∷ negsuc 1 ∷ negsuc 0 ∷ pos 0 ∷ []
-
--- 'K12 .. kinds 1, 0, 1, 0, clauses 1 2 4, -1 -2 4, 3 -4.'
-abbrev pub kinds-12 : List ℕ
-kinds-12 = 1 ∷ 0 ∷ 1 ∷ 0 ∷ []
-
-abbrev pub literals-12 : List ℤ
-literals-12 = pos 1 ∷ pos 2 ∷ pos 4 ∷ pos 0 ∷ negsuc 0 ∷ negsuc 1 ∷ pos 4 ∷ pos 0 ∷ pos 3 ∷ negsuc 3 ∷ pos 0 ∷ []
 
 pub record Examples : Type 0 where
   -- The universal unknown stands in front: two copies of the existential one, one of its own.
@@ -59,7 +46,7 @@ pub record Examples : Type 0 where
   pub lengths-first : outcome (given kinds-1 literals-1 (table (0 ∷ [])) 2 (0 ∷ []) 0) ≡ Refused 4
   pub counts-next : outcome (given kinds-1 literals-1 (table (2 ∷ [])) 1 (table (0 ∷ [])) 2) ≡ Refused 7
   pub then-bits : foreseen kinds-1 literals-1 (0 ∷ []) (2 ∷ []) 0 ≡ Refused 8
-  -- Each side's rows have its own unknowns' bits: with K12's kinds and one universal unknown more.
+  -- Each side's rows have its own unknowns' bits: here K1's kinds and one universal unknown more.
   pub own-bits : foreseen (1 ∷ 1 ∷ 0 ∷ []) [] (2 ∷ []) (1 ∷ []) 1 ≡ Needs 1 2 true
   pub others-bits : foreseen (1 ∷ 1 ∷ 0 ∷ []) [] (1 ∷ []) (2 ∷ []) 1 ≡ Refused 8
   -- Bits at or past a count are not looked at.

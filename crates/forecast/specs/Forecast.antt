@@ -4,7 +4,7 @@ use Prim.Native.Nat.{ℕ, _*_, _≤_}
 use mathlib.Core.Path.{_≡_}
 use mathlib.Core.Bool.{true}
 use mathlib.Core.Logic.{_≢_}
-use Rattle.formula.specs.Formula.{Kind, existential, universal, prefix, clauses}
+use Rattle.formula.specs.Formula.{existential, universal, prefix, clauses}
 use Rattle.formula.specs.Meaning.{matrix}
 use Rattle.rows.specs.Table.{room}
 use Rattle.rounds.specs.Run.{Table, rows, no-room-existential, Lent, round-of}
@@ -13,8 +13,8 @@ use Rattle.forecast.specs.Outcome.{Given, width, lent-rows, copies-over,
 
 -- Tables of a run that hold the lent rows; their marks are free.
 pub record Holds (g : Given) (A S : Table) : Type 0 where
-  pub universal : rows A ≡ lent-rows universal (g .kinds) (g .universal-rows) (g .universals)
-  pub existential : rows S ≡ lent-rows existential (g .kinds) (g .existential-rows) (g .existentials)
+  pub of-A : rows A ≡ lent-rows universal (g .kinds) (g .universal-rows) (g .universals)
+  pub of-S : rows S ≡ lent-rows existential (g .kinds) (g .existential-rows) (g .existentials)
 
 -- A run of the formula with room for the existential rows that are lent. All else that a run is given is free: preferences and universal room too.
 pub record Over (g : Given) (l : Lent) : Type 0 where
