@@ -5,6 +5,8 @@
 
 mod compare;
 mod fees;
+mod forecast_probe;
+mod forecasts;
 #[path = "../independent/mod.rs"]
 mod independent;
 mod known;
@@ -44,6 +46,7 @@ fn topics() -> Vec<Topic> {
     topics.push(Box::new(parts::compare_all));
     topics.push(Box::new(witness::compare_all));
     topics.push(Box::new(sheets::compare_all));
+    topics.push(Box::new(forecasts::compare_all));
     topics
 }
 

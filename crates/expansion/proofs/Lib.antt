@@ -1,6 +1,7 @@
 -- The laws of the definitions, each file about one notion, and the theorems that a reader wants, each in a file of its own.
 pub mod Booleans
 pub mod Membership
+pub mod FreshLaws
 pub mod Walk
 pub mod CopyCases
 pub mod CopyLaws

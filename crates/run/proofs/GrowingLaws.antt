@@ -19,12 +19,12 @@ use Rattle.rows.proofs.WriteLaws.{rows-written-inside, marks-written-inside}
 use Rattle.expansion.specs.Play.{Row}
 use Rattle.expansion.specs.Copies.{fresh}
 use Rattle.expansion.proofs.Membership.{In, in-of-place, place-of-in, in-append-cases, in-append-left, fresh-in}
+use Rattle.expansion.proofs.FreshLaws.{fresh-old, fresh-new, length-fresh-take}
 use Rattle.expansion.proofs.Counting.{Sized}
 use Rattle.rounds.specs.Run.{Entry, Table, rows, under-mark, grown}
 use Rattle.run.specs.Outcome.{row-bytes, mark-numbers}
 use Rattle.growth.specs.Growth.{is-absent, is-new, count-below, Bytes, bytes, with-row, with-new-row, with-new-rows}
 use Rattle.rounds.proofs.TableLaws.{rows-append, rows-grown}
-use Rattle.run.proofs.FreshLaws.{fresh-old, fresh-new, length-fresh-take}
 use Rattle.run.proofs.ByteLaws.{Wide, length-table-of, table-of-append, row-at-table, at-in, absent-not-in}
 
 pub wide-of-sized : (m : ℕ) (l : List Row) → Sized m l → Wide m l

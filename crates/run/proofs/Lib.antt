@@ -1,5 +1,4 @@
 -- The laws of the code. The theorems on the run are in `rounds`.
-pub mod FreshLaws
 pub mod ByteLaws
 pub mod GrowingLaws
 pub mod ExtendLaws

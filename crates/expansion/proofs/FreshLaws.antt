@@ -1,14 +1,15 @@
 -- Laws of the fresh rows, taken one more at a time. Assumes nothing.
 use Prim.Native.Nat.{ℕ, zero, suc, _≤_, zero-le, suc-le-suc}
+use native.Mathlib.Omega.{arith}
 use mathlib.Core.Path.{_≡_, ap}
 use mathlib.Core.Bool.{true, false}
 use mathlib.Core.List.{List, [], _∷_, _++_}
 use mathlib.Core.Logic.{_⊎_, inl, inr, ⊎-elim}
 use lib.ListN.{length, take}
 use Rattle.expansion.specs.Play.{Row}
 use Rattle.expansion.specs.Copies.{among, fresh}
 use Rattle.expansion.proofs.Booleans.{true-or-false}
 use Rattle.expansion.proofs.Membership.{In, among-in, in-among, not-in-among}
 
 -- A row that is seen, or stands before, adds nothing.
 pub fresh-old : (x : Row) (seen rows : List Row) → In x seen ⊎ In x rows → fresh seen (rows ++ (x ∷ [])) ≡ fresh seen rows
@@ -49,4 +50,13 @@ length-fresh-take seen (x ∷ rows) (suc n) =
     ⊎-elim
     (λ (p : among x seen ≡ true). rw p (length-fresh-take seen rows n))
     (λ (p : among x seen ≡ false). rw p (suc-le-suc (length-fresh-take (x ∷ seen) rows n)))
+    (true-or-false (among x seen))
+
+-- There are no more fresh rows than rows.
+pub length-fresh : (seen rows : List Row) → length (fresh seen rows) ≤ length rows
+length-fresh seen [] = zero-le
+length-fresh seen (x ∷ rows) =
+    ⊎-elim
+    (λ (p : among x seen ≡ true). rw p (let h = length-fresh seen rows in omega arith))
+    (λ (p : among x seen ≡ false). rw p (suc-le-suc (length-fresh (x ∷ seen) rows)))
     (true-or-false (among x seen))
