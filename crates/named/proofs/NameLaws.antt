@@ -173,14 +173,14 @@ distinct-insert v (x ∷ xs) ys d new = go (ordered v x) (distinct-insert (max v
         → (In (min v x) (insert (max v x) xs ++ ys) → ⊥) × Distinct (insert (max v x) xs ++ ys)
     go (stays a b l) more = (
       λ i.
-      none x v (λ e. new (inl e)) (λ j. new (inr j))
-      (insert-has x xs ys v (subst (λ (m : ℕ). In v (insert m xs ++ ys)) b (subst (λ (m : ℕ). In m (insert (max v x) xs ++ ys)) a i))),
+          none x v (λ e. new (inl e)) (λ j. new (inr j))
+          (insert-has x xs ys v (subst (λ (m : ℕ). In v (insert m xs ++ ys)) b (subst (λ (m : ℕ). In m (insert (max v x) xs ++ ys)) a i))),
       more (λ i. d .0 (subst (λ (m : ℕ). In m (xs ++ ys)) b i)),
     )
     go (moves a b l) more = (
       λ i.
-      none v x (λ e. new (inl (sym e))) (d .0)
-      (insert-has v xs ys x (subst (λ (m : ℕ). In x (insert m xs ++ ys)) b (subst (λ (m : ℕ). In m (insert (max v x) xs ++ ys)) a i))),
+          none v x (λ e. new (inl (sym e))) (d .0)
+          (insert-has v xs ys x (subst (λ (m : ℕ). In x (insert m xs ++ ys)) b (subst (λ (m : ℕ). In m (insert (max v x) xs ++ ys)) a i))),
       more (λ i. new (inr (subst (λ (m : ℕ). In m (xs ++ ys)) b i))),
     )
 
