@@ -1,5 +1,5 @@
 -- Worked names; lists of names; the meaning by position is the meaning by name; closing keeps the meaning.
-pub mod Examples
+pub mod ByHand
 pub mod NameLaws
 pub mod PlaceLaws
 pub mod Positions
