@@ -1,4 +1,5 @@
 -- What the exported functions return, as numbers.
 pub mod Numbers
+pub mod TextReader
 pub mod WitnessFile
 pub mod Outlook
