@@ -114,7 +114,7 @@ module _ (g : Given) (passes : Passes (g .kinds) (g .literals)) (claim : Claim (
       let wide : (r : ℕ) → Wide m (rows (table side (run (lent g) r))) = λ r. wide-of-sized m (rows (table side (run (lent g) r))) (row-length (lent g) r side) in
       let here = behind-rows side g (g .limit) in
       let in-bytes : (r : ℕ) → NewRow r (table side (run (lent g) (r - 1))) (table side (run (lent g) r)) end
-          → NewBytes r (rows-after side g (r - 1)) (length (table side (run (lent g) (r - 1)))) left-rows (mark-numbers end marks) (length end) =
+      → NewBytes r (rows-after side g (r - 1)) (length (table side (run (lent g) (r - 1)))) left-rows (mark-numbers end marks) (length end) =
       λ r new.
       subst (λ (b : List ℕ). NewBytes r b (length (table side (run (lent g) (r - 1)))) left-rows (mark-numbers end marks) (length end))
       (rows-so side g (r - 1))
