@@ -21,7 +21,7 @@ use Rattle.run.specs.declared.Outcome.{Outcome}
 use Rattle.rounds.specs.Run.{is-false, is-true, spent, no-room-universal, no-room-existential, number, highest, Answer as RunAnswer}
 use Rattle.rounds.specs.Claim.{Claim}
 use Rattle.run.specs.declared.Answer.the-variants.{False, True}
-use Rattle.run.specs.Outcome.{Areas, areas, Given, given, lent, tables-fit, cause, accepted, reached, named, number-of, reported, refusal, returned, rows-after, marks-after, answered, left, over-found}
+use Rattle.run.specs.Outcome.{Areas, areas, Given, given, lent, tables-fit, cause, accepted, reached, named, number-of, reported, refusal, row-bytes, mark-numbers, returned, written, after, left}
 use Rattle.run.specs.Ended.{row-part, mark-part, count-of, TableRight, Ended}
 use Rattle.run.specs.Growing.{Passes, with-opening, ShowsRun, FirstCause}
 use Rattle.run.proofs.ClearingLaws.{rows-if-never, marks-if-never}
@@ -64,7 +64,7 @@ refused-so g n r e some-cause is =
     record {
       returned-so = value;
       numbered = numbered-so g r value;
-      left-so = sym (ap (λ (b : Bool). cond b (answered g) (g .found)) not-0);
+      left-so = sym (ap (λ (b : Bool). cond b (after g (g .limit)) (g .found)) not-0);
       as-found = λ yes-0. absurd (true≢false (sym yes-0 ∙ not-0));
       only-true = λ h. let z : _≡_ {A = ℕ} 0 1 = cc (sym h ∙ ap (λ (o : Outcome). o .answer) is) in absurd (omega arith);
       only-false = λ h. let z : _≡_ {A = ℕ} 0 1 = cc (sym h ∙ ap (λ (o : Outcome). o .answer) is) in absurd (omega arith);
@@ -108,12 +108,12 @@ named-false no-room-universal e = let z : _≡_ {A = ℕ} 0 1 = cc in absurd (om
 named-false no-room-existential e = let z : _≡_ {A = ℕ} 0 1 = cc in absurd (omega arith)
 
 -- A table that is never cleared has reached over no more places than it has rows.
-pub answered-if-never : (g : Given) → g .clear-every ≡ 0 → answered g ≡ over-found (reached g) (g .found)
-answered-if-never g never =
+pub after-if-never : (g : Given) → g .clear-every ≡ 0 → after g (g .limit) ≡ written (reached g) (g .found)
+after-if-never g never =
     let same : highest (lent g) (g .limit) ≡ length (reached g .A) = highest-if-never (lent g) (g .limit) never in
     let on-rows = rows-if-never (reached g .A) (highest (lent g) (g .limit)) (g .found .universal-rows) same in
     let on-marks = marks-if-never (reached g .A) (highest (lent g) (g .limit)) (g .found .universal-marks) same in
-    λ d. areas (on-rows d) (on-marks d) (rows-after existential g (g .limit)) (marks-after existential g (g .limit)) (replicate work-size 0)
+    λ d. areas (on-rows d) (on-marks d) (row-bytes (reached g .S) (g .found .existential-rows)) (mark-numbers (reached g .S) (g .found .existential-marks)) (replicate work-size 0)
 
 -- No cause applies.
 pub answered-so : (g : Given) → cause g ≡ 0 → 1 ≤ g .limit → (end : End) (r : Outcome) (AR AM SR SM W W′ : List ℕ)
@@ -134,13 +134,13 @@ answered-so g no-cause some-limit end r AR AM SR SM W W′ shows clear is =
     let held-S = shows .both .holds-S in
     let zero-work : W′ ≡ replicate work-size 0 = clear ∙ ap (λ (n : ℕ). replicate n 0) (shows .work-long) in
     let holds = claim (lent g) (g .limit) some-limit in
-    let written : areas AR AM SR SM W′ ≡ answered g =
+    let left-so : areas AR AM SR SM W′ ≡ after g (g .limit) =
     λ d. areas (held-A .in-rows .in-bytes d) (held-A .in-marks d) (held-S .in-rows .in-bytes d) (held-S .in-marks d) (zero-work d) in
     record {
       returned-so = value;
       numbered = numbered-so g r value;
-      left-so = written ∙ sym (ap (λ (b : Bool). cond b (answered g) (g .found)) yes-0);
-      as-found = λ _ never. written ∙ answered-if-never g never;
+      left-so = left-so ∙ sym (ap (λ (b : Bool). cond b (after g (g .limit)) (g .found)) yes-0);
+      as-found = λ _ never. left-so ∙ after-if-never g never;
       only-true = λ h. verdict-right (lent g) (g .limit) .only-true (named-true (reached g .answer) (sym answer-is ∙ h));
       only-false = λ h. verdict-right (lent g) (g .limit) .only-false (named-false (reached g .answer) (sym answer-is ∙ h));
       claim = λ _. holds;

@@ -6,7 +6,7 @@ use mathlib.Core.List.{List, _++_, map}
 use lib.Dec.{eqb}
 use lib.IntN.{ℤ}
 use lib.ListN.{length, drop, replicate}
-use Rattle.formula.specs.Formula.{work-size, Kind, existential, universal, prefix, clauses}
+use Rattle.formula.specs.Formula.{work-size, Kind, prefix, clauses}
 use Rattle.formula.specs.Meaning.{matrix}
 use Rattle.formula.specs.Causes.{checked, number as cause-number}
 use Rattle.preference.specs.Preference.{prefer}
@@ -128,39 +128,28 @@ row-bytes t found = table-of (rows t) ++ drop (16 * length t) found
 unfoldable pub mark-numbers : Table → List ℕ → List ℕ
 mark-numbers t found = map (λ (x : Entry). x .mark) t ++ drop (length t) found
 
--- What a side's tables hold after round r: the rows of the run over what was found. Of the universal table, 'rows and marks of places given up
--- (below the old count, not the new) are zeroed; the others past the count stay as found': so as many places as it ever reached over are zero
--- behind its rows.
-abbrev pub rows-after : Kind → Given → ℕ → List ℕ
-rows-after universal g r = row-bytes (run (lent g) r .A) (zeroed (16 * highest (lent g) r) (g .found .universal-rows))
-rows-after existential g r = row-bytes (run (lent g) r .S) (g .found .existential-rows)
-
-abbrev pub marks-after : Kind → Given → ℕ → List ℕ
-marks-after universal g r = mark-numbers (run (lent g) r .A) (zeroed (highest (lent g) r) (g .found .universal-marks))
-marks-after existential g r = mark-numbers (run (lent g) r .S) (g .found .existential-marks)
-
--- After an answer the areas hold the tables of the run, and the work area is zero ..
-abbrev pub answered : Given → Areas
-answered g =
-    areas
-    (rows-after universal g (g .limit))
-    (marks-after universal g (g .limit))
-    (rows-after existential g (g .limit))
-    (marks-after existential g (g .limit))
-    (replicate work-size 0)
-
--- .. after a refusal they are as found.
-unfoldable pub left : Given → Areas
-left g =
-    let written = answered g in
-    cond (accepted g) written (g .found)
-
--- 01's demand 1, 'rows and marks past the reported counts .. as found': what is left where the universal table is never cleared.
-abbrev pub over-found : RunOutcome → Areas → Areas
-over-found o found =
+-- The areas with the tables of a run in them, each over what was found, and with the work area zero.
+abbrev pub written : RunOutcome → Areas → Areas
+written o found =
     areas
     (row-bytes (o .A) (found .universal-rows))
     (mark-numbers (o .A) (found .universal-marks))
     (row-bytes (o .S) (found .existential-rows))
     (mark-numbers (o .S) (found .existential-marks))
     (replicate work-size 0)
+
+-- 02, C-15: 'rows and marks of places given up (below the old count, not the new) are zeroed; the others past the count stay as found'. So where
+-- the universal table has reached over n places, these are zero behind its rows.
+abbrev pub given-up : ℕ → Areas → Areas
+given-up n found =
+    areas (zeroed (16 * n) (found .universal-rows)) (zeroed n (found .universal-marks)) (found .existential-rows) (found .existential-marks) (found .work)
+
+-- What the rounds up to r leave.
+abbrev pub after : Given → ℕ → Areas
+after g r = written (run (lent g) r) (given-up (highest (lent g) r) (g .found))
+
+-- After an answer the areas are as the run leaves them, after a refusal as found.
+unfoldable pub left : Given → Areas
+left g =
+    let answered = after g (g .limit) in
+    cond (accepted g) answered (g .found)
