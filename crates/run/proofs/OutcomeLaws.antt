@@ -21,7 +21,7 @@ use Rattle.run.specs.declared.Outcome.{Outcome}
 use Rattle.rounds.specs.Run.{is-false, is-true, spent, no-room-universal, no-room-existential, number, highest, Answer as RunAnswer}
 use Rattle.rounds.specs.Claim.{Claim}
 use Rattle.run.specs.declared.Answer.the-variants.{False, True}
-use Rattle.run.specs.Outcome.{Areas, areas, Given, given, lent, tables-fit, cause, accepted, reached, named, number-of, reported, refusal, row-bytes, mark-numbers, returned, written, after, left}
+use Rattle.run.specs.Outcome.{Areas, areas, Given, given, lent, tables-fit, cause, accepted, reached, named, number-of, reported, refusal, returned, written, after, left}
 use Rattle.run.specs.Ended.{row-part, mark-part, count-of, TableRight, Ended}
 use Rattle.run.specs.Growing.{Passes, with-opening, ShowsRun, FirstCause}
 use Rattle.run.proofs.ClearingLaws.{rows-if-never, marks-if-never}
@@ -113,7 +113,8 @@ after-if-never g never =
     let same : highest (lent g) (g .limit) ≡ length (reached g .A) = highest-if-never (lent g) (g .limit) never in
     let on-rows = rows-if-never (reached g .A) (highest (lent g) (g .limit)) (g .found .universal-rows) same in
     let on-marks = marks-if-never (reached g .A) (highest (lent g) (g .limit)) (g .found .universal-marks) same in
-    λ d. areas (on-rows d) (on-marks d) (row-bytes (reached g .S) (g .found .existential-rows)) (mark-numbers (reached g .S) (g .found .existential-marks)) (replicate work-size 0)
+    let all = written (reached g) (g .found) in
+    λ d. areas (on-rows d) (on-marks d) (all .existential-rows) (all .existential-marks) (all .work)
 
 -- No cause applies.
 pub answered-so : (g : Given) → cause g ≡ 0 → 1 ≤ g .limit → (end : End) (r : Outcome) (AR AM SR SM W W′ : List ℕ)
