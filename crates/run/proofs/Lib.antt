@@ -2,6 +2,7 @@
 pub mod ByteLaws
 pub mod GrowingLaws
 pub mod ExtendLaws
+pub mod ClearingLaws
 pub mod HalfLaws
 pub mod LoopLaws
 pub mod TableClaim

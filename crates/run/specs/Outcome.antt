@@ -11,8 +11,8 @@ use Rattle.formula.specs.Meaning.{matrix}
 use Rattle.formula.specs.Causes.{checked, number as cause-number}
 use Rattle.preference.specs.Preference.{prefer}
 use Rattle.rows.specs.Row.{bytes-of}
-use Rattle.rows.specs.Table.{table-of, room, table-fits, marks-fit}
-use Rattle.rounds.specs.Run.{Entry, Table, rows, Lent, run, is-false, is-true, spent, no-room-universal, no-room-existential, Answer as RunAnswer, Outcome as RunOutcome}
+use Rattle.rows.specs.Table.{table-of, room, table-fits, marks-fit, zeroed}
+use Rattle.rounds.specs.Run.{Entry, Table, rows, Lent, run, highest, is-false, is-true, spent, no-room-universal, no-room-existential, Answer as RunAnswer, Outcome as RunOutcome}
 use Rattle.rounds.specs.Opening.{opening, opening-length}
 use Rattle.run.specs.declared.Answer.{Answer}
 use Rattle.run.specs.declared.Answer.the-variants.{False, True, Spent, NoRoomUniversal, NoRoomExistential, Refused}
@@ -30,17 +30,19 @@ abbrev pub areas : List ℕ → List ℕ → List ℕ → List ℕ → List ℕ 
 areas A A-marks S S-marks work =
     record { universal-rows = A; universal-marks = A-marks; existential-rows = S; existential-marks = S-marks; work = work }
 
--- All that is lent: the formula, the preferences, what the areas were found to hold, and the limit.
+-- All that is lent: the formula, the preferences, what the areas were found to hold, the limit, and 02's k: how often the universal table is
+-- cleared, 0 for never.
 pub record Given : Type 0 where
   pub kinds : List ℕ
   pub literals : List ℤ
   pub preferences : List ℕ
   pub found : Areas
   pub limit : ℕ
+  pub clear-every : ℕ
 
-abbrev pub given : List ℕ → List ℤ → List ℕ → Areas → ℕ → Given
-given kinds literals preferences found limit =
-    record { kinds = kinds; literals = literals; preferences = preferences; found = found; limit = limit }
+abbrev pub given : List ℕ → List ℤ → List ℕ → Areas → ℕ → ℕ → Given
+given kinds literals preferences found limit clear-every =
+    record { kinds = kinds; literals = literals; preferences = preferences; found = found; limit = limit; clear-every = clear-every }
 
 -- The same as the run's definition takes it.
 abbrev pub lent : Given → Lent
@@ -51,6 +53,7 @@ lent g =
       prefer = prefer (g .preferences);
       room-A = room (g .found .universal-rows);
       room-S = room (g .found .existential-rows);
+      clear-every = g .clear-every;
     }
 
 -- Cause 4: 'row table not 16 to 4,096 bytes in sixteens, or (run) marks not one a row', of either side.
@@ -125,9 +128,9 @@ row-bytes t found = table-of (rows t) ++ drop (16 * length t) found
 unfoldable pub mark-numbers : Table → List ℕ → List ℕ
 mark-numbers t found = map (λ (x : Entry). x .mark) t ++ drop (length t) found
 
--- After an answer the areas hold the tables of the run, and the work area is zero ..
-abbrev pub answered : RunOutcome → Areas → Areas
-answered o found =
+-- The areas with the tables of a run in them, each over what was found, and with the work area zero.
+abbrev pub written : RunOutcome → Areas → Areas
+written o found =
     areas
     (row-bytes (o .A) (found .universal-rows))
     (mark-numbers (o .A) (found .universal-marks))
@@ -135,8 +138,18 @@ answered o found =
     (mark-numbers (o .S) (found .existential-marks))
     (replicate work-size 0)
 
--- .. after a refusal they are as found.
+-- 02, C-15: 'rows and marks of places given up (below the old count, not the new) are zeroed; the others past the count stay as found'. So where
+-- the universal table has reached over n places, these are zero behind its rows.
+abbrev pub given-up : ℕ → Areas → Areas
+given-up n found =
+    areas (zeroed (16 * n) (found .universal-rows)) (zeroed n (found .universal-marks)) (found .existential-rows) (found .existential-marks) (found .work)
+
+-- What the rounds up to r leave.
+abbrev pub after : Given → ℕ → Areas
+after g r = written (run (lent g) r) (given-up (highest (lent g) r) (g .found))
+
+-- After an answer the areas are as the run leaves them, after a refusal as found.
 unfoldable pub left : Given → Areas
 left g =
-    let written = answered (reached g) (g .found) in
-    cond (accepted g) written (g .found)
+    let answered = after g (g .limit) in
+    cond (accepted g) answered (g .found)
