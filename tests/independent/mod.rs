@@ -7,6 +7,7 @@
 #![allow(dead_code)]
 
 pub mod answers;
+pub mod counts;
 pub mod draw;
 pub mod fee;
 pub mod formula;

@@ -1,0 +1,2 @@
+-- Return counts, as the functions make them.
+pub mod Counts
