@@ -75,5 +75,9 @@ fn is_yielded(rows: &[u8], i: usize, yielded: &[u8], number: usize) -> bool
 fn one_more(count: u32, came: bool) -> u32
     ensures { λ r. ⌜ r ≡ one-more came count ⌝ }
 {
-    if came { std::num::wrapping_add_u32(count, 1) } else { count }
+    if came {
+        std::num::wrapping_add_u32(count, 1)
+    } else {
+        count
+    }
 }
