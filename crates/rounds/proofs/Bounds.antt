@@ -1,9 +1,9 @@
 -- Bounds of a run: its counts, its rows and its rounds. Assumes nothing.
-use Prim.Native.Nat.{ℕ, suc, _^_, _≤_}
+use Prim.Native.Nat.{ℕ, _^_, _≤_}
 use native.Mathlib.Omega.{arith}
 use mathlib.Core.Path.{_≡_}
 use lib.ListN.{length}
-use Rattle.formula.specs.Formula.{Kind, universal}
+use Rattle.formula.specs.Formula.{Kind, existential}
 use Rattle.formula.specs.Causes.{count}
 use Rattle.expansion.specs.Play.{Row}
 use Rattle.expansion.proofs.Membership.{In}
@@ -26,6 +26,6 @@ module _ (l : Lent) (limit : ℕ) where
   pub count-in-room : (side : Kind) → 1 ≤ room side l → length (table side (run l limit)) ≤ room side l
   count-in-room side = run-reached l limit .held side .fits
 
-  -- So the number of the round that follows a finished one fits its mark: 256 rounds are the most with 256 rows.
-  pub next-round-in-room : 1 ≤ l .room-A → run l limit .answer ≡ spent → suc limit ≤ l .room-A
-  next-round-in-room some-room e = omega (arith, run-reached l limit .ongoing e .count-A, count-in-room universal some-room)
+  -- So the number of the round that follows a finished one fits its mark: 257 rounds are the most with 256 existential rows.
+  pub next-round-in-room : 1 ≤ l .room-S → run l limit .answer ≡ spent → limit ≤ l .room-S
+  next-round-in-room some-room e = omega (arith, run-reached l limit .ongoing e .count-S, count-in-room existential some-room)

@@ -1,30 +1,44 @@
 -- The claim about the whole run holds. Assumes nothing.
-use Prim.Native.Nat.{ℕ, zero, suc, _-_, _^_, _≤_, _<_}
+use Prim.Native.Nat.{ℕ, zero, suc, _+_, _-_, _^_, _≤_, _<_}
 use native.Mathlib.Omega.{arith}
 use native.Mathlib.Decide.{decLe}
 use mathlib.Core.Path.{_≡_, refl, sym, ap, subst, _∙_}
+use mathlib.Core.Bool.{true}
 use mathlib.Core.Logic.{_↔_, _≢_, by-cases}
 use Rattle.formula.specs.Formula.{Kind, existential, universal}
 use Rattle.formula.specs.Causes.{count}
 use Rattle.formula.specs.Meaning.{meaning}
-use Rattle.rounds.specs.Run.{Entry, Answer, is-false, is-true, spent, no-room-universal, no-room-existential, Outcome, Lent, round-of, run}
-use Rattle.rounds.specs.Claim.{table, no-room, Stands, Finished, NewRow, most-rounds, answer-of, Claim}
+use Rattle.rounds.specs.Run.{Entry, clears, Answer, is-false, is-true, spent, no-room-universal, no-room-existential, Outcome, Lent, round-of, run}
+use Rattle.rounds.specs.Claim.{table, no-room, Stands, Finished, NewRow, most-with, most-rounds, Uncleared, answer-of, Claim}
 use Rattle.rounds.proofs.TableLaws.{all-different}
-use Rattle.rounds.proofs.RoundLaws.{Right, Made}
+use Rattle.rounds.proofs.RoundLaws.{Right, Made, never-clears}
 use Rattle.rounds.proofs.Bounds.{count-most}
-use Rattle.rounds.proofs.RunLaws.{run-marks, run-goes-on, run-reached, run-made, run-extends, spent-before, Last, last-round}
+use Rattle.rounds.proofs.RunLaws.{run-marks, run-goes-on, run-reached, run-made, finished-if-spent, run-extends, spent-before, Last, last-round}
 
-finished-if-spent : (l : Lent) (limit r : ℕ) → 1 ≤ r → r ≤ limit → run l r .answer ≡ spent → Finished l limit r
-finished-if-spent l limit r from-one to-limit e =
-    record { from-one = from-one; to-limit = to-limit; reached = run-reached l r .at-limit e; passed = e }
+new-row : (l : Lent) (limit : ℕ) (side : Kind) (r q : ℕ) → Finished l limit r → r ≤ q → q ≤ limit → Uncleared side l r q
+    → NewRow r (table side (run l (r - 1))) (table side (run l r)) (table side (run l q))
+new-row l limit side zero q f above below u = absurd (omega (arith, f .from-one))
+new-row l limit side (suc p) q f above below u =
+    let back : suc p - 1 ≡ p = omega arith in
+    let made = run-made l p (spent-before l p (suc p) (omega arith) (f .passed)) in
+    rw back (made .new-row (f .passed) side (table side (run l q)) (run-extends l (suc p) q above side u))
 
-new-row : (l : Lent) (limit : ℕ) (side : Kind) (r : ℕ) → Finished l limit r
-    → NewRow r (table side (run l (r - 1))) (table side (run l r)) (table side (run l limit))
-new-row l limit side zero f = absurd (omega (arith, f .from-one))
-new-row l limit side (suc q) f =
-    let back : suc q - 1 ≡ q = omega arith in
-    let made = run-made l q (spent-before l q (suc q) (omega arith) (f .passed)) in
-    rw back (made .new-row (f .passed) side (table side (run l limit)) (run-extends l (suc q) limit (f .to-limit) side))
+uncleared-if-never : (side : Kind) (l : Lent) (r q : ℕ) → (side ≡ universal → l .clear-every ≡ 0) → Uncleared side l r q
+uncleared-if-never existential l r q never = tt
+uncleared-if-never universal l r q never = λ p _ _. never-clears l p (never refl)
+
+all-cleared : (l : Lent) (limit r : ℕ) → Finished l limit r → clears (l .clear-every) r ≡ true → (i : ℕ) (x : Entry) → Stands (run l r .A) i x
+    → x .mark ≡ r
+all-cleared l limit zero f clearing = absurd (omega (arith, f .from-one))
+all-cleared l limit (suc p) f clearing = run-made l p (spent-before l p (suc p) (omega arith) (f .passed)) .all-marked (f .passed) clearing
+
+-- A bound on the rounds, by whether the table is ever cleared.
+at-most : (l : Lent) (n : ℕ) → n ≤ 2 ^ count existential (l .ks) + 1 → (l .clear-every ≡ 0 → n ≤ 2 ^ count universal (l .ks)) → n ≤ most-rounds l
+at-most l n by-S by-A = go (l .clear-every) by-A
+  where
+    go : (k : ℕ) → (k ≡ 0 → n ≤ 2 ^ count universal (l .ks)) → n ≤ most-with k l
+    go zero h = omega (arith, h refl)
+    go (suc k) h = by-S
 
 -- With room for all rows and most-rounds rounds, only the verdict is left.
 decided : (l : Lent) (limit : ℕ) → 2 ^ count universal (l .ks) ≤ l .room-A → 2 ^ count existential (l .ks) ≤ l .room-S → most-rounds l ≤ limit
@@ -38,7 +52,9 @@ decided l limit room-A room-S enough = by-answer (run l limit .answer) refl (run
         let most-A = count-most l limit universal in
         let most-S = count-most l limit existential in
         let ongoing = run-reached l limit .ongoing e in
-        absurd (omega (arith, ongoing .count-A, ongoing .count-S))
+        let most : suc limit ≤ most-rounds l =
+        at-most l (suc limit) (omega (arith, ongoing .count-S)) (λ never. omega (arith, ongoing .count-A never)) in
+        absurd (omega arith)
     by-answer no-room-universal e right = absurd (omega arith)
     by-answer no-room-existential e right = absurd (omega arith)
 
@@ -114,6 +130,8 @@ module _ (l : Lent) (limit : ℕ) (from-one : 1 ≤ limit) where
         none-later = none-later;
         spent-at-limit = run-reached l limit .at-limit;
         new-rows = new-row l limit;
+        to-the-end = λ side r never f. new-row l limit side r limit f (f .to-limit) (omega arith) (uncleared-if-never side l r limit never);
+        cleared = all-cleared l limit;
         different-after = λ side r f. all-different (table side (run l r)) (run-reached l r .held side .distinct);
         different-at-end = λ side. all-different (table side (run l limit)) (run-reached l limit .held side .distinct);
         marks-made = marks-made;
@@ -121,6 +139,8 @@ module _ (l : Lent) (limit : ℕ) (from-one : 1 ≤ limit) where
         none-added = none-added;
         most =
             let reached = run-reached l limit in
-            omega (arith, reached .round-A, reached .round-S, count-most l limit universal, count-most l limit existential);
+            let most-A = count-most l limit universal in
+            let most-S = count-most l limit existential in
+            at-most l (run l limit .round) (omega (arith, reached .round-S)) (λ never. omega (arith, reached .round-A never));
         decided = decided l limit;
       }

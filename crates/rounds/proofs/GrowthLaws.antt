@@ -22,7 +22,7 @@ use Rattle.rounds.specs.Run.{Entry, Table, rows, grown, if-fits, Lent}
 use Rattle.rounds.specs.Claim.{Stands, NewRow}
 use Rattle.rounds.specs.Opening.{block, last-row, first-values}
 use Rattle.rounds.proofs.Blocks.{begins, begins-take, same-start, last-behind}
-use Rattle.rounds.proofs.TableLaws.{rows-grown, marks-grown, Extends, extends-grown, grown-new, length-grown}
+use Rattle.rounds.proofs.TableLaws.{rows-grown, marks-grown, Extends, extends-grown, grown-new, adds-to-part, length-grown}
 
 -- The rows that a side's table has room for.
 abbrev pub room : Kind → Lent → ℕ
@@ -67,42 +67,43 @@ fitted n t = by-test (leb (length t) n) (leb→le (length t) n) (nleb→lt (leng
     by-test true le lt = (refl, le tt)
     by-test false le lt = lt tt
 
--- What a step of round r makes of a side's table t, over the other side's rows: t grows by a new row at least, to u, and a strategy that
--- wins over the other side's rows has all that it yields in u. Rows of u that begin otherwise than its last row are rows of t.
-pub record Growth (l : Lent) (side : Kind) (r : ℕ) (from : List Row) (t u : Table) : Type 0 where
+-- What a step of round r makes of a side's table t, of which it keeps the part q, over the other side's rows: q grows, to u, by a row at least
+-- that is new against t, and a strategy that wins over the other side's rows has all that it yields in u. Rows of u that begin otherwise than
+-- its last row are rows of q.
+pub record Growth (l : Lent) (side : Kind) (r : ℕ) (from : List Row) (t q u : Table) : Type 0 where
   pub held : Held l side u
-  pub more : suc (length t) ≤ length u
-  pub extends : Extends t u
+  pub more : suc (length q) ≤ length u
+  pub extends : Extends q u
   pub new-row : (end : Table) → Extends u end → NewRow r t u end
-  pub marks : (i : ℕ) (x : Entry) → Stands u i x → Stands t i x ⊎ (x .mark ≡ r)
+  pub marks : (i : ℕ) (x : Entry) → Stands u i x → Stands q i x ⊎ (x .mark ≡ r)
   pub σ : Strategy
   pub answers : Answers side (l .ks) (l .phi) σ (λ x. In x from) (λ x. In x (rows u))
-  pub apart : (x : Row) → In x (rows u) → begins (first-values side (l .ks) (rows u)) x ≡ false → In x (rows t)
+  pub apart : (x : Row) → In x (rows u) → begins (first-values side (l .ks) (rows u)) x ≡ false → In x (rows q)
 
-module _ (l : Lent) (side : Kind) (r : ℕ) (from : List Row) (t : Table) (held : Held l side t) (new : List Row)
+module _ (l : Lent) (side : Kind) (r : ℕ) (from : List Row) (q : Table) (held : Held l side q) (new : List Row)
     (found : search (l .prefer) side (l .ks) (l .phi) from ≡ some new) where
-  sized-grown : Sized (count side (l .ks)) (rows (grown r t new))
-  sized-grown x h = ⊎-elim (held .sized x) of-new (in-append-cases x (rows t) (fresh (rows t) new) (rw rows-grown at h))
+  sized-grown : Sized (count side (l .ks)) (rows (grown r q new))
+  sized-grown x h = ⊎-elim (held .sized x) of-new (in-append-cases x (rows q) (fresh (rows q) new) (rw rows-grown at h))
     where
-      of-new : In x (fresh (rows t) new) → length x ≡ count side (l .ks)
-      of-new f = sized-found (l .prefer) side (l .ks) (l .phi) from new found x (fresh-in x (rows t) new f)
+      of-new : In x (fresh (rows q) new) → length x ≡ count side (l .ks)
+      of-new f = sized-found (l .prefer) side (l .ks) (l .phi) from new found x (fresh-in x (rows q) new f)
 
-  distinct-grown : Distinct (rows (grown r t new))
-  distinct-grown = rw rows-grown (distinct-append-fresh (rows t) new (held .distinct))
+  distinct-grown : Distinct (rows (grown r q new))
+  distinct-grown = rw rows-grown (distinct-append-fresh (rows q) new (held .distinct))
 
-  yielded-in-grown : (x : Row) → In x new → In x (rows (grown r t new))
-  yielded-in-grown x h = rw rows-grown (⊎-elim old fresh-now (in-or-not x (rows t)))
+  yielded-in-grown : (x : Row) → In x new → In x (rows (grown r q new))
+  yielded-in-grown x h = rw rows-grown (⊎-elim old fresh-now (in-or-not x (rows q)))
     where
-      old : In x (rows t) → In x (rows t ++ fresh (rows t) new)
-      old = in-append-left x (rows t) (fresh (rows t) new)
+      old : In x (rows q) → In x (rows q ++ fresh (rows q) new)
+      old = in-append-left x (rows q) (fresh (rows q) new)
 
-      fresh-now : (In x (rows t) → ⊥) → In x (rows t ++ fresh (rows t) new)
-      fresh-now n = in-append-right x (rows t) (fresh (rows t) new) (in-fresh x (rows t) new h n)
+      fresh-now : (In x (rows q) → ⊥) → In x (rows q ++ fresh (rows q) new)
+      fresh-now n = in-append-right x (rows q) (fresh (rows q) new) (in-fresh x (rows q) new h n)
 
   -- A grown table that does not fit has less room than there are rows.
-  pub room-below-all-rows : room side l < length (grown r t new) → room side l < 2 ^ count side (l .ks)
+  pub room-below-all-rows : room side l < length (grown r q new) → room side l < 2 ^ count side (l .ks)
   room-below-all-rows full =
-      let most = length-at-most l side (grown r t new) distinct-grown sized-grown in
+      let most = length-at-most l side (grown r q new) distinct-grown sized-grown in
       omega arith
 
   -- All that the search yields begins with the same values.
@@ -110,34 +111,36 @@ module _ (l : Lent) (side : Kind) (r : ℕ) (from : List Row) (t : Table) (held 
   starts-alike x y in-x in-y =
       let model = search-answers (l .prefer) side (l .ks) (l .phi) from new found in
       let p = in-map-cases _ x from (subst (λ (n : List Row). In x n) (model .2) in-x) in
-      let q = in-map-cases _ y from (subst (λ (n : List Row). In y n) (model .2) in-y) in
+      let p′ = in-map-cases _ y from (subst (λ (n : List Row). In y n) (model .2) in-y) in
       let alike : take (block side (l .ks)) y ≡ take (block side (l .ks)) x =
-      ap (take (block side (l .ks))) (q .1) ∙ same-start side (l .ks) (model .0) (q .0) (p .0) ∙ sym (ap (take (block side (l .ks))) (p .1)) in
+      ap (take (block side (l .ks))) (p′ .1) ∙ same-start side (l .ks) (model .0) (p′ .0) (p .0) ∙ sym (ap (take (block side (l .ks))) (p .1)) in
       subst (λ (vs : List Bool). begins vs x ≡ true) (sym alike) (begins-take (block side (l .ks)) x)
 
-  apart-grown : (fresh (rows t) new ≡ [] → ⊥) → (x : Row) → In x (rows (grown r t new))
-      → begins (first-values side (l .ks) (rows (grown r t new))) x ≡ false → In x (rows t)
+  apart-grown : (fresh (rows q) new ≡ [] → ⊥) → (x : Row) → In x (rows (grown r q new))
+      → begins (first-values side (l .ks) (rows (grown r q new))) x ≡ false → In x (rows q)
   apart-grown adds x h otherwise =
-      let last : In (last-row (rows t ++ fresh (rows t) new)) (fresh (rows t) new) = last-behind (rows t) (fresh (rows t) new) adds in
-      let y : Row = last-row (rows t ++ fresh (rows t) new) in
-      let is-y : last-row (rows (grown r t new)) ≡ y = ap last-row (rows-grown r t new) in
+      let last : In (last-row (rows q ++ fresh (rows q) new)) (fresh (rows q) new) = last-behind (rows q) (fresh (rows q) new) adds in
+      let y : Row = last-row (rows q ++ fresh (rows q) new) in
+      let is-y : last-row (rows (grown r q new)) ≡ y = ap last-row (rows-grown r q new) in
       ⊎-elim (λ o. o)
-      (λ f. absurd (never-both (subst (λ (z : Row). begins (take (block side (l .ks)) z) x ≡ true) (sym is-y) (starts-alike x y (fresh-in x (rows t) new f) (fresh-in y (rows t) new last))) otherwise))
-      (in-append-cases x (rows t) (fresh (rows t) new) (subst (λ (n : List Row). In x n) (rows-grown r t new) h))
+      (λ f. absurd (never-both (subst (λ (z : Row). begins (take (block side (l .ks)) z) x ≡ true) (sym is-y) (starts-alike x y (fresh-in x (rows q) new f) (fresh-in y (rows q) new last))) otherwise))
+      (in-append-cases x (rows q) (fresh (rows q) new) (subst (λ (n : List Row). In x n) (rows-grown r q new) h))
 
-  -- A step adds a row: else the two strategies would keep within each other's rows.
-  pub growth : (τ : Strategy) → Answers (other side) (l .ks) (l .phi) τ (λ x. In x (rows t)) (λ x. In x from) → (x : Row) → In x from
-      → length (grown r t new) ≤ room side l → Growth l side r from t (grown r t new)
-  growth τ before x in-from fits =
+  -- A step yields a row that is new against t: else the two strategies would keep within each other's rows.
+  pub growth : (t : Table) → ((x : Row) → In x (rows q) → In x (rows t)) → (τ : Strategy)
+      → Answers (other side) (l .ks) (l .phi) τ (λ x. In x (rows t)) (λ x. In x from) → (x : Row) → In x from → length (grown r q new) ≤ room side l
+      → Growth l side r from t q (grown r q new)
+  growth t part τ before x in-from fits =
       let model = search-answers (l .prefer) side (l .ks) (l .phi) from new found in
-      let adds : fresh (rows t) new ≡ [] → ⊥ =
+      let yields-new : fresh (rows t) new ≡ [] → ⊥ =
       yields-fresh (l .prefer) side (l .ks) (l .phi) from (rows t) new τ x in-from found before in
+      let adds : fresh (rows q) new ≡ [] → ⊥ = adds-to-part t q new part yields-new in
       record {
         held = record { distinct = distinct-grown; sized = sized-grown; fits = λ _. fits };
-        more = length-grown r t new adds;
-        extends = extends-grown r t new;
-        new-row = λ end. grown-new r t new end adds;
-        marks = marks-grown r t (fresh (rows t) new);
+        more = length-grown r q new adds;
+        extends = extends-grown r q new;
+        new-row = λ end. grown-new r t q new end part yields-new;
+        marks = marks-grown r q (fresh (rows q) new);
         σ = model .0;
         answers = record { wins = model .1 .wins; within = λ y h. yielded-in-grown _ (model .1 .within y h) };
         apart = apart-grown adds;

@@ -2,10 +2,10 @@
 use Prim.Native.Nat.{ℕ, zero, suc, _^_, _≤_, _<_}
 use native.Mathlib.Omega.{arith}
 use mathlib.Core.Path.{_≡_, refl, sym, ap, subst, _∙_}
-use mathlib.Core.Bool.{Bool, true, false, not, Bool·not-not}
+use mathlib.Core.Bool.{Bool, true, false, not, cond, Bool·not-not}
 use mathlib.Core.List.{List, [], _∷_}
-use mathlib.Core.Logic.{_≢_, _⊎_, inl, inr}
-use mathlib.Core.Option.{Option, none, some}
+use mathlib.Core.Logic.{_≢_, _⊎_, inl, inr, ⊎-elim}
+use mathlib.Core.Option.{Option, none, some, Option·none-ne-some}
 use lib.ListN.{length, drop}
 use Rattle.formula.specs.Formula.{Kind, existential, universal}
 use Rattle.formula.specs.Causes.{count}
@@ -19,7 +19,7 @@ use Rattle.expansion.proofs.Membership.{In}
 use Rattle.expansion.proofs.Verdict.{none-is-verdict}
 use Rattle.expansion.proofs.Progress.{Answers}
 use Rattle.expansion.proofs.Counting.{Sized}
-use Rattle.rounds.specs.Run.{Entry, Table, rows, Answer, is-false, is-true, spent, no-room-universal, no-room-existential, number, Outcome, outcome, grown, if-fits, Lent, start, step-1, step-2, step-3, step-4, round-of}
+use Rattle.rounds.specs.Run.{Entry, clears, kept, Table, rows, Answer, is-false, is-true, spent, no-room-universal, no-room-existential, number, Outcome, outcome, grown, if-fits, Lent, start, step-1, step-2, step-3, step-4, round-of}
 use Rattle.rounds.specs.Claim.{table, no-room, Stands, NewRow}
 use Rattle.rounds.specs.Opening.{block, last-row, first-values, opening, set-to, Opens}
 use Rattle.rounds.proofs.Blocks.{begins, begins-take, block-before, length-first-values, set-not-reached}
@@ -45,10 +45,16 @@ Over no-room-existential = Unit {0}
 pub over-not-spent : (a : Answer) → Over a → a ≢ spent
 over-not-spent a over e = subst Over e over
 
--- After r finished rounds each table has grown r times, and a universal strategy that wins over S has all that it yields in A. At the
--- start S is empty, and any strategy does. An existential strategy wins over the rows of A that begin otherwise than the last one.
+-- A finished round leaves what stood in a side's table: the existential one always, the universal one if the round does not clear.
+abbrev pub Keeps : Kind → Lent → ℕ → Type 0
+Keeps existential l r = Unit {0}
+Keeps universal l r = clears (l .clear-every) r ≡ false
+
+-- After r finished rounds S has grown r times, and so has A if it is never cleared; a universal strategy that wins over S has all that it yields in
+-- A. At the start S is empty, and any strategy does. An existential strategy wins over the rows of A that begin otherwise than the last one.
 pub record Ongoing (l : Lent) (r : ℕ) (o : Outcome) : Type 0 where
-  pub count-A : suc r ≤ length (o .A)
+  pub some-A : 1 ≤ length (o .A)
+  pub count-A : l .clear-every ≡ 0 → suc r ≤ length (o .A)
   pub count-S : r ≤ length (o .S)
   pub ρ : Strategy
   pub answers : Answers universal (l .ks) (l .phi) ρ (λ s. In s (rows (o .S))) (λ u. In u (rows (o .A)))
@@ -60,7 +66,7 @@ pub record Ongoing (l : Lent) (r : ℕ) (o : Outcome) : Type 0 where
 pub record Reached (l : Lent) (limit : ℕ) (o : Outcome) : Type 0 where
   pub held : (side : Kind) → Held l side (table side o)
   pub to-limit : o .round ≤ limit
-  pub round-A : o .round ≤ length (o .A)
+  pub round-A : l .clear-every ≡ 0 → o .round ≤ length (o .A)
   pub round-S : o .round ≤ suc (length (o .S))
   pub right : Right l (o .answer)
   pub opened : Opens l o
@@ -71,10 +77,11 @@ pub record Reached (l : Lent) (limit : ℕ) (o : Outcome) : Type 0 where
 pub record Made (l : Lent) (r : ℕ) (b o : Outcome) : Type 0 where
   pub reached : Reached l r o
   pub in-round : o .round ≡ r
-  pub extends : (side : Kind) → Extends (table side b) (table side o)
+  pub extends : (side : Kind) → (o .answer ≡ spent → Keeps side l r) → Extends (table side b) (table side o)
   pub new-row : o .answer ≡ spent → (side : Kind) (end : Table) → Extends (table side o) end → NewRow r (table side b) (table side o) end
   pub none-added : (side : Kind) → o .answer ≡ no-room side → table side o ≡ table side b
   pub marks : (side : Kind) (i : ℕ) (x : Entry) → Stands (table side o) i x → Stands (table side b) i x ⊎ (x .mark ≡ r)
+  pub all-marked : o .answer ≡ spent → clears (l .clear-every) r ≡ true → (i : ℕ) (x : Entry) → Stands (o .A) i x → x .mark ≡ r
   pub latest : o .answer ≢ is-false → o .answer ≢ no-room-existential → NewRow r (b .S) (o .S) (o .S)
 
 -- What holds of A and of S holds of each table.
@@ -91,7 +98,7 @@ start-reached l =
           (record { distinct = (λ h. h, tt); sized = only; fits = λ h. h })
           (record { distinct = tt; sized = λ x h. absurd h; fits = λ h. omega arith });
       to-limit = omega arith;
-      round-A = omega arith;
+      round-A = λ _. omega arith;
       round-S = omega arith;
       right = tt;
       opened = record { whole = refl; same-verdict = refl };
@@ -99,7 +106,8 @@ start-reached l =
       ongoing =
           λ _.
           record {
-            count-A = omega arith;
+            some-A = omega arith;
+            count-A = λ _. omega arith;
             count-S = omega arith;
             ρ = λ k r. true;
             answers = record { wins = λ x h. absurd h; within = λ x h. absurd h };
@@ -126,6 +134,38 @@ some-row : (n : ℕ) (t : Table) → suc n ≤ length t → (x : Row) × In x (r
 some-row n [] h = absurd (omega arith)
 some-row n (x ∷ t) h = (x .row, inl refl)
 
+-- What step 4 keeps of A: all, or nothing.
+pub never-clears : (l : Lent) (r : ℕ) → l .clear-every ≡ 0 → clears (l .clear-every) r ≡ false
+unfolding clears
+never-clears l r never = ap (λ (k : ℕ). clears k r) never
+
+pub kept-all : (l : Lent) (r : ℕ) (A : Table) → clears (l .clear-every) r ≡ false → kept l r A ≡ A
+kept-all l r A e = ap (λ (c : Bool). cond c [] A) e
+
+pub kept-none : (l : Lent) (r : ℕ) (A : Table) → clears (l .clear-every) r ≡ true → kept l r A ≡ []
+kept-none l r A e = ap (λ (c : Bool). cond c [] A) e
+
+kept-part : (l : Lent) (r : ℕ) (A : Table) (x : Row) → In x (rows (kept l r A)) → In x (rows A)
+kept-part l r A x = go (clears (l .clear-every) r)
+  where
+    go : (c : Bool) → In x (rows (cond c [] A)) → In x (rows A)
+    go true h = absurd h
+    go false h = h
+
+kept-stands : (l : Lent) (r : ℕ) (A : Table) (i : ℕ) (x : Entry) → Stands (kept l r A) i x → Stands A i x
+kept-stands l r A i x = go (clears (l .clear-every) r)
+  where
+    go : (c : Bool) → Stands (cond c [] A) i x → Stands A i x
+    go true s = absurd (Option·none-ne-some x s)
+    go false s = s
+
+kept-held : (l : Lent) (r : ℕ) (A : Table) → Held l universal A → Held l universal (kept l r A)
+kept-held l r A held = go (clears (l .clear-every) r)
+  where
+    go : (c : Bool) → Held l universal (cond c [] A)
+    go true = record { distinct = tt; sized = λ x h. absurd h; fits = λ h. omega arith }
+    go false = held
+
 -- Round r + 1 over the tables of b, which r rounds have made.
 module _ (l : Lent) (r : ℕ) (b : Outcome) (before : Reached l r b) (ongoing : Ongoing l r b) where
   -- A round that ends the run, with S or what step 2 has made of it.
@@ -147,26 +187,29 @@ module _ (l : Lent) (r : ℕ) (b : Outcome) (before : Reached l r b) (ongoing : 
               ongoing = λ e. absurd (over-not-spent a ends e);
             };
         in-round = refl;
-        extends = each (λ side. Extends (table side b) (table side o)) (extends-itself (b .A)) extends;
+        extends =
+            each (λ side. (a ≡ spent → Keeps side l (suc r)) → Extends (table side b) (table side o)) (λ _. extends-itself (b .A)) (λ _. extends);
         new-row = λ e. absurd (over-not-spent a ends e);
         none-added = each (λ side. a ≡ no-room side → table side o ≡ table side b) (λ _. refl) unchanged;
         marks = each (λ side. (i : ℕ) (x : Entry) → Stands (table side o) i x → Stands (table side b) i x ⊎ (x .mark ≡ suc r)) (λ i x s. inl s) marks;
+        all-marked = λ e. absurd (over-not-spent a ends e);
         latest = latest;
       }
 
-  finished : (A S : Table) → Growth l existential (suc r) (rows (b .A)) (b .S) S → Growth l universal (suc r) (rows S) (b .A) A
+  finished : (A S : Table) → Growth l existential (suc r) (rows (b .A)) (b .S) (b .S) S → Growth l universal (suc r) (rows S) (b .A) (kept l (suc r) (b .A)) A
       → Made l (suc r) b (outcome spent (suc r) A S)
   unfolding opening
   finished A S grown-S grown-A =
       let o = outcome spent (suc r) A S in
-      let count-A : suc (suc r) ≤ length A = omega (arith, ongoing .count-A, grown-A .more) in
+      let count-A : l .clear-every ≡ 0 → suc (suc r) ≤ length A =
+      λ never. omega (arith, ongoing .count-A never, grown-A .more, ap length (kept-all l (suc r) (b .A) (never-clears l (suc r) never))) in
       let count-S : suc r ≤ length S = omega (arith, ongoing .count-S, grown-S .more) in
       record {
         reached =
             record {
               held = each (λ side. Held l side (table side o)) (grown-A .held) (grown-S .held);
               to-limit = omega arith;
-              round-A = omega arith;
+              round-A = λ never. omega (arith, count-A never);
               round-S = omega arith;
               right = tt;
               opened = record { whole = refl; same-verdict = refl };
@@ -174,16 +217,20 @@ module _ (l : Lent) (r : ℕ) (b : Outcome) (before : Reached l r b) (ongoing : 
               ongoing =
                   λ _.
                   record {
+                    some-A = omega (arith, grown-A .more);
                     count-A = count-A;
                     count-S = count-S;
                     ρ = grown-A .σ;
                     answers = grown-A .answers;
                     σ = grown-S .σ;
-                    apart = λ x h otherwise. grown-S .answers .wins x (grown-A .apart x h otherwise);
+                    apart = λ x h otherwise. grown-S .answers .wins x (kept-part l (suc r) (b .A) x (grown-A .apart x h otherwise));
                   };
             };
         in-round = refl;
-        extends = each (λ side. Extends (table side b) (table side o)) (grown-A .extends) (grown-S .extends);
+        extends =
+            each (λ side. (spent ≡ spent → Keeps side l (suc r)) → Extends (table side b) (table side o))
+            (λ keeps. subst (λ (q : Table). Extends q A) (kept-all l (suc r) (b .A) (keeps refl)) (grown-A .extends))
+            (λ _. grown-S .extends);
         new-row =
             λ _.
             each (λ side. (end : Table) → Extends (table side o) end → NewRow (suc r) (table side b) (table side o) end)
@@ -195,35 +242,42 @@ module _ (l : Lent) (r : ℕ) (b : Outcome) (before : Reached l r b) (ongoing : 
             (λ e. absurd (omega (arith, ap number e)));
         marks =
             each (λ side. (i : ℕ) (x : Entry) → Stands (table side o) i x → Stands (table side b) i x ⊎ (x .mark ≡ suc r))
-            (grown-A .marks)
+            (λ i x s. ⊎-elim (λ old. inl (kept-stands l (suc r) (b .A) i x old)) inr (grown-A .marks i x s))
             (grown-S .marks);
+        all-marked =
+            λ _ clearing i x s.
+            ⊎-elim
+            (λ old. absurd (Option·none-ne-some x (subst (λ (q : Table). Stands q i x) (kept-none l (suc r) (b .A) clearing) old)))
+            (λ e. e)
+            (grown-A .marks i x s);
         latest = λ _ _. grown-S .new-row S (extends-itself S);
       }
 
   -- A round that ends the run after step 2.
   over-later : (a : Answer) (S : Table) → Over a → a ≢ no-room-existential → Right l a → Opens l (outcome a (suc r) (b .A) S)
-      → Growth l existential (suc r) (rows (b .A)) (b .S) S → Made l (suc r) b (outcome a (suc r) (b .A) S)
+      → Growth l existential (suc r) (rows (b .A)) (b .S) (b .S) S → Made l (suc r) b (outcome a (suc r) (b .A) S)
   over-later a S ends other-answer right opened grown-S =
       over a S ends right opened (grown-S .held) (grown-S .extends) (omega (arith, ongoing .count-S, grown-S .more)) (λ e. absurd (other-answer e))
       (grown-S .marks) (λ _ _. grown-S .new-row S (extends-itself S))
 
   -- The steps, each by what it looks at.
-  made-4 : (S : Table) (new : List Row) → Growth l existential (suc r) (rows (b .A)) (b .S) S → search (l .prefer) universal (l .ks) (l .phi) (rows S) ≡ some new
-      → (m : Option Table) → Fitted (l .room-A) (grown (suc r) (b .A) new) m → Made l (suc r) b (step-4 (suc r) (b .A) S m)
+  made-4 : (S : Table) (new : List Row) → Growth l existential (suc r) (rows (b .A)) (b .S) (b .S) S → search (l .prefer) universal (l .ks) (l .phi) (rows S) ≡ some new
+      → (m : Option Table) → Fitted (l .room-A) (grown (suc r) (kept l (suc r) (b .A)) new) m → Made l (suc r) b (step-4 (suc r) (b .A) S m)
   unfolding opening
   made-4 S new grown-S found none full =
       over-later no-room-universal S tt (λ e. omega (arith, ap number e))
-      (room-below-all-rows l universal (suc r) (rows S) (b .A) (before .held universal) new found full)
+      (room-below-all-rows l universal (suc r) (rows S) (kept l (suc r) (b .A)) (kept-held l (suc r) (b .A) (before .held universal)) new found full)
       (record { whole = refl; same-verdict = refl })
       grown-S
   made-4 S new grown-S found (some A) fits =
       let x = some-row (length (b .S)) S (grown-S .more) in
       finished A S grown-S
-      (subst (λ (u : Table). Growth l universal (suc r) (rows S) (b .A) u) (fits .0)
-      (growth l universal (suc r) (rows S) (b .A) (before .held universal) new found (grown-S .σ) (grown-S .answers) (x .0) (x .1) (fits .1)))
+      (subst (λ (u : Table). Growth l universal (suc r) (rows S) (b .A) (kept l (suc r) (b .A)) u) (fits .0)
+      (growth l universal (suc r) (rows S) (kept l (suc r) (b .A)) (kept-held l (suc r) (b .A) (before .held universal)) new found
+      (b .A) (kept-part l (suc r) (b .A)) (grown-S .σ) (grown-S .answers) (x .0) (x .1) (fits .1)))
 
   -- True: over the rows of S that begin otherwise than the last one, which stood before the round, the universal side had a model.
-  opened-true : (S : Table) → Growth l existential (suc r) (rows (b .A)) (b .S) S → meaning (l .ks) (l .phi) ≡ true
+  opened-true : (S : Table) → Growth l existential (suc r) (rows (b .A)) (b .S) (b .S) S → meaning (l .ks) (l .phi) ≡ true
       → search (l .prefer) universal (l .ks) (l .phi) (rows S) ≡ none → Opens l (outcome is-true (suc r) (b .A) S)
   unfolding opening
   opened-true S grown-S right none-found =
@@ -246,7 +300,7 @@ module _ (l : Lent) (r : ℕ) (b : Outcome) (before : Reached l r b) (ongoing : 
   unfolding opening
   opened-false right none-found =
       let vs = first-values universal (l .ks) (rows (b .A)) in
-      let x = some-row r (b .A) (ongoing .count-A) in
+      let x = some-row zero (b .A) (ongoing .some-A) in
       let whole : length vs ≡ block universal (l .ks) = length-first-values universal (l .ks) (rows (b .A)) (x .0) (x .1) (before .held universal .sized) in
       let not-reached =
       set-not-reached (l .prefer) existential (l .ks) (l .phi) (rows (b .A)) (ongoing .σ) vs (block-before universal (l .ks) (last-row (rows (b .A))))
@@ -257,13 +311,13 @@ module _ (l : Lent) (r : ℕ) (b : Outcome) (before : Reached l r b) (ongoing : 
             subst (λ (m : ℕ). meaning (drop m (l .ks)) (set-to vs (l .phi)) ≡ meaning (l .ks) (l .phi)) whole (not-reached ∙ sym right);
       }
 
-  made-3 : (S : Table) → Growth l existential (suc r) (rows (b .A)) (b .S) S
+  made-3 : (S : Table) → Growth l existential (suc r) (rows (b .A)) (b .S) (b .S) S
       → (m : Option (List Row)) → search (l .prefer) universal (l .ks) (l .phi) (rows S) ≡ m → Made l (suc r) b (step-3 l (suc r) (b .A) S m)
   made-3 S grown-S none e =
       let verdict = none-is-verdict (l .prefer) universal (l .ks) (l .phi) (rows S) e in
       let right : meaning (l .ks) (l .phi) ≡ true = sym (Bool·not-not (meaning (l .ks) (l .phi))) ∙ ap not verdict in
       over-later is-true S tt (λ q. omega (arith, ap number q)) right (opened-true S grown-S right e) grown-S
-  made-3 S grown-S (some new) e = made-4 S new grown-S e (if-fits (l .room-A) (grown (suc r) (b .A) new)) (fitted (l .room-A) (grown (suc r) (b .A) new))
+  made-3 S grown-S (some new) e = made-4 S new grown-S e (if-fits (l .room-A) (grown (suc r) (kept l (suc r) (b .A)) new)) (fitted (l .room-A) (grown (suc r) (kept l (suc r) (b .A)) new))
 
   made-2 : (new : List Row) → search (l .prefer) existential (l .ks) (l .phi) (rows (b .A)) ≡ some new
       → (m : Option Table) → Fitted (l .room-S) (grown (suc r) (b .S) new) m → Made l (suc r) b (step-2 l (suc r) (b .A) (b .S) m)
@@ -274,10 +328,11 @@ module _ (l : Lent) (r : ℕ) (b : Outcome) (before : Reached l r b) (ongoing : 
       (record { whole = refl; same-verdict = refl })
       (before .held existential) (extends-itself (b .S)) (ongoing .count-S) (λ _. refl) (λ i x s. inl s) (λ _ n. absurd (n refl))
   made-2 new found (some S) fits =
-      let x = some-row r (b .A) (ongoing .count-A) in
+      let x = some-row zero (b .A) (ongoing .some-A) in
       made-3 S
-      (subst (λ (u : Table). Growth l existential (suc r) (rows (b .A)) (b .S) u) (fits .0)
-      (growth l existential (suc r) (rows (b .A)) (b .S) (before .held existential) new found (ongoing .ρ) (ongoing .answers) (x .0) (x .1) (fits .1)))
+      (subst (λ (u : Table). Growth l existential (suc r) (rows (b .A)) (b .S) (b .S) u) (fits .0)
+      (growth l existential (suc r) (rows (b .A)) (b .S) (before .held existential) new found
+      (b .S) (λ y h. h) (ongoing .ρ) (ongoing .answers) (x .0) (x .1) (fits .1)))
       (search (l .prefer) universal (l .ks) (l .phi) (rows S)) refl
 
   made-1 : (m : Option (List Row)) → search (l .prefer) existential (l .ks) (l .phi) (rows (b .A)) ≡ m

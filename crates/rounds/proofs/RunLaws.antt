@@ -7,9 +7,9 @@ use mathlib.Core.Logic.{_⊎_, inl, inr, ⊎-elim}
 use mathlib.Core.Option.{Option·none-ne-some}
 use Rattle.formula.specs.Formula.{Kind, existential, universal}
 use Rattle.rounds.specs.Run.{Entry, start, Answer, is-false, is-true, spent, no-room-universal, no-room-existential, Outcome, Lent, round-of, next, run}
-use Rattle.rounds.specs.Claim.{table, Stands}
+use Rattle.rounds.specs.Claim.{table, Stands, Finished, Uncleared}
 use Rattle.rounds.proofs.TableLaws.{Extends, extends-itself, extends-further}
-use Rattle.rounds.proofs.RoundLaws.{Reached, Made, Over, over-not-spent, round-made, start-reached}
+use Rattle.rounds.proofs.RoundLaws.{Keeps, Reached, Made, Over, over-not-spent, round-made, start-reached}
 
 -- Where the run is spent, one round more is made; else it stays as it is.
 pub run-goes-on : (l : Lent) (r : ℕ) → run l r .answer ≡ spent → run l (suc r) ≡ round-of l (suc r) (run l r .A) (run l r .S)
@@ -62,20 +62,36 @@ pub run-made : (l : Lent) (r : ℕ) → run l r .answer ≡ spent → Made l (su
 run-made l r e =
     subst (Made l (suc r) (run l r)) (sym (run-goes-on l r e)) (round-made l r (run l r) (run-reached l r) (run-reached l r .ongoing e))
 
--- Tables only grow, and at their end.
-run-grows : (l : Lent) (r : ℕ) (side : Kind) → Extends (table side (run l r)) (table side (run l (suc r)))
-run-grows l r side =
+-- Tables only grow, and at their end, but where a finished round clears.
+run-grows : (l : Lent) (r : ℕ) (side : Kind) → (run l (suc r) .answer ≡ spent → Keeps side l (suc r))
+    → Extends (table side (run l r)) (table side (run l (suc r)))
+run-grows l r side keeps =
     ⊎-elim
-    (λ e. run-made l r e .extends side)
+    (λ e. run-made l r e .extends side keeps)
     (λ over. subst (λ (o : Outcome). Extends (table side (run l r)) (table side o)) (sym (run-over l r over)) (extends-itself _))
     (spent-or-over (run l r .answer))
 
-pub run-extends : (l : Lent) (r limit : ℕ) → r ≤ limit → (side : Kind) → Extends (table side (run l r)) (table side (run l limit))
+pub finished-if-spent : (l : Lent) (limit r : ℕ) → 1 ≤ r → r ≤ limit → run l r .answer ≡ spent → Finished l limit r
+finished-if-spent l limit r from-one to-limit e =
+    record { from-one = from-one; to-limit = to-limit; reached = run-reached l r .at-limit e; passed = e }
+
+uncleared-before : (side : Kind) (l : Lent) (r m : ℕ) → Uncleared side l r (suc m) → Uncleared side l r m
+uncleared-before existential l r m u = tt
+uncleared-before universal l r m u = λ p above f. u p above (finished-if-spent l (suc m) p (f .from-one) (omega (arith, f .to-limit)) (f .passed))
+
+uncleared-keeps : (side : Kind) (l : Lent) (r m : ℕ) → r ≤ m → Uncleared side l r (suc m) → run l (suc m) .answer ≡ spent → Keeps side l (suc m)
+uncleared-keeps existential l r m h u e = tt
+uncleared-keeps universal l r m h u e = u (suc m) (omega arith) (finished-if-spent l (suc m) (suc m) (omega arith) (omega arith) e)
+
+pub run-extends : (l : Lent) (r limit : ℕ) → r ≤ limit → (side : Kind) → Uncleared side l r limit
+    → Extends (table side (run l r)) (table side (run l limit))
 run-extends l r limit h side =
     le-ind
-    (λ (m : ℕ). Extends (table side (run l r)) (table side (run l m)))
-    (extends-itself (table side (run l r)))
-    (λ m _ p. extends-further (table side (run l r)) (table side (run l m)) (table side (run l (suc m))) p (run-grows l m side))
+    (λ (m : ℕ). Uncleared side l r m → Extends (table side (run l r)) (table side (run l m)))
+    (λ _. extends-itself (table side (run l r)))
+    (λ m below p u.
+    extends-further (table side (run l r)) (table side (run l m)) (table side (run l (suc m)))
+    (p (uncleared-before side l r m u)) (run-grows l m side (uncleared-keeps side l r m below u)))
     limit
     h
 

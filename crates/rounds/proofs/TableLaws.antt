@@ -1,14 +1,14 @@
 -- Laws of tables: what stands in them, how they grow at the end, and when their rows are all different. Assumes nothing.
 use Prim.Native.Nat.{ℕ, zero, suc, _≤_}
 use native.Mathlib.Omega.{arith}
-use mathlib.Core.Path.{_≡_, refl, sym, ap, _∙_}
+use mathlib.Core.Path.{_≡_, refl, sym, ap, subst, _∙_}
 use mathlib.Core.List.{List, [], _∷_, _++_, map, append-nil, append-assoc}
 use mathlib.Core.Logic.{_⊎_, inl, inr}
-use mathlib.Core.Option.{Option·none-ne-some}
+use mathlib.Core.Option.{some, Option·none-ne-some}
 use lib.ListN.{length, length-append}
 use Rattle.expansion.specs.Play.{Row}
 use Rattle.expansion.specs.Copies.{fresh}
-use Rattle.expansion.proofs.Membership.{In, Distinct, fresh-unseen}
+use Rattle.expansion.proofs.Membership.{In, Distinct, in-fresh, fresh-in, fresh-unseen}
 use Rattle.rounds.specs.Run.{Entry, Table, rows, under-mark, grown}
 use Rattle.rounds.specs.Claim.{Stands, AllDifferent, NewRow}
 
@@ -45,10 +45,6 @@ stands-append (y ∷ t) more (suc i) x s = stands-append t more i x s
 pub stands-extends : (t u : Table) (i : ℕ) (x : Entry) → Extends t u → Stands t i x → Stands u i x
 stands-extends t u i x p s = rw (p .1) (stands-append t (p .0) i x s)
 
-pub stands-at-seam : (t : Table) (x : Entry) (more : Table) → Stands (t ++ x ∷ more) (length t) x
-stands-at-seam [] x more = refl
-stands-at-seam (y ∷ t) x more = stands-at-seam t x more
-
 -- What stands in a grown table stood there, or has the round's mark.
 pub marks-grown : (r : ℕ) (t : Table) (l : List Row) (i : ℕ) (x : Entry) → Stands (t ++ map (under-mark r) l) i x → Stands t i x ⊎ (x .mark ≡ r)
 marks-grown r [] [] i x s = absurd (Option·none-ne-some x s)
@@ -73,23 +69,47 @@ all-different (z ∷ t) d (suc i) zero x y p q e =
     absurd (d .0 (rw f (stands-in t i x p)))
 all-different (z ∷ t) d (suc i) (suc j) x y p q e = ap suc (all-different t (d .1) i j x y p q e)
 
--- If a round adds to a table, its first new row is a new row of the round, in whatever the table grows to.
-pub grown-new : (r : ℕ) (t : Table) (new : List Row) (end : Table) → (fresh (rows t) new ≡ [] → ⊥) → Extends (grown r t new) end
-    → NewRow r t (grown r t new) end
-grown-new r t new end adds p = of-fresh (fresh (rows t) new) refl
+-- A row among those that are put behind a table stands there, with their mark.
+stands-behind : (r : ℕ) (x : Row) (q : Table) (new : List Row) → In x new → (i : ℕ) × Stands (q ++ map (under-mark r) new) i (under-mark r x)
+stands-behind r x [] [] h = absurd h
+stands-behind r x [] (y ∷ new) (inl e) = (zero, ap (λ (z : Row). some (under-mark r z)) (sym e))
+stands-behind r x [] (y ∷ new) (inr h) =
+    let later = stands-behind r x [] new h in
+    (suc (later .0), later .1)
+stands-behind r x (z ∷ q) new h =
+    let later = stands-behind r x q new h in
+    (suc (later .0), later .1)
+
+-- A row that a round yields and that is not in the table t is yielded anew, whatever part q of t the round keeps.
+new-to-part : (t q : Table) (new : List Row) → ((x : Row) → In x (rows q) → In x (rows t)) → (x : Row) → In x (fresh (rows t) new) → In x (fresh (rows q) new)
+new-to-part t q new part x h = in-fresh x (rows q) new (fresh-in x (rows t) new h) (λ old. fresh-unseen x (rows t) new h (part x old))
+
+-- If there is such a row, it is a new row of the round, in whatever grows from q.
+pub grown-new : (r : ℕ) (t q : Table) (new : List Row) (end : Table) → ((x : Row) → In x (rows q) → In x (rows t)) → (fresh (rows t) new ≡ [] → ⊥)
+    → Extends (grown r q new) end → NewRow r t (grown r q new) end
+grown-new r t q new end part adds p = of-fresh (fresh (rows t) new) refl
   where
-    of-fresh : (l : List Row) → fresh (rows t) new ≡ l → NewRow r t (grown r t new) end
+    of-fresh : (l : List Row) → fresh (rows t) new ≡ l → NewRow r t (grown r q new) end
     of-fresh [] e = absurd (adds e)
     of-fresh (x ∷ l) e =
-        let here : Stands (grown r t new) (length t) (under-mark r x) = rw e (stands-at-seam t (under-mark r x) (map (under-mark r) l)) in
+        let first : In x (fresh (rows t) new) = rw e (inl refl) in
+        let here = stands-behind r x q (fresh (rows q) new) (new-to-part t q new part x first) in
         record {
-          place = length t;
+          place = here .0;
           entry = under-mark r x;
-          stands = here;
+          stands = here .1;
           marked = refl;
-          new = λ i y s q. fresh-unseen x (rows t) new (rw e (inl refl)) (rw (← q) (stands-in t i y s));
-          still = stands-extends (grown r t new) end (length t) (under-mark r x) p here;
+          new = λ i y s same. fresh-unseen x (rows t) new first (rw (← same) (stands-in t i y s));
+          still = stands-extends (grown r q new) end (here .0) (under-mark r x) p (here .1);
         }
+
+-- So q grows.
+pub adds-to-part : (t q : Table) (new : List Row) → ((x : Row) → In x (rows q) → In x (rows t)) → (fresh (rows t) new ≡ [] → ⊥) → fresh (rows q) new ≡ [] → ⊥
+adds-to-part t q new part adds nothing = of-fresh (fresh (rows t) new) refl
+  where
+    of-fresh : (l : List Row) → fresh (rows t) new ≡ l → ⊥
+    of-fresh [] e = adds e
+    of-fresh (x ∷ l) e = subst (λ (n : List Row). In x n) nothing (new-to-part t q new part x (rw e (inl refl)))
 
 pub length-grown : (r : ℕ) (t : Table) (new : List Row) → (fresh (rows t) new ≡ [] → ⊥) → suc (length t) ≤ length (grown r t new)
 length-grown r t new adds = of-fresh (fresh (rows t) new) refl

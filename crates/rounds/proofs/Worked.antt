@@ -1,7 +1,7 @@
 -- The runs worked by hand come out as 01 says, by computation. Assumes nothing.
 use mathlib.Core.Path.{refl}
 use Rattle.rounds.specs.Worked.{Worked}
-use Rattle.rounds.specs.Run.{run, round-of}
+use Rattle.rounds.specs.Run.{run, round-of, clears}
 use Rattle.rounds.specs.Opening.{opening}
 use Rattle.expansion.specs.Model.{search, first-model, is-model}
 use Rattle.expansion.specs.Copies.{copies}
@@ -9,7 +9,7 @@ use Rattle.expansion.specs.Judge.{accepted}
 use Rattle.preference.specs.Preference.{prefer, parity}
 
 pub worked : Worked
-unfolding prefer parity run round-of opening search first-model is-model copies accepted
+unfolding prefer parity run round-of clears opening search first-model is-model copies accepted
 worked =
     record {
       runs = refl;

@@ -1,8 +1,8 @@
 -- What holds of every run, whatever is lent: 01's demand 2, what an answer says of the formula; and, with every limit from 1, demand 3, one claim
--- about the whole run.
+-- about the whole run, as 02's C-15 restates it for every k.
 -- 'A table after round r is the rows and marks that stand below its count when the same things are lent with the limit r': it is a table of `run l r`.
 -- Assumes nothing.
-use Prim.Native.Nat.{ℕ, _+_, _-_, _^_, _≤_, _<_, min}
+use Prim.Native.Nat.{ℕ, zero, suc, _+_, _-_, _^_, _≤_, _<_, min}
 use mathlib.Core.Path.{_≡_}
 use mathlib.Core.Logic.{_↔_, _≢_}
 use mathlib.Core.Bool.{Bool, true, false}
@@ -11,7 +11,7 @@ use lib.ListN.{getElem?}
 use Rattle.formula.specs.Formula.{Kind, existential, universal}
 use Rattle.formula.specs.Causes.{count}
 use Rattle.formula.specs.Meaning.{meaning}
-use Rattle.rounds.specs.Run.{Entry, Table, Answer, is-true, is-false, spent, no-room-universal, no-room-existential, Outcome, Lent, round-of, run}
+use Rattle.rounds.specs.Run.{clears, Entry, Table, Answer, is-true, is-false, spent, no-room-universal, no-room-existential, Outcome, Lent, round-of, run}
 
 -- 'The verdict is this value of the whole formula, 1 for true and 0 for false': the answer is true only if the formula is true, and false
 -- only if it is false.
@@ -55,9 +55,19 @@ pub record NewRow (r : ℕ) (before after end : Table) : Type 0 where
   pub new : (i : ℕ) (x : Entry) → Stands before i x → x .row ≢ entry .row
   pub still : Stands end place entry
 
--- The rounds that any run can reach: no more than there are universal rows, and no more than there are existential rows and one.
+-- The rounds that any run can reach: no more than there are existential rows and one; and if the universal table is never cleared, no more than
+-- there are universal rows. 'With k above 0 the last permitted round is 2^e + 1.'
+abbrev pub most-with : ℕ → Lent → ℕ
+most-with zero l = min (2 ^ count universal (l .ks)) (2 ^ count existential (l .ks) + 1)
+most-with (suc k) l = 2 ^ count existential (l .ks) + 1
+
 abbrev pub most-rounds : Lent → ℕ
-most-rounds l = min (2 ^ count universal (l .ks)) (2 ^ count existential (l .ks) + 1)
+most-rounds l = most-with (l .clear-every) l
+
+-- 'Until the next clearing': no round behind r, up to q, is finished and clears the side's table. The existential table is never cleared.
+abbrev pub Uncleared : Kind → Lent → ℕ → ℕ → Type 0
+Uncleared existential l r q = Unit {0}
+Uncleared universal l r q = (p : ℕ) → r < p → Finished l q p → clears (l .clear-every) p ≡ false
 
 -- The answer that the verdict is.
 abbrev pub answer-of : Bool → Answer
@@ -76,9 +86,17 @@ pub record Claim (l : Lent) (limit : ℕ) : Type 0 where
   pub none-later : (r : ℕ) → Finished l limit r → r ≤ run l limit .round
   -- '5. If r is the round limit: spent', and at no other round.
   pub spent-at-limit : run l limit .answer ≡ spent → run l limit .round ≡ limit
-  -- 'For every finished round r, each table after it has a row with mark r that is equal to no row of that table after round r - 1, and this
-  -- row and its mark still stand below that table's count when the run ends.'
-  pub new-rows : (side : Kind) (r : ℕ) → Finished l limit r → NewRow r (table side (run l (r - 1))) (table side (run l r)) (table side (run l limit))
+  -- 'The existential table still gains in every finished round, the universal one in every finished round that isn't a clearing one' (in a clearing
+  -- one too), 'and it keeps what it gained until the next clearing': for every finished round r, each table after it has a row with mark r that is
+  -- equal to no row of that table after round r - 1, and this row and its mark stand in the table after each later round before the next clearing.
+  pub new-rows : (side : Kind) (r q : ℕ) → Finished l limit r → r ≤ q → q ≤ limit → Uncleared side l r q
+      → NewRow r (table side (run l (r - 1))) (table side (run l r)) (table side (run l q))
+  -- 'And this row and its mark still stand below that table's count when the run ends': in the existential table always, in the universal one
+  -- if it is never cleared.
+  pub to-the-end : (side : Kind) (r : ℕ) → (side ≡ universal → l .clear-every ≡ 0) → Finished l limit r
+      → NewRow r (table side (run l (r - 1))) (table side (run l r)) (table side (run l limit))
+  -- 'In each round divisible by k the universal table comes to hold only the .. rows of that round's model, .. all with that round's mark.'
+  pub cleared : (r : ℕ) → Finished l limit r → clears (l .clear-every) r ≡ true → (i : ℕ) (x : Entry) → Stands (run l r .A) i x → x .mark ≡ r
   -- 'In neither table, after a finished round or at the end, are two rows below its count equal.'
   pub different-after : (side : Kind) (r : ℕ) → Finished l limit r → AllDifferent (table side (run l r))
   pub different-at-end : (side : Kind) → AllDifferent (table side (run l limit))
@@ -89,7 +107,7 @@ pub record Claim (l : Lent) (limit : ℕ) : Type 0 where
       → NewRow (run l limit .round) (run l (run l limit .round - 1) .S) (run l limit .S) (run l limit .S)
   -- 'If they don't all fit, none is added': the table for which there is no room is that after the round before.
   pub none-added : (side : Kind) → run l limit .answer ≡ no-room side → table side (run l limit) ≡ table side (run l (run l limit .round - 1))
-  -- No round is past min(2^a, 2^e + 1), a and e being the numbers of universal and existential unknowns.
+  -- No round is past min(2^a, 2^e + 1), a and e being the numbers of universal and existential unknowns; with k above 0, past 2^e + 1.
   pub most : run l limit .round ≤ most-rounds l
   -- With 2^a and 2^e rows and that limit the answer is the verdict.
   pub decided : 2 ^ count universal (l .ks) ≤ l .room-A → 2 ^ count existential (l .ks) ≤ l .room-S → most-rounds l ≤ limit

@@ -3,3 +3,4 @@ pub mod Run
 pub mod Opening
 pub mod Claim
 pub mod Worked
+pub mod Cleared

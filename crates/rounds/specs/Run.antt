@@ -1,10 +1,10 @@
--- 01's 'The run': the start, a round with its five steps, the run with a limit.
+-- 01's 'The run': the start, a round with its five steps, the run with a limit; and 02's C-15, clearing the universal table.
 -- Assumes nothing.
-use Prim.Native.Nat.{ℕ, zero, suc}
-use mathlib.Core.Bool.{Bool, cond}
+use Prim.Native.Nat.{ℕ, zero, suc, _%_, max}
+use mathlib.Core.Bool.{Bool, false, cond}
 use mathlib.Core.List.{List, [], _∷_, _++_, map}
 use mathlib.Core.Option.{Option, none, some}
-use lib.Dec.{leb}
+use lib.Dec.{eqb, leb}
 use lib.ListN.{length}
 use Rattle.formula.specs.Formula.{Kind, existential, universal}
 use Rattle.formula.specs.Causes.{count}
@@ -56,17 +56,29 @@ grown r t yielded = t ++ map (under-mark r) (fresh (rows t) yielded)
 abbrev pub if-fits : ℕ → Table → Option Table
 if-fits room t = cond (leb (length t) room) (some t) none
 
--- What a run is given: the prefix, the matrix, the preferences, and the rows that each table has room for.
+-- What a run is given: the prefix, the matrix, the preferences, the rows that each table has room for, and 02's k, 'a new .. number k, 0 for
+-- never': how often the universal table is cleared. With 0 it is 01's run.
 pub record Lent : Type 0 where
   pub ks : List Kind
   pub phi : List Bool → Bool
   pub prefer : ℕ → Bool
   pub room-A : ℕ
   pub room-S : ℕ
+  pub clear-every : ℕ
 
 -- 'At the start A holds one row, mark 0, its bit k being preference k; S is empty.'
 abbrev pub start : Lent → Outcome
 start l = outcome spent zero (under-mark zero (values (count universal (l .ks)) (l .prefer)) ∷ []) []
+
+-- The universal table is cleared 'in step 4 of each round divisible by k'.
+unfoldable pub clears : ℕ → ℕ → Bool
+clears zero r = false
+clears (suc k) r = eqb (r % suc k) 0
+
+-- What step 4 of round r keeps of the universal table. In a round that clears this is nothing, so that the table 'comes to hold only the different
+-- rows of that round's model, in order, all with that round's mark'; 'no room then means that these rows alone don't fit, and leaves the table'.
+abbrev pub kept : Lent → ℕ → Table → Table
+kept l r A = cond (clears (l .clear-every) r) [] A
 
 -- Steps 4 and 5 of round r. '4. Otherwise the same towards A: no room, universal. 5. The round is finished.'
 abbrev pub step-4 : ℕ → Table → Table → Option Table → Outcome
@@ -76,7 +88,7 @@ step-4 r A S (some A′) = outcome spent r A′ S
 -- '3. No model over S: true.'
 abbrev pub step-3 : Lent → ℕ → Table → Table → Option (List Row) → Outcome
 step-3 l r A S none = outcome is-true r A S
-step-3 l r A S (some yielded) = step-4 r A S (if-fits (l .room-A) (grown r A yielded))
+step-3 l r A S (some yielded) = step-4 r A S (if-fits (l .room-A) (grown r (kept l r A) yielded))
 
 -- '2. Otherwise each row of A, in order, yields an existential row; those not in S are added .. no room, existential.'
 abbrev pub step-2 : Lent → ℕ → Table → Table → Option Table → Outcome
@@ -105,3 +117,8 @@ next l r no-room-existential o = o
 unfoldable pub run : Lent → ℕ → Outcome
 run l zero = start l
 run l (suc r) = next l (suc r) (run l r .answer) (run l r)
+
+-- The largest count that the universal table had after any of the rounds up to r: so many of its places were ever written.
+unfoldable pub highest : Lent → ℕ → ℕ
+highest l zero = 1
+highest l (suc r) = max (highest l r) (length (run l (suc r) .A))

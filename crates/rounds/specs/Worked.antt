@@ -11,10 +11,10 @@ use Rattle.formula.specs.Meaning.{matrix, meaning}
 use Rattle.preference.specs.Preference.{prefer}
 use Rattle.expansion.specs.Play.{Row}
 use Rattle.expansion.specs.Judge.{accepted}
-use Rattle.rounds.specs.Run.{under-mark, number, Outcome, run}
+use Rattle.rounds.specs.Run.{under-mark, number, Outcome, Lent, run}
 use Rattle.rounds.specs.Opening.{opening, opening-length, set-to}
 
--- A run worked by hand: what is lent, and what is returned: the answer's number, the round, the counts of A and S.
+-- A run worked by hand: what is lent, 02's k (0 in 01's runs), and what is returned: the answer's number, the round, the counts of A and S.
 pub record WorkedRun : Type 0 where
   pub kinds : List ℕ
   pub literals : List ℤ
@@ -22,19 +22,22 @@ pub record WorkedRun : Type 0 where
   pub room-A : ℕ
   pub room-S : ℕ
   pub limit : ℕ
+  pub clear-every : ℕ
   pub returned : List ℕ
 
-abbrev pub played : WorkedRun → Outcome
-played k =
-    run
-    (record {
+abbrev pub lent : WorkedRun → Lent
+lent k =
+    record {
       ks = prefix (k .kinds);
       phi = matrix (clauses (k .literals));
       prefer = prefer (k .preferences);
       room-A = k .room-A;
       room-S = k .room-S;
-    })
-    (k .limit)
+      clear-every = k .clear-every;
+    }
+
+abbrev pub played : WorkedRun → Outcome
+played k = run (lent k) (k .limit)
 
 abbrev pub numbers : Outcome → List ℕ
 numbers o = number (o .answer) ∷ o .round ∷ length (o .A) ∷ length (o .S) ∷ []
@@ -42,7 +45,16 @@ numbers o = number (o .answer) ∷ o .round ∷ length (o .A) ∷ length (o .S) 
 -- 'House preferences, ample rows, limit 9, unless said.'
 abbrev pub with-rows : ℕ → ℕ → ℕ → List ℕ → List ℤ → List ℕ → WorkedRun
 with-rows room-A room-S limit kinds literals returned =
-    record { kinds = kinds; literals = literals; preferences = []; room-A = room-A; room-S = room-S; limit = limit; returned = returned }
+    record {
+      kinds = kinds;
+      literals = literals;
+      preferences = [];
+      room-A = room-A;
+      room-S = room-S;
+      limit = limit;
+      clear-every = 0;
+      returned = returned;
+    }
 
 abbrev pub usual : List ℕ → List ℤ → List ℕ → WorkedRun
 usual = with-rows max-rows max-rows 9
@@ -84,6 +96,7 @@ K6 =
       room-A = max-rows;
       room-S = max-rows;
       limit = 9;
+      clear-every = 0;
       returned = 0 ∷ 2 ∷ 2 ∷ 1 ∷ [];
     }
 

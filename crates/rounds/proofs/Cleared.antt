@@ -1,0 +1,23 @@
+-- The runs worked by hand with the universal table cleared come out as said, by computation. Assumes nothing.
+use mathlib.Core.Path.{refl}
+use Rattle.rounds.specs.Cleared.{Cleared}
+use Rattle.rounds.specs.Run.{run, round-of, clears, highest}
+use Rattle.expansion.specs.Model.{search, first-model, is-model}
+use Rattle.expansion.specs.Copies.{copies}
+use Rattle.preference.specs.Preference.{prefer, parity}
+
+pub cleared : Cleared
+unfolding prefer parity run round-of clears highest search first-model is-model copies
+cleared =
+    record {
+      never = refl;
+      every = refl;
+      second = refl;
+      third = refl;
+      runs = refl;
+      K1-A = refl;
+      K2-A = refl;
+      K12-A = refl;
+      K12-highest = refl;
+      left-A = refl;
+    }

@@ -1,0 +1,33 @@
+-- The most rows that the universal table held: at least its count, at most its room; and its count if it is never cleared. Assumes nothing.
+use Prim.Native.Nat.{ℕ, zero, suc, _≤_}
+use native.Mathlib.Omega.{arith}
+use mathlib.Core.Path.{_≡_, refl}
+use lib.ListN.{length, length-append}
+use Rattle.formula.specs.Formula.{universal}
+use Rattle.rounds.specs.Run.{Lent, run, highest}
+use Rattle.rounds.proofs.RoundLaws.{never-clears}
+use Rattle.rounds.proofs.RunLaws.{run-extends}
+use Rattle.rounds.proofs.Bounds.{count-in-room}
+
+pub count-at-most-highest : (l : Lent) (r : ℕ) → length (run l r .A) ≤ highest l r
+unfolding run highest
+count-at-most-highest l zero = omega arith
+count-at-most-highest l (suc r) = omega arith
+
+pub highest-in-room : (l : Lent) (r : ℕ) → 1 ≤ l .room-A → highest l r ≤ l .room-A
+unfolding highest
+highest-in-room l zero some-room = some-room
+highest-in-room l (suc r) some-room =
+    let before = highest-in-room l r some-room in
+    let now-so = count-in-room l (suc r) universal some-room in
+    omega arith
+
+-- With k = 0 no place is given up.
+pub highest-if-never : (l : Lent) (r : ℕ) → l .clear-every ≡ 0 → highest l r ≡ length (run l r .A)
+unfolding run highest
+highest-if-never l zero never = refl
+highest-if-never l (suc r) never =
+    let before = highest-if-never l r never in
+    let grows = run-extends l r (suc r) (omega arith) universal (λ p _ _. never-clears l p never) in
+    let longer : length (run l r .A) ≤ length (run l (suc r) .A) = rw (grows .1) (simp length-append (omega arith)) in
+    omega arith
