@@ -5,3 +5,4 @@ pub mod RowLaws
 pub mod TableLaws
 pub mod FindLaws
 pub mod WriteLaws
+pub mod ZeroedLaws

@@ -1,13 +1,13 @@
 -- What the code reads from a table, finds in it and writes to it. No contract of the search, the judge or the run cites this file.
 -- Assumes nothing.
-use Prim.Native.Nat.{ℕ, zero, suc, _+_, _*_, _/_, _%_, _^_}
+use Prim.Native.Nat.{ℕ, zero, suc, _+_, _*_, _/_, _%_, _^_, min}
 use mathlib.Core.Bool.{Bool, true, false, _&&_, cond}
 use mathlib.Core.List.{List, [], _∷_, _++_}
 use lib.Bits.{bitOr}
 use lib.Dec.{eqb, ltb}
 use lib.ListN.{length, getD, take, drop, set}
 use Rattle.rows.specs.Row.{values, row-bits}
-use Rattle.rows.specs.Table.{inside, row-at}
+use Rattle.rows.specs.Table.{inside, row-at, room, zeroed-from}
 use Rattle.rows.specs.declared.Found.{Found}
 use Rattle.rows.specs.declared.Found.the-variants.{At, Absent}
 
@@ -62,3 +62,14 @@ rows-written table marks i other j = cond (writable table marks i other j) (plac
 
 unfoldable pub marks-written : List ℕ → List ℕ → ℕ → List ℕ → ℕ → ℕ → List ℕ
 marks-written table marks i other j mark = cond (writable table marks i other j) (set marks i mark) marks
+
+-- The places below a number that are inside both tables.
+abbrev pub places-below : List ℕ → List ℕ → ℕ → ℕ
+places-below table marks to = min (min to (room table)) (length marks)
+
+-- 'Rows and marks of places given up .. are zeroed': the places from one up to another, those that are inside.
+unfoldable pub rows-given-up : List ℕ → List ℕ → ℕ → ℕ → List ℕ
+rows-given-up table marks from to = zeroed-from (16 * from) (16 * places-below table marks to) table
+
+unfoldable pub marks-given-up : List ℕ → List ℕ → ℕ → ℕ → List ℕ
+marks-given-up table marks from to = zeroed-from from (places-below table marks to) marks

@@ -39,6 +39,18 @@ table-fits table = leb 16 (length table) && leb (length table) (max-rows * 16) &
 abbrev pub marks-fit : List ℕ → List ℕ → Bool
 marks-fit table marks = eqb (length marks) (room table)
 
+-- The first n entries zero, the others as they are; the same of the entries from a on, up to b.
+abbrev pub zeroed : ℕ → List ℕ → List ℕ
+zeroed zero l = l
+zeroed (suc n) [] = []
+zeroed (suc n) (x ∷ l) = 0 ∷ zeroed n l
+
+abbrev pub zeroed-from : ℕ → ℕ → List ℕ → List ℕ
+zeroed-from zero b l = zeroed b l
+zeroed-from (suc a) zero l = l
+zeroed-from (suc a) (suc b) [] = []
+zeroed-from (suc a) (suc b) (x ∷ l) = x ∷ zeroed-from a b l
+
 -- Cause 8: 'in a row below the count, a bit set beyond its unknowns', of which there are m.
 unfoldable pub stray-rows : ℕ → ℕ → List ℕ → Bool
 stray-rows m count table = any (λ v. v) (values count (λ i. stray m (row-at table i)))

@@ -7,8 +7,8 @@ ghost use Prim.Native.Nat.{_+_, _≤_, min};
 ghost use lib.ListN.{length, take, drop, replicate};
 ghost use lib.Seq.{paste};
 ghost use Rattle.rows.specs.Row.{bit-of, stray};
-ghost use Rattle.rows.specs.Table.{row-at, room, table-fits, marks-fit, stray-rows};
-ghost use Rattle.rows.specs.Access.{handed-back, handed-start, bit-set, same-bytes, equal-rows, first-place, rows-written, marks-written};
+ghost use Rattle.rows.specs.Table.{row-at, room, table-fits, marks-fit, zeroed-from, stray-rows};
+ghost use Rattle.rows.specs.Access.{handed-back, handed-start, bit-set, same-bytes, equal-rows, first-place, rows-written, marks-written, places-below, rows-given-up, marks-given-up};
 
 // A row's bytes, and its bits.
 const BYTES: usize = 16;
@@ -136,6 +136,19 @@ pub fn write(rows: &mut [u8], marks: &mut [u16], i: usize, other: &[u8], j: usiz
     marks[i] = mark;
 }
 
+// Gives places up, from one up to another, those that are inside both tables: their rows and marks become 0.
+pub fn give_up(rows: &mut [u8], marks: &mut [u16], from: usize, to: usize)
+    ensures { λ _. ⌜ now (rows .exit) ≡ rows-given-up (now (rows .entry)) (now (marks .entry)) from to ⌝ }
+    ensures { λ _. ⌜ now (marks .exit) ≡ marks-given-up (now (rows .entry)) (now (marks .entry)) from to ⌝ }
+{
+    let end = places_below(rows, marks, to);
+    if end <= from {
+        return;
+    }
+    zero_bytes(rows, BYTES * from, BYTES * end);
+    zero_marks(marks, from, end);
+}
+
 // Cause 8: a row below the count has a bit set at or beyond m.
 pub fn stray_bit(rows: &[u8], count: usize, m: usize) -> bool
     ensures { λ r. ⌜ r ≡ stray-rows m count (now (rows .entry)) ⌝ }
@@ -164,6 +177,35 @@ fn rows_below(rows: &[u8], count: usize) -> usize
 {
     let room = rows.len() / BYTES;
     if count < room { count } else { room }
+}
+
+// The places below a number that are inside both tables.
+fn places_below(rows: &[u8], marks: &[u16], to: usize) -> usize
+    ensures { λ r. ⌜ r ≡ places-below (now (rows .entry)) (now (marks .entry)) to ⌝ }
+{
+    let below = rows_below(rows, to);
+    let marked = marks.len();
+    if below < marked { below } else { marked }
+}
+
+// The bytes from one up to another become 0.
+fn zero_bytes(rows: &mut [u8], from: usize, to: usize)
+    requires { ⌜ (from ≤ to) × (to ≤ length (now rows)) ⌝ }
+    ensures { λ _. ⌜ now (rows .exit) ≡ zeroed-from from to (now (rows .entry)) ⌝ }
+{
+    for i in from..to {
+        rows[i] = 0;
+    }
+}
+
+// The marks from one up to another become 0.
+fn zero_marks(marks: &mut [u16], from: usize, to: usize)
+    requires { ⌜ (from ≤ to) × (to ≤ length (now marks)) ⌝ }
+    ensures { λ _. ⌜ now (marks .exit) ≡ zeroed-from from to (now (marks .entry)) ⌝ }
+{
+    for i in from..to {
+        marks[i] = 0;
+    }
 }
 
 // The row from x on equals the row from y on: the first byte that differs ends the walk.
