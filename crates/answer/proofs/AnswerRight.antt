@@ -61,7 +61,7 @@ module _ (text : List ℕ) where
 
     -- With 256 rows a side no run makes 1,000 rounds.
     not-spent : o .answer ≡ spent → ⊥
-    not-spent is = let most : suc round-limit ≤ 256 = next-round-in-room (own-lent (s .kinds) (s .literals)) round-limit (omega arith) is in omega arith
+    not-spent is = let most : round-limit ≤ 256 = next-round-in-room (own-lent (s .kinds) (s .literals)) round-limit (omega arith) is in omega arith
 
     right-true : o .answer ≡ is-true → value result ≡ true
     unfolding verdict result
@@ -100,7 +100,7 @@ module _ (text : List ℕ) where
         record {
           one-form = form (o .answer) refl;
           short = subst (λ (bytes : List ℕ). length bytes ≤ 128) (sym taken-printed) (result-short _ _ _ _ _ _ (omega (arith, passes .few-variables)) (omega (arith, passes .few-clauses))
-              (omega (arith, run-reached l round-limit .round-A, count-in-room l round-limit universal (omega arith))) (omega (arith, count-in-room l round-limit universal (omega arith)))
+              (omega (arith, run-reached l round-limit .round-A refl, count-in-room l round-limit universal (omega arith))) (omega (arith, count-in-room l round-limit universal (omega arith)))
               (omega (arith, count-in-room l round-limit existential (omega arith))));
           refusal = λ b. absurd (result-no-refusal _ _ _ _ _ (o .answer) (begins "c refused " b));
           only-true = λ b. (result, right-true (true-if-1 _ _ _ _ _ (o .answer) (begins "s cnf 1 " b)));

@@ -8,7 +8,7 @@ use lib.ListN.{length}
 use Rattle.preference.specs.Preference.{prefer, parity}
 use Rattle.expansion.specs.Model.{search, first-model, is-model}
 use Rattle.expansion.specs.Copies.{copies}
-use Rattle.rounds.specs.Run.{Lent, Outcome, round-of, run, number}
+use Rattle.rounds.specs.Run.{Lent, Outcome, clears, round-of, run, number}
 use Rattle.rounds.proofs.RoundLaws.{Over}
 use Rattle.rounds.proofs.RunLaws.{run-stays}
 use Rattle.lines.specs.Lines.{lines, words}
@@ -40,7 +40,7 @@ abbrev l : Lent
 l = own-lent kinds literals
 
 over : Over (run l 2 .answer)
-unfolding prefer parity run round-of search first-model is-model copies
+unfolding prefer parity run round-of clears search first-model is-model copies
 over = tt
 
 settled-so : settled kinds literals ≡ run l 2
@@ -48,7 +48,7 @@ settled-so = run-stays l 2 round-limit (omega arith) over
 
 lines-so : (let o = run l 2 in result-lines (number (o .answer)) 2 2 (o .round) (length (o .A)) (length (o .S)))
     ≡ ascii "s cnf 1 2 2\n" ++ ascii "c rounds 2 universal 2 existential 2\n"
-unfolding prefer parity run round-of search first-model is-model copies result-lines line-one line-two decimal
+unfolding prefer parity run round-of clears search first-model is-model copies result-lines line-one line-two decimal
 lines-so = refl
 
 pub worked-answer : printed text ≡ ascii "s cnf 1 2 2\n" ++ ascii "c rounds 2 universal 2 existential 2\n"

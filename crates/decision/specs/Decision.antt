@@ -17,11 +17,11 @@ own-rows = replicate (16 * max-rows) 0
 abbrev pub own-marks : List ℕ
 own-marks = replicate max-rows 0
 
--- What the run is given: the formula, no preferences, rows and marks of its own, the work area and the limit.
+-- What the run is given: the formula, no preferences, rows and marks of its own, the work area and the limit; the universal table is never cleared.
 abbrev pub handed-on : List ℕ → List ℤ → List ℕ → ℕ → Given
-handed-on kinds literals work limit = given kinds literals [] (areas own-rows own-marks own-rows own-marks work) limit
+handed-on kinds literals work limit = given kinds literals [] (areas own-rows own-marks own-rows own-marks work) limit 0
 
 -- The same as the run's definition takes it.
 abbrev pub own-lent : List ℕ → List ℤ → Lent
 own-lent kinds literals =
-    record { ks = prefix kinds; phi = matrix (clauses literals); prefer = prefer []; room-A = max-rows; room-S = max-rows }
+    record { ks = prefix kinds; phi = matrix (clauses literals); prefer = prefer []; room-A = max-rows; room-S = max-rows; clear-every = 0 }

@@ -1,4 +1,5 @@
-// The run as the program and the C door make it (01, 'Text', last paragraph): no preferences lent, 256 rows a side of its own.
+// The run as the program and the C door make it (01, 'Text', last paragraph): no preferences lent, 256 rows a side of its own,
+// the universal table never cleared.
 // `decide` promises, for every formula, work area and limit, what `run` returns then and every byte of the work area.
 use formula::Formula;
 use run::Outcome;
@@ -25,5 +26,6 @@ pub fn decide(kinds: &[u8], literals: &[i32], work: &mut [u8], limit: u32) -> Ou
         &mut existential_marks,
         work,
         limit,
+        0,
     )
 }

@@ -26,7 +26,7 @@ module _ (g : Given) where
   unfolding left
   run-zero small = go (accepted g) refl
     where
-      go : (b : Bool) → accepted g ≡ b → cond b (answered (reached g) (g .found)) (g .found) .work ≡ replicate work-size 0
+      go : (b : Bool) → accepted g ≡ b → cond b (answered g) (g .found) .work ≡ replicate work-size 0
       go true e = refl
       go false e = absurd (omega (arith, run-numbered g false e))
 
@@ -34,7 +34,7 @@ module _ (g : Given) where
   unfolding left
   run-found large = go (accepted g) refl
     where
-      go : (b : Bool) → accepted g ≡ b → cond b (answered (reached g) (g .found)) (g .found) .work ≡ g .found .work
+      go : (b : Bool) → accepted g ≡ b → cond b (answered g) (g .found) .work ≡ g .found .work
       go true e = absurd (omega (arith, run-numbered g true e, number-small (reached g .answer)))
       go false e = refl
 

@@ -96,14 +96,15 @@ pub extern "C" fn probe_run(
     existential_marks: &mut [u16],
     work: &mut [u8],
     limit: u32,
+    clear_every: u32,
     round: &mut u32,
     universal: &mut usize,
     existential: &mut usize,
     opening: &mut [u8; 16],
     block: &mut usize,
 ) -> u64
-    ensures reported { λ r. ⌜ Reported (given (now (kinds .entry)) (now (literals .entry)) (now (preferences .entry)) (areas (now («universal_rows» .entry)) (now («universal_marks» .entry)) (now («existential_rows» .entry)) (now («existential_marks» .entry)) (now (work .entry))) limit) r (now (round .exit)) (now (universal .exit)) (now (existential .exit)) (now (opening .exit)) (now (block .exit)) ⌝ }
-    ensures left { λ _. ⌜ areas (now («universal_rows» .exit)) (now («universal_marks» .exit)) (now («existential_rows» .exit)) (now («existential_marks» .exit)) (now (work .exit)) ≡ run-left (given (now (kinds .entry)) (now (literals .entry)) (now (preferences .entry)) (areas (now («universal_rows» .entry)) (now («universal_marks» .entry)) (now («existential_rows» .entry)) (now («existential_marks» .entry)) (now (work .entry))) limit) ⌝ }
+    ensures reported { λ r. ⌜ Reported (given (now (kinds .entry)) (now (literals .entry)) (now (preferences .entry)) (areas (now («universal_rows» .entry)) (now («universal_marks» .entry)) (now («existential_rows» .entry)) (now («existential_marks» .entry)) (now (work .entry))) limit «clear_every») r (now (round .exit)) (now (universal .exit)) (now (existential .exit)) (now (opening .exit)) (now (block .exit)) ⌝ }
+    ensures left { λ _. ⌜ areas (now («universal_rows» .exit)) (now («universal_marks» .exit)) (now («existential_rows» .exit)) (now («existential_marks» .exit)) (now (work .exit)) ≡ run-left (given (now (kinds .entry)) (now (literals .entry)) (now (preferences .entry)) (areas (now («universal_rows» .entry)) (now («universal_marks» .entry)) (now («existential_rows» .entry)) (now («existential_marks» .entry)) (now (work .entry))) limit «clear_every») ⌝ }
 {
     let end = run::run(
         kinds,
@@ -115,6 +116,7 @@ pub extern "C" fn probe_run(
         existential_marks,
         work,
         limit,
+        clear_every,
     );
     *round = end.round;
     *universal = end.universal;

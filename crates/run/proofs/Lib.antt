@@ -3,6 +3,7 @@ pub mod FreshLaws
 pub mod ByteLaws
 pub mod GrowingLaws
 pub mod ExtendLaws
+pub mod ClearingLaws
 pub mod HalfLaws
 pub mod LoopLaws
 pub mod TableClaim

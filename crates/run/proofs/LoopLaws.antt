@@ -1,12 +1,11 @@
 -- The loop over the rounds: what holds before each, and what the run is when it ends. Assumes nothing.
-use Prim.Native.Nat.{ℕ, zero, suc, _+_, _*_, _%_, _≤_, _<_}
+use Prim.Native.Nat.{ℕ, zero, suc, _+_, _*_, _/_, _%_, _≤_, _<_}
 use native.Mathlib.Omega.{arith}
 use native.Mathlib.Numerals.{add-one}
 use mathlib.Core.Path.{_≡_, refl, sym, ap, subst, _∙_}
 use mathlib.Core.Bool.{Bool, true, false, _&&_, true≢false, false≢true, and-eq-true-iff}
-use mathlib.Core.List.{List, [], _∷_, _++_, append-nil}
+use mathlib.Core.List.{List, _∷_, _++_, append-nil}
 use lib.Dec.{eqb, leb}
-use lib.IntN.{ℤ}
 use lib.ListN.{length, drop, replicate}
 use lib.Seq.{set-split}
 use borrow.Author.Tests.{leb-true, eqb-true}
@@ -16,24 +15,27 @@ use Rattle.formula.specs.Progress.{fresh}
 use Rattle.formula.specs.declared.Progress.{Progress}
 use Rattle.preference.specs.Preference.{prefer}
 use Rattle.rows.specs.Row.{values, bytes-of}
-use Rattle.rows.specs.Table.{room, table-fits, marks-fit}
+use Rattle.rows.specs.Table.{room, table-fits, marks-fit, zeroed}
 use Rattle.rows.specs.Access.{rows-written, marks-written}
 use Rattle.rows.proofs.WriteLaws.{rows-written-inside, marks-written-inside}
 use Rattle.rows.proofs.RowLaws.{length-bytes-of}
+use Rattle.rows.proofs.ZeroedLaws.{length-zeroed}
 use Rattle.run.specs.declared.Answer.{Answer}
 use Rattle.run.specs.declared.Answer.the-variants.{False, True, Spent, NoRoomUniversal, NoRoomExistential, Refused}
 use Rattle.run.specs.declared.End.{End}
 use Rattle.run.specs.declared.Step.{Step}
-use Rattle.rounds.specs.Run.{Table, rows, Lent, is-false, is-true, spent, no-room-universal, no-room-existential, round-of, run, Outcome as RunOutcome, Answer as RunAnswer}
-use Rattle.run.specs.Outcome.{areas, given, lent, named, side-fits, tables-fit, row-bytes, mark-numbers}
+use Rattle.rounds.specs.Run.{Table, rows, Lent, kept, highest, is-false, is-true, spent, no-room-universal, no-room-existential, round-of, run, Outcome as RunOutcome, Answer as RunAnswer}
+use Rattle.run.specs.Outcome.{Given, lent, named, side-fits, tables-fit, row-bytes, mark-numbers}
 use Rattle.growth.specs.Growth.{with-preferred}
-use Rattle.run.specs.Growing.{Passes, half-table, half-of, Extended, Extends, said, existential-stop, universal-stop, HoldsBoth, Shows, Ready}
+use Rattle.run.specs.Growing.{Passes, Holds, half-table, half-of, Extended, Extends, ExtendsUniversal, said, existential-stop, universal-stop, HoldsBoth, Shows, ShowsRun, Ready}
 use Rattle.rounds.proofs.RoundLaws.{Over}
 use Rattle.rounds.proofs.RunLaws.{run-goes-on, run-reached, run-stays}
 use Rattle.rounds.proofs.Bounds.{row-length, next-round-in-room}
+use Rattle.rounds.proofs.Highest.{count-at-most-highest, highest-stays}
 use Rattle.run.proofs.GrowingLaws.{wide-of-sized}
 use Rattle.run.proofs.ExtendLaws.{most-bytes}
 use Rattle.growth.proofs.PreferredLaws.{row-whole, preferred-bytes}
+use Rattle.run.proofs.ClearingLaws.{blank-below, over-more}
 use Rattle.run.proofs.HalfLaws.{existential-stopped, universal-stopped, round-finished}
 
 -- ---- the tables that are lent
@@ -96,32 +98,52 @@ goes-on-over no-room-existential e = tt
 
 -- ---- the loop
 
+-- What the universal table of the run stands over, where it has reached over n places: what was found, zero up to there.
+abbrev row-base : Given → ℕ → List ℕ
+row-base g n = zeroed (16 * n) (g .found .universal-rows)
+
+abbrev mark-base : Given → ℕ → List ℕ
+mark-base g n = zeroed n (g .found .universal-marks)
+
 -- After `made` finished rounds, none past the limit, the lent tables hold those of the run.
-pub record Going (kinds : List ℕ) (literals : List ℤ) (preferences A-found A-marks-found S-found S-marks-found : List ℕ) (limit made u x : ℕ) (AR AM SR SM W : List ℕ) : Type 0 where
-  pub passes : Passes kinds literals
-  pub going : run (lent (given kinds literals preferences (areas A-found A-marks-found S-found S-marks-found []) 0)) made .answer ≡ spent
-  pub to-limit : made ≤ limit
-  pub counted-A : u ≡ length (run (lent (given kinds literals preferences (areas A-found A-marks-found S-found S-marks-found []) 0)) made .A)
-  pub counted-S : x ≡ length (run (lent (given kinds literals preferences (areas A-found A-marks-found S-found S-marks-found []) 0)) made .S)
-  pub both : HoldsBoth kinds A-found A-marks-found S-found S-marks-found (run (lent (given kinds literals preferences (areas A-found A-marks-found S-found S-marks-found []) 0)) made) AR AM SR SM
+pub record Going (g : Given) (made u x : ℕ) (AR AM SR SM W : List ℕ) : Type 0 where
+  pub passes : Passes (g .kinds) (g .literals)
+  pub going : run (lent g) made .answer ≡ spent
+  pub to-limit : made ≤ g .limit
+  pub counted-A : u ≡ length (run (lent g) made .A)
+  pub counted-S : x ≡ length (run (lent g) made .S)
+  pub both : HoldsBoth (g .kinds) (row-base g (highest (lent g) made)) (mark-base g (highest (lent g) made)) (g .found .existential-rows)
+      (g .found .existential-marks) (run (lent g) made) AR AM SR SM
   pub work-long : length W ≡ work-size
 
-module _ (kinds : List ℕ) (literals : List ℤ) (preferences A-found A-marks-found S-found S-marks-found : List ℕ) (limit : ℕ) where
+module _ (g : Given) where
   abbrev l : Lent
-  l = lent (given kinds literals preferences (areas A-found A-marks-found S-found S-marks-found []) 0)
+  l = lent g
 
-  start-going : (universals : ℕ) (AR AM W : List ℕ) → Ready kinds literals A-found A-marks-found S-found S-marks-found W universals
-      → AR ≡ rows-written A-found A-marks-found 0 (with-preferred (prefer preferences) universals (replicate 16 0)) 0
-      → AM ≡ marks-written A-found A-marks-found 0 (with-preferred (prefer preferences) universals (replicate 16 0)) 0 0
-      → Going kinds literals preferences A-found A-marks-found S-found S-marks-found limit 0 1 0 AR AM S-found S-marks-found W
-  unfolding run row-bytes mark-numbers
+  abbrev A-found : List ℕ
+  A-found = g .found .universal-rows
+
+  abbrev A-marks-found : List ℕ
+  A-marks-found = g .found .universal-marks
+
+  abbrev S-found : List ℕ
+  S-found = g .found .existential-rows
+
+  abbrev S-marks-found : List ℕ
+  S-marks-found = g .found .existential-marks
+
+  start-going : (universals : ℕ) (AR AM W : List ℕ) → Ready (g .kinds) (g .literals) A-found A-marks-found S-found S-marks-found W universals
+      → AR ≡ rows-written A-found A-marks-found 0 (with-preferred (prefer (g .preferences)) universals (replicate 16 0)) 0
+      → AM ≡ marks-written A-found A-marks-found 0 (with-preferred (prefer (g .preferences)) universals (replicate 16 0)) 0 0
+      → Going g 0 1 0 AR AM S-found S-marks-found W
+  unfolding run highest row-bytes mark-numbers
   start-going universals AR AM W ready on-rows on-marks =
-      let m : ℕ = count universal (prefix kinds) in
-      let first : List Bool = values m (prefer preferences) in
+      let m : ℕ = count universal (prefix (g .kinds)) in
+      let first : List Bool = values m (prefer (g .preferences)) in
       let fit = tables-fitting A-found A-marks-found S-found S-marks-found (ready .tables) in
-      let row-is : with-preferred (prefer preferences) universals (replicate 16 0) ≡ bytes-of first =
-      ap (λ (n : ℕ). with-preferred (prefer preferences) n (replicate 16 0)) (ready .counted)
-      ∙ preferred-bytes (prefer preferences) m in
+      let row-is : with-preferred (prefer (g .preferences)) universals (replicate 16 0) ≡ bytes-of first =
+      ap (λ (n : ℕ). with-preferred (prefer (g .preferences)) n (replicate 16 0)) (ready .counted)
+      ∙ preferred-bytes (prefer (g .preferences)) m in
       let some-A : 16 ≤ length A-found = least-bytes A-found (fit .0 .0) in
       let place : 0 < room A-found = omega arith in
       let marked : 0 < length A-marks-found = omega (arith, fit .0 .1) in
@@ -136,6 +158,18 @@ module _ (kinds : List ℕ) (literals : List ℤ) (preferences A-found A-marks-f
       ∙ ap (λ (row : List ℕ). marks-written A-found A-marks-found 0 row 0 0) row-is
       ∙ marks-written-inside A-found A-marks-found 0 (bytes-of first) 0 place marked whole 0
       ∙ set-split A-marks-found 0 0 marked in
+      let holds-A : Holds (g .kinds) universal (run l 0 .A) A-found A-marks-found AR AM =
+      record {
+        in-rows =
+            record {
+              fits = fit .0 .0;
+              in-room = place;
+              sized = wide-of-sized m (rows (run l 0 .A)) (row-length l 0 universal);
+              in-bytes = in-A ∙ ap (λ (row : List ℕ). row ++ drop 16 A-found) (sym (append-nil (bytes-of first)));
+            };
+        one-a-row = fit .0 .1;
+        in-marks = in-A-marks;
+      } in
       record {
         passes = ready .passes;
         going = refl;
@@ -144,18 +178,7 @@ module _ (kinds : List ℕ) (literals : List ℤ) (preferences A-found A-marks-f
         counted-S = refl;
         both =
             record {
-              holds-A =
-                  record {
-                    in-rows =
-                        record {
-                          fits = fit .0 .0;
-                          in-room = place;
-                          sized = wide-of-sized m (rows (run l 0 .A)) (row-length l 0 universal);
-                          in-bytes = in-A ∙ ap (λ (row : List ℕ). row ++ drop 16 A-found) (sym (append-nil (bytes-of first)));
-                        };
-                    one-a-row = fit .0 .1;
-                    in-marks = in-A-marks;
-                  };
+              holds-A = over-more (g .kinds) universal (run l 0 .A) A-found A-marks-found 0 AR AM holds-A;
               holds-S =
                   record {
                     in-rows = record { fits = fit .1 .0; in-room = omega arith; sized = λ i h. absurd (omega arith); in-bytes = refl };
@@ -166,44 +189,57 @@ module _ (kinds : List ℕ) (literals : List ℤ) (preferences A-found A-marks-f
         work-long = ready .work-long;
       }
 
-  pub fresh-going : (p : Progress) (universals : ℕ) (AR AM W : List ℕ) → p ≡ fresh → Ready kinds literals A-found A-marks-found S-found S-marks-found W universals
-      → AR ≡ rows-written A-found A-marks-found 0 (with-preferred (prefer preferences) universals (replicate 16 0)) 0
-      → AM ≡ marks-written A-found A-marks-found 0 (with-preferred (prefer preferences) universals (replicate 16 0)) 0 0
-      → Going kinds literals preferences A-found A-marks-found S-found S-marks-found limit (p .round) (p .universal) (p .existential) AR AM S-found S-marks-found W
+  pub fresh-going : (p : Progress) (universals : ℕ) (AR AM W : List ℕ) → p ≡ fresh
+      → Ready (g .kinds) (g .literals) A-found A-marks-found S-found S-marks-found W universals
+      → AR ≡ rows-written A-found A-marks-found 0 (with-preferred (prefer (g .preferences)) universals (replicate 16 0)) 0
+      → AM ≡ marks-written A-found A-marks-found 0 (with-preferred (prefer (g .preferences)) universals (replicate 16 0)) 0 0
+      → Going g (p .round) (p .universal) (p .existential) AR AM S-found S-marks-found W
   fresh-going p universals AR AM W e ready on-rows on-marks =
-      subst
-      (λ (q : Progress).
-      Going kinds literals preferences A-found A-marks-found S-found S-marks-found limit (q .round) (q .universal) (q .existential) AR AM S-found S-marks-found W)
-      (sym e)
+      subst (λ (q : Progress). Going g (q .round) (q .universal) (q .existential) AR AM S-found S-marks-found W) (sym e)
       (start-going universals AR AM W ready on-rows on-marks)
 
-  module _ (made u x : ℕ) (AR AM SR SM W : List ℕ) (now-going : Going kinds literals preferences A-found A-marks-found S-found S-marks-found limit made u x AR AM SR SM W) where
+  -- The lent tables show an outcome, the universal one over n places.
+  abbrev Made : ℕ → RunOutcome → End → List ℕ → List ℕ → List ℕ → List ℕ → List ℕ → Type 0
+  Made n o = Shows (g .kinds) (row-base g n) (mark-base g n) S-found S-marks-found o
+
+  module _ (made u x : ℕ) (AR AM SR SM W : List ℕ) (now-going : Going g made u x AR AM SR SM W) where
+    abbrev n : ℕ
+    n = highest l made
+
     -- The next round's number is a mark.
     pub number-in-marks : made + 1 < 65536
     number-in-marks =
-        let hA = now-going .both .holds-A in
         let hS = now-going .both .holds-S in
-        let most-A = most-bytes A-found (hA .in-rows .fits) in
         let most-S = most-bytes S-found (hS .in-rows .fits) in
-        let least-A = least-bytes A-found (hA .in-rows .fits) in
+        let least-S = least-bytes S-found (hS .in-rows .fits) in
         let in-marks = next-round-in-room l made (omega arith) (now-going .going) in
         omega arith
 
-    module _ (next : End) (AR′ AM′ SR′ SM′ W′ : List ℕ)
-        (shows : Shows kinds A-found A-marks-found S-found S-marks-found (round-of l (made + 1) (run l made .A) (run l made .S)) next AR′ AM′ SR′ SM′ W′) where
-      shows-next : Shows kinds A-found A-marks-found S-found S-marks-found (run l (suc made)) next AR′ AM′ SR′ SM′ W′
+    module _ (next : End) (AR′ AM′ SR′ SM′ W′ : List ℕ) (shows : Made n (round-of l (made + 1) (run l made .A) (run l made .S)) next AR′ AM′ SR′ SM′ W′) where
+      shows-next : Made (highest l (suc made)) (run l (suc made)) next AR′ AM′ SR′ SM′ W′
+      unfolding highest
       shows-next =
-          subst (λ (o : RunOutcome). Shows kinds A-found A-marks-found S-found S-marks-found o next AR′ AM′ SR′ SM′ W′)
+          let o = run l (suc made) in
+          let here : Made n o next AR′ AM′ SR′ SM′ W′ =
+          subst (λ (o : RunOutcome). Made n o next AR′ AM′ SR′ SM′ W′)
           (ap (λ (r : ℕ). round-of l r (run l made .A) (run l made .S)) (add-one made) ∙ sym (run-goes-on l made (now-going .going)))
-          shows
+          shows in
+          record {
+            as-returned = here .as-returned;
+            both =
+                record {
+                  holds-A = over-more (g .kinds) universal (o .A) A-found A-marks-found n AR′ AM′ (here .both .holds-A);
+                  holds-S = here .both .holds-S;
+                };
+            work-long = here .work-long;
+          }
 
-      goes-further : made < limit → goes-on (next .answer) ≡ true
-          → Going kinds literals preferences A-found A-marks-found S-found S-marks-found limit (next .round) (next .universal) (next .existential) AR′ AM′ SR′ SM′ W′
+      goes-further : made < g .limit → goes-on (next .answer) ≡ true → Going g (next .round) (next .universal) (next .existential) AR′ AM′ SR′ SM′ W′
       goes-further below e =
           let o = run l (suc made) in
           let ended : o .answer ≡ spent = goes-on-spent (o .answer) (sym (ap (λ (q : End). goes-on (q .answer)) (shows-next .as-returned)) ∙ e) in
           let reached : next .round ≡ suc made = ap (λ (q : End). q .round) (shows-next .as-returned) ∙ run-reached l (suc made) .at-limit ended in
-          subst (λ (r : ℕ). Going kinds literals preferences A-found A-marks-found S-found S-marks-found limit r (next .universal) (next .existential) AR′ AM′ SR′ SM′ W′) (sym reached)
+          subst (λ (r : ℕ). Going g r (next .universal) (next .existential) AR′ AM′ SR′ SM′ W′) (sym reached)
           (record {
             passes = now-going .passes;
             going = ended;
@@ -214,72 +250,71 @@ module _ (kinds : List ℕ) (literals : List ℤ) (preferences A-found A-marks-f
             work-long = shows-next .work-long;
           })
 
-      run-ended : made < limit → goes-on (next .answer) ≡ false
-          → Shows kinds A-found A-marks-found S-found S-marks-found (run l limit) next AR′ AM′ SR′ SM′ W′
+      run-ended : made < g .limit → goes-on (next .answer) ≡ false → ShowsRun g next AR′ AM′ SR′ SM′ W′
       run-ended below e =
           let o = run l (suc made) in
           let ended : Over (o .answer) = goes-on-over (o .answer) (sym (ap (λ (q : End). goes-on (q .answer)) (shows-next .as-returned)) ∙ e) in
-          subst (λ (q : RunOutcome). Shows kinds A-found A-marks-found S-found S-marks-found q next AR′ AM′ SR′ SM′ W′)
-          (sym (run-stays l (suc made) limit below ended))
-          shows-next
-
-    abbrev Made : RunOutcome → End → List ℕ → List ℕ → List ℕ → List ℕ → List ℕ → Type 0
-    Made o = Shows kinds A-found A-marks-found S-found S-marks-found o
+          subst (λ (m : ℕ). Made m (run l (g .limit)) next AR′ AM′ SR′ SM′ W′) (sym (highest-stays l (suc made) (g .limit) below ended))
+          (subst (λ (q : RunOutcome). Made (highest l (suc made)) q next AR′ AM′ SR′ SM′ W′) (sym (run-stays l (suc made) (g .limit) below ended))
+          shows-next)
 
     -- One round more, by its two steps.
-    module _ (step : Step) (SR′ SM′ W′ : List ℕ) (extends : Extends kinds literals preferences AR u false SR SM x (made + 1) W step SR′ SM′ W′) (below : made < limit) where
+    module _ (step : Step) (SR′ SM′ W′ : List ℕ)
+        (extends : Extends (g .kinds) (g .literals) (g .preferences) AR u false SR SM x (made + 1) W step SR′ SM′ W′) (below : made < g .limit) where
       abbrev A : Table
       A = run l made .A
 
       abbrev S : Table
       S = run l made .S
 
-      first : Extended kinds existential S (half-of kinds literals preferences existential (room S-found) (made + 1) A S) S-found S-marks-found step SR′ SM′ W′
+      first : Extended (g .kinds) existential S (half-of (g .kinds) (g .literals) (g .preferences) existential (room S-found) (made + 1) A S) S-found S-marks-found step SR′ SM′ W′
       first =
-          extends A S A-found S-found S-marks-found (now-going .passes) (now-going .counted-A) (now-going .counted-S) (now-going .both .holds-A .in-rows) (now-going .both .holds-S)
+          extends A S (row-base g n) S-found S-marks-found (now-going .passes) (now-going .counted-A) (now-going .counted-S) (now-going .both .holds-A .in-rows) (now-going .both .holds-S)
           (now-going .work-long)
 
-      pub run-stopped : (step .end ≡ 2 → ⊥) → (result : End) → result ≡ said (existential-stop (step .end)) (made + 1) u x → Made (run l limit) result AR AM SR′ SM′ W′
+      pub run-stopped : (step .end ≡ 2 → ⊥) → (result : End) → result ≡ said (existential-stop (step .end)) (made + 1) u x → ShowsRun g result AR AM SR′ SM′ W′
       run-stopped stops result told =
           run-ended result AR AM SR′ SM′ W′
-          (existential-stopped kinds literals preferences A-found A-marks-found S-found S-marks-found A S (made + 1) u x (now-going .counted-A) (now-going .counted-S)
+          (existential-stopped g (row-base g n) (mark-base g n) A S (made + 1) u x (now-going .counted-A) (now-going .counted-S)
           AR AM SR′ SM′ W′ step (now-going .both .holds-A) first stops result told)
           below
           (ap (λ (o : End). goes-on (o .answer)) told ∙ existential-stops (step .end))
 
       module _ (goes : step .end ≡ 2) (back : Step) (AR′ AM′ W″ : List ℕ)
-          (extends-back : Extends kinds literals preferences SR′ (step .count) true AR AM u (made + 1) W′ back AR′ AM′ W″) where
+          (extends-back : ExtendsUniversal (g .kinds) (g .literals) (g .preferences) SR′ (step .count) AR AM u (g .clear-every) (made + 1) (made + 1) W′ back AR′ AM′ W″) where
         abbrev S′ : Table
-        S′ = half-table S (half-of kinds literals preferences existential (room S-found) (made + 1) A S)
+        S′ = half-table S (half-of (g .kinds) (g .literals) (g .preferences) existential (room S-found) (made + 1) A S)
 
-        second : Extended kinds universal A (half-of kinds literals preferences universal (room A-found) (made + 1) S′ A) A-found A-marks-found back AR′ AM′ W″
+        second : Extended (g .kinds) universal A (half-of (g .kinds) (g .literals) (g .preferences) universal (room A-found) (made + 1) S′ (kept l (made + 1) A))
+            (row-base g n) (mark-base g n) back AR′ AM′ W″
         second =
-            extends-back S′ A S-found A-found A-marks-found (now-going .passes) (first .counted) (now-going .counted-A) (first .holds .in-rows) (now-going .both .holds-A) (first .work-long)
+            extends-back S′ A S-found (row-base g n) (mark-base g n) (room A-found) (now-going .passes) (first .counted) (now-going .counted-A) (first .holds .in-rows)
+            (now-going .both .holds-A) (blank-below (length A) n A-found A-marks-found (count-at-most-highest l made))
+            (ap (λ (b : ℕ). b / 16) (length-zeroed (16 * n) A-found)) (first .work-long)
 
         pub run-stopped-back : (back .end ≡ 2 → ⊥) → (result : End) → result ≡ said (universal-stop (back .end)) (made + 1) u (step .count)
-            → Made (run l limit) result AR′ AM′ SR′ SM′ W″
+            → ShowsRun g result AR′ AM′ SR′ SM′ W″
         run-stopped-back stops result told =
             run-ended result AR′ AM′ SR′ SM′ W″
-            (universal-stopped kinds literals preferences A-found A-marks-found S-found S-marks-found A S (made + 1) u x (now-going .counted-A) (now-going .counted-S)
+            (universal-stopped g (row-base g n) (mark-base g n) A S (made + 1) u x (now-going .counted-A) (now-going .counted-S)
             AR AM SR′ SM′ W′ step (now-going .both .holds-A) first goes AR′ AM′ W″ back second stops result told)
             below
             (ap (λ (o : End). goes-on (o .answer)) told ∙ universal-stops (back .end))
 
-        pub round-made : back .end ≡ 2
-            → Going kinds literals preferences A-found A-marks-found S-found S-marks-found limit (made + 1) (back .count) (step .count) AR′ AM′ SR′ SM′ W″
+        pub round-made : back .end ≡ 2 → Going g (made + 1) (back .count) (step .count) AR′ AM′ SR′ SM′ W″
         unfolding goes-on
         round-made goes-back =
             goes-further (said Spent (made + 1) (back .count) (step .count)) AR′ AM′ SR′ SM′ W″
-            (round-finished kinds literals preferences A-found A-marks-found S-found S-marks-found A S (made + 1) u x (now-going .counted-A) (now-going .counted-S)
+            (round-finished g (row-base g n) (mark-base g n) A S (made + 1) u x (now-going .counted-A) (now-going .counted-S)
             AR AM SR′ SM′ W′ step (now-going .both .holds-A) first goes AR′ AM′ W″ back second goes-back)
             below refl
 
-    pub run-spent : limit ≤ made → (result : End) → result ≡ said Spent made u x → Made (run l limit) result AR AM SR SM W
+    pub run-spent : g .limit ≤ made → (result : End) → result ≡ said Spent made u x → ShowsRun g result AR AM SR SM W
     run-spent past result told =
-        let end : made ≡ limit = omega (arith, now-going .to-limit) in
+        let end : made ≡ g .limit = omega (arith, now-going .to-limit) in
         let answered : Spent ≡ named (run l made .answer) = ap named (sym (now-going .going)) in
         let reached : made ≡ run l made .round = sym (run-reached l made .at-limit (now-going .going)) in
-        subst (λ (n : ℕ). Made (run l n) result AR AM SR SM W) end
+        subst (λ (m : ℕ). Made (highest l m) (run l m) result AR AM SR SM W) end
         (record {
           as-returned = told ∙ (λ d. said (answered d) (reached d) (now-going .counted-A d) (now-going .counted-S d));
           both = now-going .both;

@@ -1,7 +1,7 @@
 -- What `run` returns and leaves, cause by cause and after an answer. Assumes nothing.
-use Prim.Native.Nat.{ℕ, _≤_}
+use Prim.Native.Nat.{ℕ, _*_, _≤_}
 use native.Mathlib.Omega.{arith}
-use mathlib.Core.Path.{_≡_, refl, sym, ap, _∙_}
+use mathlib.Core.Path.{_≡_, refl, sym, ap, subst, _∙_}
 use mathlib.Core.Bool.{Bool, true, false, not, cond, true≢false}
 use mathlib.Core.List.{List, []}
 use lib.Dec.{eqb}
@@ -9,6 +9,7 @@ use lib.IntN.{ℤ}
 use lib.ListN.{length, replicate}
 use borrow.Author.Tests.{eq-eqb, ne-eqb}
 use Rattle.formula.specs.Formula.{work-size, Kind, existential, universal, prefix}
+use Rattle.rows.specs.Table.{zeroed}
 use Rattle.formula.specs.Meaning.{verdict}
 use Rattle.formula.specs.Causes.{cause-1, cause-2, cause-3, refused-if, checked, sizes, number as cause-number}
 use Rattle.formula.proofs.Accepted.{accepted-sizes}
@@ -17,15 +18,17 @@ use Rattle.formula.specs.declared.Check.{Check}
 use Rattle.formula.specs.declared.Check.the-variants.{Accepted, Refused}
 use Rattle.run.specs.declared.End.{End}
 use Rattle.run.specs.declared.Outcome.{Outcome}
-use Rattle.rounds.specs.Run.{is-false, is-true, spent, no-room-universal, no-room-existential, number, Answer as RunAnswer}
+use Rattle.rounds.specs.Run.{is-false, is-true, spent, no-room-universal, no-room-existential, number, highest, Answer as RunAnswer}
 use Rattle.rounds.specs.Claim.{Claim}
 use Rattle.run.specs.declared.Answer.the-variants.{False, True}
-use Rattle.run.specs.Outcome.{Areas, areas, Given, given, lent, tables-fit, cause, accepted, reached, named, number-of, reported, refusal, returned, answered, left}
+use Rattle.run.specs.Outcome.{Areas, areas, Given, given, lent, tables-fit, cause, accepted, reached, named, number-of, reported, refusal, returned, rows-after, marks-after, answered, left, over-found}
 use Rattle.run.specs.Ended.{row-part, mark-part, count-of, TableRight, Ended}
-use Rattle.run.specs.Growing.{Passes, with-opening, Shows, FirstCause}
+use Rattle.run.specs.Growing.{Passes, with-opening, ShowsRun, FirstCause}
+use Rattle.run.proofs.ClearingLaws.{rows-if-never, marks-if-never}
 use Rattle.run.proofs.TableClaim.{table-right}
 use Rattle.run.proofs.OpeningLaws.{opening-read}
 use Rattle.rounds.proofs.Claim.{claim}
+use Rattle.rounds.proofs.Highest.{highest-if-never}
 use Rattle.rounds.proofs.Verdict.{verdict-right}
 use Rattle.rounds.proofs.Opening.{opening-right}
 
@@ -61,7 +64,8 @@ refused-so g n r e some-cause is =
     record {
       returned-so = value;
       numbered = numbered-so g r value;
-      left-so = sym (ap (λ (b : Bool). cond b (answered (reached g) (g .found)) (g .found)) not-0);
+      left-so = sym (ap (λ (b : Bool). cond b (answered g) (g .found)) not-0);
+      as-found = λ yes-0. absurd (true≢false (sym yes-0 ∙ not-0));
       only-true = λ h. let z : _≡_ {A = ℕ} 0 1 = cc (sym h ∙ ap (λ (o : Outcome). o .answer) is) in absurd (omega arith);
       only-false = λ h. let z : _≡_ {A = ℕ} 0 1 = cc (sym h ∙ ap (λ (o : Outcome). o .answer) is) in absurd (omega arith);
       claim = λ yes-0. absurd (true≢false (sym yes-0 ∙ not-0));
@@ -69,11 +73,11 @@ refused-so g n r e some-cause is =
       tables = λ yes-0. absurd (true≢false (sym yes-0 ∙ not-0));
     }
 
--- The cause does not depend on the preferences.
-pub same-cause : (kinds : List ℕ) (literals : List ℤ) (preferences : List ℕ) (found : Areas) (limit : ℕ)
-    → cause (given kinds literals [] found limit) ≡ cause (given kinds literals preferences found limit)
+-- The cause depends neither on the preferences nor on how often the universal table is cleared.
+pub same-cause : (kinds : List ℕ) (literals : List ℤ) (preferences : List ℕ) (found : Areas) (limit clear-every : ℕ)
+    → cause (given kinds literals [] found limit 0) ≡ cause (given kinds literals preferences found limit clear-every)
 unfolding cause
-same-cause kinds literals preferences found limit = refl
+same-cause kinds literals preferences found limit clear-every = refl
 
 -- Where no cause applies the formula passes.
 passes-if-none : (g : Given) → cause g ≡ 0 → Passes (g .kinds) (g .literals)
@@ -103,9 +107,17 @@ named-false spent e = let z : _≡_ {A = ℕ} 0 1 = cc in absurd (omega arith)
 named-false no-room-universal e = let z : _≡_ {A = ℕ} 0 1 = cc in absurd (omega arith)
 named-false no-room-existential e = let z : _≡_ {A = ℕ} 0 1 = cc in absurd (omega arith)
 
+-- A table that is never cleared has reached over no more places than it has rows.
+pub answered-if-never : (g : Given) → g .clear-every ≡ 0 → answered g ≡ over-found (reached g) (g .found)
+answered-if-never g never =
+    let same : highest (lent g) (g .limit) ≡ length (reached g .A) = highest-if-never (lent g) (g .limit) never in
+    let on-rows = rows-if-never (reached g .A) (highest (lent g) (g .limit)) (g .found .universal-rows) same in
+    let on-marks = marks-if-never (reached g .A) (highest (lent g) (g .limit)) (g .found .universal-marks) same in
+    λ d. areas (on-rows d) (on-marks d) (rows-after existential g (g .limit)) (marks-after existential g (g .limit)) (replicate work-size 0)
+
 -- No cause applies.
 pub answered-so : (g : Given) → cause g ≡ 0 → 1 ≤ g .limit → (end : End) (r : Outcome) (AR AM SR SM W W′ : List ℕ)
-    → Shows (g .kinds) (g .found .universal-rows) (g .found .universal-marks) (g .found .existential-rows) (g .found .existential-marks) (reached g) end AR AM SR SM W
+    → ShowsRun g end AR AM SR SM W
     → W′ ≡ replicate (length W) 0 → r ≡ with-opening end (g .kinds) AR SR → Ended g r (areas AR AM SR SM W′)
 unfolding returned left verdict
 answered-so g no-cause some-limit end r AR AM SR SM W W′ shows clear is =
@@ -115,19 +127,20 @@ answered-so g no-cause some-limit end r AR AM SR SM W W′ shows clear is =
     let told : r ≡ reported (prefix (g .kinds)) (reached g) =
     is
     ∙ (λ d. with-opening (shows .as-returned d) (g .kinds) (shows .both .holds-A .in-rows .in-bytes d) (shows .both .holds-S .in-rows .in-bytes d))
-    ∙ opening-read (g .kinds) (g .literals) passes (g .found .universal-rows) (g .found .existential-rows) (reached g) (opens .whole) in
+    ∙ opening-read (g .kinds) (g .literals) passes (zeroed (16 * highest (lent g) (g .limit)) (g .found .universal-rows)) (g .found .existential-rows) (reached g) (opens .whole) in
     let value : r ≡ returned g = told ∙ sym (ap (λ (b : Bool). cond b (reported (prefix (g .kinds)) (reached g)) (refusal (cause g))) yes-0) in
     let answer-is : r .answer ≡ named (reached g .answer) = ap (λ (o : Outcome). o .answer) told in
     let held-A = shows .both .holds-A in
     let held-S = shows .both .holds-S in
     let zero-work : W′ ≡ replicate work-size 0 = clear ∙ ap (λ (n : ℕ). replicate n 0) (shows .work-long) in
     let holds = claim (lent g) (g .limit) some-limit in
+    let written : areas AR AM SR SM W′ ≡ answered g =
+    λ d. areas (held-A .in-rows .in-bytes d) (held-A .in-marks d) (held-S .in-rows .in-bytes d) (held-S .in-marks d) (zero-work d) in
     record {
       returned-so = value;
       numbered = numbered-so g r value;
-      left-so =
-          rw (held-A .in-rows .in-bytes, held-A .in-marks, held-S .in-rows .in-bytes, held-S .in-marks, zero-work)
-          (sym (ap (λ (b : Bool). cond b (answered (reached g) (g .found)) (g .found)) yes-0));
+      left-so = written ∙ sym (ap (λ (b : Bool). cond b (answered g) (g .found)) yes-0);
+      as-found = λ _ never. written ∙ answered-if-never g never;
       only-true = λ h. verdict-right (lent g) (g .limit) .only-true (named-true (reached g .answer) (sym answer-is ∙ h));
       only-false = λ h. verdict-right (lent g) (g .limit) .only-false (named-false (reached g .answer) (sym answer-is ∙ h));
       claim = λ _. holds;
@@ -138,7 +151,7 @@ answered-so g no-cause some-limit end r AR AM SR SM W W′ shows clear is =
     both : r ≡ reported (prefix (g .kinds)) (reached g) → Passes (g .kinds) (g .literals) → Claim (lent g) (g .limit) → (side : Kind)
         → TableRight g side (row-part side (areas AR AM SR SM W′)) (mark-part side (areas AR AM SR SM W′)) (count-of side r)
     both told passes holds universal =
-        table-right g passes holds universal (g .found .universal-marks) AR AM (r .universal) (shows .both .holds-A .in-rows .in-bytes) (shows .both .holds-A .in-marks)
+        table-right g passes holds universal (zeroed (highest (lent g) (g .limit)) (g .found .universal-marks)) AR AM (r .universal) (shows .both .holds-A .in-rows .in-bytes) (shows .both .holds-A .in-marks)
         (ap (λ (o : Outcome). o .universal) told)
     both told passes holds existential =
         table-right g passes holds existential (g .found .existential-marks) SR SM (r .existential) (shows .both .holds-S .in-rows .in-bytes) (shows .both .holds-S .in-marks)
@@ -152,7 +165,7 @@ applies g n u e some-cause =
 
 module _ (kinds : List ℕ) (literals : List ℤ) (A A-marks S S-marks work : List ℕ) (limit : ℕ) where
   abbrev g : Given
-  g = given kinds literals [] (areas A A-marks S S-marks work) limit
+  g = given kinds literals [] (areas A A-marks S S-marks work) limit 0
 
   abbrev later : ℕ
   later = cond (not (tables-fit A A-marks S S-marks)) 4 (cond (not (eqb (length work) work-size)) 5 (cond (eqb limit 0) 6 0))

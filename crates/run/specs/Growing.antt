@@ -1,9 +1,9 @@
 -- What the functions below `run` promise each other: how a table's bytes stand for a table of the run, and what a side's step of a round
 -- makes of it.
 -- Assumes nothing.
-use Prim.Native.Nat.{ℕ, zero, suc, _-_, _≤_, _<_}
+use Prim.Native.Nat.{ℕ, zero, suc, _*_, _-_, _≤_, _<_}
 use mathlib.Core.Path.{_≡_}
-use mathlib.Core.Bool.{Bool, true, false}
+use mathlib.Core.Bool.{Bool, true, false, cond}
 use mathlib.Core.List.{List, []}
 use mathlib.Core.Option.{Option, none, some}
 use lib.IntN.{ℤ}
@@ -13,7 +13,7 @@ use Rattle.formula.specs.Meaning.{matrix}
 use Rattle.formula.specs.Causes.{count, checked, sizes}
 use Rattle.formula.specs.declared.Check.the-variants.{Accepted}
 use Rattle.preference.specs.Preference.{prefer}
-use Rattle.rows.specs.Table.{room, table-fits}
+use Rattle.rows.specs.Table.{room, table-fits, zeroed}
 use Rattle.expansion.specs.Side.{side-of, other}
 use Rattle.expansion.specs.Play.{Row}
 use Rattle.expansion.specs.Model.{search}
@@ -28,8 +28,8 @@ use Rattle.run.specs.declared.Step.{Step}
 use Rattle.growth.specs.declared.Growth.{Growth}
 use Rattle.growth.specs.declared.Growth.the-variants.{Grown, NoRoom}
 use Rattle.opening.specs.Start.{equal-from-start, first-bits}
-use Rattle.rounds.specs.Run.{Table, rows, grown, if-fits, Outcome as RunOutcome}
-use Rattle.run.specs.Outcome.{Given, tables-fit, cause, named, without-opening, row-bytes, mark-numbers}
+use Rattle.rounds.specs.Run.{Table, rows, grown, if-fits, clears, highest, Outcome as RunOutcome}
+use Rattle.run.specs.Outcome.{Given, lent, reached, tables-fit, cause, named, without-opening, row-bytes, mark-numbers}
 
 -- None of the causes 1 to 3 applies.
 abbrev pub Passes : List ℕ → List ℤ → Type 0
@@ -100,6 +100,27 @@ Extends kinds literals preferences others other-count side row-part mark-part n 
     → length work ≡ work-size
     → Extended kinds (side-of side) t (half-of kinds literals preferences (side-of side) (room found) mark from t) found found-marks result row-part′ mark-part′ work′
 
+-- What was found is zero at the first n places, in rows and marks.
+pub record Blank (n : ℕ) (found found-marks : List ℕ) : Type 0 where
+  pub no-rows : zeroed (16 * n) found ≡ found
+  pub no-marks : zeroed n found-marks ≡ found-marks
+
+-- The same of the universal table in round r, which may clear it: it then grows from the empty one. As many places as it had rows were found zero, so
+-- that they are as found where they are given up.
+abbrev pub ExtendsUniversal : List ℕ → List ℤ → List ℕ → List ℕ → ℕ → List ℕ → List ℕ → ℕ → ℕ → ℕ → ℕ → List ℕ → Step → List ℕ → List ℕ → List ℕ → Type 0
+ExtendsUniversal kinds literals preferences others other-count row-part mark-part n clear-every r mark work result row-part′ mark-part′ work′ =
+    (from t : Table) (from-found found found-marks : List ℕ) (place : ℕ)
+    → Passes kinds literals
+    → other-count ≡ length from
+    → n ≡ length t
+    → HoldsRows kinds existential from from-found others
+    → Holds kinds universal t found found-marks row-part mark-part
+    → Blank (length t) found found-marks
+    → room found ≡ place
+    → length work ≡ work-size
+    → Extended kinds universal t (half-of kinds literals preferences universal place mark from (cond (clears clear-every r) [] t))
+    found found-marks result row-part′ mark-part′ work′
+
 -- A step that has a model, by what it adds.
 abbrev pub step-of : Growth → ℕ → Step
 step-of (Grown end) n = record { end = 2; count = end }
@@ -154,6 +175,14 @@ pub record Shows (kinds A-found A-marks-found S-found S-marks-found : List ℕ) 
   pub as-returned : result ≡ said (named (o .answer)) (o .round) (length (o .A)) (length (o .S))
   pub both : HoldsBoth kinds A-found A-marks-found S-found S-marks-found o A-rows A-marks S-rows S-marks
   pub work-long : length work ≡ work-size
+
+-- What is returned and left is that of the run.
+abbrev pub ShowsRun : Given → End → List ℕ → List ℕ → List ℕ → List ℕ → List ℕ → Type 0
+ShowsRun g =
+    Shows (g .kinds)
+    (zeroed (16 * highest (lent g) (g .limit)) (g .found .universal-rows)) (zeroed (highest (lent g) (g .limit)) (g .found .universal-marks))
+    (g .found .existential-rows) (g .found .existential-marks)
+    (reached g)
 
 -- The formula is accepted, the tables fit and the work area has its size.
 pub record Ready (kinds : List ℕ) (literals : List ℤ) (A-rows A-marks S-rows S-marks work : List ℕ) (universals : ℕ) : Type 0 where

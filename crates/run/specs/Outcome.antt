@@ -6,13 +6,13 @@ use mathlib.Core.List.{List, _++_, map}
 use lib.Dec.{eqb}
 use lib.IntN.{ℤ}
 use lib.ListN.{length, drop, replicate}
-use Rattle.formula.specs.Formula.{work-size, Kind, prefix, clauses}
+use Rattle.formula.specs.Formula.{work-size, Kind, existential, universal, prefix, clauses}
 use Rattle.formula.specs.Meaning.{matrix}
 use Rattle.formula.specs.Causes.{checked, number as cause-number}
 use Rattle.preference.specs.Preference.{prefer}
 use Rattle.rows.specs.Row.{bytes-of}
-use Rattle.rows.specs.Table.{table-of, room, table-fits, marks-fit}
-use Rattle.rounds.specs.Run.{Entry, Table, rows, Lent, run, is-false, is-true, spent, no-room-universal, no-room-existential, Answer as RunAnswer, Outcome as RunOutcome}
+use Rattle.rows.specs.Table.{table-of, room, table-fits, marks-fit, zeroed}
+use Rattle.rounds.specs.Run.{Entry, Table, rows, Lent, run, highest, is-false, is-true, spent, no-room-universal, no-room-existential, Answer as RunAnswer, Outcome as RunOutcome}
 use Rattle.rounds.specs.Opening.{opening, opening-length}
 use Rattle.run.specs.declared.Answer.{Answer}
 use Rattle.run.specs.declared.Answer.the-variants.{False, True, Spent, NoRoomUniversal, NoRoomExistential, Refused}
@@ -30,17 +30,19 @@ abbrev pub areas : List ℕ → List ℕ → List ℕ → List ℕ → List ℕ 
 areas A A-marks S S-marks work =
     record { universal-rows = A; universal-marks = A-marks; existential-rows = S; existential-marks = S-marks; work = work }
 
--- All that is lent: the formula, the preferences, what the areas were found to hold, and the limit.
+-- All that is lent: the formula, the preferences, what the areas were found to hold, the limit, and 02's k: how often the universal table is
+-- cleared, 0 for never.
 pub record Given : Type 0 where
   pub kinds : List ℕ
   pub literals : List ℤ
   pub preferences : List ℕ
   pub found : Areas
   pub limit : ℕ
+  pub clear-every : ℕ
 
-abbrev pub given : List ℕ → List ℤ → List ℕ → Areas → ℕ → Given
-given kinds literals preferences found limit =
-    record { kinds = kinds; literals = literals; preferences = preferences; found = found; limit = limit }
+abbrev pub given : List ℕ → List ℤ → List ℕ → Areas → ℕ → ℕ → Given
+given kinds literals preferences found limit clear-every =
+    record { kinds = kinds; literals = literals; preferences = preferences; found = found; limit = limit; clear-every = clear-every }
 
 -- The same as the run's definition takes it.
 abbrev pub lent : Given → Lent
@@ -51,6 +53,7 @@ lent g =
       prefer = prefer (g .preferences);
       room-A = room (g .found .universal-rows);
       room-S = room (g .found .existential-rows);
+      clear-every = g .clear-every;
     }
 
 -- Cause 4: 'row table not 16 to 4,096 bytes in sixteens, or (run) marks not one a row', of either side.
@@ -125,18 +128,39 @@ row-bytes t found = table-of (rows t) ++ drop (16 * length t) found
 unfoldable pub mark-numbers : Table → List ℕ → List ℕ
 mark-numbers t found = map (λ (x : Entry). x .mark) t ++ drop (length t) found
 
+-- What a side's tables hold after round r: the rows of the run over what was found. Of the universal table, 'rows and marks of places given up
+-- (below the old count, not the new) are zeroed; the others past the count stay as found': so as many places as it ever reached over are zero
+-- behind its rows.
+abbrev pub rows-after : Kind → Given → ℕ → List ℕ
+rows-after universal g r = row-bytes (run (lent g) r .A) (zeroed (16 * highest (lent g) r) (g .found .universal-rows))
+rows-after existential g r = row-bytes (run (lent g) r .S) (g .found .existential-rows)
+
+abbrev pub marks-after : Kind → Given → ℕ → List ℕ
+marks-after universal g r = mark-numbers (run (lent g) r .A) (zeroed (highest (lent g) r) (g .found .universal-marks))
+marks-after existential g r = mark-numbers (run (lent g) r .S) (g .found .existential-marks)
+
 -- After an answer the areas hold the tables of the run, and the work area is zero ..
-abbrev pub answered : RunOutcome → Areas → Areas
-answered o found =
+abbrev pub answered : Given → Areas
+answered g =
+    areas
+    (rows-after universal g (g .limit))
+    (marks-after universal g (g .limit))
+    (rows-after existential g (g .limit))
+    (marks-after existential g (g .limit))
+    (replicate work-size 0)
+
+-- .. after a refusal they are as found.
+unfoldable pub left : Given → Areas
+left g =
+    let written = answered g in
+    cond (accepted g) written (g .found)
+
+-- 01's demand 1, 'rows and marks past the reported counts .. as found': what is left where the universal table is never cleared.
+abbrev pub over-found : RunOutcome → Areas → Areas
+over-found o found =
     areas
     (row-bytes (o .A) (found .universal-rows))
     (mark-numbers (o .A) (found .universal-marks))
     (row-bytes (o .S) (found .existential-rows))
     (mark-numbers (o .S) (found .existential-marks))
     (replicate work-size 0)
-
--- .. after a refusal they are as found.
-unfoldable pub left : Given → Areas
-left g =
-    let written = answered (reached g) (g .found) in
-    cond (accepted g) written (g .found)

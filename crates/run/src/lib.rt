@@ -9,14 +9,15 @@ use growth::Growth;
 use search::Search;
 ghost use Prim.Native.Nat.{_-_};
 ghost use mathlib.Core.Path.{_≡_};
+ghost use mathlib.Core.Bool.{cond};
 ghost use mathlib.Core.List.{[]};
 ghost use Rattle.search.specs.Search.{outcome as search-outcome, work-after};
-ghost use Rattle.rounds.specs.Run.{run as run-of};
+ghost use Rattle.rounds.specs.Run.{clears};
 ghost use Rattle.run.specs.declared.Answer.the-variants.{Spent};
-ghost use Rattle.run.specs.Outcome.{areas, given, lent, number-of, side-fits, tables-fit};
+ghost use Rattle.run.specs.Outcome.{areas, given, number-of, side-fits, tables-fit};
 ghost use Rattle.run.specs.Ended.{Ended};
 ghost use Rattle.run.specs.Numbers.{one-number};
-ghost use Rattle.run.specs.Growing.{is-found, step-of, said, existential-stop, universal-stop, opened-from, not-opened, with-opening, Extends, Shows, Ready, FirstCause};
+ghost use Rattle.run.specs.Growing.{is-found, step-of, said, existential-stop, universal-stop, opened-from, not-opened, with-opening, Extends, ExtendsUniversal, ShowsRun, Ready, FirstCause};
 
 pub enum Answer {
     False,
@@ -68,7 +69,8 @@ struct Checked {
     universals: usize,
 }
 
-// Decides the formula within the limit of rounds, over the tables that are lent.
+// Decides the formula within the limit of rounds, over the tables that are lent. The universal table is cleared in each round that
+// `clear_every` divides, and never if it is 0.
 pub fn run(
     kinds: &[u8],
     literals: &[i32],
@@ -79,10 +81,11 @@ pub fn run(
     existential_marks: &mut [u16],
     work: &mut [u8],
     limit: u32,
+    clear_every: u32,
 ) -> Outcome
     ensures { λ r. ⌜ Ended
         (given (now (kinds .entry)) (now (literals .entry)) (now (preferences .entry))
-        (areas (now («universal_rows» .entry)) (now («universal_marks» .entry)) (now («existential_rows» .entry)) (now («existential_marks» .entry)) (now (work .entry))) limit)
+        (areas (now («universal_rows» .entry)) (now («universal_marks» .entry)) (now («existential_rows» .entry)) (now («existential_marks» .entry)) (now (work .entry))) limit «clear_every»)
         r
         (areas (now («universal_rows» .exit)) (now («universal_marks» .exit)) (now («existential_rows» .exit)) (now («existential_marks» .exit)) (now (work .exit))) ⌝ }
 {
@@ -117,6 +120,7 @@ pub fn run(
         work,
         universals,
         limit,
+        clear_every,
     );
     rows::clear(work);
     opened(end, kinds, universal_rows, existential_rows)
@@ -221,7 +225,7 @@ fn check(
     work: &[u8],
     limit: u32,
 ) -> Checked
-    ensures { λ r. ⌜ FirstCause (given (now (kinds .entry)) (now (literals .entry)) [] (areas (now («universal_rows» .entry)) (now («universal_marks» .entry)) (now («existential_rows» .entry)) (now («existential_marks» .entry)) (now (work .entry))) limit) r ⌝ }
+    ensures { λ r. ⌜ FirstCause (given (now (kinds .entry)) (now (literals .entry)) [] (areas (now («universal_rows» .entry)) (now («universal_marks» .entry)) (now («existential_rows» .entry)) (now («existential_marks» .entry)) (now (work .entry))) limit 0) r ⌝ }
 {
     match Formula::check(kinds, literals) {
         Check::Refused(cause) => Checked {
@@ -300,9 +304,13 @@ fn rounds(
     work: &mut [u8],
     universals: usize,
     limit: u32,
+    clear_every: u32,
 ) -> End
     requires { ⌜ Ready (now kinds) (now literals) (now «universal_rows») (now «universal_marks») (now «existential_rows») (now «existential_marks») (now work) universals ⌝ }
-    ensures { λ r. ⌜ Shows (now (kinds .entry)) (now («universal_rows» .entry)) (now («universal_marks» .entry)) (now («existential_rows» .entry)) (now («existential_marks» .entry)) (run-of (lent (given (now (kinds .entry)) (now (literals .entry)) (now (preferences .entry)) (areas (now («universal_rows» .entry)) (now («universal_marks» .entry)) (now («existential_rows» .entry)) (now («existential_marks» .entry)) []) 0)) limit) r (now («universal_rows» .exit)) (now («universal_marks» .exit)) (now («existential_rows» .exit)) (now («existential_marks» .exit)) (now (work .exit)) ⌝ }
+    ensures { λ r. ⌜ ShowsRun
+        (given (now (kinds .entry)) (now (literals .entry)) (now (preferences .entry))
+        (areas (now («universal_rows» .entry)) (now («universal_marks» .entry)) (now («existential_rows» .entry)) (now («existential_marks» .entry)) (now (work .entry))) limit «clear_every»)
+        r (now («universal_rows» .exit)) (now («universal_marks» .exit)) (now («existential_rows» .exit)) (now («existential_marks» .exit)) (now (work .exit)) ⌝ }
 {
     growth::write_start(preferences, universals, universal_rows, universal_marks);
     let start = Formula::start();
@@ -330,16 +338,17 @@ fn rounds(
         if end != GROWN {
             return existential_stop(end, number, universal, existential);
         }
-        let back = extend(
+        let back = extend_universal(
             kinds,
             literals,
             preferences,
             existential_rows,
             grown,
-            true,
             universal_rows,
             universal_marks,
             universal,
+            clear_every,
+            number,
             mark,
             work,
         );
@@ -403,6 +412,67 @@ fn spent(round: u32, universal: usize, existential: usize) -> End
         universal,
         existential,
     }
+}
+
+// The universal side's step in a round that may clear its table: the rows are then added to none, and the places that they leave free below the
+// old count are given up.
+fn extend_universal(
+    kinds: &[u8],
+    literals: &[i32],
+    preferences: &[u8],
+    others: &[u8],
+    other_count: usize,
+    rows: &mut [u8],
+    marks: &mut [u16],
+    count: usize,
+    clear_every: u32,
+    round: u32,
+    mark: u16,
+    work: &mut [u8],
+) -> Step
+    ensures { λ r. ⌜ ExtendsUniversal (now (kinds .entry)) (now (literals .entry)) (now (preferences .entry)) (now (others .entry)) «other_count» (now (rows .entry)) (now (marks .entry)) count «clear_every» round mark (now (work .entry)) r (now (rows .exit)) (now (marks .exit)) (now (work .exit)) ⌝ }
+{
+    let kept = kept_rows(clear_every, round, count);
+    let step = extend(
+        kinds,
+        literals,
+        preferences,
+        others,
+        other_count,
+        true,
+        rows,
+        marks,
+        kept,
+        mark,
+        work,
+    );
+    let end = step.end;
+    if end != GROWN {
+        return Step { end, count };
+    }
+    let grown = step.count;
+    rows::give_up(rows, marks, grown, count);
+    Step { end, count: grown }
+}
+
+// How many rows of the universal table a round keeps.
+fn kept_rows(clear_every: u32, round: u32, count: usize) -> usize
+    ensures { λ r. ⌜ r ≡ cond (clears «clear_every» round) 0 count ⌝ }
+{
+    if clears(clear_every, round) {
+        return 0;
+    }
+    count
+}
+
+// Whether a round clears the universal table.
+fn clears(clear_every: u32, round: u32) -> bool
+    ensures { λ r. ⌜ r ≡ clears «clear_every» round ⌝ }
+{
+    if clear_every == 0 {
+        return false;
+    }
+    round % clear_every == 0
 }
 
 // A side's step: the search over the other side's rows, then the new ones of what they yield added to the side's table, or none of them.

@@ -170,6 +170,7 @@ fn lend(
         &mut existential_marks[0..existential_room],
         work,
         limit,
+        0,
     )
 }
 

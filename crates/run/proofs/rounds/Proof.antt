@@ -8,18 +8,19 @@ use lib.ListN.{length, replicate}
 use Rattle.preference.specs.Preference.{prefer}
 use Rattle.rows.specs.Access.{rows-written, marks-written}
 use Rattle.growth.specs.Growth.{with-preferred}
+use Rattle.run.specs.Outcome.{areas, given}
 use Rattle.run.specs.Growing.{Ready}
 use Rattle.run.proofs.LoopLaws.{Going, fresh-going, number-in-marks, run-stopped, run-stopped-back, round-made, run-spent}
 use Rattle.run.proofs.rounds.Statement.{statement}
 use Rattle.run.proofs.rounds.Tie as tie
 
 abbrev Inv-loop : tie.InvT-loop
-Inv-loop kinds literals preferences universal-rows₀ universal-marks₀ existential-rows₀ existential-marks₀ work₀ universals limit made₀ universal₀ existential₀ universal-rows universal-marks existential-rows existential-marks work made universal existential =
+Inv-loop kinds literals preferences universal-rows₀ universal-marks₀ existential-rows₀ existential-marks₀ work₀ universals limit clear-every made₀ universal₀ existential₀ universal-rows universal-marks existential-rows existential-marks work made universal existential =
     ((A-found A-marks-found : List ℕ)
     → universal-rows₀ ≡ rows-written A-found A-marks-found 0 (with-preferred (prefer preferences) universals (replicate 16 0)) 0
     → universal-marks₀ ≡ marks-written A-found A-marks-found 0 (with-preferred (prefer preferences) universals (replicate 16 0)) 0 0
     → Ready kinds literals A-found A-marks-found existential-rows₀ existential-marks₀ work₀ universals
-    → Going kinds literals preferences A-found A-marks-found existential-rows₀ existential-marks₀ limit made universal existential universal-rows universal-marks existential-rows existential-marks work)
+    → Going (given kinds literals preferences (areas A-found A-marks-found existential-rows₀ existential-marks₀ work₀) limit clear-every) made universal existential universal-rows universal-marks existential-rows existential-marks work)
     × (length universal-rows ≡ length universal-rows₀)
     × (length universal-marks ≡ length universal-marks₀)
     × (length existential-rows ≡ length existential-rows₀)
@@ -27,7 +28,7 @@ Inv-loop kinds literals preferences universal-rows₀ universal-marks₀ existen
     × (length work ≡ length work₀)
 
 abbrev μ-loop : tie.MeasureT-loop
-μ-loop kinds literals preferences universal-rows₀ universal-marks₀ existential-rows₀ existential-marks₀ work₀ universals limit made₀ universal₀ existential₀ universal-rows universal-marks existential-rows existential-marks work made universal existential = limit - made
+μ-loop kinds literals preferences universal-rows₀ universal-marks₀ existential-rows₀ existential-marks₀ work₀ universals limit clear-every made₀ universal₀ existential₀ universal-rows universal-marks existential-rows existential-marks work made universal existential = limit - made
 
 write-start-requires : tie.Need-write-start-requires Inv-loop μ-loop
 write-start-requires c κs = tt
@@ -39,7 +40,7 @@ loop-holds : tie.Need-loop-holds Inv-loop μ-loop
 loop-holds c =
     let q = c .before .before .before .before .before .before .before .before .before .before .before .before .before .before .before .args in (
       λ A-found A-marks-found on-rows on-marks ready.
-          fresh-going (q .kinds .now) (q .literals .now) (q .preferences .now) A-found A-marks-found (q .existential-rows .now) (q .existential-marks .now) (q .limit) (c .start .result) (q .universals) _ _ (q .work .now) (c .start .ensures) ready on-rows on-marks,
+          fresh-going (given (q .kinds .now) (q .literals .now) (q .preferences .now) (areas A-found A-marks-found (q .existential-rows .now) (q .existential-marks .now) (q .work .now)) (q .limit) (q .clear-every)) (c .start .result) (q .universals) _ _ (q .work .now) (c .start .ensures) ready on-rows on-marks,
       refl,
       refl,
       refl,
@@ -54,7 +55,7 @@ cast-mark : tie.Need-cast-mark Inv-loop μ-loop
 cast-mark c =
     let q = c .before .before .before .before .before .before .before .before .before .before .before .before .before .before .before .before .before .args in
     let going = c .before .loop .inv .0 (q .universal-rows .now) (q .universal-marks .now) (c .before .before .before .before .before .before .before .write-start .ensures .0) (c .before .before .before .before .before .before .before .write-start .ensures .1) (c .before .before .before .before .before .before .before .before .before .before .before .before .before .before .before .before .before .pre) in
-    let small = number-in-marks (q .kinds .now) (q .literals .now) (q .preferences .now) (q .universal-rows .now) (q .universal-marks .now) (q .existential-rows .now) (q .existential-marks .now) (q .limit) (c .before .loop .made) (c .before .loop .universal) (c .before .loop .existential) _ _ _ _ _ going in
+    let small = number-in-marks (given (q .kinds .now) (q .literals .now) (q .preferences .now) (areas (q .universal-rows .now) (q .universal-marks .now) (q .existential-rows .now) (q .existential-marks .now) (q .work .now)) (q .limit) (q .clear-every)) (c .before .loop .made) (c .before .loop .universal) (c .before .loop .existential) _ _ _ _ _ going in
     omega arith
 
 extend-requires : tie.Need-extend-requires Inv-loop μ-loop
@@ -82,20 +83,20 @@ returns : tie.Need-returns Inv-loop μ-loop
 returns c =
     let q = c .before .before .before .before .before .before .before .before .before .before .before .before .before .before .before .before .before .before .before .before .before .before .before .before .before .before .before .before .before .before .args in
     let going = c .before .before .before .before .before .before .before .before .before .before .before .before .before .before .loop .inv .0 (q .universal-rows .now) (q .universal-marks .now) (c .before .before .before .before .before .before .before .before .before .before .before .before .before .before .before .before .before .before .before .before .write-start .ensures .0) (c .before .before .before .before .before .before .before .before .before .before .before .before .before .before .before .before .before .before .before .before .write-start .ensures .1) (c .before .before .before .before .before .before .before .before .before .before .before .before .before .before .before .before .before .before .before .before .before .before .before .before .before .before .before .before .before .before .pre) in
-    run-stopped (q .kinds .now) (q .literals .now) (q .preferences .now) (q .universal-rows .now) (q .universal-marks .now) (q .existential-rows .now) (q .existential-marks .now)
-    (q .limit) (c .before .before .before .before .before .before .before .before .before .before .before .before .before .before .loop .made) (c .before .before .before .before .before .before .before .before .before .before .before .before .before .before .loop .universal) (c .before .before .before .before .before .before .before .before .before .before .before .before .before .before .loop .existential) _ _ _ _ _ going (c .before .before .before .before .before .before .before .before .extend .result) _ _ _ (c .before .before .before .before .before .before .before .before .extend .ensures) (c .before .before .before .before .before .before .before .before .before .before .before .before .before .loop-test .taken) (c .before .if1 .taken) _ (c .existential-stop .ensures)
+    run-stopped (given (q .kinds .now) (q .literals .now) (q .preferences .now) (areas (q .universal-rows .now) (q .universal-marks .now) (q .existential-rows .now) (q .existential-marks .now) (q .work .now)) (q .limit) (q .clear-every))
+    (c .before .before .before .before .before .before .before .before .before .before .before .before .before .before .loop .made) (c .before .before .before .before .before .before .before .before .before .before .before .before .before .before .loop .universal) (c .before .before .before .before .before .before .before .before .before .before .before .before .before .before .loop .existential) _ _ _ _ _ going (c .before .before .before .before .before .before .before .before .extend .result) _ _ _ (c .before .before .before .before .before .before .before .before .extend .ensures) (c .before .before .before .before .before .before .before .before .before .before .before .before .before .loop-test .taken) (c .before .if1 .taken) _ (c .existential-stop .ensures)
 
-extend-requires-2 : tie.Need-extend-requires-2 Inv-loop μ-loop
-extend-requires-2 c κs = tt
+extend-universal-requires : tie.Need-extend-universal-requires Inv-loop μ-loop
+extend-universal-requires c κs = tt
 
 universal-stop-requires : tie.Need-universal-stop-requires Inv-loop μ-loop
 universal-stop-requires c κs = tt
 
 same-length-6 : tie.Need-same-length-6 Inv-loop μ-loop
-same-length-6 c = c .before .before .before .before .before .before .before .before .extend2 .kept .1 .1 .1 .1 .1 .1 .0 ∙ c .before .before .before .before .before .before .before .before .before .before .before .before .before .before .before .before .before .before .before .before .before .before .before .before .before .before .loop .inv .1 ∙ c .before .before .before .before .before .before .before .before .before .before .before .before .before .before .before .before .before .before .before .before .before .before .before .before .before .before .before .before .before .before .before .before .write-start .kept .1 .1 .0
+same-length-6 c = c .before .before .before .before .before .before .before .before .extend-universal .kept .1 .1 .1 .1 .1 .0 ∙ c .before .before .before .before .before .before .before .before .before .before .before .before .before .before .before .before .before .before .before .before .before .before .before .before .before .before .loop .inv .1 ∙ c .before .before .before .before .before .before .before .before .before .before .before .before .before .before .before .before .before .before .before .before .before .before .before .before .before .before .before .before .before .before .before .before .write-start .kept .1 .1 .0
 
 same-length-7 : tie.Need-same-length-7 Inv-loop μ-loop
-same-length-7 c = c .before .before .before .before .before .before .before .before .extend2 .kept .1 .1 .1 .1 .1 .1 .1 .0 ∙ c .before .before .before .before .before .before .before .before .before .before .before .before .before .before .before .before .before .before .before .before .before .before .before .before .before .before .loop .inv .2 ∙ c .before .before .before .before .before .before .before .before .before .before .before .before .before .before .before .before .before .before .before .before .before .before .before .before .before .before .before .before .before .before .before .before .write-start .kept .1 .1 .1 .0
+same-length-7 c = c .before .before .before .before .before .before .before .before .extend-universal .kept .1 .1 .1 .1 .1 .1 .0 ∙ c .before .before .before .before .before .before .before .before .before .before .before .before .before .before .before .before .before .before .before .before .before .before .before .before .before .before .loop .inv .2 ∙ c .before .before .before .before .before .before .before .before .before .before .before .before .before .before .before .before .before .before .before .before .before .before .before .before .before .before .before .before .before .before .before .before .write-start .kept .1 .1 .1 .0
 
 same-length-8 : tie.Need-same-length-8 Inv-loop μ-loop
 same-length-8 c = c .before .before .before .before .before .before .before .before .before .before .before .before .before .before .before .before .before .before .before .before .extend .kept .1 .1 .1 .1 .1 .1 .0 ∙ c .before .before .before .before .before .before .before .before .before .before .before .before .before .before .before .before .before .before .before .before .before .before .before .before .before .before .loop .inv .3
@@ -104,14 +105,14 @@ same-length-9 : tie.Need-same-length-9 Inv-loop μ-loop
 same-length-9 c = c .before .before .before .before .before .before .before .before .before .before .before .before .before .before .before .before .before .before .before .before .extend .kept .1 .1 .1 .1 .1 .1 .1 .0 ∙ c .before .before .before .before .before .before .before .before .before .before .before .before .before .before .before .before .before .before .before .before .before .before .before .before .before .before .loop .inv .4
 
 same-length-10 : tie.Need-same-length-10 Inv-loop μ-loop
-same-length-10 c = c .before .before .before .before .before .before .before .before .extend2 .kept .1 .1 .1 .1 .1 .1 .1 .1 .1 .1 .0 ∙ c .before .before .before .before .before .before .before .before .before .before .before .before .before .before .before .before .before .before .before .before .extend .kept .1 .1 .1 .1 .1 .1 .1 .1 .1 .1 .0 ∙ c .before .before .before .before .before .before .before .before .before .before .before .before .before .before .before .before .before .before .before .before .before .before .before .before .before .before .loop .inv .5
+same-length-10 c = c .before .before .before .before .before .before .before .before .extend-universal .kept .1 .1 .1 .1 .1 .1 .1 .1 .1 .1 .1 .0 ∙ c .before .before .before .before .before .before .before .before .before .before .before .before .before .before .before .before .before .before .before .before .extend .kept .1 .1 .1 .1 .1 .1 .1 .1 .1 .1 .0 ∙ c .before .before .before .before .before .before .before .before .before .before .before .before .before .before .before .before .before .before .before .before .before .before .before .before .before .before .loop .inv .5
 
 returns-2 : tie.Need-returns-2 Inv-loop μ-loop
 returns-2 c =
     let q = c .before .before .before .before .before .before .before .before .before .before .before .before .before .before .before .before .before .before .before .before .before .before .before .before .before .before .before .before .before .before .before .before .before .before .before .before .before .before .before .before .before .before .args in
     let going = c .before .before .before .before .before .before .before .before .before .before .before .before .before .before .before .before .before .before .before .before .before .before .before .before .before .before .loop .inv .0 (q .universal-rows .now) (q .universal-marks .now) (c .before .before .before .before .before .before .before .before .before .before .before .before .before .before .before .before .before .before .before .before .before .before .before .before .before .before .before .before .before .before .before .before .write-start .ensures .0) (c .before .before .before .before .before .before .before .before .before .before .before .before .before .before .before .before .before .before .before .before .before .before .before .before .before .before .before .before .before .before .before .before .write-start .ensures .1) (c .before .before .before .before .before .before .before .before .before .before .before .before .before .before .before .before .before .before .before .before .before .before .before .before .before .before .before .before .before .before .before .before .before .before .before .before .before .before .before .before .before .before .pre) in
-    run-stopped-back (q .kinds .now) (q .literals .now) (q .preferences .now) (q .universal-rows .now) (q .universal-marks .now) (q .existential-rows .now) (q .existential-marks .now)
-    (q .limit) (c .before .before .before .before .before .before .before .before .before .before .before .before .before .before .before .before .before .before .before .before .before .before .before .before .before .before .loop .made) (c .before .before .before .before .before .before .before .before .before .before .before .before .before .before .before .before .before .before .before .before .before .before .before .before .before .before .loop .universal) (c .before .before .before .before .before .before .before .before .before .before .before .before .before .before .before .before .before .before .before .before .before .before .before .before .before .before .loop .existential) _ _ _ _ _ going (c .before .before .before .before .before .before .before .before .before .before .before .before .before .before .before .before .before .before .before .before .extend .result) _ _ _ (c .before .before .before .before .before .before .before .before .before .before .before .before .before .before .before .before .before .before .before .before .extend .ensures) (c .before .before .before .before .before .before .before .before .before .before .before .before .before .before .before .before .before .before .before .before .before .before .before .before .before .loop-test .taken) (c .before .before .before .before .before .before .before .before .before .before .before .before .before .if1 .left) (c .before .before .before .before .before .before .before .before .extend2 .result) _ _ _ (c .before .before .before .before .before .before .before .before .extend2 .ensures) (c .before .if2 .taken) _ (c .universal-stop .ensures)
+    run-stopped-back (given (q .kinds .now) (q .literals .now) (q .preferences .now) (areas (q .universal-rows .now) (q .universal-marks .now) (q .existential-rows .now) (q .existential-marks .now) (q .work .now)) (q .limit) (q .clear-every))
+    (c .before .before .before .before .before .before .before .before .before .before .before .before .before .before .before .before .before .before .before .before .before .before .before .before .before .before .loop .made) (c .before .before .before .before .before .before .before .before .before .before .before .before .before .before .before .before .before .before .before .before .before .before .before .before .before .before .loop .universal) (c .before .before .before .before .before .before .before .before .before .before .before .before .before .before .before .before .before .before .before .before .before .before .before .before .before .before .loop .existential) _ _ _ _ _ going (c .before .before .before .before .before .before .before .before .before .before .before .before .before .before .before .before .before .before .before .before .extend .result) _ _ _ (c .before .before .before .before .before .before .before .before .before .before .before .before .before .before .before .before .before .before .before .before .extend .ensures) (c .before .before .before .before .before .before .before .before .before .before .before .before .before .before .before .before .before .before .before .before .before .before .before .before .before .loop-test .taken) (c .before .before .before .before .before .before .before .before .before .before .before .before .before .if1 .left) (c .before .before .before .before .before .before .before .before .extend-universal .result) _ _ _ (c .before .before .before .before .before .before .before .before .extend-universal .ensures) (c .before .if2 .taken) _ (c .universal-stop .ensures)
 
 loop-less : tie.Need-loop-less Inv-loop μ-loop
 loop-less c = omega arith
@@ -121,13 +122,13 @@ loop-again c =
     let q = c .before .before .before .before .before .before .before .before .before .before .before .before .before .before .before .before .before .before .before .before .before .before .before .before .before .before .before .before .before .before .before .before .before .before .before .before .before .before .before .before .before .args in (
       λ A-found A-marks-found on-rows on-marks ready.
           let going = c .before .before .before .before .before .before .before .before .before .before .before .before .before .before .before .before .before .before .before .before .before .before .before .before .before .loop .inv .0 A-found A-marks-found on-rows on-marks ready in
-          round-made (q .kinds .now) (q .literals .now) (q .preferences .now) A-found A-marks-found (q .existential-rows .now) (q .existential-marks .now)
-          (q .limit) (c .before .before .before .before .before .before .before .before .before .before .before .before .before .before .before .before .before .before .before .before .before .before .before .before .before .loop .made) (c .before .before .before .before .before .before .before .before .before .before .before .before .before .before .before .before .before .before .before .before .before .before .before .before .before .loop .universal) (c .before .before .before .before .before .before .before .before .before .before .before .before .before .before .before .before .before .before .before .before .before .before .before .before .before .loop .existential) _ _ _ _ _ going (c .before .before .before .before .before .before .before .before .before .before .before .before .before .before .before .before .before .before .before .extend .result) _ _ _ (c .before .before .before .before .before .before .before .before .before .before .before .before .before .before .before .before .before .before .before .extend .ensures) (c .before .before .before .before .before .before .before .before .before .before .before .before .before .before .before .before .before .before .before .before .before .before .before .before .loop-test .taken) (c .before .before .before .before .before .before .before .before .before .before .before .before .if1 .left) (c .before .before .before .before .before .before .before .extend2 .result) _ _ _ (c .before .before .before .before .before .before .before .extend2 .ensures) (c .if2 .left),
-      c .before .before .before .before .before .before .before .extend2 .kept .1 .1 .1 .1 .1 .1 .0 ∙ c .before .before .before .before .before .before .before .before .before .before .before .before .before .before .before .before .before .before .before .before .before .before .before .before .before .loop .inv .1,
-      c .before .before .before .before .before .before .before .extend2 .kept .1 .1 .1 .1 .1 .1 .1 .0 ∙ c .before .before .before .before .before .before .before .before .before .before .before .before .before .before .before .before .before .before .before .before .before .before .before .before .before .loop .inv .2,
+          round-made (given (q .kinds .now) (q .literals .now) (q .preferences .now) (areas A-found A-marks-found (q .existential-rows .now) (q .existential-marks .now) (q .work .now)) (q .limit) (q .clear-every))
+          (c .before .before .before .before .before .before .before .before .before .before .before .before .before .before .before .before .before .before .before .before .before .before .before .before .before .loop .made) (c .before .before .before .before .before .before .before .before .before .before .before .before .before .before .before .before .before .before .before .before .before .before .before .before .before .loop .universal) (c .before .before .before .before .before .before .before .before .before .before .before .before .before .before .before .before .before .before .before .before .before .before .before .before .before .loop .existential) _ _ _ _ _ going (c .before .before .before .before .before .before .before .before .before .before .before .before .before .before .before .before .before .before .before .extend .result) _ _ _ (c .before .before .before .before .before .before .before .before .before .before .before .before .before .before .before .before .before .before .before .extend .ensures) (c .before .before .before .before .before .before .before .before .before .before .before .before .before .before .before .before .before .before .before .before .before .before .before .before .loop-test .taken) (c .before .before .before .before .before .before .before .before .before .before .before .before .if1 .left) (c .before .before .before .before .before .before .before .extend-universal .result) _ _ _ (c .before .before .before .before .before .before .before .extend-universal .ensures) (c .if2 .left),
+      c .before .before .before .before .before .before .before .extend-universal .kept .1 .1 .1 .1 .1 .0 ∙ c .before .before .before .before .before .before .before .before .before .before .before .before .before .before .before .before .before .before .before .before .before .before .before .before .before .loop .inv .1,
+      c .before .before .before .before .before .before .before .extend-universal .kept .1 .1 .1 .1 .1 .1 .0 ∙ c .before .before .before .before .before .before .before .before .before .before .before .before .before .before .before .before .before .before .before .before .before .before .before .before .before .loop .inv .2,
       c .before .before .before .before .before .before .before .before .before .before .before .before .before .before .before .before .before .before .before .extend .kept .1 .1 .1 .1 .1 .1 .0 ∙ c .before .before .before .before .before .before .before .before .before .before .before .before .before .before .before .before .before .before .before .before .before .before .before .before .before .loop .inv .3,
       c .before .before .before .before .before .before .before .before .before .before .before .before .before .before .before .before .before .before .before .extend .kept .1 .1 .1 .1 .1 .1 .1 .0 ∙ c .before .before .before .before .before .before .before .before .before .before .before .before .before .before .before .before .before .before .before .before .before .before .before .before .before .loop .inv .4,
-      c .before .before .before .before .before .before .before .extend2 .kept .1 .1 .1 .1 .1 .1 .1 .1 .1 .1 .0 ∙ c .before .before .before .before .before .before .before .before .before .before .before .before .before .before .before .before .before .before .before .extend .kept .1 .1 .1 .1 .1 .1 .1 .1 .1 .1 .0 ∙ c .before .before .before .before .before .before .before .before .before .before .before .before .before .before .before .before .before .before .before .before .before .before .before .before .before .loop .inv .5,
+      c .before .before .before .before .before .before .before .extend-universal .kept .1 .1 .1 .1 .1 .1 .1 .1 .1 .1 .1 .0 ∙ c .before .before .before .before .before .before .before .before .before .before .before .before .before .before .before .before .before .before .before .extend .kept .1 .1 .1 .1 .1 .1 .1 .1 .1 .1 .0 ∙ c .before .before .before .before .before .before .before .before .before .before .before .before .before .before .before .before .before .before .before .before .before .before .before .before .before .loop .inv .5,
     )
 
 spent-requires : tie.Need-spent-requires Inv-loop μ-loop
@@ -152,8 +153,8 @@ returns-3 : tie.Need-returns-3 Inv-loop μ-loop
 returns-3 c =
     let q = c .before .before .before .before .before .before .before .before .before .before .before .before .before .before .before .before .before .before .args in
     let going = c .before .before .loop .inv .0 (q .universal-rows .now) (q .universal-marks .now) (c .before .before .before .before .before .before .before .before .write-start .ensures .0) (c .before .before .before .before .before .before .before .before .write-start .ensures .1) (c .before .before .before .before .before .before .before .before .before .before .before .before .before .before .before .before .before .before .pre) in
-    run-spent (q .kinds .now) (q .literals .now) (q .preferences .now) (q .universal-rows .now) (q .universal-marks .now) (q .existential-rows .now) (q .existential-marks .now)
-    (q .limit) (c .before .before .loop .made) (c .before .before .loop .universal) (c .before .before .loop .existential) _ _ _ _ _ going (c .before .loop-test .left) _ (c .spent .ensures)
+    run-spent (given (q .kinds .now) (q .literals .now) (q .preferences .now) (areas (q .universal-rows .now) (q .universal-marks .now) (q .existential-rows .now) (q .existential-marks .now) (q .work .now)) (q .limit) (q .clear-every))
+    (c .before .before .loop .made) (c .before .before .loop .universal) (c .before .before .loop .existential) _ _ _ _ _ going (c .before .loop-test .left) _ (c .spent .ensures)
 
 pub rounds-spec : {M : Type 1} → statement M
 rounds-spec =
@@ -174,7 +175,7 @@ rounds-spec =
     same-length-4
     same-length-5
     returns
-    extend-requires-2
+    extend-universal-requires
     universal-stop-requires
     same-length-6
     same-length-7

@@ -31,8 +31,8 @@ returns : tie.Need-returns
 returns c =
     let q = c .before .before .before .before .before .before .before .before .before .before .before .before .before .before .before .args in
     let found = areas (q .universal-rows .now) (q .universal-marks .now) (q .existential-rows .now) (q .existential-marks .now) (q .work .now) in
-    let g = given (q .kinds .now) (q .literals .now) (q .preferences .now) found (q .limit) in
-    let first : cause g ≡ c .before .before .check .result .cause = sym (same-cause (q .kinds .now) (q .literals .now) (q .preferences .now) found (q .limit)) ∙ sym (c .before .before .check .ensures .first) in
+    let g = given (q .kinds .now) (q .literals .now) (q .preferences .now) found (q .limit) (q .clear-every) in
+    let first : cause g ≡ c .before .before .check .result .cause = sym (same-cause (q .kinds .now) (q .literals .now) (q .preferences .now) found (q .limit) (q .clear-every)) ∙ sym (c .before .before .check .ensures .first) in
     refused-so g (c .before .before .check .result .cause) (c .unopened .result) first (omega (arith, c .before .if1 .taken)) (c .unopened .ensures)
 
 rounds-requires : tie.Need-rounds-requires
@@ -63,10 +63,10 @@ returns-2 : tie.Need-returns-2
 returns-2 c =
     let q = c .before .before .before .before .before .before .before .before .before .before .before .before .before .before .before .before .before .before .before .before .before .before .before .before .before .before .before .before .before .before .before .before .before .before .before .before .before .args in
     let found = areas (q .universal-rows .now) (q .universal-marks .now) (q .existential-rows .now) (q .existential-marks .now) (q .work .now) in
-    let g = given (q .kinds .now) (q .literals .now) (q .preferences .now) found (q .limit) in
+    let g = given (q .kinds .now) (q .literals .now) (q .preferences .now) found (q .limit) (q .clear-every) in
     let checked = c .before .before .before .before .before .before .before .before .before .before .before .before .before .before .before .before .before .before .before .before .before .before .before .before .check .ensures in
     let passed = c .before .before .before .before .before .before .before .before .before .before .before .before .before .before .before .before .before .before .before .before .before .before .before .if1 .left in
-    let none : cause g ≡ 0 = sym (same-cause (q .kinds .now) (q .literals .now) (q .preferences .now) found (q .limit)) ∙ sym (checked .first) ∙ passed in
+    let none : cause g ≡ 0 = sym (same-cause (q .kinds .now) (q .literals .now) (q .preferences .now) found (q .limit) (q .clear-every)) ∙ sym (checked .first) ∙ passed in
     answered-so g none (checked .some-limit passed) (c .before .before .before .before .before .before .before .before .before .before .before .before .before .before .before .before .before .rounds .result) _ _ _ _ _ _ _ (c .before .before .before .before .before .before .before .before .before .before .before .before .before .before .before .before .before .rounds .ensures) (c .before .before .before .before .before .clear .ensures) (c .opened .ensures)
 
 pub run-spec : {M : Type 1} → statement M
