@@ -1,4 +1,4 @@
--- What `run` returns and leaves, for everything that is lent: causes 1 to 6 in order, then the outcome of the run with the limit.
+-- What `run` returns and leaves, for everything that is lent: causes 1 to 4, 16, 5 and 6 in order, then the outcome of the run with the limit.
 -- Assumes nothing.
 use Prim.Native.Nat.{ℕ, _*_}
 use mathlib.Core.Bool.{Bool, not, _&&_, cond}
@@ -12,23 +12,35 @@ use Rattle.formula.specs.Causes.{checked, number as cause-number}
 use Rattle.preference.specs.Preference.{prefer}
 use Rattle.rows.specs.Row.{bytes-of}
 use Rattle.rows.specs.Table.{table-of, room, table-fits, marks-fit, zeroed}
+use Rattle.counts.specs.Counts.{counts-fit}
 use Rattle.rounds.specs.Run.{Entry, Table, rows, Lent, run, highest, is-false, is-true, spent, no-room-universal, no-room-existential, Answer as RunAnswer, Outcome as RunOutcome}
 use Rattle.rounds.specs.Opening.{opening, opening-length}
+use Rattle.rounds.specs.Counts.{counts}
 use Rattle.run.specs.declared.Answer.{Answer}
 use Rattle.run.specs.declared.Answer.the-variants.{False, True, Spent, NoRoomUniversal, NoRoomExistential, Refused}
 use Rattle.run.specs.declared.Outcome.{Outcome}
 
--- What is lent to be written: each side's rows and marks, and the work area.
+-- What is lent to be written: each side's rows, marks and return counts, and the work area.
 pub record Areas : Type 0 where
   pub universal-rows : List ℕ
   pub universal-marks : List ℕ
+  pub universal-counts : List ℕ
   pub existential-rows : List ℕ
   pub existential-marks : List ℕ
+  pub existential-counts : List ℕ
   pub work : List ℕ
 
-abbrev pub areas : List ℕ → List ℕ → List ℕ → List ℕ → List ℕ → Areas
-areas A A-marks S S-marks work =
-    record { universal-rows = A; universal-marks = A-marks; existential-rows = S; existential-marks = S-marks; work = work }
+abbrev pub areas : List ℕ → List ℕ → List ℕ → List ℕ → List ℕ → List ℕ → List ℕ → Areas
+areas A A-marks A-counts S S-marks S-counts work =
+    record {
+      universal-rows = A;
+      universal-marks = A-marks;
+      universal-counts = A-counts;
+      existential-rows = S;
+      existential-marks = S-marks;
+      existential-counts = S-counts;
+      work = work;
+    }
 
 -- All that is lent: the formula, the preferences, what the areas were found to hold, the limit, and 02's k: how often the universal table is
 -- cleared, 0 for never.
@@ -63,13 +75,19 @@ side-fits rows marks = table-fits rows && marks-fit rows marks
 unfoldable pub tables-fit : List ℕ → List ℕ → List ℕ → List ℕ → Bool
 tables-fit A A-marks S S-marks = side-fits A A-marks && side-fits S S-marks
 
--- The first of the causes 1 to 6 that applies, or 0: 1 to 3 of the formula, 4 of the tables, 5 'work area not 65,536', 6 'limit 0'.
+-- Cause 16, which 'refuses .. a count table that isn't one entry a row', of either side.
+unfoldable pub tables-counted : List ℕ → List ℕ → List ℕ → List ℕ → Bool
+tables-counted A A-counts S S-counts = counts-fit A A-counts && counts-fit S S-counts
+
+-- The first of the causes that applies, or 0: 1 to 3 of the formula, 4 of the tables, 16 of their counts, 'tested after 4', 5 'work area not 65,536',
+-- 6 'limit 0'.
 unfoldable pub cause : Given → ℕ
 cause g =
     let formula : ℕ = cause-number (checked (g .kinds) (g .literals)) in
     let later : ℕ =
     cond (not (tables-fit (g .found .universal-rows) (g .found .universal-marks) (g .found .existential-rows) (g .found .existential-marks))) 4
-    (cond (not (eqb (length (g .found .work)) work-size)) 5 (cond (eqb (g .limit) 0) 6 0)) in
+    (cond (not (tables-counted (g .found .universal-rows) (g .found .universal-counts) (g .found .existential-rows) (g .found .existential-counts))) 16
+    (cond (not (eqb (length (g .found .work)) work-size)) 5 (cond (eqb (g .limit) 0) 6 0))) in
     cond (eqb formula 0) later formula
 
 abbrev pub accepted : Given → Bool
@@ -139,14 +157,21 @@ abbrev pub marks-after : Kind → Given → ℕ → List ℕ
 marks-after universal g r = mark-numbers (run (lent g) r .A) (zeroed (highest (lent g) r) (g .found .universal-marks))
 marks-after existential g r = mark-numbers (run (lent g) r .S) (g .found .existential-marks)
 
+-- And how often each row came back; of places given up 0, 'the others past the count stay as found'.
+abbrev pub counts-after : Kind → Given → ℕ → List ℕ
+counts-after universal g r = counts (lent g) universal r ++ drop (length (run (lent g) r .A)) (zeroed (highest (lent g) r) (g .found .universal-counts))
+counts-after existential g r = counts (lent g) existential r ++ drop (length (run (lent g) r .S)) (g .found .existential-counts)
+
 -- After an answer the areas hold the tables of the run, and the work area is zero ..
 abbrev pub answered : Given → Areas
 answered g =
     areas
     (rows-after universal g (g .limit))
     (marks-after universal g (g .limit))
+    (counts-after universal g (g .limit))
     (rows-after existential g (g .limit))
     (marks-after existential g (g .limit))
+    (counts-after existential g (g .limit))
     (replicate work-size 0)
 
 -- .. after a refusal they are as found.
@@ -156,11 +181,13 @@ left g =
     cond (accepted g) written (g .found)
 
 -- 01's demand 1, 'rows and marks past the reported counts .. as found': what is left where the universal table is never cleared.
-abbrev pub over-found : RunOutcome → Areas → Areas
-over-found o found =
+abbrev pub over-found : Given → Areas
+over-found g =
     areas
-    (row-bytes (o .A) (found .universal-rows))
-    (mark-numbers (o .A) (found .universal-marks))
-    (row-bytes (o .S) (found .existential-rows))
-    (mark-numbers (o .S) (found .existential-marks))
+    (row-bytes (reached g .A) (g .found .universal-rows))
+    (mark-numbers (reached g .A) (g .found .universal-marks))
+    (counts (lent g) universal (g .limit) ++ drop (length (reached g .A)) (g .found .universal-counts))
+    (row-bytes (reached g .S) (g .found .existential-rows))
+    (mark-numbers (reached g .S) (g .found .existential-marks))
+    (counts (lent g) existential (g .limit) ++ drop (length (reached g .S)) (g .found .existential-counts))
     (replicate work-size 0)
