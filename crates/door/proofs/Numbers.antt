@@ -9,7 +9,7 @@ use lib.ListN.{length, replicate}
 use Rattle.formula.specs.Formula.{work-size}
 use Rattle.formula.specs.Meaning.{verdict}
 use Rattle.rounds.specs.Run.{number}
-use Rattle.run.specs.Outcome.{Given, lent, cause, accepted, reached, answered, left}
+use Rattle.run.specs.Outcome.{Given, lent, cause, accepted, reached, after, left}
 use Rattle.rounds.proofs.Verdict.{verdict-right}
 use Rattle.text.specs.Reading.{State, Result, taken, refused, text-read}
 use Rattle.text.proofs.TextLaws.{Results, Passes, read-passes}
@@ -26,7 +26,7 @@ module _ (g : Given) where
   unfolding left
   run-zero small = go (accepted g) refl
     where
-      go : (b : Bool) → accepted g ≡ b → cond b (answered g) (g .found) .work ≡ replicate work-size 0
+      go : (b : Bool) → accepted g ≡ b → cond b (after g (g .limit)) (g .found) .work ≡ replicate work-size 0
       go true e = refl
       go false e = absurd (omega (arith, run-numbered g false e))
 
@@ -34,7 +34,7 @@ module _ (g : Given) where
   unfolding left
   run-found large = go (accepted g) refl
     where
-      go : (b : Bool) → accepted g ≡ b → cond b (answered g) (g .found) .work ≡ g .found .work
+      go : (b : Bool) → accepted g ≡ b → cond b (after g (g .limit)) (g .found) .work ≡ g .found .work
       go true e = absurd (omega (arith, run-numbered g true e, number-small (reached g .answer)))
       go false e = refl
 

@@ -38,7 +38,7 @@ at-most l n by-S by-A = go (l .clear-every) by-A
   where
     go : (k : ℕ) → (k ≡ 0 → n ≤ 2 ^ count universal (l .ks)) → n ≤ most-with k l
     go zero h = omega (arith, h refl)
-    go (suc k) h = by-S
+    go (suc k) h = omega (arith, by-S)
 
 -- With room for all rows and most-rounds rounds, only the verdict is left.
 decided : (l : Lent) (limit : ℕ) → 2 ^ count universal (l .ks) ≤ l .room-A → 2 ^ count existential (l .ks) ≤ l .room-S → most-rounds l ≤ limit

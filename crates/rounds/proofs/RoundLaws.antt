@@ -140,10 +140,10 @@ unfolding clears
 never-clears l r never = ap (λ (k : ℕ). clears k r) never
 
 pub kept-all : (l : Lent) (r : ℕ) (A : Table) → clears (l .clear-every) r ≡ false → kept l r A ≡ A
-kept-all l r A e = ap (λ (c : Bool). cond c [] A) e
+kept-all l r A e = rw e refl
 
 pub kept-none : (l : Lent) (r : ℕ) (A : Table) → clears (l .clear-every) r ≡ true → kept l r A ≡ []
-kept-none l r A e = ap (λ (c : Bool). cond c [] A) e
+kept-none l r A e = rw e refl
 
 kept-part : (l : Lent) (r : ℕ) (A : Table) (x : Row) → In x (rows (kept l r A)) → In x (rows A)
 kept-part l r A x = go (clears (l .clear-every) r)

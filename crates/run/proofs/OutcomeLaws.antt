@@ -6,7 +6,7 @@ use mathlib.Core.Bool.{Bool, true, false, not, cond, true≢false}
 use mathlib.Core.List.{List, [], _++_}
 use lib.Dec.{eqb}
 use lib.IntN.{ℤ}
-use lib.ListN.{length, take, replicate, length-map}
+use lib.ListN.{length, take, drop, replicate, length-map}
 use lib.Seq.{take-at}
 use borrow.Author.Tests.{eq-eqb, ne-eqb}
 use Rattle.formula.specs.Formula.{work-size, Kind, existential, universal, prefix}
@@ -24,7 +24,7 @@ use Rattle.rounds.specs.Run.{Entry, is-false, is-true, spent, no-room-universal
 use Rattle.rounds.specs.Claim.{table, Claim}
 use Rattle.rounds.specs.Counts.{came, counts}
 use Rattle.run.specs.declared.Answer.the-variants.{False, True}
-use Rattle.run.specs.Outcome.{Areas, areas, Given, given, lent, tables-fit, tables-counted, cause, accepted, reached, named, number-of, reported, refusal, returned, rows-after, marks-after, counts-after, answered, left, over-found}
+use Rattle.run.specs.Outcome.{Areas, areas, Given, given, lent, tables-fit, tables-counted, cause, accepted, reached, named, number-of, reported, refusal, row-bytes, mark-numbers, returned, written, after, left}
 use Rattle.run.specs.Ended.{row-part, mark-part, count-part, count-of, TableRight, Ended}
 use Rattle.run.specs.Growing.{Passes, with-opening, ShowsRun, FirstCause}
 use Rattle.run.specs.Counting.{CountsShow}
@@ -69,7 +69,7 @@ refused-so g n r e some-cause is =
     record {
       returned-so = value;
       numbered = numbered-so g r value;
-      left-so = sym (ap (λ (b : Bool). cond b (answered g) (g .found)) not-0);
+      left-so = sym (ap (λ (b : Bool). cond b (after g (g .limit)) (g .found)) not-0);
       as-found = λ yes-0. absurd (true≢false (sym yes-0 ∙ not-0));
       only-true = λ h. let z : _≡_ {A = ℕ} 0 1 = cc (sym h ∙ ap (λ (o : Outcome). o .answer) is) in absurd (omega arith);
       only-false = λ h. let z : _≡_ {A = ℕ} 0 1 = cc (sym h ∙ ap (λ (o : Outcome). o .answer) is) in absurd (omega arith);
@@ -115,18 +115,19 @@ named-false no-room-universal e = let z : _≡_ {A = ℕ} 0 1 = cc in absurd (om
 named-false no-room-existential e = let z : _≡_ {A = ℕ} 0 1 = cc in absurd (omega arith)
 
 -- A table that is never cleared has reached over no more places than it has rows.
-pub answered-if-never : (g : Given) → g .clear-every ≡ 0 → answered g ≡ over-found g
-answered-if-never g never =
+pub after-if-never : (g : Given) → g .clear-every ≡ 0 → after g (g .limit) ≡ written (lent g) (g .limit) (g .found)
+after-if-never g never =
     let same : highest (lent g) (g .limit) ≡ length (reached g .A) = highest-if-never (lent g) (g .limit) never in
     let on-rows = rows-if-never (reached g .A) (highest (lent g) (g .limit)) (g .found .universal-rows) same in
     let on-marks = marks-if-never (reached g .A) (highest (lent g) (g .limit)) (g .found .universal-marks) same in
     let on-counts = drop-zeroed (highest (lent g) (g .limit)) (length (reached g .A)) (g .found .universal-counts) (omega arith) in
     λ d.
-    areas (on-rows d) (on-marks d) (counts (lent g) universal (g .limit) ++ on-counts d) (rows-after existential g (g .limit)) (marks-after existential g (g .limit))
-    (counts-after existential g (g .limit)) (replicate work-size 0)
+    areas (on-rows d) (on-marks d) (counts (lent g) universal (g .limit) ++ on-counts d) (row-bytes (reached g .S) (g .found .existential-rows))
+    (mark-numbers (reached g .S) (g .found .existential-marks))
+    (counts (lent g) existential (g .limit) ++ drop (length (reached g .S)) (g .found .existential-counts)) (replicate work-size 0)
 
 -- The counts below a table's count.
-counts-back : (g : Given) (side : Kind) → take (length (table side (reached g))) (counts-after side g (g .limit)) ≡ counts (lent g) side (g .limit)
+counts-back : (g : Given) (side : Kind) → take (length (table side (reached g))) (count-part side (after g (g .limit))) ≡ counts (lent g) side (g .limit)
 unfolding counts
 counts-back g existential =
     take-at (counts (lent g) existential (g .limit)) _ (length (reached g .S)) (length-map (reached g .S) (λ (x : Entry). came (lent g) existential (g .limit) (x .row)))
@@ -152,15 +153,15 @@ answered-so g no-cause some-limit end r AR AM AC SR SM SC W W′ shows counted c
     let held-S = shows .both .holds-S in
     let zero-work : W′ ≡ replicate work-size 0 = clear ∙ ap (λ (n : ℕ). replicate n 0) (shows .work-long) in
     let holds = claim (lent g) (g .limit) some-limit in
-    let written : areas AR AM AC SR SM SC W′ ≡ answered g =
+    let left-so : areas AR AM AC SR SM SC W′ ≡ after g (g .limit) =
     λ d.
     areas (held-A .in-rows .in-bytes d) (held-A .in-marks d) (counted .counts-A d) (held-S .in-rows .in-bytes d) (held-S .in-marks d) (counted .counts-S d)
     (zero-work d) in
     record {
       returned-so = value;
       numbered = numbered-so g r value;
-      left-so = written ∙ sym (ap (λ (b : Bool). cond b (answered g) (g .found)) yes-0);
-      as-found = λ _ never. written ∙ answered-if-never g never;
+      left-so = left-so ∙ sym (ap (λ (b : Bool). cond b (after g (g .limit)) (g .found)) yes-0);
+      as-found = λ _ never. left-so ∙ after-if-never g never;
       only-true = λ h. verdict-right (lent g) (g .limit) .only-true (named-true (reached g .answer) (sym answer-is ∙ h));
       only-false = λ h. verdict-right (lent g) (g .limit) .only-false (named-false (reached g .answer) (sym answer-is ∙ h));
       claim = λ _. holds;

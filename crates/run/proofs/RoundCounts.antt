@@ -28,9 +28,9 @@ use Rattle.rounds.proofs.RunLaws.{run-goes-on, run-reached, run-stays}
 use Rattle.rounds.proofs.Highest.{count-at-most-highest, highest-stays}
 use Rattle.rounds.proofs.CountsLaws.{searched-S, searched-A, came-next, came-stays, came-at-most, absent-zero}
 use Rattle.run.specs.declared.Step.{Step}
-use Rattle.run.specs.Outcome.{Given, lent, tables-counted, counts-after}
+use Rattle.run.specs.Outcome.{Given, lent, tables-counted}
 use Rattle.run.specs.Growing.{Half, no-model, no-room, grows, half, half-table, half-end, half-of, Extended, Extends, ExtendsUniversal, Ready}
-use Rattle.run.specs.Counting.{tallied, Counted, half-since, half-came, Tallies, TalliesUniversal, CountsShow}
+use Rattle.run.specs.Counting.{tallied, Counted, half-since, half-came, Tallies, TalliesUniversal, counts-after, CountsShow}
 use Rattle.run.proofs.ClearingLaws.{blank-below}
 use Rattle.run.proofs.HalfLaws.{after-first, after-second, end-1}
 use Rattle.run.proofs.LoopLaws.{least-bytes, tables-fitting, row-base, mark-base, Going, number-in-marks, first, second}

@@ -15,8 +15,8 @@ use Rattle.expansion.specs.Play.{Row}
 use Rattle.rounds.specs.Run.{Entry, Table, rows, run, highest}
 use Rattle.rounds.specs.Claim.{table, Stands, AllDifferent, NewRow, Claim}
 use Rattle.rounds.proofs.Bounds.{row-length}
-use Rattle.run.specs.Outcome.{Given, lent, reached, row-bytes, mark-numbers, rows-after}
-use Rattle.run.specs.Ended.{NewBytes, TableRight}
+use Rattle.run.specs.Outcome.{Given, lent, reached, row-bytes, mark-numbers, after}
+use Rattle.run.specs.Ended.{row-part, NewBytes, TableRight}
 use Rattle.run.specs.Growing.{Passes}
 use Rattle.run.proofs.ByteLaws.{Wide, values-at, rows-of-table}
 use Rattle.run.proofs.GrowingLaws.{wide-of-sized}
@@ -96,7 +96,7 @@ abbrev behind-rows : Kind → Given → ℕ → List ℕ
 behind-rows universal g r = zeroed (16 * highest (lent g) r) (g .found .universal-rows)
 behind-rows existential g r = g .found .existential-rows
 
-rows-so : (side : Kind) (g : Given) (r : ℕ) → row-bytes (table side (run (lent g) r)) (behind-rows side g r) ≡ rows-after side g r
+rows-so : (side : Kind) (g : Given) (r : ℕ) → row-bytes (table side (run (lent g) r)) (behind-rows side g r) ≡ row-part side (after g r)
 rows-so universal g r = refl
 rows-so existential g r = refl
 
@@ -114,7 +114,7 @@ module _ (g : Given) (passes : Passes (g .kinds) (g .literals)) (claim : Claim (
       let wide : (r : ℕ) → Wide m (rows (table side (run (lent g) r))) = λ r. wide-of-sized m (rows (table side (run (lent g) r))) (row-length (lent g) r side) in
       let here = behind-rows side g (g .limit) in
       let in-bytes : (r : ℕ) → NewRow r (table side (run (lent g) (r - 1))) (table side (run (lent g) r)) end
-      → NewBytes r (rows-after side g (r - 1)) (length (table side (run (lent g) (r - 1)))) left-rows (mark-numbers end marks) (length end) =
+      → NewBytes r (row-part side (after g (r - 1))) (length (table side (run (lent g) (r - 1)))) left-rows (mark-numbers end marks) (length end) =
       λ r new.
       subst (λ (b : List ℕ). NewBytes r b (length (table side (run (lent g) (r - 1)))) left-rows (mark-numbers end marks) (length end))
       (rows-so side g (r - 1))
@@ -127,7 +127,7 @@ module _ (g : Given) (passes : Passes (g .kinds) (g .literals)) (claim : Claim (
         to-the-end = λ never r f. in-bytes r (claim .to-the-end side r never f);
       }
 
-  pub table-right : (rows-left marks-left : List ℕ) (number : ℕ) → rows-left ≡ rows-after side g (g .limit) → marks-left ≡ mark-numbers end marks
+  pub table-right : (rows-left marks-left : List ℕ) (number : ℕ) → rows-left ≡ row-part side (after g (g .limit)) → marks-left ≡ mark-numbers end marks
       → number ≡ length end → TableRight g side rows-left marks-left number
   table-right rows-left marks-left number a b c =
       subst (λ (n : ℕ). TableRight g side rows-left marks-left n) (sym c)

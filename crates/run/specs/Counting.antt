@@ -20,7 +20,7 @@ use Rattle.expansion.specs.Model.{search}
 use Rattle.expansion.proofs.Membership.{In}
 use Rattle.rounds.specs.Run.{Entry, Table, rows, clears}
 use Rattle.rounds.specs.Counts.{rows-found, once}
-use Rattle.run.specs.Outcome.{Given, counts-after}
+use Rattle.run.specs.Outcome.{Given, after}
 use Rattle.run.specs.Growing.{Passes, HoldsRows, Holds, Blank, Half, no-model, no-room, grows, half, half-table, half-of}
 
 -- The rows that a search yields stand packed from the work area's start.
@@ -102,7 +102,12 @@ TalliesUniversal kinds literals preferences others other-count row-part mark-par
     (half-table t (half-of kinds literals preferences universal place mark from (cond (clears clear-every r) [] t)))
     counts-found
 
--- The lent counts are those of the run after r rounds.
+-- A side's counts as the rounds up to r leave them.
+abbrev pub counts-after : Kind → Given → ℕ → List ℕ
+counts-after universal g r = after g r .universal-counts
+counts-after existential g r = after g r .existential-counts
+
+-- The lent counts are so.
 pub record CountsShow (g : Given) (r : ℕ) (A-counts S-counts : List ℕ) : Type 0 where
   pub counts-A : A-counts ≡ counts-after universal g r
   pub counts-S : S-counts ≡ counts-after existential g r

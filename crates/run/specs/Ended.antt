@@ -17,7 +17,7 @@ use Rattle.rounds.specs.Opening.{OpeningRight}
 use Rattle.rounds.specs.Counts.{counts, CountsRight}
 use Rattle.run.specs.declared.Answer.the-variants.{False, True}
 use Rattle.run.specs.declared.Outcome.{Outcome}
-use Rattle.run.specs.Outcome.{Areas, Given, lent, cause, accepted, reached, number-of, returned, rows-after, left, over-found}
+use Rattle.run.specs.Outcome.{Areas, Given, lent, cause, accepted, reached, number-of, returned, written, after, left}
 
 -- A side's rows, marks, return counts, and the count of its rows.
 abbrev pub row-part : Kind → Areas → List ℕ
@@ -43,6 +43,11 @@ pub record NewBytes (r : ℕ) (before : List ℕ) (before-count : ℕ) (rows-lef
   pub marked : getD marks-left place 0 ≡ r
   pub new : (i : ℕ) → i < before-count → row-at before i ≢ row-at rows-left place
 
+-- The same of a side's tables: before the round they were what the same call with the limit r - 1 leaves.
+abbrev pub Gained : Given → Kind → ℕ → List ℕ → List ℕ → ℕ → Type 0
+Gained g side r rows-left marks-left number =
+    NewBytes r (row-part side (after g (r - 1))) (length (table side (run (lent g) (r - 1)))) rows-left marks-left number
+
 -- A side's tables at exit, read below the count that is returned.
 pub record TableRight (g : Given) (side : Kind) (rows-left marks-left : List ℕ) (number : ℕ) : Type 0 where
   -- They are those of the run.
@@ -50,21 +55,19 @@ pub record TableRight (g : Given) (side : Kind) (rows-left marks-left : List ℕ
   pub marks-read : take number marks-left ≡ map (λ (x : Entry). x .mark) (table side (reached g))
   -- 'In neither table .. at the end, are two rows below its count equal.'
   pub different : (i j : ℕ) → i < number → j < number → row-at rows-left i ≡ row-at rows-left j → i ≡ j
-  -- 'For every finished round r, each table .. has a row with mark r that is equal to no row of that table after round r - 1', which is what the
-  -- same call with the limit r - 1 leaves; 'and it keeps what it gained until the next clearing'.
-  pub new-rows : (r : ℕ) → Finished (lent g) (g .limit) r → Uncleared side (lent g) r (g .limit)
-      → NewBytes r (rows-after side g (r - 1)) (length (table side (run (lent g) (r - 1)))) rows-left marks-left number
+  -- 'For every finished round r, each table .. has a row with mark r that is equal to no row of that table after round r - 1', 'and it keeps what
+  -- it gained until the next clearing'.
+  pub new-rows : (r : ℕ) → Finished (lent g) (g .limit) r → Uncleared side (lent g) r (g .limit) → Gained g side r rows-left marks-left number
   -- 'And this row and its mark still stand below that table's count when the run ends': in the existential table always, in the universal one
   -- if it is never cleared.
-  pub to-the-end : (side ≡ universal → g .clear-every ≡ 0) → (r : ℕ) → Finished (lent g) (g .limit) r
-      → NewBytes r (rows-after side g (r - 1)) (length (table side (run (lent g) (r - 1)))) rows-left marks-left number
+  pub to-the-end : (side ≡ universal → g .clear-every ≡ 0) → (r : ℕ) → Finished (lent g) (g .limit) r → Gained g side r rows-left marks-left number
 
 pub record Ended (g : Given) (r : Outcome) (exit : Areas) : Type 0 where
   pub returned-so : r ≡ returned g
   pub numbered : number-of (r .answer) ≡ cond (accepted g) (number (reached g .answer)) (cause g)
   pub left-so : exit ≡ left g
   -- Demand 1 word for word where the universal table is never cleared: 'rows and marks past the reported counts .. as found'.
-  pub as-found : accepted g ≡ true → g .clear-every ≡ 0 → exit ≡ over-found g
+  pub as-found : accepted g ≡ true → g .clear-every ≡ 0 → exit ≡ written (lent g) (g .limit) (g .found)
   -- 'The verdict is this value of the whole formula': true only where it is true, false only where it is false.
   pub only-true : r .answer ≡ True → verdict (g .kinds) (g .literals) ≡ true
   pub only-false : r .answer ≡ False → verdict (g .kinds) (g .literals) ≡ false

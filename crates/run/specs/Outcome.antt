@@ -146,48 +146,38 @@ row-bytes t found = table-of (rows t) ++ drop (16 * length t) found
 unfoldable pub mark-numbers : Table → List ℕ → List ℕ
 mark-numbers t found = map (λ (x : Entry). x .mark) t ++ drop (length t) found
 
--- What a side's tables hold after round r: the rows of the run over what was found. Of the universal table, 'rows and marks of places given up
--- (below the old count, not the new) are zeroed; the others past the count stay as found': so as many places as it ever reached over are zero
--- behind its rows.
-abbrev pub rows-after : Kind → Given → ℕ → List ℕ
-rows-after universal g r = row-bytes (run (lent g) r .A) (zeroed (16 * highest (lent g) r) (g .found .universal-rows))
-rows-after existential g r = row-bytes (run (lent g) r .S) (g .found .existential-rows)
-
-abbrev pub marks-after : Kind → Given → ℕ → List ℕ
-marks-after universal g r = mark-numbers (run (lent g) r .A) (zeroed (highest (lent g) r) (g .found .universal-marks))
-marks-after existential g r = mark-numbers (run (lent g) r .S) (g .found .existential-marks)
-
--- And how often each row came back; of places given up 0, 'the others past the count stay as found'.
-abbrev pub counts-after : Kind → Given → ℕ → List ℕ
-counts-after universal g r = counts (lent g) universal r ++ drop (length (run (lent g) r .A)) (zeroed (highest (lent g) r) (g .found .universal-counts))
-counts-after existential g r = counts (lent g) existential r ++ drop (length (run (lent g) r .S)) (g .found .existential-counts)
-
--- After an answer the areas hold the tables of the run, and the work area is zero ..
-abbrev pub answered : Given → Areas
-answered g =
+-- The areas with the tables of the run after round r in them, each over what was found, its return counts behind its marks, and with the work area
+-- zero.
+abbrev pub written : Lent → ℕ → Areas → Areas
+written l r found =
     areas
-    (rows-after universal g (g .limit))
-    (marks-after universal g (g .limit))
-    (counts-after universal g (g .limit))
-    (rows-after existential g (g .limit))
-    (marks-after existential g (g .limit))
-    (counts-after existential g (g .limit))
+    (row-bytes (run l r .A) (found .universal-rows))
+    (mark-numbers (run l r .A) (found .universal-marks))
+    (counts l universal r ++ drop (length (run l r .A)) (found .universal-counts))
+    (row-bytes (run l r .S) (found .existential-rows))
+    (mark-numbers (run l r .S) (found .existential-marks))
+    (counts l existential r ++ drop (length (run l r .S)) (found .existential-counts))
     (replicate work-size 0)
 
--- .. after a refusal they are as found.
+-- 02, C-15: 'rows and marks of places given up (below the old count, not the new) are zeroed; the others past the count stay as found'; C-16 the same
+-- of the counts. So where the universal table has reached over n places, these are zero behind its rows.
+abbrev pub given-up : ℕ → Areas → Areas
+given-up n found =
+    areas
+    (zeroed (16 * n) (found .universal-rows))
+    (zeroed n (found .universal-marks))
+    (zeroed n (found .universal-counts))
+    (found .existential-rows)
+    (found .existential-marks)
+    (found .existential-counts)
+    (found .work)
+
+-- What the rounds up to r leave.
+abbrev pub after : Given → ℕ → Areas
+after g r = written (lent g) r (given-up (highest (lent g) r) (g .found))
+
+-- After an answer the areas are as the run leaves them, after a refusal as found.
 unfoldable pub left : Given → Areas
 left g =
-    let written = answered g in
-    cond (accepted g) written (g .found)
-
--- 01's demand 1, 'rows and marks past the reported counts .. as found': what is left where the universal table is never cleared.
-abbrev pub over-found : Given → Areas
-over-found g =
-    areas
-    (row-bytes (reached g .A) (g .found .universal-rows))
-    (mark-numbers (reached g .A) (g .found .universal-marks))
-    (counts (lent g) universal (g .limit) ++ drop (length (reached g .A)) (g .found .universal-counts))
-    (row-bytes (reached g .S) (g .found .existential-rows))
-    (mark-numbers (reached g .S) (g .found .existential-marks))
-    (counts (lent g) existential (g .limit) ++ drop (length (reached g .S)) (g .found .existential-counts))
-    (replicate work-size 0)
+    let answered = after g (g .limit) in
+    cond (accepted g) answered (g .found)

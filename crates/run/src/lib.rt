@@ -598,7 +598,7 @@ fn kept_rows(clear_every: u32, round: u32, count: usize) -> usize
     ensures { λ r. ⌜ r ≡ cond (clears «clear_every» round) 0 count ⌝ }
 {
     if clears(clear_every, round) {
-        return 0;
+        return 0; // all are dropped
     }
     count
 }
