@@ -490,7 +490,7 @@ fn existential_half(
         work,
     );
     let end = step.end;
-    if end == NO_MODEL {
+    if end == NO_MODEL { // no existential row came
         return step;
     }
     let grown = step.count;
@@ -532,7 +532,7 @@ fn universal_half(
         work,
     );
     let end = step.end;
-    if end == NO_MODEL {
+    if end == NO_MODEL { // no universal row came
         return step;
     }
     let grown = step.count;
