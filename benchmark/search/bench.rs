@@ -73,11 +73,11 @@ fn time_runs() {
     println!("|---|---|---|---|---|---|");
     for (name, kinds, literals, target) in formulas::runs() {
         let mut tables = probe::Tables::of(&kinds, &literals);
-        let number = probe::run(&mut tables, 1000);
+        let number = probe::run(&mut tables, 1000, 0);
         let word = ["false", "true", "spent", "no room universal", "no room existential"][number as usize];
         let (round, a, s) = (tables.round.content()[0], tables.universal.content()[0], tables.existential.content()[0]);
         let times = time::measure(|| {
-            probe::run(&mut tables, 1000);
+            probe::run(&mut tables, 1000, 0);
         });
         line(&name, &format!("{}, round {}, {} and {} rows", word, round, a, s), &times, target);
     }
@@ -178,7 +178,7 @@ fn measure_stack(random: &mut Random) {
         line_of_stack(
             name,
             stack::taken(&mut || {
-                probe::run(&mut tables, 1000);
+                probe::run(&mut tables, 1000, 0);
             }),
         );
     }

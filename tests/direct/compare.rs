@@ -104,9 +104,9 @@ pub fn run(given: &Given, looks: usize) -> Result<Wrong, TooLong> {
     Ok(run_with(given, wanted))
 }
 
-/// The same where what it is to leave is known.
-pub fn run_with(given: &Given, wanted: Left) -> Wrong {
-    let mut tables = probe::Tables {
+/// What is lent to a run, with guards.
+pub fn tables(given: &Given) -> probe::Tables {
+    probe::Tables {
         kinds: Lent::new(&given.kinds),
         literals: Lent::new(&given.literals),
         preferences: Lent::new(&given.preferences),
@@ -120,8 +120,13 @@ pub fn run_with(given: &Given, wanted: Left) -> Wrong {
         existential: Lent::new(&[7]),
         opening: Lent::new(&[7; 16]),
         block: Lent::new(&[7]),
-    };
-    let number = probe::run(&mut tables, given.limit);
+    }
+}
+
+/// The same where what it is to leave is known.
+pub fn run_with(given: &Given, wanted: Left) -> Wrong {
+    let mut tables = tables(given);
+    let number = probe::run(&mut tables, given.limit, given.clear_every);
     let mut faults = Faults(Vec::new());
     faults.number("number", number, wanted.number);
     faults.table("round", &tables.round, &[wanted.round]);
@@ -143,7 +148,7 @@ pub fn run_with(given: &Given, wanted: Left) -> Wrong {
     faults.table("existential marks", &tables.existential_marks, &wanted.existential_marks);
     faults.table("work", &tables.work, &wanted.work);
     faults.words(format!(
-        "run, kinds {:?} literals {:?} preferences {:?} tables of {} ({} marks) and {} ({} marks) bytes, work of {}, limit {}",
+        "run, kinds {:?} literals {:?} preferences {:?} tables of {} ({} marks) and {} ({} marks) bytes, work of {}, limit {}, cleared every {}",
         given.kinds,
         given.literals,
         given.preferences,
@@ -152,7 +157,8 @@ pub fn run_with(given: &Given, wanted: Left) -> Wrong {
         given.existential_rows.len(),
         given.existential_marks.len(),
         given.work.len(),
-        given.limit
+        given.limit,
+        given.clear_every
     ))
 }
 

@@ -3,6 +3,7 @@
 //!
 //! usage: direct [TIMES [SEED]]
 
+mod cleared;
 mod compare;
 mod fees;
 #[path = "../independent/mod.rs"]
@@ -36,6 +37,7 @@ fn topics() -> Vec<Topic> {
         topics.push(Box::new(move |random, times, tally| searches::compare_group(i, random, times, tally)));
     }
     topics.push(Box::new(runs::compare_all));
+    topics.push(Box::new(cleared::compare_all));
     topics.push(Box::new(trimmings::compare_small));
     topics.push(Box::new(trimmings::compare_large));
     topics.push(Box::new(refused::compare_all));

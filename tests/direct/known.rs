@@ -9,6 +9,7 @@ use crate::preference::preference;
 use crate::random::Random;
 use crate::rounds::Given;
 use crate::rows::{rows_of, table_of};
+use crate::runs::CLEARED;
 use crate::tally::Tally;
 use crate::wanted::Lending;
 
@@ -144,6 +145,7 @@ fn runs(random: &mut Random) -> Vec<Given> {
             existential_marks: vec![9; 256],
             work: random.bytes(WORK),
             limit: 1000,
+            clear_every: random.pick(&CLEARED),
         });
     }
     all

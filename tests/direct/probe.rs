@@ -51,6 +51,7 @@ extern "C" {
         work: *mut u8,
         work_length: usize,
         limit: u32,
+        clear_every: u32,
         round: *mut u32,
         universal: *mut usize,
         existential: *mut usize,
@@ -174,7 +175,7 @@ impl Tables {
     }
 }
 
-pub fn run(tables: &mut Tables, limit: u32) -> u64 {
+pub fn run(tables: &mut Tables, limit: u32, clear_every: u32) -> u64 {
     unsafe {
         probe_run(
             tables.kinds.address(),
@@ -194,6 +195,7 @@ pub fn run(tables: &mut Tables, limit: u32) -> u64 {
             tables.work.address_mut(),
             tables.work.length(),
             limit,
+            clear_every,
             tables.round.address_mut(),
             tables.universal.address_mut(),
             tables.existential.address_mut(),

@@ -179,6 +179,7 @@ fn boundaries(random: &mut Random, tally: &mut Tally) {
             existential_marks: vec![9; 256],
             work: lending.work.clone(),
             limit: u32::MAX,
+            clear_every: random.pick(&runs::CLEARED),
         };
         tally.case(compare::run(&given, usize::MAX).unwrap());
     }

@@ -1,4 +1,4 @@
-//! Random whole runs with tables from one row up, lent preferences and small limits.
+//! Random whole runs with tables from one row up, lent preferences, small limits, and the universal table never cleared or every few rounds.
 
 use crate::compare;
 use crate::draw;
@@ -9,6 +9,9 @@ use crate::tally::Tally;
 
 /// So many looks at a row the reference may take in one search; a longer run is left out.
 const LOOKS: usize = 200_000;
+
+/// How often the universal table is cleared.
+pub const CLEARED: [u32; 8] = [0, 0, 0, 1, 2, 3, 5, u32::MAX];
 
 /// A run of up to `n` unknowns in tables of up to `rooms` rows, which hold anything when they are lent.
 pub fn given(random: &mut Random, n: usize, rooms: usize) -> Given {
@@ -27,21 +30,42 @@ pub fn given(random: &mut Random, n: usize, rooms: usize) -> Given {
         existential_marks,
         work: random.bytes(WORK),
         limit: random.pick(&[1, 1, 2, 3, 4, 5, 9, 1000, u32::MAX]),
+        clear_every: random.pick(&CLEARED),
     }
 }
 
+/// The same with a prefix whose kinds alternate, cleared every few rounds.
+pub fn alternating(random: &mut Random, n: usize, rooms: usize) -> Given {
+    let mut given = given(random, n, rooms);
+    let n = random.between(n / 2, n);
+    (given.kinds, given.literals) = draw::alternating(random, n);
+    given.limit = given.limit.max(4);
+    given.clear_every = random.pick(&[0, 1, 2, 2, 3, 5]);
+    given
+}
+
+/// A name, how many cases, at most so many unknowns and rows a side, and how they are drawn.
+const SIZES: [(&str, usize, usize, usize, fn(&mut Random, usize, usize) -> Given); 5] = [
+    ("few unknowns", 30_000, 7, 8, given),
+    ("few rows", 10_000, 9, 3, given),
+    ("more unknowns", 5_000, 14, 256, given),
+    ("alternating", 10_000, 8, 16, alternating),
+    ("alternating, more unknowns", 2_000, 14, 256, alternating),
+];
+
 pub fn compare_all(random: &mut Random, times: usize, tally: &mut Tally) {
-    for (name, cases, n, rooms) in [("few unknowns", 30_000, 7, 8), ("few rows", 10_000, 9, 3), ("more unknowns", 5_000, 14, 256)] {
+    for (name, cases, n, rooms, draw) in SIZES {
         let (mut compared, mut left_out) = (0, 0);
         let mut answers = [0; 5];
-        let (mut most, mut opened) = (0, 0);
+        let (mut most, mut opened, mut gave_up) = (0, 0, 0);
         for _ in 0..cases * times {
-            let given = given(random, n, rooms);
+            let given = draw(random, n, rooms);
             match given.left(LOOKS) {
                 Ok(wanted) => {
                     answers[wanted.number as usize] += 1;
                     most = most.max(wanted.round);
                     opened += usize::from(wanted.block > 0);
+                    gave_up += usize::from(wanted.given_up > 0);
                     tally.case(compare::run_with(&given, wanted));
                     compared += 1;
                 }
@@ -49,8 +73,8 @@ pub fn compare_all(random: &mut Random, times: usize, tally: &mut Tally) {
             }
         }
         println!(
-            "runs, {}: {} compared, {} left out; answers 0 to 4: {:?}, at most {} rounds, {} with an opening",
-            name, compared, left_out, answers, most, opened
+            "runs, {}: {} compared, {} left out; answers 0 to 4: {:?}, at most {} rounds, {} with an opening, {} with places given up",
+            name, compared, left_out, answers, most, opened, gave_up
         );
     }
 }

@@ -70,7 +70,7 @@ fn chained(random: &mut Random, n: usize) -> Vec<i32> {
 /// The answer of a run with the house preferences and 256 rows a side.
 fn answer(kinds: &[u8], literals: &[i32]) -> u64 {
     let mut tables = probe::Tables::of(kinds, literals);
-    probe::run(&mut tables, 1000)
+    probe::run(&mut tables, 1000, 0)
 }
 
 /// What is left is trimmed again, its meaning and its run are held against the lent formula's meaning.

@@ -18,7 +18,7 @@ const BRUTE_FORCE: usize = 10;
 /// The run of a text's formula, with no preferences lent.
 fn outcome(read: &Read, limit: u32, looks: usize) -> Result<Outcome, TooLong> {
     let clauses = clauses(&read.literals);
-    let outcome = rounds(&read.kinds, &clauses, &[], (ROOM, ROOM), limit, looks)?;
+    let outcome = rounds(&read.kinds, &clauses, &[], (ROOM, ROOM), limit, 0, looks)?;
     if read.kinds.len() <= BRUTE_FORCE {
         assert!(outcome.answer > 1 || (outcome.answer == 1) == meaning(&read.kinds, &clauses), "meaning of {:?}", read);
         assert!(is_within_bounds(read, &outcome), "rounds and counts of {:?}", read);

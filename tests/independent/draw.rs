@@ -84,6 +84,22 @@ pub fn mixed(random: &mut Random, n: usize) -> Vec<i32> {
     }
 }
 
+/// A prefix whose kinds alternate, and clauses of four names, two of them existential, as many as leave the verdict open: such a formula takes
+/// several rounds, whose models yield few different rows and many by turns.
+pub fn alternating(random: &mut Random, n: usize) -> (Vec<u8>, Vec<i32>) {
+    let first = random.below(2) as u8;
+    let kinds: Vec<u8> = (0..n).map(|k| (k as u8 + first) % 2).collect();
+    let existential: Vec<i32> = (0..n).filter(|&k| kinds[k] == 0).map(|k| k as i32 + 1).collect();
+    let mut literals = Vec::new();
+    for _ in 0..random.between(2 * n, 4 * n) {
+        for name in [random.between(1, n) as i32, random.between(1, n) as i32, random.pick(&existential), random.pick(&existential)] {
+            literals.push(if random.chance(1, 2) { name } else { -name });
+        }
+        literals.push(0);
+    }
+    (kinds, literals)
+}
+
 /// None lent in a third of the cases, else mostly one to nine bytes, of which only the lowest bits count.
 pub fn preferences(random: &mut Random) -> Vec<u8> {
     let length = if random.chance(1, 3) { 0 } else { random.pick(&[1, 2, 3, 4, 5, 6, 7, 8, 9, 9, 255, 256, 300]) };

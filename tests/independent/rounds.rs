@@ -1,4 +1,4 @@
-//! The run, as 01 words it.
+//! The run, as 01 words it; and clearing the universal table, as 02 does.
 
 use super::formula::{clauses, count_of, formula_cause, rows_fit, Side, WORK};
 use super::model::{Problem, Row, TooLong};
@@ -6,6 +6,7 @@ use super::opening::opening;
 use super::preference::preference;
 use super::rows::encoded;
 use super::wanted::first_model;
+use std::collections::BTreeSet;
 
 /// The rows of a table and the round that each came in.
 #[derive(Clone, Debug, Default)]
@@ -30,6 +31,22 @@ impl Table {
         }
         fits
     }
+
+    /// 'Comes to hold only the different rows of that round's model, in order, all with that round's mark'; 'no room then means that these rows
+    /// alone don't fit, and leaves the table'.
+    fn renew(&mut self, yielded: Vec<Row>, mark: u16, room: usize) -> bool {
+        let mut alone = Table::default();
+        let fits = alone.add(yielded, mark, room);
+        if fits {
+            *self = alone;
+        }
+        fits
+    }
+}
+
+/// 'In step 4 of each round divisible by k', 0 for never.
+pub fn clears(k: u32, round: u32) -> bool {
+    k > 0 && round % k == 0
 }
 
 pub struct Outcome {
@@ -37,6 +54,8 @@ pub struct Outcome {
     pub round: u32,
     pub universal: Table,
     pub existential: Table,
+    /// The places of the universal table that a clearing has given up, 'below the old count, not the new', whether used again or not.
+    pub given_up: BTreeSet<usize>,
 }
 
 /// The run of an accepted formula.
@@ -46,11 +65,13 @@ pub fn rounds(
     preferences: &[u8],
     room: (usize, usize),
     limit: u32,
+    clear_every: u32,
     looks: usize,
 ) -> Result<Outcome, TooLong> {
     let start = (0..count_of(kinds, Side::Universal)).map(|k| preference(preferences, k)).collect();
     let mut universal = Table { rows: vec![start], marks: vec![0] };
     let mut existential = Table::default();
+    let mut given_up = BTreeSet::new();
     let mut round = 0;
     let answer = loop {
         round += 1;
@@ -67,6 +88,13 @@ pub fn rounds(
         let problem = Problem { kinds, clauses, preferences, rows: &existential.rows, side: Side::Universal };
         match first_model(&problem, looks)? {
             None => break 1,
+            Some(yielded) if clears(clear_every, round) => {
+                let old = universal.rows.len();
+                if !universal.renew(yielded, mark, room.0) {
+                    break 3;
+                }
+                given_up.extend(universal.rows.len()..old);
+            }
             Some(yielded) => {
                 if !universal.add(yielded, mark, room.0) {
                     break 3;
@@ -77,7 +105,7 @@ pub fn rounds(
             break 2;
         }
     };
-    Ok(Outcome { answer, round, universal, existential })
+    Ok(Outcome { answer, round, universal, existential, given_up })
 }
 
 /// What a run is lent.
@@ -92,6 +120,7 @@ pub struct Given {
     pub existential_marks: Vec<u16>,
     pub work: Vec<u8>,
     pub limit: u32,
+    pub clear_every: u32,
 }
 
 /// What a run returns and leaves.
@@ -107,6 +136,8 @@ pub struct Left {
     pub existential_rows: Vec<u8>,
     pub existential_marks: Vec<u16>,
     pub work: Vec<u8>,
+    /// How many places past the universal count are zero since they were given up.
+    pub given_up: usize,
 }
 
 impl Given {
@@ -140,13 +171,14 @@ impl Given {
             existential_rows: self.existential_rows.clone(),
             existential_marks: self.existential_marks.clone(),
             work: self.work.clone(),
+            given_up: 0,
         };
         if let Some(cause) = self.cause() {
             left.number = 100 + u64::from(cause);
             return Ok(left);
         }
         let room = (self.universal_marks.len(), self.existential_marks.len());
-        let outcome = rounds(&self.kinds, &clauses(&self.literals), &self.preferences, room, self.limit, looks)?;
+        let outcome = rounds(&self.kinds, &clauses(&self.literals), &self.preferences, room, self.limit, self.clear_every, looks)?;
         left.number = outcome.answer;
         left.round = outcome.round;
         left.universal = outcome.universal.rows.len();
@@ -155,6 +187,11 @@ impl Given {
         left.opening = encoded(&opening).to_vec();
         left.block = opening.len();
         write(&outcome.universal, &mut left.universal_rows, &mut left.universal_marks);
+        for &place in outcome.given_up.range(left.universal..) {
+            left.universal_rows[16 * place..16 * place + 16].fill(0);
+            left.universal_marks[place] = 0;
+            left.given_up += 1;
+        }
         write(&outcome.existential, &mut left.existential_rows, &mut left.existential_marks);
         left.work = vec![0; WORK];
         Ok(left)
