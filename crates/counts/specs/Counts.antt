@@ -1,18 +1,11 @@
--- Return counts as lent tables: which tables are refused, and what a search with a model makes of one.
+-- What a search with a model makes of a table of return counts. No contract of the run cites this file.
 -- Assumes nothing.
 use Prim.Native.Nat.{ℕ, zero, suc, _+_, _%_, _^_}
 use mathlib.Core.Bool.{Bool, true, false}
 use mathlib.Core.List.{List, [], _∷_}
-use lib.Dec.{eqb}
-use lib.ListN.{length}
-use Rattle.rows.specs.Table.{room}
 use Rattle.rows.specs.Access.{first-place}
 use Rattle.rows.specs.declared.Found.{Found}
 use Rattle.rows.specs.declared.Found.the-variants.{At, Absent}
-
--- Cause 16: 'a count table that isn't one entry a row'.
-abbrev pub counts-fit : List ℕ → List ℕ → Bool
-counts-fit table counts = eqb (length counts) (room table)
 
 abbrev pub is-place : Found → Bool
 is-place (At i) = true

@@ -1,2 +1,3 @@
--- Return counts, as the functions make them.
+-- Return counts: which tables are refused, and what the functions make of one.
+pub mod Fit
 pub mod Counts

@@ -6,7 +6,8 @@ use rows::Found;
 ghost use mathlib.Core.Path.{_≡_};
 ghost use Prim.Native.Nat.{min};
 ghost use lib.ListN.{length};
-ghost use Rattle.counts.specs.Counts.{counts-fit, was-yielded, one-more, counted-up, filled, updated};
+ghost use Rattle.counts.specs.Fit.{counts-fit};
+ghost use Rattle.counts.specs.Counts.{was-yielded, one-more, counted-up, filled, updated};
 
 const ROW: usize = rows::BITS / 8;
 

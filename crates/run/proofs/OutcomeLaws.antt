@@ -6,7 +6,7 @@ use mathlib.Core.Bool.{Bool, true, false, not, cond, true≢false}
 use mathlib.Core.List.{List, [], _++_}
 use lib.Dec.{eqb}
 use lib.IntN.{ℤ}
-use lib.ListN.{length, take, drop, replicate, length-map}
+use lib.ListN.{length, take, replicate, length-map}
 use lib.Seq.{take-at}
 use borrow.Author.Tests.{eq-eqb, ne-eqb}
 use Rattle.formula.specs.Formula.{work-size, Kind, existential, universal, prefix}
@@ -24,7 +24,7 @@ use Rattle.rounds.specs.Run.{Entry, is-false, is-true, spent, no-room-universal
 use Rattle.rounds.specs.Claim.{table, Claim}
 use Rattle.rounds.specs.Counts.{came, counts}
 use Rattle.run.specs.declared.Answer.the-variants.{False, True}
-use Rattle.run.specs.Outcome.{Areas, areas, Given, given, lent, tables-fit, tables-counted, cause, accepted, reached, named, number-of, reported, refusal, row-bytes, mark-numbers, returned, written, after, left}
+use Rattle.run.specs.Outcome.{Areas, areas, Given, given, lent, tables-fit, tables-counted, cause, accepted, reached, named, number-of, reported, refusal, returned, written, after, left}
 use Rattle.run.specs.Ended.{row-part, mark-part, count-part, count-of, TableRight, Ended}
 use Rattle.run.specs.Growing.{Passes, with-opening, ShowsRun, FirstCause}
 use Rattle.run.specs.Counting.{CountsShow}
@@ -121,10 +121,10 @@ after-if-never g never =
     let on-rows = rows-if-never (reached g .A) (highest (lent g) (g .limit)) (g .found .universal-rows) same in
     let on-marks = marks-if-never (reached g .A) (highest (lent g) (g .limit)) (g .found .universal-marks) same in
     let on-counts = drop-zeroed (highest (lent g) (g .limit)) (length (reached g .A)) (g .found .universal-counts) (omega arith) in
+    let all = written (lent g) (g .limit) (g .found) in
     λ d.
-    areas (on-rows d) (on-marks d) (counts (lent g) universal (g .limit) ++ on-counts d) (row-bytes (reached g .S) (g .found .existential-rows))
-    (mark-numbers (reached g .S) (g .found .existential-marks))
-    (counts (lent g) existential (g .limit) ++ drop (length (reached g .S)) (g .found .existential-counts)) (replicate work-size 0)
+    areas (on-rows d) (on-marks d) (counts (lent g) universal (g .limit) ++ on-counts d) (all .existential-rows) (all .existential-marks) (all .existential-counts)
+    (all .work)
 
 -- The counts below a table's count.
 counts-back : (g : Given) (side : Kind) → take (length (table side (reached g))) (count-part side (after g (g .limit))) ≡ counts (lent g) side (g .limit)

@@ -20,7 +20,8 @@ use Rattle.rows.proofs.ZeroedLaws.{length-zeroed, zeroed-again, drop-zeroed}
 use Rattle.expansion.specs.Play.{Row}
 use Rattle.expansion.specs.Copies.{among}
 use Rattle.expansion.specs.Model.{search}
-use Rattle.counts.specs.Counts.{counts-fit, filled}
+use Rattle.counts.specs.Fit.{counts-fit}
+use Rattle.counts.specs.Counts.{filled}
 use Rattle.rounds.specs.Run.{Entry, Table, rows, clears, kept, Answer, is-false, is-true, spent, no-room-universal, no-room-existential, Outcome, Lent, round-of, run, highest}
 use Rattle.rounds.specs.Counts.{rows-found, second-search, is-spent, once, came, counts}
 use Rattle.rounds.proofs.RoundLaws.{Over}

@@ -12,7 +12,7 @@ use Rattle.formula.specs.Causes.{checked, number as cause-number}
 use Rattle.preference.specs.Preference.{prefer}
 use Rattle.rows.specs.Row.{bytes-of}
 use Rattle.rows.specs.Table.{table-of, room, table-fits, marks-fit, zeroed}
-use Rattle.counts.specs.Counts.{counts-fit}
+use Rattle.counts.specs.Fit.{counts-fit}
 use Rattle.rounds.specs.Run.{Entry, Table, rows, Lent, run, highest, is-false, is-true, spent, no-room-universal, no-room-existential, Answer as RunAnswer, Outcome as RunOutcome}
 use Rattle.rounds.specs.Opening.{opening, opening-length}
 use Rattle.rounds.specs.Counts.{counts}
