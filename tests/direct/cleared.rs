@@ -118,13 +118,13 @@ fn judged(given: &Given, last: &After) -> Wrong {
     }
 }
 
-/// A run of up to 10 unknowns, half of them with room for all rows.
+/// A run of up to 10 unknowns, half of them with room for all rows, or 256.
 fn given(random: &mut Random) -> Given {
     let draw = random.pick(&[runs::given, runs::alternating]);
     let mut given = draw(random, 10, 16);
     if random.chance(1, 2) {
         let resize = |side: Side, rows: &mut Vec<u8>, marks: &mut Vec<u16>, counts: &mut Vec<u32>| {
-            let room = 1 << count_of(&given.kinds, side);
+            let room = (1 << count_of(&given.kinds, side)).min(256);
             rows.resize(16 * room, 0xa5);
             marks.resize(room, 9);
             counts.resize(room, 9);
