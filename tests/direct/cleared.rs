@@ -123,13 +123,14 @@ fn given(random: &mut Random) -> Given {
     let draw = random.pick(&[runs::given, runs::alternating]);
     let mut given = draw(random, 10, 16);
     if random.chance(1, 2) {
-        let resize = |side: Side, rows: &mut Vec<u8>, marks: &mut Vec<u16>| {
+        let resize = |side: Side, rows: &mut Vec<u8>, marks: &mut Vec<u16>, counts: &mut Vec<u32>| {
             let room = (1 << count_of(&given.kinds, side)).min(256);
             rows.resize(16 * room, 0xa5);
             marks.resize(room, 9);
+            counts.resize(room, 9);
         };
-        resize(Side::Universal, &mut given.universal_rows, &mut given.universal_marks);
-        resize(Side::Existential, &mut given.existential_rows, &mut given.existential_marks);
+        resize(Side::Universal, &mut given.universal_rows, &mut given.universal_marks, &mut given.universal_counts);
+        resize(Side::Existential, &mut given.existential_rows, &mut given.existential_marks, &mut given.existential_counts);
     }
     given
 }

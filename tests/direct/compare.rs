@@ -112,8 +112,10 @@ pub fn tables(given: &Given) -> probe::Tables {
         preferences: Lent::new(&given.preferences),
         universal_rows: Lent::new(&given.universal_rows),
         universal_marks: Lent::new(&given.universal_marks),
+        universal_counts: Lent::new(&given.universal_counts),
         existential_rows: Lent::new(&given.existential_rows),
         existential_marks: Lent::new(&given.existential_marks),
+        existential_counts: Lent::new(&given.existential_counts),
         work: Lent::new(&given.work),
         round: Lent::new(&[7]),
         universal: Lent::new(&[7]),
@@ -144,18 +146,22 @@ pub fn run_with(given: &Given, wanted: Left) -> Wrong {
     faults.table("preferences", &tables.preferences, &given.preferences);
     faults.table("universal rows", &tables.universal_rows, &wanted.universal_rows);
     faults.table("universal marks", &tables.universal_marks, &wanted.universal_marks);
+    faults.table("universal counts", &tables.universal_counts, &wanted.universal_counts);
     faults.table("existential rows", &tables.existential_rows, &wanted.existential_rows);
     faults.table("existential marks", &tables.existential_marks, &wanted.existential_marks);
+    faults.table("existential counts", &tables.existential_counts, &wanted.existential_counts);
     faults.table("work", &tables.work, &wanted.work);
     faults.words(format!(
-        "run, kinds {:?} literals {:?} preferences {:?} tables of {} ({} marks) and {} ({} marks) bytes, work of {}, limit {}, cleared every {}",
+        "run, kinds {:?} literals {:?} preferences {:?} tables of {} ({} marks, {} counts) and {} ({} marks, {} counts) bytes, work of {}, limit {}, cleared every {}",
         given.kinds,
         given.literals,
         given.preferences,
         given.universal_rows.len(),
         given.universal_marks.len(),
+        given.universal_counts.len(),
         given.existential_rows.len(),
         given.existential_marks.len(),
+        given.existential_counts.len(),
         given.work.len(),
         given.limit,
         given.clear_every

@@ -5,6 +5,7 @@
 
 mod cleared;
 mod compare;
+mod counted;
 mod fees;
 mod forecast_probe;
 mod forecasts;
@@ -40,6 +41,7 @@ fn topics() -> Vec<Topic> {
     }
     topics.push(Box::new(runs::compare_all));
     topics.push(Box::new(cleared::compare_all));
+    topics.push(Box::new(counted::compare_all));
     topics.push(Box::new(trimmings::compare_small));
     topics.push(Box::new(trimmings::compare_large));
     topics.push(Box::new(refused::compare_all));

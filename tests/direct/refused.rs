@@ -86,11 +86,55 @@ fn search_or_judge(random: &mut Random, tally: &mut Tally) {
     tally.case(compare::judge(&lending, claim, LOOKS).unwrap());
 }
 
-/// A run with some of the causes 1 to 6.
+/// A count table that isn't one entry a row: none, one too few, one too many, one a byte.
+fn spoil_counts(random: &mut Random, given: &mut Given) {
+    let (rows, counts) = match random.below(2) {
+        0 => (&given.universal_rows, &mut given.universal_counts),
+        _ => (&given.existential_rows, &mut given.existential_counts),
+    };
+    let room = rows.len() / 16;
+    counts.resize(random.pick(&[0, room.saturating_sub(1), room + 1, 16 * room + 1]), 5);
+}
+
+/// The causes 4, 16, 5 and 6 in every choice of them, so that their order shows: a row table that is refused hides its count table.
+fn orders(random: &mut Random, tally: &mut Tally) {
+    for chosen in 0..16 {
+        for _ in 0..8 {
+            let mut given = runs::given(random, 5, 4);
+            if chosen & 1 != 0 {
+                spoil_tables(random, &mut given);
+            }
+            if chosen & 2 != 0 {
+                spoil_counts(random, &mut given);
+            }
+            if chosen & 4 != 0 {
+                spoil_length(random, &mut given.work, &WORKS);
+            }
+            if chosen & 8 != 0 {
+                given.limit = 0;
+            }
+            tally.case(compare::run(&given, LOOKS).unwrap());
+        }
+    }
+}
+
+/// Cause 4, of one of the four tables.
+fn spoil_tables(random: &mut Random, given: &mut Given) {
+    match random.below(4) {
+        0 => spoil_length(random, &mut given.universal_rows, &ROWS),
+        1 => spoil_length(random, &mut given.existential_rows, &ROWS),
+        2 => given.universal_marks.push(3),
+        _ => {
+            given.existential_marks.pop();
+        }
+    }
+}
+
+/// A run with some of the causes 1 to 6 and 16.
 fn run(random: &mut Random, tally: &mut Tally) {
     let mut given = runs::given(random, 5, 4);
-    let single = random.below(7);
-    let spoils: Vec<bool> = (0..6).map(|i| i == single || random.chance(1, 4)).collect();
+    let single = random.below(8);
+    let spoils: Vec<bool> = (0..7).map(|i| i == single || random.chance(1, 4)).collect();
     if spoils[0] {
         spoil_kinds(random, &mut given.kinds);
     }
@@ -101,19 +145,15 @@ fn run(random: &mut Random, tally: &mut Tally) {
         spoil_literal(random, given.kinds.len(), &mut given.literals);
     }
     if spoils[3] {
-        match random.below(4) {
-            0 => spoil_length(random, &mut given.universal_rows, &ROWS),
-            1 => spoil_length(random, &mut given.existential_rows, &ROWS),
-            2 => given.universal_marks.push(3),
-            _ => {
-                given.existential_marks.pop();
-            }
-        }
+        spoil_tables(random, &mut given);
     }
     if spoils[4] {
-        spoil_length(random, &mut given.work, &WORKS);
+        spoil_counts(random, &mut given);
     }
     if spoils[5] {
+        spoil_length(random, &mut given.work, &WORKS);
+    }
+    if spoils[6] {
         given.limit = 0;
     }
     tally.case(compare::run(&given, LOOKS).unwrap());
@@ -175,8 +215,10 @@ fn boundaries(random: &mut Random, tally: &mut Tally) {
             preferences: vec![],
             universal_rows: lending.rows.clone(),
             universal_marks: vec![9; 256],
+            universal_counts: vec![u32::MAX; 256],
             existential_rows: lending.rows.clone(),
             existential_marks: vec![9; 256],
+            existential_counts: vec![u32::MAX; 256],
             work: lending.work.clone(),
             limit: u32::MAX,
             clear_every: random.pick(&runs::CLEARED),
@@ -188,6 +230,7 @@ fn boundaries(random: &mut Random, tally: &mut Tally) {
 pub fn compare_all(random: &mut Random, times: usize, tally: &mut Tally) {
     let before = tally.passed + tally.failed;
     boundaries(random, tally);
+    orders(random, tally);
     for _ in 0..4_000 * times {
         search_or_judge(random, tally);
         run(random, tally);

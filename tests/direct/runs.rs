@@ -20,14 +20,18 @@ pub fn given(random: &mut Random, n: usize, rooms: usize) -> Given {
     let (a, s) = (random.between(1, rooms), random.between(1, rooms));
     let mut marks = |room: usize| (0..room).map(|_| random.next() as u16).collect::<Vec<u16>>();
     let (universal_marks, existential_marks) = (marks(a), marks(s));
+    let mut counts = |room: usize| (0..room).map(|_| random.next() as u32).collect::<Vec<u32>>();
+    let (universal_counts, existential_counts) = (counts(a), counts(s));
     Given {
         kinds: draw::kinds(random, n),
         literals,
         preferences: draw::preferences(random),
         universal_rows: random.bytes(16 * a),
         universal_marks,
+        universal_counts,
         existential_rows: random.bytes(16 * s),
         existential_marks,
+        existential_counts,
         work: random.bytes(WORK),
         limit: random.pick(&[1, 1, 2, 3, 4, 5, 9, 1000, u32::MAX]),
         clear_every: random.pick(&CLEARED),
@@ -57,7 +61,7 @@ pub fn compare_all(random: &mut Random, times: usize, tally: &mut Tally) {
     for (name, cases, n, rooms, draw) in SIZES {
         let (mut compared, mut left_out) = (0, 0);
         let mut answers = [0; 5];
-        let (mut most, mut opened, mut gave_up) = (0, 0, 0);
+        let (mut most, mut opened, mut gave_up, mut came_back) = (0, 0, 0, 0);
         for _ in 0..cases * times {
             let given = draw(random, n, rooms);
             match given.left(LOOKS) {
@@ -66,6 +70,8 @@ pub fn compare_all(random: &mut Random, times: usize, tally: &mut Tally) {
                     most = most.max(wanted.round);
                     opened += usize::from(wanted.block > 0);
                     gave_up += usize::from(wanted.given_up > 0);
+                    let counts = wanted.universal_counts[..wanted.universal].iter().chain(&wanted.existential_counts[..wanted.existential]);
+                    came_back = counts.fold(came_back, |most, &count| most.max(count));
                     tally.case(compare::run_with(&given, wanted));
                     compared += 1;
                 }
@@ -73,8 +79,8 @@ pub fn compare_all(random: &mut Random, times: usize, tally: &mut Tally) {
             }
         }
         println!(
-            "runs, {}: {} compared, {} left out; answers 0 to 4: {:?}, at most {} rounds, {} with an opening, {} with places given up",
-            name, compared, left_out, answers, most, opened, gave_up
+            "runs, {}: {} compared, {} left out; answers 0 to 4: {:?}, at most {} rounds, {} with an opening, {} with places given up; a row came at most {} times",
+            name, compared, left_out, answers, most, opened, gave_up, came_back
         );
     }
 }

@@ -1,5 +1,6 @@
-//! The run, as 01 words it; and clearing the universal table, as 02 does.
+//! The run, as 01 words it; clearing the universal table, and the return counts, as 02 does.
 
+use super::counts::{counts, counts_fit, Searched};
 use super::formula::{clauses, count_of, formula_cause, rows_fit, Side, WORK};
 use super::model::{Problem, Row, TooLong};
 use super::opening::opening;
@@ -56,6 +57,9 @@ pub struct Outcome {
     pub existential: Table,
     /// The places of the universal table that a clearing has given up, 'below the old count, not the new', whether used again or not.
     pub given_up: BTreeSet<usize>,
+    /// Every search that found a model, and the round of the last clearing.
+    pub searches: Vec<Searched>,
+    pub cleared: Option<u32>,
 }
 
 /// The run of an accepted formula.
@@ -72,6 +76,8 @@ pub fn rounds(
     let mut universal = Table { rows: vec![start], marks: vec![0] };
     let mut existential = Table::default();
     let mut given_up = BTreeSet::new();
+    let mut searches = Vec::new();
+    let mut cleared = None;
     let mut round = 0;
     let answer = loop {
         round += 1;
@@ -80,6 +86,7 @@ pub fn rounds(
         match first_model(&problem, looks)? {
             None => break 0,
             Some(yielded) => {
+                searches.push(Searched { round, side: Side::Existential, yielded: yielded.clone() });
                 if !existential.add(yielded, mark, room.1) {
                     break 4;
                 }
@@ -89,13 +96,16 @@ pub fn rounds(
         match first_model(&problem, looks)? {
             None => break 1,
             Some(yielded) if clears(clear_every, round) => {
+                searches.push(Searched { round, side: Side::Universal, yielded: yielded.clone() });
                 let old = universal.rows.len();
                 if !universal.renew(yielded, mark, room.0) {
                     break 3;
                 }
                 given_up.extend(universal.rows.len()..old);
+                cleared = Some(round);
             }
             Some(yielded) => {
+                searches.push(Searched { round, side: Side::Universal, yielded: yielded.clone() });
                 if !universal.add(yielded, mark, room.0) {
                     break 3;
                 }
@@ -105,7 +115,7 @@ pub fn rounds(
             break 2;
         }
     };
-    Ok(Outcome { answer, round, universal, existential, given_up })
+    Ok(Outcome { answer, round, universal, existential, given_up, searches, cleared })
 }
 
 /// What a run is lent.
@@ -116,8 +126,10 @@ pub struct Given {
     pub preferences: Vec<u8>,
     pub universal_rows: Vec<u8>,
     pub universal_marks: Vec<u16>,
+    pub universal_counts: Vec<u32>,
     pub existential_rows: Vec<u8>,
     pub existential_marks: Vec<u16>,
+    pub existential_counts: Vec<u32>,
     pub work: Vec<u8>,
     pub limit: u32,
     pub clear_every: u32,
@@ -133,8 +145,10 @@ pub struct Left {
     pub block: usize,
     pub universal_rows: Vec<u8>,
     pub universal_marks: Vec<u16>,
+    pub universal_counts: Vec<u32>,
     pub existential_rows: Vec<u8>,
     pub existential_marks: Vec<u16>,
+    pub existential_counts: Vec<u32>,
     pub work: Vec<u8>,
     /// How many places past the universal count are zero since they were given up.
     pub given_up: usize,
@@ -148,6 +162,9 @@ impl Given {
         let side_fits = |rows: &[u8], marks: &[u16]| rows_fit(rows.len()) && marks.len() == rows.len() / 16;
         if !side_fits(&self.universal_rows, &self.universal_marks) || !side_fits(&self.existential_rows, &self.existential_marks) {
             return Some(4);
+        }
+        if !counts_fit(self.universal_rows.len(), self.universal_counts.len()) || !counts_fit(self.existential_rows.len(), self.existential_counts.len()) {
+            return Some(16);
         }
         if self.work.len() != WORK {
             return Some(5);
@@ -168,8 +185,10 @@ impl Given {
             block: 0,
             universal_rows: self.universal_rows.clone(),
             universal_marks: self.universal_marks.clone(),
+            universal_counts: self.universal_counts.clone(),
             existential_rows: self.existential_rows.clone(),
             existential_marks: self.existential_marks.clone(),
+            existential_counts: self.existential_counts.clone(),
             work: self.work.clone(),
             given_up: 0,
         };
@@ -190,9 +209,13 @@ impl Given {
         for &place in outcome.given_up.range(left.universal..) {
             left.universal_rows[16 * place..16 * place + 16].fill(0);
             left.universal_marks[place] = 0;
+            left.universal_counts[place] = 0;
             left.given_up += 1;
         }
         write(&outcome.existential, &mut left.existential_rows, &mut left.existential_marks);
+        let counted = |side: Side, table: &Table| counts(&outcome.searches, side, outcome.cleared, &table.rows);
+        left.universal_counts[..left.universal].copy_from_slice(&counted(Side::Universal, &outcome.universal));
+        left.existential_counts[..left.existential].copy_from_slice(&counted(Side::Existential, &outcome.existential));
         left.work = vec![0; WORK];
         Ok(left)
     }

@@ -13,13 +13,17 @@ use Rattle.rows.specs.Table.{table-fits}
 use Rattle.formula.specs.Formula.{work-size, prefix}
 use Rattle.rounds.specs.Run.{run}
 use Rattle.run.specs.declared.Outcome.{Outcome}
-use Rattle.run.specs.Outcome.{Areas, Given, lent, side-fits, tables-fit, cause, reported, returned, left}
+use Rattle.run.specs.Outcome.{Areas, Given, lent, side-fits, tables-fit, tables-counted, cause, reported, returned, left}
 use Rattle.run.specs.Ended.{Ended}
-use Rattle.decision.specs.Decision.{own-rows, own-marks, handed-on, own-lent}
+use Rattle.decision.specs.Decision.{own-rows, own-marks, own-counts, handed-on, own-lent}
 
 own-rows-fit : tables-fit own-rows own-marks own-rows own-marks ≡ true
 unfolding tables-fit side-fits table-fits
 own-rows-fit = refl
+
+own-rows-counted : tables-counted own-rows own-counts own-rows own-counts ≡ true
+unfolding tables-counted
+own-rows-counted = refl
 
 module _ (kinds : List ℕ) (literals : List ℤ) (work : List ℕ) (limit : ℕ) where
   pub lent-so : lent (handed-on kinds literals work limit) ≡ own-lent kinds literals
@@ -29,7 +33,7 @@ module _ (kinds : List ℕ) (literals : List ℤ) (work : List ℕ) (limit : ℕ
     -- Of a formula that passes, causes 5 and 6 are left.
     pub cause-so : cause (handed-on kinds literals work limit) ≡ cond (not (eqb (length work) work-size)) 5 (cond (eqb limit 0) 6 0)
     unfolding cause
-    cause-so = rw (passes, own-rows-fit) refl
+    cause-so = rw (passes, own-rows-fit, own-rows-counted) refl
 
     pub returned-so : eqb (length work) work-size ≡ true → eqb limit 0 ≡ false
         → returned (handed-on kinds literals work limit) ≡ reported (prefix kinds) (run (own-lent kinds literals) limit)

@@ -10,16 +10,20 @@ use Rattle.preference.specs.Preference.{prefer}
 use Rattle.rounds.specs.Run.{Lent}
 use Rattle.run.specs.Outcome.{Given, areas, given}
 
--- '256 rows a side': a row is 16 bytes, and a mark table has one number a row. All are zero when the run begins.
+-- '256 rows a side': a row is 16 bytes, and a mark table has one number a row, as has a table of counts. All are zero when the run begins.
 abbrev pub own-rows : List ℕ
 own-rows = replicate (16 * max-rows) 0
 
 abbrev pub own-marks : List ℕ
 own-marks = replicate max-rows 0
 
--- What the run is given: the formula, no preferences, rows and marks of its own, the work area and the limit; the universal table is never cleared.
+abbrev pub own-counts : List ℕ
+own-counts = replicate max-rows 0
+
+-- What the run is given: the formula, no preferences, rows, marks and counts of its own, the work area and the limit; the universal table is never
+-- cleared.
 abbrev pub handed-on : List ℕ → List ℤ → List ℕ → ℕ → Given
-handed-on kinds literals work limit = given kinds literals [] (areas own-rows own-marks own-rows own-marks work) limit 0
+handed-on kinds literals work limit = given kinds literals [] (areas own-rows own-marks own-counts own-rows own-marks own-counts work) limit 0
 
 -- The same as the run's definition takes it.
 abbrev pub own-lent : List ℕ → List ℤ → Lent

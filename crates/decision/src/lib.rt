@@ -14,16 +14,20 @@ pub fn decide(kinds: &[u8], literals: &[i32], work: &mut [u8], limit: u32) -> Ou
     let none = [0u8; 0];
     let mut universal_rows = [0u8; 16 * Formula::ROWS];
     let mut universal_marks = [0u16; Formula::ROWS];
+    let mut universal_counts = [0u32; Formula::ROWS];
     let mut existential_rows = [0u8; 16 * Formula::ROWS];
     let mut existential_marks = [0u16; Formula::ROWS];
+    let mut existential_counts = [0u32; Formula::ROWS];
     run::run(
         kinds,
         literals,
         &none,
         &mut universal_rows,
         &mut universal_marks,
+        &mut universal_counts,
         &mut existential_rows,
         &mut existential_marks,
+        &mut existential_counts,
         work,
         limit,
         0,

@@ -16,8 +16,8 @@ use Rattle.door.specs.Door.{run-number, number-back, work-back, answer, 
 use Rattle.door.proofs.NumberLaws.{run-number-small}
 
 -- The run's number fits.
-pub returned-small : (g : Given) {r : Outcome} → r ≡ returned g → one-number (r .answer) ≤ 106
-returned-small g e = subst (λ (o : Outcome). one-number (o .answer) ≤ 106) (sym e) (run-number-small g)
+pub returned-small : (g : Given) {r : Outcome} → r ≡ returned g → one-number (r .answer) ≤ 116
+returned-small g e = subst (λ (o : Outcome). one-number (o .answer) ≤ 116) (sym e) (run-number-small g)
 
 -- The text is refused.
 pub refused-of-text : (text : List ℕ) (n line : ℕ) → text-read text ≡ refused n line → OfText n

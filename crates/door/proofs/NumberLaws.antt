@@ -10,7 +10,7 @@ use Rattle.formula.specs.Causes.{cause-1, cause-2, cause-3, refused-if, checked
 use Rattle.formula.specs.declared.Formula.{Formula}
 use Rattle.formula.specs.declared.Check.the-variants.{Accepted}
 use Rattle.rounds.specs.Run.{Answer, is-false, is-true, spent, no-room-universal, no-room-existential, number}
-use Rattle.run.specs.Outcome.{Given, tables-fit, cause, accepted, reached, named, returned}
+use Rattle.run.specs.Outcome.{Given, tables-fit, tables-counted, cause, accepted, reached, named, returned}
 use Rattle.run.specs.Numbers.{one-number}
 use Rattle.door.specs.Door.{run-number}
 
@@ -48,21 +48,23 @@ formula-cause-small false true c f = omega arith
 formula-cause-small false false true f = omega arith
 formula-cause-small false false false f = omega arith
 
-first-cause-small : (n : ℕ) → n ≤ 3 → (a b c d : Bool) → cond a (cond b 4 (cond c 5 (cond d 6 0))) n ≤ 6
-first-cause-small n few false b c d = omega arith
-first-cause-small n few true true c d = omega arith
-first-cause-small n few true false true d = omega arith
-first-cause-small n few true false false true = omega arith
-first-cause-small n few true false false false = omega arith
+first-cause-small : (n : ℕ) → n ≤ 3 → (a b c d e : Bool) → cond a (cond b 4 (cond c 16 (cond d 5 (cond e 6 0)))) n ≤ 16
+first-cause-small n few false b c d e = omega arith
+first-cause-small n few true true c d e = omega arith
+first-cause-small n few true false true d e = omega arith
+first-cause-small n few true false false true e = omega arith
+first-cause-small n few true false false false true = omega arith
+first-cause-small n few true false false false false = omega arith
 
 module _ (g : Given) where
-  cause-small : cause g ≤ 6
+  cause-small : cause g ≤ 16
   unfolding cause checked
   cause-small =
       first-cause-small (cause-number (checked (g .kinds) (g .literals)))
       (formula-cause-small (cause-1 (g .kinds)) (cause-2 (g .literals)) (cause-3 (length (g .kinds)) (g .literals)) (sizes (g .kinds) (g .literals)))
       (eqb (cause-number (checked (g .kinds) (g .literals))) 0)
       (not (tables-fit (g .found .universal-rows) (g .found .universal-marks) (g .found .existential-rows) (g .found .existential-marks)))
+      (not (tables-counted (g .found .universal-rows) (g .found .universal-counts) (g .found .existential-rows) (g .found .existential-counts)))
       (not (eqb (length (g .found .work)) work-size)) (eqb (g .limit) 0)
 
   pub run-numbered : (b : Bool) → accepted g ≡ b → run-number g ≡ cond b (number (reached g .answer)) (100 + cause g)
@@ -70,9 +72,9 @@ module _ (g : Given) where
   run-numbered true e = rw e (number-named (reached g .answer))
   run-numbered false e = rw e refl
 
-  pub run-number-small : run-number g ≤ 106
+  pub run-number-small : run-number g ≤ 116
   run-number-small = go (accepted g) refl
     where
-      go : (b : Bool) → accepted g ≡ b → run-number g ≤ 106
+      go : (b : Bool) → accepted g ≡ b → run-number g ≤ 116
       go true e = omega (arith, run-numbered true e, number-small (reached g .answer))
       go false e = omega (arith, run-numbered false e, cause-small)

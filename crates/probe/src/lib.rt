@@ -94,8 +94,10 @@ pub extern "C" fn probe_run(
     preferences: &[u8],
     universal_rows: &mut [u8],
     universal_marks: &mut [u16],
+    universal_counts: &mut [u32],
     existential_rows: &mut [u8],
     existential_marks: &mut [u16],
+    existential_counts: &mut [u32],
     work: &mut [u8],
     limit: u32,
     clear_every: u32,
@@ -105,8 +107,8 @@ pub extern "C" fn probe_run(
     opening: &mut [u8; 16],
     block: &mut usize,
 ) -> u64
-    ensures reported { λ r. ⌜ Reported (given (now (kinds .entry)) (now (literals .entry)) (now (preferences .entry)) (areas (now («universal_rows» .entry)) (now («universal_marks» .entry)) (now («existential_rows» .entry)) (now («existential_marks» .entry)) (now (work .entry))) limit «clear_every») r (now (round .exit)) (now (universal .exit)) (now (existential .exit)) (now (opening .exit)) (now (block .exit)) ⌝ }
-    ensures left { λ _. ⌜ areas (now («universal_rows» .exit)) (now («universal_marks» .exit)) (now («existential_rows» .exit)) (now («existential_marks» .exit)) (now (work .exit)) ≡ run-left (given (now (kinds .entry)) (now (literals .entry)) (now (preferences .entry)) (areas (now («universal_rows» .entry)) (now («universal_marks» .entry)) (now («existential_rows» .entry)) (now («existential_marks» .entry)) (now (work .entry))) limit «clear_every») ⌝ }
+    ensures reported { λ r. ⌜ Reported (given (now (kinds .entry)) (now (literals .entry)) (now (preferences .entry)) (areas (now («universal_rows» .entry)) (now («universal_marks» .entry)) (now («universal_counts» .entry)) (now («existential_rows» .entry)) (now («existential_marks» .entry)) (now («existential_counts» .entry)) (now (work .entry))) limit «clear_every») r (now (round .exit)) (now (universal .exit)) (now (existential .exit)) (now (opening .exit)) (now (block .exit)) ⌝ }
+    ensures left { λ _. ⌜ areas (now («universal_rows» .exit)) (now («universal_marks» .exit)) (now («universal_counts» .exit)) (now («existential_rows» .exit)) (now («existential_marks» .exit)) (now («existential_counts» .exit)) (now (work .exit)) ≡ run-left (given (now (kinds .entry)) (now (literals .entry)) (now (preferences .entry)) (areas (now («universal_rows» .entry)) (now («universal_marks» .entry)) (now («universal_counts» .entry)) (now («existential_rows» .entry)) (now («existential_marks» .entry)) (now («existential_counts» .entry)) (now (work .entry))) limit «clear_every») ⌝ }
 {
     let end = run::run(
         kinds,
@@ -114,8 +116,10 @@ pub extern "C" fn probe_run(
         preferences,
         universal_rows,
         universal_marks,
+        universal_counts,
         existential_rows,
         existential_marks,
+        existential_counts,
         work,
         limit,
         clear_every,

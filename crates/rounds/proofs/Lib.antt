@@ -1,6 +1,8 @@
--- The theorems on the run: the runs worked by hand, cleared ones too, the verdict, the opening, and the claim about the whole run.
+-- The theorems on the run: the runs worked by hand, cleared ones too, and their counts; the verdict, the opening, how often a row came back, and the claim
+-- about the whole run.
 pub mod Worked
 pub mod Cleared
+pub mod Counted
 pub mod Blocks
 pub mod TableLaws
 pub mod GrowthLaws
@@ -8,6 +10,7 @@ pub mod RoundLaws
 pub mod RunLaws
 pub mod Bounds
 pub mod Highest
+pub mod CountsLaws
 pub mod Verdict
 pub mod Opening
 pub mod Claim

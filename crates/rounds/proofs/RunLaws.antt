@@ -27,7 +27,7 @@ run-over : (l : Lent) (r : ℕ) → Over (run l r .answer) → run l (suc r) ≡
 unfolding run
 run-over l r over = next-over l (suc r) (run l r .answer) (run l r) over
 
-spent-or-over : (a : Answer) → (a ≡ spent) ⊎ Over a
+pub spent-or-over : (a : Answer) → (a ≡ spent) ⊎ Over a
 spent-or-over is-false = inr tt
 spent-or-over is-true = inr tt
 spent-or-over spent = inl refl

@@ -2,5 +2,7 @@
 pub mod Run
 pub mod Opening
 pub mod Claim
+pub mod Counts
 pub mod Worked
 pub mod Cleared
+pub mod Counted

@@ -100,7 +100,7 @@ module _ (kinds : List ℕ) (literals : List ℤ) (preferences others : List ℕ
   unfolding outcome
   outcome-is = rw no-cause (ap answer found-is)
 
-  work-is : work-after kinds literals preferences others n side? work ≡ left searched
+  pub work-is : work-after kinds literals preferences others n side? work ≡ left searched
   unfolding work-after
   work-is = rw no-cause (ap left found-is)
 

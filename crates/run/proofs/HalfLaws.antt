@@ -19,12 +19,12 @@ use Rattle.run.specs.Outcome.{Given, lent, named}
 use Rattle.run.specs.Growing.{Holds, Half, no-model, no-room, grows, half, half-fit, half-table, half-of, Extended, said, existential-stop, universal-stop, Shows}
 
 -- The outcome of round r by its steps' ends.
-after-second : ℕ → Table → Table → Half → RunOutcome
+unfoldable pub after-second : ℕ → Table → Table → Half → RunOutcome
 after-second r A S no-model = outcome is-true r A S
 after-second r A S no-room = outcome no-room-universal r A S
 after-second r A S (grows A′) = outcome spent r A′ S
 
-after-first : Lent → ℕ → Table → Table → Half → RunOutcome
+unfoldable pub after-first : Lent → ℕ → Table → Table → Half → RunOutcome
 after-first l r A S no-model = outcome is-false r A S
 after-first l r A S no-room = outcome no-room-existential r A S
 after-first l r A S (grows S′) = after-second r A S′ (half (l .room-A) r (kept l r A) (search (l .prefer) universal (l .ks) (l .phi) (rows S′)))
@@ -45,7 +45,7 @@ module _ (l : Lent) (r : ℕ) (A : Table) where
   end-2 S none = refl
   end-2 S (some S′) = end-3 S′ (search (l .prefer) universal (l .ks) (l .phi) (rows S′))
 
-  end-1 : (S : Table) (s : Option (List Row)) → step-1 l r A S s ≡ after-first l r A S (half (l .room-S) r S s)
+  pub end-1 : (S : Table) (s : Option (List Row)) → step-1 l r A S s ≡ after-first l r A S (half (l .room-S) r S s)
   unfolding after-first
   end-1 S none = refl
   end-1 S (some yielded) = end-2 S (if-fits (l .room-S) (grown r S yielded))

@@ -6,5 +6,7 @@ pub mod ClearingLaws
 pub mod HalfLaws
 pub mod LoopLaws
 pub mod TableClaim
+pub mod CountingLaws
+pub mod RoundCounts
 pub mod OpeningLaws
 pub mod OutcomeLaws

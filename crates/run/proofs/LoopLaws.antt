@@ -40,7 +40,7 @@ use Rattle.run.proofs.HalfLaws.{existential-stopped, universal-stopped,
 
 -- ---- the tables that are lent
 
-least-bytes : (t : List ℕ) → table-fits t ≡ true → 16 ≤ length t
+pub least-bytes : (t : List ℕ) → table-fits t ≡ true → 16 ≤ length t
 unfolding table-fits
 least-bytes t e =
     let both = and-eq-true-iff (leb 16 (length t) && leb (length t) (max-rows * 16)) (eqb (length t % 16) 0) .0 e .0 in
@@ -99,10 +99,10 @@ goes-on-over no-room-existential e = tt
 -- ---- the loop
 
 -- What the universal table of the run stands over, where it has reached over n places: what was found, zero up to there.
-abbrev row-base : Given → ℕ → List ℕ
+abbrev pub row-base : Given → ℕ → List ℕ
 row-base g n = zeroed (16 * n) (g .found .universal-rows)
 
-abbrev mark-base : Given → ℕ → List ℕ
+abbrev pub mark-base : Given → ℕ → List ℕ
 mark-base g n = zeroed n (g .found .universal-marks)
 
 -- After `made` finished rounds, none past the limit, the lent tables hold those of the run.
@@ -132,7 +132,13 @@ module _ (g : Given) where
   abbrev S-marks-found : List ℕ
   S-marks-found = g .found .existential-marks
 
-  start-going : (universals : ℕ) (AR AM W : List ℕ) → Ready (g .kinds) (g .literals) A-found A-marks-found S-found S-marks-found W universals
+  abbrev A-counts-found : List ℕ
+  A-counts-found = g .found .universal-counts
+
+  abbrev S-counts-found : List ℕ
+  S-counts-found = g .found .existential-counts
+
+  start-going : (universals : ℕ) (AR AM W : List ℕ) → Ready (g .kinds) (g .literals) A-found A-marks-found A-counts-found S-found S-marks-found S-counts-found W universals
       → AR ≡ rows-written A-found A-marks-found 0 (with-preferred (prefer (g .preferences)) universals (replicate 16 0)) 0
       → AM ≡ marks-written A-found A-marks-found 0 (with-preferred (prefer (g .preferences)) universals (replicate 16 0)) 0 0
       → Going g 0 1 0 AR AM S-found S-marks-found W
@@ -190,7 +196,7 @@ module _ (g : Given) where
       }
 
   pub fresh-going : (p : Progress) (universals : ℕ) (AR AM W : List ℕ) → p ≡ fresh
-      → Ready (g .kinds) (g .literals) A-found A-marks-found S-found S-marks-found W universals
+      → Ready (g .kinds) (g .literals) A-found A-marks-found A-counts-found S-found S-marks-found S-counts-found W universals
       → AR ≡ rows-written A-found A-marks-found 0 (with-preferred (prefer (g .preferences)) universals (replicate 16 0)) 0
       → AM ≡ marks-written A-found A-marks-found 0 (with-preferred (prefer (g .preferences)) universals (replicate 16 0)) 0 0
       → Going g (p .round) (p .universal) (p .existential) AR AM S-found S-marks-found W
@@ -267,7 +273,7 @@ module _ (g : Given) where
       abbrev S : Table
       S = run l made .S
 
-      first : Extended (g .kinds) existential S (half-of (g .kinds) (g .literals) (g .preferences) existential (room S-found) (made + 1) A S) S-found S-marks-found step SR′ SM′ W′
+      pub first : Extended (g .kinds) existential S (half-of (g .kinds) (g .literals) (g .preferences) existential (room S-found) (made + 1) A S) S-found S-marks-found step SR′ SM′ W′
       first =
           extends A S (row-base g n) S-found S-marks-found (now-going .passes) (now-going .counted-A) (now-going .counted-S) (now-going .both .holds-A .in-rows) (now-going .both .holds-S)
           (now-going .work-long)
@@ -285,7 +291,7 @@ module _ (g : Given) where
         abbrev S′ : Table
         S′ = half-table S (half-of (g .kinds) (g .literals) (g .preferences) existential (room S-found) (made + 1) A S)
 
-        second : Extended (g .kinds) universal A (half-of (g .kinds) (g .literals) (g .preferences) universal (room A-found) (made + 1) S′ (kept l (made + 1) A))
+        pub second : Extended (g .kinds) universal A (half-of (g .kinds) (g .literals) (g .preferences) universal (room A-found) (made + 1) S′ (kept l (made + 1) A))
             (row-base g n) (mark-base g n) back AR′ AM′ W″
         second =
             extends-back S′ A S-found (row-base g n) (mark-base g n) (room A-found) (now-going .passes) (first .counted) (now-going .counted-A) (first .holds .in-rows)

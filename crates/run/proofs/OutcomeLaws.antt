@@ -3,13 +3,15 @@ use Prim.Native.Nat.{ℕ, _*_, _≤_}
 use native.Mathlib.Omega.{arith}
 use mathlib.Core.Path.{_≡_, refl, sym, ap, subst, _∙_}
 use mathlib.Core.Bool.{Bool, true, false, not, cond, true≢false}
-use mathlib.Core.List.{List, []}
+use mathlib.Core.List.{List, [], _++_}
 use lib.Dec.{eqb}
 use lib.IntN.{ℤ}
-use lib.ListN.{length, replicate}
+use lib.ListN.{length, take, replicate, length-map}
+use lib.Seq.{take-at}
 use borrow.Author.Tests.{eq-eqb, ne-eqb}
 use Rattle.formula.specs.Formula.{work-size, Kind, existential, universal, prefix}
 use Rattle.rows.specs.Table.{zeroed}
+use Rattle.rows.proofs.ZeroedLaws.{drop-zeroed}
 use Rattle.formula.specs.Meaning.{verdict}
 use Rattle.formula.specs.Causes.{cause-1, cause-2, cause-3, refused-if, checked, sizes, number as cause-number}
 use Rattle.formula.proofs.Accepted.{accepted-sizes}
@@ -18,12 +20,14 @@ use Rattle.formula.specs.declared.Check.{Check}
 use Rattle.formula.specs.declared.Check.the-variants.{Accepted, Refused}
 use Rattle.run.specs.declared.End.{End}
 use Rattle.run.specs.declared.Outcome.{Outcome}
-use Rattle.rounds.specs.Run.{is-false, is-true, spent, no-room-universal, no-room-existential, number, highest, Answer as RunAnswer}
-use Rattle.rounds.specs.Claim.{Claim}
+use Rattle.rounds.specs.Run.{Entry, is-false, is-true, spent, no-room-universal, no-room-existential, number, highest, Answer as RunAnswer}
+use Rattle.rounds.specs.Claim.{table, Claim}
+use Rattle.rounds.specs.Counts.{came, counts}
 use Rattle.run.specs.declared.Answer.the-variants.{False, True}
-use Rattle.run.specs.Outcome.{Areas, areas, Given, given, lent, tables-fit, cause, accepted, reached, named, number-of, reported, refusal, returned, written, after, left}
-use Rattle.run.specs.Ended.{row-part, mark-part, count-of, TableRight, Ended}
+use Rattle.run.specs.Outcome.{Areas, areas, Given, given, lent, tables-fit, tables-counted, cause, accepted, reached, named, number-of, reported, refusal, returned, written, after, left}
+use Rattle.run.specs.Ended.{row-part, mark-part, count-part, count-of, TableRight, Ended}
 use Rattle.run.specs.Growing.{Passes, with-opening, ShowsRun, FirstCause}
+use Rattle.run.specs.Counting.{CountsShow}
 use Rattle.run.proofs.ClearingLaws.{rows-if-never, marks-if-never}
 use Rattle.run.proofs.TableClaim.{table-right}
 use Rattle.run.proofs.OpeningLaws.{opening-read}
@@ -31,6 +35,7 @@ use Rattle.rounds.proofs.Claim.{claim}
 use Rattle.rounds.proofs.Highest.{highest-if-never}
 use Rattle.rounds.proofs.Verdict.{verdict-right}
 use Rattle.rounds.proofs.Opening.{opening-right}
+use Rattle.rounds.proofs.CountsLaws.{counts-right}
 
 -- No refused formula has the number 0.
 refused-from-1 : (a b c : Bool) (f : Formula) (n : ℕ) → refused-if a 1 (refused-if b 2 (refused-if c 3 (Accepted f))) ≡ Refused n → 1 ≤ n
@@ -71,6 +76,8 @@ refused-so g n r e some-cause is =
       claim = λ yes-0. absurd (true≢false (sym yes-0 ∙ not-0));
       opened = λ yes-0. absurd (true≢false (sym yes-0 ∙ not-0));
       tables = λ yes-0. absurd (true≢false (sym yes-0 ∙ not-0));
+      counts-read = λ yes-0. absurd (true≢false (sym yes-0 ∙ not-0));
+      counted = λ yes-0. absurd (true≢false (sym yes-0 ∙ not-0));
     }
 
 -- The cause depends neither on the preferences nor on how often the universal table is cleared.
@@ -108,20 +115,31 @@ named-false no-room-universal e = let z : _≡_ {A = ℕ} 0 1 = cc in absurd (om
 named-false no-room-existential e = let z : _≡_ {A = ℕ} 0 1 = cc in absurd (omega arith)
 
 -- A table that is never cleared has reached over no more places than it has rows.
-pub after-if-never : (g : Given) → g .clear-every ≡ 0 → after g (g .limit) ≡ written (reached g) (g .found)
+pub after-if-never : (g : Given) → g .clear-every ≡ 0 → after g (g .limit) ≡ written (lent g) (g .limit) (g .found)
 after-if-never g never =
     let same : highest (lent g) (g .limit) ≡ length (reached g .A) = highest-if-never (lent g) (g .limit) never in
     let on-rows = rows-if-never (reached g .A) (highest (lent g) (g .limit)) (g .found .universal-rows) same in
     let on-marks = marks-if-never (reached g .A) (highest (lent g) (g .limit)) (g .found .universal-marks) same in
-    let all = written (reached g) (g .found) in
-    λ d. areas (on-rows d) (on-marks d) (all .existential-rows) (all .existential-marks) (all .work)
+    let on-counts = drop-zeroed (highest (lent g) (g .limit)) (length (reached g .A)) (g .found .universal-counts) (omega arith) in
+    let all = written (lent g) (g .limit) (g .found) in
+    λ d.
+    areas (on-rows d) (on-marks d) (counts (lent g) universal (g .limit) ++ on-counts d) (all .existential-rows) (all .existential-marks) (all .existential-counts)
+    (all .work)
+
+-- The counts below a table's count.
+counts-back : (g : Given) (side : Kind) → take (length (table side (reached g))) (count-part side (after g (g .limit))) ≡ counts (lent g) side (g .limit)
+unfolding counts
+counts-back g existential =
+    take-at (counts (lent g) existential (g .limit)) _ (length (reached g .S)) (length-map (reached g .S) (λ (x : Entry). came (lent g) existential (g .limit) (x .row)))
+counts-back g universal =
+    take-at (counts (lent g) universal (g .limit)) _ (length (reached g .A)) (length-map (reached g .A) (λ (x : Entry). came (lent g) universal (g .limit) (x .row)))
 
 -- No cause applies.
-pub answered-so : (g : Given) → cause g ≡ 0 → 1 ≤ g .limit → (end : End) (r : Outcome) (AR AM SR SM W W′ : List ℕ)
-    → ShowsRun g end AR AM SR SM W
-    → W′ ≡ replicate (length W) 0 → r ≡ with-opening end (g .kinds) AR SR → Ended g r (areas AR AM SR SM W′)
+pub answered-so : (g : Given) → cause g ≡ 0 → 1 ≤ g .limit → (end : End) (r : Outcome) (AR AM AC SR SM SC W W′ : List ℕ)
+    → ShowsRun g end AR AM SR SM W → CountsShow g (g .limit) AC SC
+    → W′ ≡ replicate (length W) 0 → r ≡ with-opening end (g .kinds) AR SR → Ended g r (areas AR AM AC SR SM SC W′)
 unfolding returned left verdict
-answered-so g no-cause some-limit end r AR AM SR SM W W′ shows clear is =
+answered-so g no-cause some-limit end r AR AM AC SR SM SC W W′ shows counted clear is =
     let yes-0 : accepted g ≡ true = eq-eqb (cause g) 0 no-cause in
     let passes = passes-if-none g no-cause in
     let opens = opening-right (lent g) (g .limit) in
@@ -135,8 +153,10 @@ answered-so g no-cause some-limit end r AR AM SR SM W W′ shows clear is =
     let held-S = shows .both .holds-S in
     let zero-work : W′ ≡ replicate work-size 0 = clear ∙ ap (λ (n : ℕ). replicate n 0) (shows .work-long) in
     let holds = claim (lent g) (g .limit) some-limit in
-    let left-so : areas AR AM SR SM W′ ≡ after g (g .limit) =
-    λ d. areas (held-A .in-rows .in-bytes d) (held-A .in-marks d) (held-S .in-rows .in-bytes d) (held-S .in-marks d) (zero-work d) in
+    let left-so : areas AR AM AC SR SM SC W′ ≡ after g (g .limit) =
+    λ d.
+    areas (held-A .in-rows .in-bytes d) (held-A .in-marks d) (counted .counts-A d) (held-S .in-rows .in-bytes d) (held-S .in-marks d) (counted .counts-S d)
+    (zero-work d) in
     record {
       returned-so = value;
       numbered = numbered-so g r value;
@@ -147,10 +167,12 @@ answered-so g no-cause some-limit end r AR AM SR SM W W′ shows clear is =
       claim = λ _. holds;
       opened = λ _. opens;
       tables = λ _. both told passes holds;
+      counts-read = λ _. read told;
+      counted = λ _. counts-right (lent g) (g .limit);
     }
   where
     both : r ≡ reported (prefix (g .kinds)) (reached g) → Passes (g .kinds) (g .literals) → Claim (lent g) (g .limit) → (side : Kind)
-        → TableRight g side (row-part side (areas AR AM SR SM W′)) (mark-part side (areas AR AM SR SM W′)) (count-of side r)
+        → TableRight g side (row-part side (areas AR AM AC SR SM SC W′)) (mark-part side (areas AR AM AC SR SM SC W′)) (count-of side r)
     both told passes holds universal =
         table-right g passes holds universal (zeroed (highest (lent g) (g .limit)) (g .found .universal-marks)) AR AM (r .universal) (shows .both .holds-A .in-rows .in-bytes) (shows .both .holds-A .in-marks)
         (ap (λ (o : Outcome). o .universal) told)
@@ -158,18 +180,29 @@ answered-so g no-cause some-limit end r AR AM SR SM W W′ shows clear is =
         table-right g passes holds existential (g .found .existential-marks) SR SM (r .existential) (shows .both .holds-S .in-rows .in-bytes) (shows .both .holds-S .in-marks)
         (ap (λ (o : Outcome). o .existential) told)
 
+    read : r ≡ reported (prefix (g .kinds)) (reached g) → (side : Kind)
+        → take (count-of side r) (count-part side (areas AR AM AC SR SM SC W′)) ≡ counts (lent g) side (g .limit)
+    read told universal = (λ d. take (told d .universal) (counted .counts-A d)) ∙ counts-back g universal
+    read told existential = (λ d. take (told d .existential) (counted .counts-S d)) ∙ counts-back g existential
+
 -- ---- the first cause
 
 applies : (g : Given) (n u : ℕ) → n ≡ cause g → 1 ≤ n → FirstCause g (record { cause = n; universals = u })
 applies g n u e some-cause =
     record { first = e; ready = λ (z : n ≡ 0). absurd (omega arith); some-limit = λ (z : n ≡ 0). absurd (omega arith) }
 
-module _ (kinds : List ℕ) (literals : List ℤ) (A A-marks S S-marks work : List ℕ) (limit : ℕ) where
+module _ (kinds : List ℕ) (literals : List ℤ) (A A-marks A-counts S S-marks S-counts work : List ℕ) (limit : ℕ) where
   abbrev g : Given
-  g = given kinds literals [] (areas A A-marks S S-marks work) limit 0
+  g = given kinds literals [] (areas A A-marks A-counts S S-marks S-counts work) limit 0
+
+  abbrev sized : ℕ
+  sized = cond (not (eqb (length work) work-size)) 5 (cond (eqb limit 0) 6 0)
+
+  abbrev counted : ℕ
+  counted = cond (not (tables-counted A A-counts S S-counts)) 16 sized
 
   abbrev later : ℕ
-  later = cond (not (tables-fit A A-marks S S-marks)) 4 (cond (not (eqb (length work) work-size)) 5 (cond (eqb limit 0) 6 0))
+  later = cond (not (tables-fit A A-marks S S-marks)) 4 counted
 
   formula-number : (n : ℕ) → checked kinds literals ≡ Refused n → 1 ≤ n
   unfolding checked
@@ -193,34 +226,40 @@ module _ (kinds : List ℕ) (literals : List ℤ) (A A-marks S S-marks work : Li
     pub tables-refused : (u : ℕ) → tables-fit A A-marks S S-marks ≡ false → FirstCause g (record { cause = 4; universals = u })
     tables-refused u e =
         applies g 4 u
-        (sym
-        (later-cause f passes ∙ ap (λ (b : Bool). cond (not b) 4 (cond (not (eqb (length work) work-size)) 5 (cond (eqb limit 0) 6 0))) e))
+        (sym (later-cause f passes ∙ ap (λ (b : Bool). cond (not b) 4 counted) e))
         (omega arith)
 
     module _ (fit : tables-fit A A-marks S S-marks ≡ true) where
-      sized-cause : cause g ≡ cond (not (eqb (length work) work-size)) 5 (cond (eqb limit 0) 6 0)
-      sized-cause = later-cause f passes ∙ ap (λ (b : Bool). cond (not b) 4 (cond (not (eqb (length work) work-size)) 5 (cond (eqb limit 0) 6 0))) fit
+      counted-cause : cause g ≡ counted
+      counted-cause = later-cause f passes ∙ ap (λ (b : Bool). cond (not b) 4 counted) fit
 
-      pub work-refused : (u : ℕ) → (length work ≡ work-size → ⊥) → FirstCause g (record { cause = 5; universals = u })
-      work-refused u differ =
-          applies g 5 u
-          (sym (sized-cause ∙ ap (λ (b : Bool). cond (not b) 5 (cond (eqb limit 0) 6 0)) (ne-eqb (length work) work-size differ)))
-          (omega arith)
+      pub counts-refused : (u : ℕ) → tables-counted A A-counts S S-counts ≡ false → FirstCause g (record { cause = 16; universals = u })
+      counts-refused u e = applies g 16 u (sym (counted-cause ∙ ap (λ (b : Bool). cond (not b) 16 sized) e)) (omega arith)
 
-      module _ (long : length work ≡ work-size) where
-        limit-cause : cause g ≡ cond (eqb limit 0) 6 0
-        limit-cause = sized-cause ∙ ap (λ (b : Bool). cond (not b) 5 (cond (eqb limit 0) 6 0)) (eq-eqb (length work) work-size long)
+      module _ (one-a-row : tables-counted A A-counts S S-counts ≡ true) where
+        sized-cause : cause g ≡ sized
+        sized-cause = counted-cause ∙ ap (λ (b : Bool). cond (not b) 16 sized) one-a-row
 
-        pub limit-refused : (u : ℕ) → limit ≡ 0 → FirstCause g (record { cause = 6; universals = u })
-        limit-refused u e = applies g 6 u (sym (limit-cause ∙ ap (λ (b : Bool). cond b 6 0) (eq-eqb limit 0 e))) (omega arith)
+        pub work-refused : (u : ℕ) → (length work ≡ work-size → ⊥) → FirstCause g (record { cause = 5; universals = u })
+        work-refused u differ =
+            applies g 5 u
+            (sym (sized-cause ∙ ap (λ (b : Bool). cond (not b) 5 (cond (eqb limit 0) 6 0)) (ne-eqb (length work) work-size differ)))
+            (omega arith)
 
-        pub none-applies : (limit ≡ 0 → ⊥) → FirstCause g (record { cause = 0; universals = f .universals })
-        none-applies some-limit =
-            let sizes-are = accepted-sizes kinds literals passes in
-            record {
-              first = sym (limit-cause ∙ ap (λ (b : Bool). cond b 6 0) (ne-eqb limit 0 some-limit));
-              ready =
-                  λ _.
-                  record { passes = passes ∙ ap Accepted sizes-are; tables = fit; work-long = long; counted = ap (λ (s : Formula). s .universals) sizes-are };
-              some-limit = λ _. omega arith;
-            }
+        module _ (long : length work ≡ work-size) where
+          limit-cause : cause g ≡ cond (eqb limit 0) 6 0
+          limit-cause = sized-cause ∙ ap (λ (b : Bool). cond (not b) 5 (cond (eqb limit 0) 6 0)) (eq-eqb (length work) work-size long)
+
+          pub limit-refused : (u : ℕ) → limit ≡ 0 → FirstCause g (record { cause = 6; universals = u })
+          limit-refused u e = applies g 6 u (sym (limit-cause ∙ ap (λ (b : Bool). cond b 6 0) (eq-eqb limit 0 e))) (omega arith)
+
+          pub none-applies : (limit ≡ 0 → ⊥) → FirstCause g (record { cause = 0; universals = f .universals })
+          none-applies some-limit =
+              let sizes-are = accepted-sizes kinds literals passes in
+              record {
+                first = sym (limit-cause ∙ ap (λ (b : Bool). cond b 6 0) (ne-eqb limit 0 some-limit));
+                ready =
+                    λ _.
+                    record { passes = passes ∙ ap Accepted sizes-are; tables = fit; counts = one-a-row; work-long = long; counted = ap (λ (s : Formula). s .universals) sizes-are };
+                some-limit = λ _. omega arith;
+              }

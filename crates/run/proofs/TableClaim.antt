@@ -23,12 +23,12 @@ use Rattle.run.proofs.GrowingLaws.{wide-of-sized}
 use Rattle.run.proofs.ExtendLaws.{few-unknowns}
 
 -- What stands at a place, by the lists of rows and marks.
-place-below : (t : Table) (i : ℕ) (x : Entry) → Stands t i x → i < length t
+pub place-below : (t : Table) (i : ℕ) (x : Entry) → Stands t i x → i < length t
 place-below [] i x s = absurd (Option·none-ne-some x s)
 place-below (y ∷ t) zero x s = omega arith
 place-below (y ∷ t) (suc i) x s = let later = place-below t i x s in omega arith
 
-row-there : (t : Table) (i : ℕ) (x : Entry) → Stands t i x → getD (rows t) i [] ≡ x .row
+pub row-there : (t : Table) (i : ℕ) (x : Entry) → Stands t i x → getD (rows t) i [] ≡ x .row
 row-there [] i x s = absurd (Option·none-ne-some x s)
 row-there (y ∷ t) zero x s = let e : y ≡ x = cc in rw e
 row-there (y ∷ t) (suc i) x s = row-there t i x s

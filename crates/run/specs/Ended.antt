@@ -1,4 +1,5 @@
--- All that `run` promises: what it returns and leaves, demand 2, demand 3 over the run and in the lent tables themselves, and 02's opening.
+-- All that `run` promises: what it returns and leaves, demand 2, demand 3 over the run and in the lent tables themselves, 02's opening and its
+-- return counts.
 -- Assumes nothing.
 use Prim.Native.Nat.{ℕ, _-_, _<_}
 use mathlib.Core.Path.{_≡_}
@@ -13,11 +14,12 @@ use Rattle.rows.specs.Table.{row-at, rows-of}
 use Rattle.rounds.specs.Run.{Entry, rows, number, run}
 use Rattle.rounds.specs.Claim.{table, Finished, Uncleared, Claim}
 use Rattle.rounds.specs.Opening.{OpeningRight}
+use Rattle.rounds.specs.Counts.{counts, CountsRight}
 use Rattle.run.specs.declared.Answer.the-variants.{False, True}
 use Rattle.run.specs.declared.Outcome.{Outcome}
 use Rattle.run.specs.Outcome.{Areas, Given, lent, cause, accepted, reached, number-of, returned, written, after, left}
 
--- A side's rows, marks and count.
+-- A side's rows, marks, return counts, and the count of its rows.
 abbrev pub row-part : Kind → Areas → List ℕ
 row-part universal a = a .universal-rows
 row-part existential a = a .existential-rows
@@ -25,6 +27,10 @@ row-part existential a = a .existential-rows
 abbrev pub mark-part : Kind → Areas → List ℕ
 mark-part universal a = a .universal-marks
 mark-part existential a = a .existential-marks
+
+abbrev pub count-part : Kind → Areas → List ℕ
+count-part universal a = a .universal-counts
+count-part existential a = a .existential-counts
 
 abbrev pub count-of : Kind → Outcome → ℕ
 count-of universal r = r .universal
@@ -61,7 +67,7 @@ pub record Ended (g : Given) (r : Outcome) (exit : Areas) : Type 0 where
   pub numbered : number-of (r .answer) ≡ cond (accepted g) (number (reached g .answer)) (cause g)
   pub left-so : exit ≡ left g
   -- Demand 1 word for word where the universal table is never cleared: 'rows and marks past the reported counts .. as found'.
-  pub as-found : accepted g ≡ true → g .clear-every ≡ 0 → exit ≡ written (reached g) (g .found)
+  pub as-found : accepted g ≡ true → g .clear-every ≡ 0 → exit ≡ written (lent g) (g .limit) (g .found)
   -- 'The verdict is this value of the whole formula': true only where it is true, false only where it is false.
   pub only-true : r .answer ≡ True → verdict (g .kinds) (g .literals) ≡ true
   pub only-false : r .answer ≡ False → verdict (g .kinds) (g .literals) ≡ false
@@ -69,3 +75,7 @@ pub record Ended (g : Given) (r : Outcome) (exit : Areas) : Type 0 where
   -- 02: 'The formula with that block set to those values has the same verdict.'
   pub opened : accepted g ≡ true → OpeningRight (lent g) (g .limit)
   pub tables : accepted g ≡ true → (side : Kind) → TableRight g side (row-part side exit) (mark-part side exit) (count-of side r)
+  -- 02: a table of counts 'holds for each row below the count the number of searches of this run (universal: from the last clearing on) whose
+  -- model yielded it, however often'.
+  pub counts-read : accepted g ≡ true → (side : Kind) → take (count-of side r) (count-part side exit) ≡ counts (lent g) side (g .limit)
+  pub counted : accepted g ≡ true → CountsRight (lent g) (g .limit)

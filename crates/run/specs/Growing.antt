@@ -29,7 +29,7 @@ use Rattle.growth.specs.declared.Growth.{Growth}
 use Rattle.growth.specs.declared.Growth.the-variants.{Grown, NoRoom}
 use Rattle.opening.specs.Start.{equal-from-start, first-bits}
 use Rattle.rounds.specs.Run.{Table, rows, grown, if-fits, clears, highest, Outcome as RunOutcome}
-use Rattle.run.specs.Outcome.{Given, lent, reached, tables-fit, cause, named, without-opening, row-bytes, mark-numbers}
+use Rattle.run.specs.Outcome.{Given, lent, reached, tables-fit, tables-counted, cause, named, without-opening, row-bytes, mark-numbers}
 
 -- None of the causes 1 to 3 applies.
 abbrev pub Passes : List ℕ → List ℤ → Type 0
@@ -185,9 +185,10 @@ ShowsRun g =
     (reached g)
 
 -- The formula is accepted, the tables fit and the work area has its size.
-pub record Ready (kinds : List ℕ) (literals : List ℤ) (A-rows A-marks S-rows S-marks work : List ℕ) (universals : ℕ) : Type 0 where
+pub record Ready (kinds : List ℕ) (literals : List ℤ) (A-rows A-marks A-counts S-rows S-marks S-counts work : List ℕ) (universals : ℕ) : Type 0 where
   pub passes : Passes kinds literals
   pub tables : tables-fit A-rows A-marks S-rows S-marks ≡ true
+  pub counts : tables-counted A-rows A-counts S-rows S-counts ≡ true
   pub work-long : length work ≡ work-size
   pub counted : universals ≡ count universal (prefix kinds)
 
@@ -195,6 +196,6 @@ pub record Ready (kinds : List ℕ) (literals : List ℤ) (A-rows A-marks S-rows
 pub record FirstCause (g : Given) (result : Checked) : Type 0 where
   pub first : result .cause ≡ cause g
   pub ready : result .cause ≡ 0
-      → Ready (g .kinds) (g .literals) (g .found .universal-rows) (g .found .universal-marks) (g .found .existential-rows) (g .found .existential-marks)
-      (g .found .work) (result .universals)
+      → Ready (g .kinds) (g .literals) (g .found .universal-rows) (g .found .universal-marks) (g .found .universal-counts) (g .found .existential-rows)
+      (g .found .existential-marks) (g .found .existential-counts) (g .found .work) (result .universals)
   pub some-limit : result .cause ≡ 0 → 1 ≤ g .limit

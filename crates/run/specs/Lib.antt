@@ -3,3 +3,4 @@ pub mod Outcome
 pub mod Ended
 pub mod Numbers
 pub mod Growing
+pub mod Counting

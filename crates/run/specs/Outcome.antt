@@ -1,4 +1,4 @@
--- What `run` returns and leaves, for everything that is lent: causes 1 to 6 in order, then the outcome of the run with the limit.
+-- What `run` returns and leaves, for everything that is lent: causes 1 to 4, 16, 5 and 6 in order, then the outcome of the run with the limit.
 -- Assumes nothing.
 use Prim.Native.Nat.{ℕ, _*_}
 use mathlib.Core.Bool.{Bool, not, _&&_, cond}
@@ -6,29 +6,41 @@ use mathlib.Core.List.{List, _++_, map}
 use lib.Dec.{eqb}
 use lib.IntN.{ℤ}
 use lib.ListN.{length, drop, replicate}
-use Rattle.formula.specs.Formula.{work-size, Kind, prefix, clauses}
+use Rattle.formula.specs.Formula.{work-size, Kind, existential, universal, prefix, clauses}
 use Rattle.formula.specs.Meaning.{matrix}
 use Rattle.formula.specs.Causes.{checked, number as cause-number}
 use Rattle.preference.specs.Preference.{prefer}
 use Rattle.rows.specs.Row.{bytes-of}
 use Rattle.rows.specs.Table.{table-of, room, table-fits, marks-fit, zeroed}
+use Rattle.counts.specs.Fit.{counts-fit}
 use Rattle.rounds.specs.Run.{Entry, Table, rows, Lent, run, highest, is-false, is-true, spent, no-room-universal, no-room-existential, Answer as RunAnswer, Outcome as RunOutcome}
 use Rattle.rounds.specs.Opening.{opening, opening-length}
+use Rattle.rounds.specs.Counts.{counts}
 use Rattle.run.specs.declared.Answer.{Answer}
 use Rattle.run.specs.declared.Answer.the-variants.{False, True, Spent, NoRoomUniversal, NoRoomExistential, Refused}
 use Rattle.run.specs.declared.Outcome.{Outcome}
 
--- What is lent to be written: each side's rows and marks, and the work area.
+-- What is lent to be written: each side's rows, marks and return counts, and the work area.
 pub record Areas : Type 0 where
   pub universal-rows : List ℕ
   pub universal-marks : List ℕ
+  pub universal-counts : List ℕ
   pub existential-rows : List ℕ
   pub existential-marks : List ℕ
+  pub existential-counts : List ℕ
   pub work : List ℕ
 
-abbrev pub areas : List ℕ → List ℕ → List ℕ → List ℕ → List ℕ → Areas
-areas A A-marks S S-marks work =
-    record { universal-rows = A; universal-marks = A-marks; existential-rows = S; existential-marks = S-marks; work = work }
+abbrev pub areas : List ℕ → List ℕ → List ℕ → List ℕ → List ℕ → List ℕ → List ℕ → Areas
+areas A A-marks A-counts S S-marks S-counts work =
+    record {
+      universal-rows = A;
+      universal-marks = A-marks;
+      universal-counts = A-counts;
+      existential-rows = S;
+      existential-marks = S-marks;
+      existential-counts = S-counts;
+      work = work;
+    }
 
 -- All that is lent: the formula, the preferences, what the areas were found to hold, the limit, and 02's k: how often the universal table is
 -- cleared, 0 for never.
@@ -63,13 +75,19 @@ side-fits rows marks = table-fits rows && marks-fit rows marks
 unfoldable pub tables-fit : List ℕ → List ℕ → List ℕ → List ℕ → Bool
 tables-fit A A-marks S S-marks = side-fits A A-marks && side-fits S S-marks
 
--- The first of the causes 1 to 6 that applies, or 0: 1 to 3 of the formula, 4 of the tables, 5 'work area not 65,536', 6 'limit 0'.
+-- Cause 16, which 'refuses .. a count table that isn't one entry a row', of either side.
+unfoldable pub tables-counted : List ℕ → List ℕ → List ℕ → List ℕ → Bool
+tables-counted A A-counts S S-counts = counts-fit A A-counts && counts-fit S S-counts
+
+-- The first of the causes that applies, or 0: 1 to 3 of the formula, 4 of the tables, 16 of their counts, 'tested after 4', 5 'work area not 65,536',
+-- 6 'limit 0'.
 unfoldable pub cause : Given → ℕ
 cause g =
     let formula : ℕ = cause-number (checked (g .kinds) (g .literals)) in
     let later : ℕ =
     cond (not (tables-fit (g .found .universal-rows) (g .found .universal-marks) (g .found .existential-rows) (g .found .existential-marks))) 4
-    (cond (not (eqb (length (g .found .work)) work-size)) 5 (cond (eqb (g .limit) 0) 6 0)) in
+    (cond (not (tables-counted (g .found .universal-rows) (g .found .universal-counts) (g .found .existential-rows) (g .found .existential-counts))) 16
+    (cond (not (eqb (length (g .found .work)) work-size)) 5 (cond (eqb (g .limit) 0) 6 0))) in
     cond (eqb formula 0) later formula
 
 abbrev pub accepted : Given → Bool
@@ -128,25 +146,35 @@ row-bytes t found = table-of (rows t) ++ drop (16 * length t) found
 unfoldable pub mark-numbers : Table → List ℕ → List ℕ
 mark-numbers t found = map (λ (x : Entry). x .mark) t ++ drop (length t) found
 
--- The areas with the tables of a run in them, each over what was found, and with the work area zero.
-abbrev pub written : RunOutcome → Areas → Areas
-written o found =
+-- The areas with the tables of the run after round r in them, each over what was found, its return counts behind its marks, and with the work area
+-- zero.
+abbrev pub written : Lent → ℕ → Areas → Areas
+written l r found =
     areas
-    (row-bytes (o .A) (found .universal-rows))
-    (mark-numbers (o .A) (found .universal-marks))
-    (row-bytes (o .S) (found .existential-rows))
-    (mark-numbers (o .S) (found .existential-marks))
+    (row-bytes (run l r .A) (found .universal-rows))
+    (mark-numbers (run l r .A) (found .universal-marks))
+    (counts l universal r ++ drop (length (run l r .A)) (found .universal-counts))
+    (row-bytes (run l r .S) (found .existential-rows))
+    (mark-numbers (run l r .S) (found .existential-marks))
+    (counts l existential r ++ drop (length (run l r .S)) (found .existential-counts))
     (replicate work-size 0)
 
--- 02, C-15: 'rows and marks of places given up (below the old count, not the new) are zeroed; the others past the count stay as found'. So where
--- the universal table has reached over n places, these are zero behind its rows.
+-- 02, C-15: 'rows and marks of places given up (below the old count, not the new) are zeroed; the others past the count stay as found'; C-16 the same
+-- of the counts. So where the universal table has reached over n places, these are zero behind its rows.
 abbrev pub given-up : ℕ → Areas → Areas
 given-up n found =
-    areas (zeroed (16 * n) (found .universal-rows)) (zeroed n (found .universal-marks)) (found .existential-rows) (found .existential-marks) (found .work)
+    areas
+    (zeroed (16 * n) (found .universal-rows))
+    (zeroed n (found .universal-marks))
+    (zeroed n (found .universal-counts))
+    (found .existential-rows)
+    (found .existential-marks)
+    (found .existential-counts)
+    (found .work)
 
 -- What the rounds up to r leave.
 abbrev pub after : Given → ℕ → Areas
-after g r = written (run (lent g) r) (given-up (highest (lent g) r) (g .found))
+after g r = written (lent g) r (given-up (highest (lent g) r) (g .found))
 
 -- After an answer the areas are as the run leaves them, after a refusal as found.
 unfoldable pub left : Given → Areas

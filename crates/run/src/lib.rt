@@ -1,23 +1,25 @@
 // The run (01, 'The run'): rounds of the two searches over the two row tables, until a verdict, a full table or the limit.
 // `run` promises, for all that is lent, the outcome and every lent byte that the definition (specs/Outcome.antt) gives, that its answer is
-// the verdict, and of an accepted run the claim, over 01's run and in the lent tables, and that the opening keeps the verdict (specs/Ended.antt).
-// The model search belongs to `search`, adding rows to a table to `growth`, the opening's bytes to `opening`.
-// A round costs one search a side, and what the growth of the two tables costs.
+// the verdict, and of an accepted run the claim, over 01's run and in the lent tables, that the opening keeps the verdict, and what the return
+// counts say (specs/Ended.antt).
+// The model search belongs to `search`, adding rows to a table to `growth`, the return counts to `counts`, the opening's bytes to `opening`.
+// A round costs one search a side, and what the growth of the two tables and their counts cost.
 use formula::Check;
 use formula::Formula;
 use growth::Growth;
 use search::Search;
 ghost use Prim.Native.Nat.{_-_};
 ghost use mathlib.Core.Path.{_≡_};
-ghost use mathlib.Core.Bool.{cond};
+ghost use mathlib.Core.Bool.{true, false, cond};
 ghost use mathlib.Core.List.{[]};
 ghost use Rattle.search.specs.Search.{outcome as search-outcome, work-after};
 ghost use Rattle.rounds.specs.Run.{clears};
 ghost use Rattle.run.specs.declared.Answer.the-variants.{Spent};
-ghost use Rattle.run.specs.Outcome.{areas, given, number-of, side-fits, tables-fit};
+ghost use Rattle.run.specs.Outcome.{areas, given, number-of, side-fits, tables-fit, tables-counted};
 ghost use Rattle.run.specs.Ended.{Ended};
 ghost use Rattle.run.specs.Numbers.{one-number};
 ghost use Rattle.run.specs.Growing.{is-found, step-of, said, existential-stop, universal-stop, opened-from, not-opened, with-opening, Extends, ExtendsUniversal, ShowsRun, Ready, FirstCause};
+ghost use Rattle.run.specs.Counting.{Packs, stood, Tallies, TalliesUniversal, CountsShow};
 
 pub enum Answer {
     False,
@@ -77,25 +79,29 @@ pub fn run(
     preferences: &[u8],
     universal_rows: &mut [u8],
     universal_marks: &mut [u16],
+    universal_counts: &mut [u32],
     existential_rows: &mut [u8],
     existential_marks: &mut [u16],
+    existential_counts: &mut [u32],
     work: &mut [u8],
     limit: u32,
     clear_every: u32,
 ) -> Outcome
     ensures { λ r. ⌜ Ended
         (given (now (kinds .entry)) (now (literals .entry)) (now (preferences .entry))
-        (areas (now («universal_rows» .entry)) (now («universal_marks» .entry)) (now («existential_rows» .entry)) (now («existential_marks» .entry)) (now (work .entry))) limit «clear_every»)
+        (areas (now («universal_rows» .entry)) (now («universal_marks» .entry)) (now («universal_counts» .entry)) (now («existential_rows» .entry)) (now («existential_marks» .entry)) (now («existential_counts» .entry)) (now (work .entry))) limit «clear_every»)
         r
-        (areas (now («universal_rows» .exit)) (now («universal_marks» .exit)) (now («existential_rows» .exit)) (now («existential_marks» .exit)) (now (work .exit))) ⌝ }
+        (areas (now («universal_rows» .exit)) (now («universal_marks» .exit)) (now («universal_counts» .exit)) (now («existential_rows» .exit)) (now («existential_marks» .exit)) (now («existential_counts» .exit)) (now (work .exit))) ⌝ }
 {
     let checked = check(
         kinds,
         literals,
         universal_rows,
         universal_marks,
+        universal_counts,
         existential_rows,
         existential_marks,
+        existential_counts,
         work,
         limit,
     );
@@ -115,8 +121,10 @@ pub fn run(
         preferences,
         universal_rows,
         universal_marks,
+        universal_counts,
         existential_rows,
         existential_marks,
+        existential_counts,
         work,
         universals,
         limit,
@@ -214,18 +222,20 @@ fn unopened(end: End) -> Outcome
     }
 }
 
-// The first of the causes 1 to 6 that applies.
+// The first of the causes 1 to 4, 16, 5 and 6 that applies.
 fn check(
     kinds: &[u8],
     literals: &[i32],
     universal_rows: &[u8],
     universal_marks: &[u16],
+    universal_counts: &[u32],
     existential_rows: &[u8],
     existential_marks: &[u16],
+    existential_counts: &[u32],
     work: &[u8],
     limit: u32,
 ) -> Checked
-    ensures { λ r. ⌜ FirstCause (given (now (kinds .entry)) (now (literals .entry)) [] (areas (now («universal_rows» .entry)) (now («universal_marks» .entry)) (now («existential_rows» .entry)) (now («existential_marks» .entry)) (now (work .entry))) limit 0) r ⌝ }
+    ensures { λ r. ⌜ FirstCause (given (now (kinds .entry)) (now (literals .entry)) [] (areas (now («universal_rows» .entry)) (now («universal_marks» .entry)) (now («universal_counts» .entry)) (now («existential_rows» .entry)) (now («existential_marks» .entry)) (now («existential_counts» .entry)) (now (work .entry))) limit 0) r ⌝ }
 {
     match Formula::check(kinds, literals) {
         Check::Refused(cause) => Checked {
@@ -242,6 +252,17 @@ fn check(
             ) {} else {
                 return Checked {
                     cause: 4,
+                    universals,
+                };
+            }
+            if counted(
+                universal_rows,
+                universal_counts,
+                existential_rows,
+                existential_counts,
+            ) {} else {
+                return Checked {
+                    cause: 16,
                     universals,
                 };
             }
@@ -291,6 +312,22 @@ fn side_fits(rows: &[u8], marks: &[u16]) -> bool
     }
 }
 
+// Cause 16.
+fn counted(
+    universal_rows: &[u8],
+    universal_counts: &[u32],
+    existential_rows: &[u8],
+    existential_counts: &[u32],
+) -> bool
+    ensures { λ r. ⌜ r ≡ tables-counted (now («universal_rows» .entry)) (now («universal_counts» .entry)) (now («existential_rows» .entry)) (now («existential_counts» .entry)) ⌝ }
+{
+    if counts::counts_fit(universal_rows, universal_counts) {
+        counts::counts_fit(existential_rows, existential_counts)
+    } else {
+        false
+    }
+}
+
 // The start, then one round after the other until one of them ends the run: steps 1 and 2 towards the existential rows, 3 and 4 towards the
 // universal ones.
 fn rounds(
@@ -299,20 +336,27 @@ fn rounds(
     preferences: &[u8],
     universal_rows: &mut [u8],
     universal_marks: &mut [u16],
+    universal_counts: &mut [u32],
     existential_rows: &mut [u8],
     existential_marks: &mut [u16],
+    existential_counts: &mut [u32],
     work: &mut [u8],
     universals: usize,
     limit: u32,
     clear_every: u32,
 ) -> End
-    requires { ⌜ Ready (now kinds) (now literals) (now «universal_rows») (now «universal_marks») (now «existential_rows») (now «existential_marks») (now work) universals ⌝ }
+    requires { ⌜ Ready (now kinds) (now literals) (now «universal_rows») (now «universal_marks») (now «universal_counts») (now «existential_rows») (now «existential_marks») (now «existential_counts») (now work) universals ⌝ }
     ensures { λ r. ⌜ ShowsRun
         (given (now (kinds .entry)) (now (literals .entry)) (now (preferences .entry))
-        (areas (now («universal_rows» .entry)) (now («universal_marks» .entry)) (now («existential_rows» .entry)) (now («existential_marks» .entry)) (now (work .entry))) limit «clear_every»)
+        (areas (now («universal_rows» .entry)) (now («universal_marks» .entry)) (now («universal_counts» .entry)) (now («existential_rows» .entry)) (now («existential_marks» .entry)) (now («existential_counts» .entry)) (now (work .entry))) limit «clear_every»)
         r (now («universal_rows» .exit)) (now («universal_marks» .exit)) (now («existential_rows» .exit)) (now («existential_marks» .exit)) (now (work .exit)) ⌝ }
+    ensures { λ _. ⌜ CountsShow
+        (given (now (kinds .entry)) (now (literals .entry)) (now (preferences .entry))
+        (areas (now («universal_rows» .entry)) (now («universal_marks» .entry)) (now («universal_counts» .entry)) (now («existential_rows» .entry)) (now («existential_marks» .entry)) (now («existential_counts» .entry)) (now (work .entry))) limit «clear_every»)
+        limit (now («universal_counts» .exit)) (now («existential_counts» .exit)) ⌝ }
 {
     growth::write_start(preferences, universals, universal_rows, universal_marks);
+    counts::fill(universal_counts, 0, 1, 0);
     let start = Formula::start();
     let mut made = start.round;
     let mut universal = start.universal;
@@ -320,15 +364,15 @@ fn rounds(
     while made < limit {
         let number = made + 1;
         let mark = number as u16;
-        let step = extend(
+        let step = existential_half(
             kinds,
             literals,
             preferences,
             universal_rows,
             universal,
-            false,
             existential_rows,
             existential_marks,
+            existential_counts,
             existential,
             mark,
             work,
@@ -338,7 +382,7 @@ fn rounds(
         if end != GROWN {
             return existential_stop(end, number, universal, existential);
         }
-        let back = extend_universal(
+        let back = universal_half(
             kinds,
             literals,
             preferences,
@@ -346,6 +390,7 @@ fn rounds(
             grown,
             universal_rows,
             universal_marks,
+            universal_counts,
             universal,
             clear_every,
             number,
@@ -414,6 +459,98 @@ fn spent(round: u32, universal: usize, existential: usize) -> End
     }
 }
 
+// The existential side's half of a round: its step, then what its search counts for.
+fn existential_half(
+    kinds: &[u8],
+    literals: &[i32],
+    preferences: &[u8],
+    others: &[u8],
+    other_count: usize,
+    rows: &mut [u8],
+    marks: &mut [u16],
+    counts: &mut [u32],
+    count: usize,
+    mark: u16,
+    work: &mut [u8],
+) -> Step
+    ensures { λ r. ⌜ Extends (now (kinds .entry)) (now (literals .entry)) (now (preferences .entry)) (now (others .entry)) «other_count» false (now (rows .entry)) (now (marks .entry)) count mark (now (work .entry)) r (now (rows .exit)) (now (marks .exit)) (now (work .exit)) ⌝ }
+    ensures { λ _. ⌜ Tallies (now (kinds .entry)) (now (literals .entry)) (now (preferences .entry)) (now (others .entry)) «other_count» (now (rows .entry)) (now (marks .entry)) count mark (now (work .entry)) (now (counts .entry)) (now (counts .exit)) ⌝ }
+{
+    let step = extend(
+        kinds,
+        literals,
+        preferences,
+        others,
+        other_count,
+        false,
+        rows,
+        marks,
+        count,
+        mark,
+        work,
+    );
+    let end = step.end;
+    if end == NO_MODEL { // no existential row came
+        return step;
+    }
+    let grown = step.count;
+    counts::update(rows, count, grown, count, work, other_count, counts);
+    step
+}
+
+// The universal side's half of a round, which may clear its table.
+fn universal_half(
+    kinds: &[u8],
+    literals: &[i32],
+    preferences: &[u8],
+    others: &[u8],
+    other_count: usize,
+    rows: &mut [u8],
+    marks: &mut [u16],
+    counts: &mut [u32],
+    count: usize,
+    clear_every: u32,
+    round: u32,
+    mark: u16,
+    work: &mut [u8],
+) -> Step
+    ensures { λ r. ⌜ ExtendsUniversal (now (kinds .entry)) (now (literals .entry)) (now (preferences .entry)) (now (others .entry)) «other_count» (now (rows .entry)) (now (marks .entry)) count «clear_every» round mark (now (work .entry)) r (now (rows .exit)) (now (marks .exit)) (now (work .exit)) ⌝ }
+    ensures { λ _. ⌜ TalliesUniversal (now (kinds .entry)) (now (literals .entry)) (now (preferences .entry)) (now (others .entry)) «other_count» (now (rows .entry)) (now (marks .entry)) count «clear_every» round mark (now (work .entry)) (now (counts .entry)) (now (counts .exit)) ⌝ }
+{
+    let step = extend_universal(
+        kinds,
+        literals,
+        preferences,
+        others,
+        other_count,
+        rows,
+        marks,
+        count,
+        clear_every,
+        round,
+        mark,
+        work,
+    );
+    let end = step.end;
+    if end == NO_MODEL { // no universal row came
+        return step;
+    }
+    let grown = step.count;
+    let stand = stood(end, clear_every, round, count);
+    counts::update(rows, stand, grown, count, work, other_count, counts);
+    step
+}
+
+// How many rows stood when a search of the universal side was counted: those that a round keeps, and all where there was no room.
+fn stood(end: u8, clear_every: u32, round: u32, count: usize) -> usize
+    ensures { λ r. ⌜ r ≡ stood end (cond (clears «clear_every» round) 0 count) count ⌝ }
+{
+    if end == GROWN {
+        return kept_rows(clear_every, round, count);
+    }
+    count
+}
+
 // The universal side's step in a round that may clear its table: the rows are then added to none, and the places that they leave free below the
 // old count are given up.
 fn extend_universal(
@@ -431,6 +568,7 @@ fn extend_universal(
     work: &mut [u8],
 ) -> Step
     ensures { λ r. ⌜ ExtendsUniversal (now (kinds .entry)) (now (literals .entry)) (now (preferences .entry)) (now (others .entry)) «other_count» (now (rows .entry)) (now (marks .entry)) count «clear_every» round mark (now (work .entry)) r (now (rows .exit)) (now (marks .exit)) (now (work .exit)) ⌝ }
+    ensures { λ _. ⌜ Packs (now (kinds .entry)) (now (literals .entry)) (now (preferences .entry)) (now (others .entry)) «other_count» true (now (work .entry)) (now (work .exit)) ⌝ }
 {
     let kept = kept_rows(clear_every, round, count);
     let step = extend(
@@ -490,6 +628,7 @@ fn extend(
     work: &mut [u8],
 ) -> Step
     ensures { λ r. ⌜ Extends (now (kinds .entry)) (now (literals .entry)) (now (preferences .entry)) (now (others .entry)) «other_count» universal (now (rows .entry)) (now (marks .entry)) count mark (now (work .entry)) r (now (rows .exit)) (now (marks .exit)) (now (work .exit)) ⌝ }
+    ensures { λ _. ⌜ Packs (now (kinds .entry)) (now (literals .entry)) (now (preferences .entry)) (now (others .entry)) «other_count» universal (now (work .entry)) (now (work .exit)) ⌝ }
 {
     if finds(
         kinds,

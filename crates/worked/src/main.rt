@@ -111,8 +111,10 @@ fn play_run(
 {
     let mut universal_rows = [0u8; 16 * Formula::ROWS];
     let mut universal_marks = [0u16; Formula::ROWS];
+    let mut universal_counts = [0u32; Formula::ROWS];
     let mut existential_rows = [0u8; 16 * Formula::ROWS];
     let mut existential_marks = [0u16; Formula::ROWS];
+    let mut existential_counts = [0u32; Formula::ROWS];
     let mut work = [0u8; Formula::WORK];
     fill(&mut universal_rows, UNIVERSAL_ROWS);
     fill_marks(&mut universal_marks, UNIVERSAL_MARKS);
@@ -125,8 +127,10 @@ fn play_run(
         preferences,
         &mut universal_rows,
         &mut universal_marks,
+        &mut universal_counts,
         &mut existential_rows,
         &mut existential_marks,
+        &mut existential_counts,
         &mut work,
         universal_room,
         existential_room,
@@ -150,15 +154,17 @@ fn lend(
     preferences: &[u8],
     universal_rows: &mut [u8],
     universal_marks: &mut [u16],
+    universal_counts: &mut [u32],
     existential_rows: &mut [u8],
     existential_marks: &mut [u16],
+    existential_counts: &mut [u32],
     work: &mut [u8],
     universal_room: usize,
     existential_room: usize,
     limit: u32,
 ) -> Outcome
-    requires { ⌜ (16 * «universal_room» ≤ length (now «universal_rows»)) × («universal_room» ≤ length (now «universal_marks»)) ⌝ }
-    requires { ⌜ (16 * «existential_room» ≤ length (now «existential_rows»)) × («existential_room» ≤ length (now «existential_marks»)) ⌝ }
+    requires { ⌜ (16 * «universal_room» ≤ length (now «universal_rows»)) × («universal_room» ≤ length (now «universal_marks»)) × («universal_room» ≤ length (now «universal_counts»)) ⌝ }
+    requires { ⌜ (16 * «existential_room» ≤ length (now «existential_rows»)) × («existential_room» ≤ length (now «existential_marks»)) × («existential_room» ≤ length (now «existential_counts»)) ⌝ }
 {
     run::run(
         kinds,
@@ -166,8 +172,10 @@ fn lend(
         preferences,
         &mut universal_rows[0..16 * universal_room],
         &mut universal_marks[0..universal_room],
+        &mut universal_counts[0..universal_room],
         &mut existential_rows[0..16 * existential_room],
         &mut existential_marks[0..existential_room],
+        &mut existential_counts[0..existential_room],
         work,
         limit,
         0,

@@ -19,6 +19,12 @@ slice-aggregate-run-4 c = search needs
 slice-aggregate-run-5 : tie.Need-slice-aggregate-run-5
 slice-aggregate-run-5 c = search needs
 
+slice-aggregate-run-6 : tie.Need-slice-aggregate-run-6
+slice-aggregate-run-6 c = search needs
+
+slice-aggregate-run-7 : tie.Need-slice-aggregate-run-7
+slice-aggregate-run-7 c = search needs
+
 run-requires : tie.Need-run-requires
 run-requires c κs = search needs
 
@@ -26,7 +32,7 @@ same-length : tie.Need-same-length
 same-length c = search needs
 
 returns : tie.Need-returns
-returns c = ended-so (c .before .before .before .before .before .before .run .ensures)
+returns c = ended-so (c .before .before .before .before .before .before .before .before .run .ensures)
 
 pub decide-spec : {M : Type 1} → statement M
 decide-spec =
@@ -37,6 +43,8 @@ decide-spec =
     slice-aggregate-run-3
     slice-aggregate-run-4
     slice-aggregate-run-5
+    slice-aggregate-run-6
+    slice-aggregate-run-7
     run-requires
     same-length
     returns)

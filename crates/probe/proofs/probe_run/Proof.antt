@@ -25,9 +25,15 @@ same-length-4 c = search needs
 same-length-5 : tie.Need-same-length-5
 same-length-5 c = search needs
 
+same-length-6 : tie.Need-same-length-6
+same-length-6 c = search needs
+
+same-length-7 : tie.Need-same-length-7
+same-length-7 c = search needs
+
 returns : tie.Need-returns
 returns c =
-    let run = c .before .before .before .before .before .before .before .before .before .before .before .before .run .ensures in
+    let run = c .before .before .before .before .before .before .before .before .before .before .before .before .before .before .before .before .run .ensures in
     (reported (c .one-number .ensures) (run .returned-so), run .left-so)
 
 pub probe-run-spec : {M : Type 1} → statement M
@@ -41,4 +47,6 @@ probe-run-spec =
     same-length-3
     same-length-4
     same-length-5
+    same-length-6
+    same-length-7
     returns)

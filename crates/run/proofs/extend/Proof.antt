@@ -3,6 +3,7 @@ use mathlib.Core.Path.{ap, _∙_}
 use Rattle.growth.specs.declared.Growth.{Growth}
 use Rattle.run.specs.Growing.{step-of}
 use Rattle.run.proofs.ExtendLaws.{no-model-extended, model-extended}
+use Rattle.run.proofs.CountingLaws.{packs}
 use borrow.Author.Needs.{needs}
 use Rattle.run.proofs.extend.Statement.{statement}
 use Rattle.run.proofs.extend.Tie as tie
@@ -15,11 +16,13 @@ same-length c = search needs
 
 returns : tie.Need-returns
 returns c =
-    let given = c .before .before .before .before .before .before .before .before .before .before .before .args in
-    λ from t from-found found found-marks passes counted counted-t held held-t long.
-    no-model-extended (given .kinds .now) (given .literals .now) (given .preferences .now) (given .others .now) (given .other-count) (given .universal) (given .work .now) from from-found passes counted held long
-    (given .mark) (given .rows .now) (given .marks .now) (given .count) t found found-marks counted-t held-t
-    _ _ (c .before .before .before .finds .ensures .0) (c .before .before .before .finds .ensures .1) (c .if1 .left)
+    let given = c .before .before .before .before .before .before .before .before .before .before .before .args in (
+      λ from t from-found found found-marks passes counted counted-t held held-t long.
+          no-model-extended (given .kinds .now) (given .literals .now) (given .preferences .now) (given .others .now) (given .other-count) (given .universal) (given .work .now) from from-found passes counted held long
+          (given .mark) (given .rows .now) (given .marks .now) (given .count) t found found-marks counted-t held-t
+          _ _ (c .before .before .before .finds .ensures .0) (c .before .before .before .finds .ensures .1) (c .if1 .left),
+      packs (given .kinds .now) (given .literals .now) (given .preferences .now) (given .others .now) (given .other-count) (given .universal) (given .work .now) _ (c .before .before .before .finds .ensures .1),
+    )
 
 grow-requires : tie.Need-grow-requires
 grow-requires c κs = search needs
@@ -38,12 +41,14 @@ same-length-4 c = search needs
 
 returns-2 : tie.Need-returns-2
 returns-2 c =
-    let given = c .before .before .before .before .before .before .before .before .before .before .before .before .before .before .before .before .before .before .before .before .args in
-    λ from t from-found found found-marks passes counted counted-t held held-t long.
-    model-extended (given .kinds .now) (given .literals .now) (given .preferences .now) (given .others .now) (given .other-count) (given .universal) (given .work .now) from from-found passes counted held long
-    (given .mark) (given .rows .now) (given .marks .now) (given .count) t found found-marks counted-t held-t
-    _ _ (c .before .before .before .before .before .before .before .before .before .before .before .before .finds .ensures .0) (c .before .before .before .before .before .before .before .before .before .before .before .before .finds .ensures .1) (c .before .before .before .before .before .before .before .before .before .if1 .taken)
-    _ _ _ (c .after-growth .ensures ∙ ap (λ (g : Growth). step-of g (given .count)) (c .before .before .before .before .before .grow .ensures .0)) (c .before .before .before .before .before .grow .ensures .1 .0) (c .before .before .before .before .before .grow .ensures .1 .1)
+    let given = c .before .before .before .before .before .before .before .before .before .before .before .before .before .before .before .before .before .before .before .before .args in (
+      λ from t from-found found found-marks passes counted counted-t held held-t long.
+          model-extended (given .kinds .now) (given .literals .now) (given .preferences .now) (given .others .now) (given .other-count) (given .universal) (given .work .now) from from-found passes counted held long
+          (given .mark) (given .rows .now) (given .marks .now) (given .count) t found found-marks counted-t held-t
+          _ _ (c .before .before .before .before .before .before .before .before .before .before .before .before .finds .ensures .0) (c .before .before .before .before .before .before .before .before .before .before .before .before .finds .ensures .1) (c .before .before .before .before .before .before .before .before .before .if1 .taken)
+          _ _ _ (c .after-growth .ensures ∙ ap (λ (g : Growth). step-of g (given .count)) (c .before .before .before .before .before .grow .ensures .0)) (c .before .before .before .before .before .grow .ensures .1 .0) (c .before .before .before .before .before .grow .ensures .1 .1),
+      packs (given .kinds .now) (given .literals .now) (given .preferences .now) (given .others .now) (given .other-count) (given .universal) (given .work .now) _ (c .before .before .before .before .before .before .before .before .before .before .before .before .finds .ensures .1),
+    )
 
 pub extend-spec : {M : Type 1} → statement M
 extend-spec =

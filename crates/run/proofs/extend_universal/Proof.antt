@@ -21,9 +21,11 @@ same-length-3 c = c .before .before .before .before .before .before .before .ext
 
 returns : tie.Need-returns
 returns c =
-    let q = c .before .before .before .before .before .before .before .before .before .before .before .before .before .before .before .before .before .before .args in
-    universal-stopped (q .kinds .now) (q .literals .now) (q .preferences .now) (q .others .now) (q .other-count) (q .rows .now) (q .marks .now) (q .count) (q .clear-every) (q .round) (q .mark) (q .work .now)
-    (c .before .before .before .before .before .before .before .before .before .before .before .kept-rows .result) (c .before .before .before .before .before .before .before .before .before .before .before .kept-rows .ensures) (c .before .before .before .before .before .before .before .extend .result) _ _ _ (c .before .before .before .before .before .before .before .extend .ensures) (c .if1 .taken)
+    let q = c .before .before .before .before .before .before .before .before .before .before .before .before .before .before .before .before .before .before .args in (
+      universal-stopped (q .kinds .now) (q .literals .now) (q .preferences .now) (q .others .now) (q .other-count) (q .rows .now) (q .marks .now) (q .count) (q .clear-every) (q .round) (q .mark) (q .work .now)
+          (c .before .before .before .before .before .before .before .before .before .before .before .kept-rows .result) (c .before .before .before .before .before .before .before .before .before .before .before .kept-rows .ensures) (c .before .before .before .before .before .before .before .extend .result) _ _ _ (c .before .before .before .before .before .before .before .extend .ensures .0) (c .if1 .taken),
+      c .before .before .before .before .before .before .before .extend .ensures .1,
+    )
 
 give-up-requires : tie.Need-give-up-requires
 give-up-requires c κs = tt
@@ -39,9 +41,11 @@ same-length-6 c = c .before .before .before .before .before .before .before .bef
 
 returns-2 : tie.Need-returns-2
 returns-2 c =
-    let q = c .before .before .before .before .before .before .before .before .before .before .before .before .before .before .before .before .before .before .before .before .before .before .before .before .before .args in
-    universal-grown (q .kinds .now) (q .literals .now) (q .preferences .now) (q .others .now) (q .other-count) (q .rows .now) (q .marks .now) (q .count) (q .clear-every) (q .round) (q .mark) (q .work .now)
-    (c .before .before .before .before .before .before .before .before .before .before .before .before .before .before .before .before .before .before .kept-rows .result) (c .before .before .before .before .before .before .before .before .before .before .before .before .before .before .before .before .before .before .kept-rows .ensures) (c .before .before .before .before .before .before .before .before .before .before .before .before .before .before .extend .result) _ _ _ (c .before .before .before .before .before .before .before .before .before .before .before .before .before .before .extend .ensures) (c .before .before .before .before .before .before .before .if1 .left) _ _ (c .before .before .before .before .give-up .ensures .0) (c .before .before .before .before .give-up .ensures .1)
+    let q = c .before .before .before .before .before .before .before .before .before .before .before .before .before .before .before .before .before .before .before .before .before .before .before .before .before .args in (
+      universal-grown (q .kinds .now) (q .literals .now) (q .preferences .now) (q .others .now) (q .other-count) (q .rows .now) (q .marks .now) (q .count) (q .clear-every) (q .round) (q .mark) (q .work .now)
+          (c .before .before .before .before .before .before .before .before .before .before .before .before .before .before .before .before .before .before .kept-rows .result) (c .before .before .before .before .before .before .before .before .before .before .before .before .before .before .before .before .before .before .kept-rows .ensures) (c .before .before .before .before .before .before .before .before .before .before .before .before .before .before .extend .result) _ _ _ (c .before .before .before .before .before .before .before .before .before .before .before .before .before .before .extend .ensures .0) (c .before .before .before .before .before .before .before .if1 .left) _ _ (c .before .before .before .before .give-up .ensures .0) (c .before .before .before .before .give-up .ensures .1),
+      c .before .before .before .before .before .before .before .before .before .before .before .before .before .before .extend .ensures .1,
+    )
 
 pub extend-universal-spec : {M : Type 1} → statement M
 extend-universal-spec =

@@ -1,5 +1,5 @@
 -- `run::rounds` meets its contract. The loop's invariant: for the tables as they were lent, the rounds made so far are finished, and the
--- tables hold what they made; and no length has changed. Assumes nothing.
+-- tables and their counts hold what they made; and no length has changed. Assumes nothing.
 use Prim.Native.Nat.{ℕ, _-_}
 use mathlib.Core.Path.{_≡_, refl, _∙_}
 use mathlib.Core.List.{List}
@@ -8,39 +8,53 @@ use lib.ListN.{length, replicate}
 use Rattle.preference.specs.Preference.{prefer}
 use Rattle.rows.specs.Access.{rows-written, marks-written}
 use Rattle.growth.specs.Growth.{with-preferred}
+use Rattle.counts.specs.Counts.{filled}
 use Rattle.run.specs.Outcome.{areas, given}
 use Rattle.run.specs.Growing.{Ready}
+use Rattle.run.specs.Counting.{CountsShow}
 use Rattle.run.proofs.LoopLaws.{Going, fresh-going, number-in-marks, run-stopped, run-stopped-back, round-made, run-spent}
+use Rattle.run.proofs.RoundCounts.{fresh-counts, counts-stopped, counts-stopped-back, counts-made, counts-spent}
 use Rattle.run.proofs.rounds.Statement.{statement}
 use Rattle.run.proofs.rounds.Tie as tie
 
 abbrev Inv-loop : tie.InvT-loop
-Inv-loop kinds literals preferences universal-rows₀ universal-marks₀ existential-rows₀ existential-marks₀ work₀ universals limit clear-every made₀ universal₀ existential₀ universal-rows universal-marks existential-rows existential-marks work made universal existential =
-    ((A-found A-marks-found : List ℕ)
+Inv-loop kinds literals preferences universal-rows₀ universal-marks₀ universal-counts₀ existential-rows₀ existential-marks₀ existential-counts₀ work₀ universals limit clear-every made₀ universal₀ existential₀ universal-rows universal-marks universal-counts existential-rows existential-marks existential-counts work made universal existential =
+    ((A-found A-marks-found A-counts-found : List ℕ)
     → universal-rows₀ ≡ rows-written A-found A-marks-found 0 (with-preferred (prefer preferences) universals (replicate 16 0)) 0
     → universal-marks₀ ≡ marks-written A-found A-marks-found 0 (with-preferred (prefer preferences) universals (replicate 16 0)) 0 0
-    → Ready kinds literals A-found A-marks-found existential-rows₀ existential-marks₀ work₀ universals
-    → Going (given kinds literals preferences (areas A-found A-marks-found existential-rows₀ existential-marks₀ work₀) limit clear-every) made universal existential universal-rows universal-marks existential-rows existential-marks work)
+    → universal-counts₀ ≡ filled 0 1 0 A-counts-found
+    → Ready kinds literals A-found A-marks-found A-counts-found existential-rows₀ existential-marks₀ existential-counts₀ work₀ universals
+    → Going (given kinds literals preferences (areas A-found A-marks-found A-counts-found existential-rows₀ existential-marks₀ existential-counts₀ work₀) limit clear-every) made universal existential universal-rows universal-marks existential-rows existential-marks work
+    × CountsShow (given kinds literals preferences (areas A-found A-marks-found A-counts-found existential-rows₀ existential-marks₀ existential-counts₀ work₀) limit clear-every) made universal-counts existential-counts)
     × (length universal-rows ≡ length universal-rows₀)
     × (length universal-marks ≡ length universal-marks₀)
+    × (length universal-counts ≡ length universal-counts₀)
     × (length existential-rows ≡ length existential-rows₀)
     × (length existential-marks ≡ length existential-marks₀)
+    × (length existential-counts ≡ length existential-counts₀)
     × (length work ≡ length work₀)
 
 abbrev μ-loop : tie.MeasureT-loop
-μ-loop kinds literals preferences universal-rows₀ universal-marks₀ existential-rows₀ existential-marks₀ work₀ universals limit clear-every made₀ universal₀ existential₀ universal-rows universal-marks existential-rows existential-marks work made universal existential = limit - made
+μ-loop kinds literals preferences universal-rows₀ universal-marks₀ universal-counts₀ existential-rows₀ existential-marks₀ existential-counts₀ work₀ universals limit clear-every made₀ universal₀ existential₀ universal-rows universal-marks universal-counts existential-rows existential-marks existential-counts work made universal existential = limit - made
 
 write-start-requires : tie.Need-write-start-requires Inv-loop μ-loop
 write-start-requires c κs = tt
+
+fill-requires : tie.Need-fill-requires Inv-loop μ-loop
+fill-requires c κs = tt
 
 start-requires : tie.Need-start-requires Inv-loop μ-loop
 start-requires c κs = tt
 
 loop-holds : tie.Need-loop-holds Inv-loop μ-loop
 loop-holds c =
-    let q = c .before .before .before .before .before .before .before .before .before .before .before .before .before .before .before .args in (
-      λ A-found A-marks-found on-rows on-marks ready.
-          fresh-going (given (q .kinds .now) (q .literals .now) (q .preferences .now) (areas A-found A-marks-found (q .existential-rows .now) (q .existential-marks .now) (q .work .now)) (q .limit) (q .clear-every)) (c .start .result) (q .universals) _ _ (q .work .now) (c .start .ensures) ready on-rows on-marks,
+    let q = c .before .before .before .before .before .before .before .before .before .before .before .before .before .before .before .before .before .before .before .before .before .args in (
+      λ A-found A-marks-found A-counts-found on-rows on-marks on-counts ready. (
+        fresh-going (given (q .kinds .now) (q .literals .now) (q .preferences .now) (areas A-found A-marks-found A-counts-found (q .existential-rows .now) (q .existential-marks .now) (q .existential-counts .now) (q .work .now)) (q .limit) (q .clear-every)) (c .start .result) (q .universals) _ _ (q .work .now) (c .start .ensures) ready on-rows on-marks,
+        fresh-counts (given (q .kinds .now) (q .literals .now) (q .preferences .now) (areas A-found A-marks-found A-counts-found (q .existential-rows .now) (q .existential-marks .now) (q .existential-counts .now) (q .work .now)) (q .limit) (q .clear-every)) (c .start .result) (q .universals) (q .work .now) (c .start .ensures) ready _ on-counts,
+      ),
+      refl,
+      refl,
       refl,
       refl,
       refl,
@@ -53,108 +67,140 @@ add-number c = omega arith
 
 cast-mark : tie.Need-cast-mark Inv-loop μ-loop
 cast-mark c =
-    let q = c .before .before .before .before .before .before .before .before .before .before .before .before .before .before .before .before .before .args in
-    let going = c .before .loop .inv .0 (q .universal-rows .now) (q .universal-marks .now) (c .before .before .before .before .before .before .before .write-start .ensures .0) (c .before .before .before .before .before .before .before .write-start .ensures .1) (c .before .before .before .before .before .before .before .before .before .before .before .before .before .before .before .before .before .pre) in
-    let small = number-in-marks (given (q .kinds .now) (q .literals .now) (q .preferences .now) (areas (q .universal-rows .now) (q .universal-marks .now) (q .existential-rows .now) (q .existential-marks .now) (q .work .now)) (q .limit) (q .clear-every)) (c .before .loop .made) (c .before .loop .universal) (c .before .loop .existential) _ _ _ _ _ going in
+    let q = c .before .before .before .before .before .before .before .before .before .before .before .before .before .before .before .before .before .before .before .before .before .before .before .args in
+    let running = c .before .loop .inv .0 (q .universal-rows .now) (q .universal-marks .now) (q .universal-counts .now) (c .before .before .before .before .before .before .before .before .before .before .before .write-start .ensures .0) (c .before .before .before .before .before .before .before .before .before .before .before .write-start .ensures .1) (c .before .before .before .before .before .fill .ensures) (c .before .before .before .before .before .before .before .before .before .before .before .before .before .before .before .before .before .before .before .before .before .before .before .pre) in
+    let small = number-in-marks (given (q .kinds .now) (q .literals .now) (q .preferences .now) (areas (q .universal-rows .now) (q .universal-marks .now) (q .universal-counts .now) (q .existential-rows .now) (q .existential-marks .now) (q .existential-counts .now) (q .work .now)) (q .limit) (q .clear-every)) (c .before .loop .made) (c .before .loop .universal) (c .before .loop .existential) _ _ _ _ _ (running .0) in
     omega arith
 
-extend-requires : tie.Need-extend-requires Inv-loop μ-loop
-extend-requires c κs = tt
+existential-half-requires : tie.Need-existential-half-requires Inv-loop μ-loop
+existential-half-requires c κs = tt
 
 existential-stop-requires : tie.Need-existential-stop-requires Inv-loop μ-loop
 existential-stop-requires c κs = tt
 
 same-length : tie.Need-same-length Inv-loop μ-loop
-same-length c = c .before .before .before .before .before .before .before .before .before .before .before .before .before .before .loop .inv .1 ∙ c .before .before .before .before .before .before .before .before .before .before .before .before .before .before .before .before .before .before .before .before .write-start .kept .1 .1 .0
+same-length c = c .before .before .before .before .before .before .before .before .before .before .before .before .before .before .before .before .before .loop .inv .1 ∙ c .before .before .before .before .before .before .before .before .before .before .before .before .before .before .before .before .before .before .before .before .before .before .before .before .before .before .before .write-start .kept .1 .1 .0
 
 same-length-2 : tie.Need-same-length-2 Inv-loop μ-loop
-same-length-2 c = c .before .before .before .before .before .before .before .before .before .before .before .before .before .before .loop .inv .2 ∙ c .before .before .before .before .before .before .before .before .before .before .before .before .before .before .before .before .before .before .before .before .write-start .kept .1 .1 .1 .0
+same-length-2 c = c .before .before .before .before .before .before .before .before .before .before .before .before .before .before .before .before .before .loop .inv .2 ∙ c .before .before .before .before .before .before .before .before .before .before .before .before .before .before .before .before .before .before .before .before .before .before .before .before .before .before .before .write-start .kept .1 .1 .1 .0
 
 same-length-3 : tie.Need-same-length-3 Inv-loop μ-loop
-same-length-3 c = c .before .before .before .before .before .before .before .before .extend .kept .1 .1 .1 .1 .1 .1 .0 ∙ c .before .before .before .before .before .before .before .before .before .before .before .before .before .before .loop .inv .3
+same-length-3 c = c .before .before .before .before .before .before .before .before .before .before .before .before .before .before .before .before .before .loop .inv .3 ∙ c .before .before .before .before .before .before .before .before .before .before .before .before .before .before .before .before .before .before .before .before .before .fill .kept .0
 
 same-length-4 : tie.Need-same-length-4 Inv-loop μ-loop
-same-length-4 c = c .before .before .before .before .before .before .before .before .extend .kept .1 .1 .1 .1 .1 .1 .1 .0 ∙ c .before .before .before .before .before .before .before .before .before .before .before .before .before .before .loop .inv .4
+same-length-4 c = c .before .before .before .before .before .before .before .before .before .before .existential-half .kept .1 .1 .1 .1 .1 .0 ∙ c .before .before .before .before .before .before .before .before .before .before .before .before .before .before .before .before .before .loop .inv .4
 
 same-length-5 : tie.Need-same-length-5 Inv-loop μ-loop
-same-length-5 c = c .before .before .before .before .before .before .before .before .extend .kept .1 .1 .1 .1 .1 .1 .1 .1 .1 .1 .0 ∙ c .before .before .before .before .before .before .before .before .before .before .before .before .before .before .loop .inv .5
+same-length-5 c = c .before .before .before .before .before .before .before .before .before .before .existential-half .kept .1 .1 .1 .1 .1 .1 .0 ∙ c .before .before .before .before .before .before .before .before .before .before .before .before .before .before .before .before .before .loop .inv .5
+
+same-length-6 : tie.Need-same-length-6 Inv-loop μ-loop
+same-length-6 c = c .before .before .before .before .before .before .before .before .before .before .existential-half .kept .1 .1 .1 .1 .1 .1 .1 .0 ∙ c .before .before .before .before .before .before .before .before .before .before .before .before .before .before .before .before .before .loop .inv .6
+
+same-length-7 : tie.Need-same-length-7 Inv-loop μ-loop
+same-length-7 c = c .before .before .before .before .before .before .before .before .before .before .existential-half .kept .1 .1 .1 .1 .1 .1 .1 .1 .1 .1 .0 ∙ c .before .before .before .before .before .before .before .before .before .before .before .before .before .before .before .before .before .loop .inv .7
 
 returns : tie.Need-returns Inv-loop μ-loop
 returns c =
-    let q = c .before .before .before .before .before .before .before .before .before .before .before .before .before .before .before .before .before .before .before .before .before .before .before .before .before .before .before .before .before .before .args in
-    let going = c .before .before .before .before .before .before .before .before .before .before .before .before .before .before .loop .inv .0 (q .universal-rows .now) (q .universal-marks .now) (c .before .before .before .before .before .before .before .before .before .before .before .before .before .before .before .before .before .before .before .before .write-start .ensures .0) (c .before .before .before .before .before .before .before .before .before .before .before .before .before .before .before .before .before .before .before .before .write-start .ensures .1) (c .before .before .before .before .before .before .before .before .before .before .before .before .before .before .before .before .before .before .before .before .before .before .before .before .before .before .before .before .before .before .pre) in
-    run-stopped (given (q .kinds .now) (q .literals .now) (q .preferences .now) (areas (q .universal-rows .now) (q .universal-marks .now) (q .existential-rows .now) (q .existential-marks .now) (q .work .now)) (q .limit) (q .clear-every))
-    (c .before .before .before .before .before .before .before .before .before .before .before .before .before .before .loop .made) (c .before .before .before .before .before .before .before .before .before .before .before .before .before .before .loop .universal) (c .before .before .before .before .before .before .before .before .before .before .before .before .before .before .loop .existential) _ _ _ _ _ going (c .before .before .before .before .before .before .before .before .extend .result) _ _ _ (c .before .before .before .before .before .before .before .before .extend .ensures) (c .before .before .before .before .before .before .before .before .before .before .before .before .before .loop-test .taken) (c .before .if1 .taken) _ (c .existential-stop .ensures)
+    let q = c .before .before .before .before .before .before .before .before .before .before .before .before .before .before .before .before .before .before .before .before .before .before .before .before .before .before .before .before .before .before .before .before .before .before .before .before .before .before .before .args in
+    let running = c .before .before .before .before .before .before .before .before .before .before .before .before .before .before .before .before .before .loop .inv .0 (q .universal-rows .now) (q .universal-marks .now) (q .universal-counts .now) (c .before .before .before .before .before .before .before .before .before .before .before .before .before .before .before .before .before .before .before .before .before .before .before .before .before .before .before .write-start .ensures .0) (c .before .before .before .before .before .before .before .before .before .before .before .before .before .before .before .before .before .before .before .before .before .before .before .before .before .before .before .write-start .ensures .1) (c .before .before .before .before .before .before .before .before .before .before .before .before .before .before .before .before .before .before .before .before .before .fill .ensures) (c .before .before .before .before .before .before .before .before .before .before .before .before .before .before .before .before .before .before .before .before .before .before .before .before .before .before .before .before .before .before .before .before .before .before .before .before .before .before .before .pre) in (
+      run-stopped (given (q .kinds .now) (q .literals .now) (q .preferences .now) (areas (q .universal-rows .now) (q .universal-marks .now) (q .universal-counts .now) (q .existential-rows .now) (q .existential-marks .now) (q .existential-counts .now) (q .work .now)) (q .limit) (q .clear-every))
+          (c .before .before .before .before .before .before .before .before .before .before .before .before .before .before .before .before .before .loop .made) (c .before .before .before .before .before .before .before .before .before .before .before .before .before .before .before .before .before .loop .universal) (c .before .before .before .before .before .before .before .before .before .before .before .before .before .before .before .before .before .loop .existential) _ _ _ _ _ (running .0) (c .before .before .before .before .before .before .before .before .before .before .existential-half .result) _ _ _ (c .before .before .before .before .before .before .before .before .before .before .existential-half .ensures .0) (c .before .before .before .before .before .before .before .before .before .before .before .before .before .before .before .before .loop-test .taken) (c .before .if1 .taken) _ (c .existential-stop .ensures),
+      counts-stopped (given (q .kinds .now) (q .literals .now) (q .preferences .now) (areas (q .universal-rows .now) (q .universal-marks .now) (q .universal-counts .now) (q .existential-rows .now) (q .existential-marks .now) (q .existential-counts .now) (q .work .now)) (q .limit) (q .clear-every))
+          (c .before .before .before .before .before .before .before .before .before .before .before .before .before .before .before .before .before .loop .made) (c .before .before .before .before .before .before .before .before .before .before .before .before .before .before .before .before .before .loop .universal) (c .before .before .before .before .before .before .before .before .before .before .before .before .before .before .before .before .before .loop .existential) _ _ _ _ _ (running .0) _ _ (running .1) (c .before .before .before .before .before .before .before .before .before .before .before .before .before .before .before .before .before .before .before .before .before .before .before .before .before .before .before .before .before .before .before .before .before .before .before .before .before .before .before .pre) (c .before .before .before .before .before .before .before .before .before .before .existential-half .result) _ _ _ _ (c .before .before .before .before .before .before .before .before .before .before .existential-half .ensures .0) (c .before .before .before .before .before .before .before .before .before .before .existential-half .ensures .1) (c .before .before .before .before .before .before .before .before .before .before .before .before .before .before .before .before .loop-test .taken) (c .before .if1 .taken),
+    )
 
-extend-universal-requires : tie.Need-extend-universal-requires Inv-loop μ-loop
-extend-universal-requires c κs = tt
+universal-half-requires : tie.Need-universal-half-requires Inv-loop μ-loop
+universal-half-requires c κs = tt
 
 universal-stop-requires : tie.Need-universal-stop-requires Inv-loop μ-loop
 universal-stop-requires c κs = tt
 
-same-length-6 : tie.Need-same-length-6 Inv-loop μ-loop
-same-length-6 c = c .before .before .before .before .before .before .before .before .extend-universal .kept .1 .1 .1 .1 .1 .0 ∙ c .before .before .before .before .before .before .before .before .before .before .before .before .before .before .before .before .before .before .before .before .before .before .before .before .before .before .loop .inv .1 ∙ c .before .before .before .before .before .before .before .before .before .before .before .before .before .before .before .before .before .before .before .before .before .before .before .before .before .before .before .before .before .before .before .before .write-start .kept .1 .1 .0
-
-same-length-7 : tie.Need-same-length-7 Inv-loop μ-loop
-same-length-7 c = c .before .before .before .before .before .before .before .before .extend-universal .kept .1 .1 .1 .1 .1 .1 .0 ∙ c .before .before .before .before .before .before .before .before .before .before .before .before .before .before .before .before .before .before .before .before .before .before .before .before .before .before .loop .inv .2 ∙ c .before .before .before .before .before .before .before .before .before .before .before .before .before .before .before .before .before .before .before .before .before .before .before .before .before .before .before .before .before .before .before .before .write-start .kept .1 .1 .1 .0
-
 same-length-8 : tie.Need-same-length-8 Inv-loop μ-loop
-same-length-8 c = c .before .before .before .before .before .before .before .before .before .before .before .before .before .before .before .before .before .before .before .before .extend .kept .1 .1 .1 .1 .1 .1 .0 ∙ c .before .before .before .before .before .before .before .before .before .before .before .before .before .before .before .before .before .before .before .before .before .before .before .before .before .before .loop .inv .3
+same-length-8 c = c .before .before .before .before .before .before .before .before .before .before .universal-half .kept .1 .1 .1 .1 .1 .0 ∙ c .before .before .before .before .before .before .before .before .before .before .before .before .before .before .before .before .before .before .before .before .before .before .before .before .before .before .before .before .before .before .before .before .loop .inv .1 ∙ c .before .before .before .before .before .before .before .before .before .before .before .before .before .before .before .before .before .before .before .before .before .before .before .before .before .before .before .before .before .before .before .before .before .before .before .before .before .before .before .before .before .before .write-start .kept .1 .1 .0
 
 same-length-9 : tie.Need-same-length-9 Inv-loop μ-loop
-same-length-9 c = c .before .before .before .before .before .before .before .before .before .before .before .before .before .before .before .before .before .before .before .before .extend .kept .1 .1 .1 .1 .1 .1 .1 .0 ∙ c .before .before .before .before .before .before .before .before .before .before .before .before .before .before .before .before .before .before .before .before .before .before .before .before .before .before .loop .inv .4
+same-length-9 c = c .before .before .before .before .before .before .before .before .before .before .universal-half .kept .1 .1 .1 .1 .1 .1 .0 ∙ c .before .before .before .before .before .before .before .before .before .before .before .before .before .before .before .before .before .before .before .before .before .before .before .before .before .before .before .before .before .before .before .before .loop .inv .2 ∙ c .before .before .before .before .before .before .before .before .before .before .before .before .before .before .before .before .before .before .before .before .before .before .before .before .before .before .before .before .before .before .before .before .before .before .before .before .before .before .before .before .before .before .write-start .kept .1 .1 .1 .0
 
 same-length-10 : tie.Need-same-length-10 Inv-loop μ-loop
-same-length-10 c = c .before .before .before .before .before .before .before .before .extend-universal .kept .1 .1 .1 .1 .1 .1 .1 .1 .1 .1 .1 .0 ∙ c .before .before .before .before .before .before .before .before .before .before .before .before .before .before .before .before .before .before .before .before .extend .kept .1 .1 .1 .1 .1 .1 .1 .1 .1 .1 .0 ∙ c .before .before .before .before .before .before .before .before .before .before .before .before .before .before .before .before .before .before .before .before .before .before .before .before .before .before .loop .inv .5
+same-length-10 c = c .before .before .before .before .before .before .before .before .before .before .universal-half .kept .1 .1 .1 .1 .1 .1 .1 .0 ∙ c .before .before .before .before .before .before .before .before .before .before .before .before .before .before .before .before .before .before .before .before .before .before .before .before .before .before .before .before .before .before .before .before .loop .inv .3 ∙ c .before .before .before .before .before .before .before .before .before .before .before .before .before .before .before .before .before .before .before .before .before .before .before .before .before .before .before .before .before .before .before .before .before .before .before .before .fill .kept .0
+
+same-length-11 : tie.Need-same-length-11 Inv-loop μ-loop
+same-length-11 c = c .before .before .before .before .before .before .before .before .before .before .before .before .before .before .before .before .before .before .before .before .before .before .before .before .before .existential-half .kept .1 .1 .1 .1 .1 .0 ∙ c .before .before .before .before .before .before .before .before .before .before .before .before .before .before .before .before .before .before .before .before .before .before .before .before .before .before .before .before .before .before .before .before .loop .inv .4
+
+same-length-12 : tie.Need-same-length-12 Inv-loop μ-loop
+same-length-12 c = c .before .before .before .before .before .before .before .before .before .before .before .before .before .before .before .before .before .before .before .before .before .before .before .before .before .existential-half .kept .1 .1 .1 .1 .1 .1 .0 ∙ c .before .before .before .before .before .before .before .before .before .before .before .before .before .before .before .before .before .before .before .before .before .before .before .before .before .before .before .before .before .before .before .before .loop .inv .5
+
+same-length-13 : tie.Need-same-length-13 Inv-loop μ-loop
+same-length-13 c = c .before .before .before .before .before .before .before .before .before .before .before .before .before .before .before .before .before .before .before .before .before .before .before .before .before .existential-half .kept .1 .1 .1 .1 .1 .1 .1 .0 ∙ c .before .before .before .before .before .before .before .before .before .before .before .before .before .before .before .before .before .before .before .before .before .before .before .before .before .before .before .before .before .before .before .before .loop .inv .6
+
+same-length-14 : tie.Need-same-length-14 Inv-loop μ-loop
+same-length-14 c = c .before .before .before .before .before .before .before .before .before .before .universal-half .kept .1 .1 .1 .1 .1 .1 .1 .1 .1 .1 .1 .1 .0 ∙ c .before .before .before .before .before .before .before .before .before .before .before .before .before .before .before .before .before .before .before .before .before .before .before .before .before .existential-half .kept .1 .1 .1 .1 .1 .1 .1 .1 .1 .1 .0 ∙ c .before .before .before .before .before .before .before .before .before .before .before .before .before .before .before .before .before .before .before .before .before .before .before .before .before .before .before .before .before .before .before .before .loop .inv .7
 
 returns-2 : tie.Need-returns-2 Inv-loop μ-loop
 returns-2 c =
-    let q = c .before .before .before .before .before .before .before .before .before .before .before .before .before .before .before .before .before .before .before .before .before .before .before .before .before .before .before .before .before .before .before .before .before .before .before .before .before .before .before .before .before .before .args in
-    let going = c .before .before .before .before .before .before .before .before .before .before .before .before .before .before .before .before .before .before .before .before .before .before .before .before .before .before .loop .inv .0 (q .universal-rows .now) (q .universal-marks .now) (c .before .before .before .before .before .before .before .before .before .before .before .before .before .before .before .before .before .before .before .before .before .before .before .before .before .before .before .before .before .before .before .before .write-start .ensures .0) (c .before .before .before .before .before .before .before .before .before .before .before .before .before .before .before .before .before .before .before .before .before .before .before .before .before .before .before .before .before .before .before .before .write-start .ensures .1) (c .before .before .before .before .before .before .before .before .before .before .before .before .before .before .before .before .before .before .before .before .before .before .before .before .before .before .before .before .before .before .before .before .before .before .before .before .before .before .before .before .before .before .pre) in
-    run-stopped-back (given (q .kinds .now) (q .literals .now) (q .preferences .now) (areas (q .universal-rows .now) (q .universal-marks .now) (q .existential-rows .now) (q .existential-marks .now) (q .work .now)) (q .limit) (q .clear-every))
-    (c .before .before .before .before .before .before .before .before .before .before .before .before .before .before .before .before .before .before .before .before .before .before .before .before .before .before .loop .made) (c .before .before .before .before .before .before .before .before .before .before .before .before .before .before .before .before .before .before .before .before .before .before .before .before .before .before .loop .universal) (c .before .before .before .before .before .before .before .before .before .before .before .before .before .before .before .before .before .before .before .before .before .before .before .before .before .before .loop .existential) _ _ _ _ _ going (c .before .before .before .before .before .before .before .before .before .before .before .before .before .before .before .before .before .before .before .before .extend .result) _ _ _ (c .before .before .before .before .before .before .before .before .before .before .before .before .before .before .before .before .before .before .before .before .extend .ensures) (c .before .before .before .before .before .before .before .before .before .before .before .before .before .before .before .before .before .before .before .before .before .before .before .before .before .loop-test .taken) (c .before .before .before .before .before .before .before .before .before .before .before .before .before .if1 .left) (c .before .before .before .before .before .before .before .before .extend-universal .result) _ _ _ (c .before .before .before .before .before .before .before .before .extend-universal .ensures) (c .before .if2 .taken) _ (c .universal-stop .ensures)
+    let q = c .before .before .before .before .before .before .before .before .before .before .before .before .before .before .before .before .before .before .before .before .before .before .before .before .before .before .before .before .before .before .before .before .before .before .before .before .before .before .before .before .before .before .before .before .before .before .before .before .before .before .before .before .before .before .args in
+    let running = c .before .before .before .before .before .before .before .before .before .before .before .before .before .before .before .before .before .before .before .before .before .before .before .before .before .before .before .before .before .before .before .before .loop .inv .0 (q .universal-rows .now) (q .universal-marks .now) (q .universal-counts .now) (c .before .before .before .before .before .before .before .before .before .before .before .before .before .before .before .before .before .before .before .before .before .before .before .before .before .before .before .before .before .before .before .before .before .before .before .before .before .before .before .before .before .before .write-start .ensures .0) (c .before .before .before .before .before .before .before .before .before .before .before .before .before .before .before .before .before .before .before .before .before .before .before .before .before .before .before .before .before .before .before .before .before .before .before .before .before .before .before .before .before .before .write-start .ensures .1) (c .before .before .before .before .before .before .before .before .before .before .before .before .before .before .before .before .before .before .before .before .before .before .before .before .before .before .before .before .before .before .before .before .before .before .before .before .fill .ensures) (c .before .before .before .before .before .before .before .before .before .before .before .before .before .before .before .before .before .before .before .before .before .before .before .before .before .before .before .before .before .before .before .before .before .before .before .before .before .before .before .before .before .before .before .before .before .before .before .before .before .before .before .before .before .before .pre) in (
+      run-stopped-back (given (q .kinds .now) (q .literals .now) (q .preferences .now) (areas (q .universal-rows .now) (q .universal-marks .now) (q .universal-counts .now) (q .existential-rows .now) (q .existential-marks .now) (q .existential-counts .now) (q .work .now)) (q .limit) (q .clear-every))
+          (c .before .before .before .before .before .before .before .before .before .before .before .before .before .before .before .before .before .before .before .before .before .before .before .before .before .before .before .before .before .before .before .before .loop .made) (c .before .before .before .before .before .before .before .before .before .before .before .before .before .before .before .before .before .before .before .before .before .before .before .before .before .before .before .before .before .before .before .before .loop .universal) (c .before .before .before .before .before .before .before .before .before .before .before .before .before .before .before .before .before .before .before .before .before .before .before .before .before .before .before .before .before .before .before .before .loop .existential) _ _ _ _ _ (running .0) (c .before .before .before .before .before .before .before .before .before .before .before .before .before .before .before .before .before .before .before .before .before .before .before .before .before .existential-half .result) _ _ _ (c .before .before .before .before .before .before .before .before .before .before .before .before .before .before .before .before .before .before .before .before .before .before .before .before .before .existential-half .ensures .0) (c .before .before .before .before .before .before .before .before .before .before .before .before .before .before .before .before .before .before .before .before .before .before .before .before .before .before .before .before .before .before .before .loop-test .taken) (c .before .before .before .before .before .before .before .before .before .before .before .before .before .before .before .before .if1 .left) (c .before .before .before .before .before .before .before .before .before .before .universal-half .result) _ _ _ (c .before .before .before .before .before .before .before .before .before .before .universal-half .ensures .0) (c .before .if2 .taken) _ (c .universal-stop .ensures),
+      counts-stopped-back (given (q .kinds .now) (q .literals .now) (q .preferences .now) (areas (q .universal-rows .now) (q .universal-marks .now) (q .universal-counts .now) (q .existential-rows .now) (q .existential-marks .now) (q .existential-counts .now) (q .work .now)) (q .limit) (q .clear-every))
+          (c .before .before .before .before .before .before .before .before .before .before .before .before .before .before .before .before .before .before .before .before .before .before .before .before .before .before .before .before .before .before .before .before .loop .made) (c .before .before .before .before .before .before .before .before .before .before .before .before .before .before .before .before .before .before .before .before .before .before .before .before .before .before .before .before .before .before .before .before .loop .universal) (c .before .before .before .before .before .before .before .before .before .before .before .before .before .before .before .before .before .before .before .before .before .before .before .before .before .before .before .before .before .before .before .before .loop .existential) _ _ _ _ _ (running .0) _ _ (running .1) (c .before .before .before .before .before .before .before .before .before .before .before .before .before .before .before .before .before .before .before .before .before .before .before .before .before .before .before .before .before .before .before .before .before .before .before .before .before .before .before .before .before .before .before .before .before .before .before .before .before .before .before .before .before .before .pre) (c .before .before .before .before .before .before .before .before .before .before .before .before .before .before .before .before .before .before .before .before .before .before .before .before .before .existential-half .result) _ _ _ _ (c .before .before .before .before .before .before .before .before .before .before .before .before .before .before .before .before .before .before .before .before .before .before .before .before .before .existential-half .ensures .0) (c .before .before .before .before .before .before .before .before .before .before .before .before .before .before .before .before .before .before .before .before .before .before .before .before .before .existential-half .ensures .1) (c .before .before .before .before .before .before .before .before .before .before .before .before .before .before .before .before .before .before .before .before .before .before .before .before .before .before .before .before .before .before .before .loop-test .taken) (c .before .before .before .before .before .before .before .before .before .before .before .before .before .before .before .before .if1 .left) (c .before .before .before .before .before .before .before .before .before .before .universal-half .result) _ _ _ _ (c .before .before .before .before .before .before .before .before .before .before .universal-half .ensures .0) (c .before .before .before .before .before .before .before .before .before .before .universal-half .ensures .1) (c .before .if2 .taken),
+    )
 
 loop-less : tie.Need-loop-less Inv-loop μ-loop
-loop-less c = omega arith
+loop-less c = omega (arith, c .before .before .before .before .before .before .before .before .before .before .before .before .before .before .before .before .before .before .before .before .before .before .before .before .before .before .before .before .before .before .loop-test .taken)
 
 loop-again : tie.Need-loop-again Inv-loop μ-loop
 loop-again c =
-    let q = c .before .before .before .before .before .before .before .before .before .before .before .before .before .before .before .before .before .before .before .before .before .before .before .before .before .before .before .before .before .before .before .before .before .before .before .before .before .before .before .before .before .args in (
-      λ A-found A-marks-found on-rows on-marks ready.
-          let going = c .before .before .before .before .before .before .before .before .before .before .before .before .before .before .before .before .before .before .before .before .before .before .before .before .before .loop .inv .0 A-found A-marks-found on-rows on-marks ready in
-          round-made (given (q .kinds .now) (q .literals .now) (q .preferences .now) (areas A-found A-marks-found (q .existential-rows .now) (q .existential-marks .now) (q .work .now)) (q .limit) (q .clear-every))
-          (c .before .before .before .before .before .before .before .before .before .before .before .before .before .before .before .before .before .before .before .before .before .before .before .before .before .loop .made) (c .before .before .before .before .before .before .before .before .before .before .before .before .before .before .before .before .before .before .before .before .before .before .before .before .before .loop .universal) (c .before .before .before .before .before .before .before .before .before .before .before .before .before .before .before .before .before .before .before .before .before .before .before .before .before .loop .existential) _ _ _ _ _ going (c .before .before .before .before .before .before .before .before .before .before .before .before .before .before .before .before .before .before .before .extend .result) _ _ _ (c .before .before .before .before .before .before .before .before .before .before .before .before .before .before .before .before .before .before .before .extend .ensures) (c .before .before .before .before .before .before .before .before .before .before .before .before .before .before .before .before .before .before .before .before .before .before .before .before .loop-test .taken) (c .before .before .before .before .before .before .before .before .before .before .before .before .if1 .left) (c .before .before .before .before .before .before .before .extend-universal .result) _ _ _ (c .before .before .before .before .before .before .before .extend-universal .ensures) (c .if2 .left),
-      c .before .before .before .before .before .before .before .extend-universal .kept .1 .1 .1 .1 .1 .0 ∙ c .before .before .before .before .before .before .before .before .before .before .before .before .before .before .before .before .before .before .before .before .before .before .before .before .before .loop .inv .1,
-      c .before .before .before .before .before .before .before .extend-universal .kept .1 .1 .1 .1 .1 .1 .0 ∙ c .before .before .before .before .before .before .before .before .before .before .before .before .before .before .before .before .before .before .before .before .before .before .before .before .before .loop .inv .2,
-      c .before .before .before .before .before .before .before .before .before .before .before .before .before .before .before .before .before .before .before .extend .kept .1 .1 .1 .1 .1 .1 .0 ∙ c .before .before .before .before .before .before .before .before .before .before .before .before .before .before .before .before .before .before .before .before .before .before .before .before .before .loop .inv .3,
-      c .before .before .before .before .before .before .before .before .before .before .before .before .before .before .before .before .before .before .before .extend .kept .1 .1 .1 .1 .1 .1 .1 .0 ∙ c .before .before .before .before .before .before .before .before .before .before .before .before .before .before .before .before .before .before .before .before .before .before .before .before .before .loop .inv .4,
-      c .before .before .before .before .before .before .before .extend-universal .kept .1 .1 .1 .1 .1 .1 .1 .1 .1 .1 .1 .0 ∙ c .before .before .before .before .before .before .before .before .before .before .before .before .before .before .before .before .before .before .before .extend .kept .1 .1 .1 .1 .1 .1 .1 .1 .1 .1 .0 ∙ c .before .before .before .before .before .before .before .before .before .before .before .before .before .before .before .before .before .before .before .before .before .before .before .before .before .loop .inv .5,
+    let q = c .before .before .before .before .before .before .before .before .before .before .before .before .before .before .before .before .before .before .before .before .before .before .before .before .before .before .before .before .before .before .before .before .before .before .before .before .before .before .before .before .before .before .before .before .before .before .before .before .before .before .before .before .before .args in (
+      λ A-found A-marks-found A-counts-found on-rows on-marks on-counts ready.
+          let running = c .before .before .before .before .before .before .before .before .before .before .before .before .before .before .before .before .before .before .before .before .before .before .before .before .before .before .before .before .before .before .before .loop .inv .0 A-found A-marks-found A-counts-found on-rows on-marks on-counts ready in (
+            round-made (given (q .kinds .now) (q .literals .now) (q .preferences .now) (areas A-found A-marks-found A-counts-found (q .existential-rows .now) (q .existential-marks .now) (q .existential-counts .now) (q .work .now)) (q .limit) (q .clear-every))
+                (c .before .before .before .before .before .before .before .before .before .before .before .before .before .before .before .before .before .before .before .before .before .before .before .before .before .before .before .before .before .before .before .loop .made) (c .before .before .before .before .before .before .before .before .before .before .before .before .before .before .before .before .before .before .before .before .before .before .before .before .before .before .before .before .before .before .before .loop .universal) (c .before .before .before .before .before .before .before .before .before .before .before .before .before .before .before .before .before .before .before .before .before .before .before .before .before .before .before .before .before .before .before .loop .existential) _ _ _ _ _ (running .0) (c .before .before .before .before .before .before .before .before .before .before .before .before .before .before .before .before .before .before .before .before .before .before .before .before .existential-half .result) _ _ _ (c .before .before .before .before .before .before .before .before .before .before .before .before .before .before .before .before .before .before .before .before .before .before .before .before .existential-half .ensures .0) (c .before .before .before .before .before .before .before .before .before .before .before .before .before .before .before .before .before .before .before .before .before .before .before .before .before .before .before .before .before .before .loop-test .taken) (c .before .before .before .before .before .before .before .before .before .before .before .before .before .before .before .if1 .left) (c .before .before .before .before .before .before .before .before .before .universal-half .result) _ _ _ (c .before .before .before .before .before .before .before .before .before .universal-half .ensures .0) (c .if2 .left),
+            counts-made (given (q .kinds .now) (q .literals .now) (q .preferences .now) (areas A-found A-marks-found A-counts-found (q .existential-rows .now) (q .existential-marks .now) (q .existential-counts .now) (q .work .now)) (q .limit) (q .clear-every))
+                (c .before .before .before .before .before .before .before .before .before .before .before .before .before .before .before .before .before .before .before .before .before .before .before .before .before .before .before .before .before .before .before .loop .made) (c .before .before .before .before .before .before .before .before .before .before .before .before .before .before .before .before .before .before .before .before .before .before .before .before .before .before .before .before .before .before .before .loop .universal) (c .before .before .before .before .before .before .before .before .before .before .before .before .before .before .before .before .before .before .before .before .before .before .before .before .before .before .before .before .before .before .before .loop .existential) _ _ _ _ _ (running .0) _ _ (running .1) ready (c .before .before .before .before .before .before .before .before .before .before .before .before .before .before .before .before .before .before .before .before .before .before .before .before .existential-half .result) _ _ _ _ (c .before .before .before .before .before .before .before .before .before .before .before .before .before .before .before .before .before .before .before .before .before .before .before .before .existential-half .ensures .0) (c .before .before .before .before .before .before .before .before .before .before .before .before .before .before .before .before .before .before .before .before .before .before .before .before .existential-half .ensures .1) (c .before .before .before .before .before .before .before .before .before .before .before .before .before .before .before .before .before .before .before .before .before .before .before .before .before .before .before .before .before .before .loop-test .taken) (c .before .before .before .before .before .before .before .before .before .before .before .before .before .before .before .if1 .left) (c .before .before .before .before .before .before .before .before .before .universal-half .result) _ _ _ _ (c .before .before .before .before .before .before .before .before .before .universal-half .ensures .0) (c .before .before .before .before .before .before .before .before .before .universal-half .ensures .1),
+          ),
+      c .before .before .before .before .before .before .before .before .before .universal-half .kept .1 .1 .1 .1 .1 .0 ∙ c .before .before .before .before .before .before .before .before .before .before .before .before .before .before .before .before .before .before .before .before .before .before .before .before .before .before .before .before .before .before .before .loop .inv .1,
+      c .before .before .before .before .before .before .before .before .before .universal-half .kept .1 .1 .1 .1 .1 .1 .0 ∙ c .before .before .before .before .before .before .before .before .before .before .before .before .before .before .before .before .before .before .before .before .before .before .before .before .before .before .before .before .before .before .before .loop .inv .2,
+      c .before .before .before .before .before .before .before .before .before .universal-half .kept .1 .1 .1 .1 .1 .1 .1 .0 ∙ c .before .before .before .before .before .before .before .before .before .before .before .before .before .before .before .before .before .before .before .before .before .before .before .before .before .before .before .before .before .before .before .loop .inv .3,
+      c .before .before .before .before .before .before .before .before .before .before .before .before .before .before .before .before .before .before .before .before .before .before .before .before .existential-half .kept .1 .1 .1 .1 .1 .0 ∙ c .before .before .before .before .before .before .before .before .before .before .before .before .before .before .before .before .before .before .before .before .before .before .before .before .before .before .before .before .before .before .before .loop .inv .4,
+      c .before .before .before .before .before .before .before .before .before .before .before .before .before .before .before .before .before .before .before .before .before .before .before .before .existential-half .kept .1 .1 .1 .1 .1 .1 .0 ∙ c .before .before .before .before .before .before .before .before .before .before .before .before .before .before .before .before .before .before .before .before .before .before .before .before .before .before .before .before .before .before .before .loop .inv .5,
+      c .before .before .before .before .before .before .before .before .before .before .before .before .before .before .before .before .before .before .before .before .before .before .before .before .existential-half .kept .1 .1 .1 .1 .1 .1 .1 .0 ∙ c .before .before .before .before .before .before .before .before .before .before .before .before .before .before .before .before .before .before .before .before .before .before .before .before .before .before .before .before .before .before .before .loop .inv .6,
+      c .before .before .before .before .before .before .before .before .before .universal-half .kept .1 .1 .1 .1 .1 .1 .1 .1 .1 .1 .1 .1 .0 ∙ c .before .before .before .before .before .before .before .before .before .before .before .before .before .before .before .before .before .before .before .before .before .before .before .before .existential-half .kept .1 .1 .1 .1 .1 .1 .1 .1 .1 .1 .0 ∙ c .before .before .before .before .before .before .before .before .before .before .before .before .before .before .before .before .before .before .before .before .before .before .before .before .before .before .before .before .before .before .before .loop .inv .7,
     )
 
 spent-requires : tie.Need-spent-requires Inv-loop μ-loop
 spent-requires c κs = tt
 
-same-length-11 : tie.Need-same-length-11 Inv-loop μ-loop
-same-length-11 c = c .before .before .loop .inv .1 ∙ c .before .before .before .before .before .before .before .before .write-start .kept .1 .1 .0
-
-same-length-12 : tie.Need-same-length-12 Inv-loop μ-loop
-same-length-12 c = c .before .before .loop .inv .2 ∙ c .before .before .before .before .before .before .before .before .write-start .kept .1 .1 .1 .0
-
-same-length-13 : tie.Need-same-length-13 Inv-loop μ-loop
-same-length-13 c = c .before .before .loop .inv .3
-
-same-length-14 : tie.Need-same-length-14 Inv-loop μ-loop
-same-length-14 c = c .before .before .loop .inv .4
-
 same-length-15 : tie.Need-same-length-15 Inv-loop μ-loop
-same-length-15 c = c .before .before .loop .inv .5
+same-length-15 c = c .before .before .loop .inv .1 ∙ c .before .before .before .before .before .before .before .before .before .before .before .before .write-start .kept .1 .1 .0
+
+same-length-16 : tie.Need-same-length-16 Inv-loop μ-loop
+same-length-16 c = c .before .before .loop .inv .2 ∙ c .before .before .before .before .before .before .before .before .before .before .before .before .write-start .kept .1 .1 .1 .0
+
+same-length-17 : tie.Need-same-length-17 Inv-loop μ-loop
+same-length-17 c = c .before .before .loop .inv .3 ∙ c .before .before .before .before .before .before .fill .kept .0
+
+same-length-18 : tie.Need-same-length-18 Inv-loop μ-loop
+same-length-18 c = c .before .before .loop .inv .4
+
+same-length-19 : tie.Need-same-length-19 Inv-loop μ-loop
+same-length-19 c = c .before .before .loop .inv .5
+
+same-length-20 : tie.Need-same-length-20 Inv-loop μ-loop
+same-length-20 c = c .before .before .loop .inv .6
+
+same-length-21 : tie.Need-same-length-21 Inv-loop μ-loop
+same-length-21 c = c .before .before .loop .inv .7
 
 returns-3 : tie.Need-returns-3 Inv-loop μ-loop
 returns-3 c =
-    let q = c .before .before .before .before .before .before .before .before .before .before .before .before .before .before .before .before .before .before .args in
-    let going = c .before .before .loop .inv .0 (q .universal-rows .now) (q .universal-marks .now) (c .before .before .before .before .before .before .before .before .write-start .ensures .0) (c .before .before .before .before .before .before .before .before .write-start .ensures .1) (c .before .before .before .before .before .before .before .before .before .before .before .before .before .before .before .before .before .before .pre) in
-    run-spent (given (q .kinds .now) (q .literals .now) (q .preferences .now) (areas (q .universal-rows .now) (q .universal-marks .now) (q .existential-rows .now) (q .existential-marks .now) (q .work .now)) (q .limit) (q .clear-every))
-    (c .before .before .loop .made) (c .before .before .loop .universal) (c .before .before .loop .existential) _ _ _ _ _ going (c .before .loop-test .left) _ (c .spent .ensures)
+    let q = c .before .before .before .before .before .before .before .before .before .before .before .before .before .before .before .before .before .before .before .before .before .before .before .before .args in
+    let running = c .before .before .loop .inv .0 (q .universal-rows .now) (q .universal-marks .now) (q .universal-counts .now) (c .before .before .before .before .before .before .before .before .before .before .before .before .write-start .ensures .0) (c .before .before .before .before .before .before .before .before .before .before .before .before .write-start .ensures .1) (c .before .before .before .before .before .before .fill .ensures) (c .before .before .before .before .before .before .before .before .before .before .before .before .before .before .before .before .before .before .before .before .before .before .before .before .pre) in (
+      run-spent (given (q .kinds .now) (q .literals .now) (q .preferences .now) (areas (q .universal-rows .now) (q .universal-marks .now) (q .universal-counts .now) (q .existential-rows .now) (q .existential-marks .now) (q .existential-counts .now) (q .work .now)) (q .limit) (q .clear-every))
+          (c .before .before .loop .made) (c .before .before .loop .universal) (c .before .before .loop .existential) _ _ _ _ _ (running .0) (c .before .loop-test .left) _ (c .spent .ensures),
+      counts-spent (given (q .kinds .now) (q .literals .now) (q .preferences .now) (areas (q .universal-rows .now) (q .universal-marks .now) (q .universal-counts .now) (q .existential-rows .now) (q .existential-marks .now) (q .existential-counts .now) (q .work .now)) (q .limit) (q .clear-every))
+          (c .before .before .loop .made) (c .before .before .loop .universal) (c .before .before .loop .existential) _ _ _ _ _ (running .0) _ _ (running .1) (c .before .before .before .before .before .before .before .before .before .before .before .before .before .before .before .before .before .before .before .before .before .before .before .before .pre) (c .before .loop-test .left),
+    )
 
 pub rounds-spec : {M : Type 1} → statement M
 rounds-spec =
@@ -163,32 +209,39 @@ rounds-spec =
     Inv-loop
     μ-loop
     write-start-requires
+    fill-requires
     start-requires
     loop-holds
     add-number
     cast-mark
-    extend-requires
+    existential-half-requires
     existential-stop-requires
     same-length
     same-length-2
     same-length-3
     same-length-4
     same-length-5
-    returns
-    extend-universal-requires
-    universal-stop-requires
     same-length-6
     same-length-7
+    returns
+    universal-half-requires
+    universal-stop-requires
     same-length-8
     same-length-9
     same-length-10
-    returns-2
-    loop-less
-    loop-again
-    spent-requires
     same-length-11
     same-length-12
     same-length-13
     same-length-14
+    returns-2
+    loop-less
+    loop-again
+    spent-requires
     same-length-15
+    same-length-16
+    same-length-17
+    same-length-18
+    same-length-19
+    same-length-20
+    same-length-21
     returns-3)

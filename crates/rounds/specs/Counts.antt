@@ -1,0 +1,86 @@
+-- 02's C-16, how often a row came back: 'the number of searches of this run (universal: from the last clearing on) whose model yielded it,
+-- however often'. It is read from the run; the run knows nothing of it.
+-- Assumes nothing.
+use Prim.Native.Nat.{ℕ, zero, suc, _+_, _-_, _≤_}
+use mathlib.Core.Path.{_≡_}
+use mathlib.Core.Bool.{Bool, true, false, _&&_, cond}
+use mathlib.Core.List.{List, [], map}
+use mathlib.Core.Logic.{_≢_}
+use mathlib.Core.Option.{Option, none, some}
+use Rattle.formula.specs.Formula.{Kind, existential, universal}
+use Rattle.expansion.specs.Play.{Row}
+use Rattle.expansion.specs.Copies.{among}
+use Rattle.expansion.specs.Model.{search}
+use Rattle.rounds.specs.Run.{Entry, rows, clears, Answer, is-false, is-true, spent, no-room-universal, no-room-existential, Outcome, Lent, run}
+use Rattle.rounds.specs.Claim.{table, Stands, Finished}
+
+-- The rows that a search yielded; none if it found no model.
+abbrev pub rows-found : Option (List Row) → List Row
+rows-found none = []
+rows-found (some yielded) = yielded
+
+-- Step 1 of the round that follows an outcome: the existential side's search, made if there is such a round.
+abbrev pub first-search : Lent → Answer → Outcome → List Row
+first-search l spent o = rows-found (search (l .prefer) existential (l .ks) (l .phi) (rows (o .A)))
+first-search l is-false o = []
+first-search l is-true o = []
+first-search l no-room-universal o = []
+first-search l no-room-existential o = []
+
+-- Step 3 of the round that an outcome is of: the universal side's search over S, which later steps leave; made unless step 1 or 2 ended the run.
+abbrev pub second-search : Lent → Answer → Outcome → List Row
+second-search l is-false o = []
+second-search l no-room-existential o = []
+second-search l is-true o = rows-found (search (l .prefer) universal (l .ks) (l .phi) (rows (o .S)))
+second-search l no-room-universal o = rows-found (search (l .prefer) universal (l .ks) (l .phi) (rows (o .S)))
+second-search l spent o = rows-found (search (l .prefer) universal (l .ks) (l .phi) (rows (o .S)))
+
+-- The same, by the answer of the run before: the round is made if that is spent.
+abbrev pub second-search-after : Lent → Answer → Outcome → List Row
+second-search-after l spent o = second-search l (o .answer) o
+second-search-after l is-false o = []
+second-search-after l is-true o = []
+second-search-after l no-room-universal o = []
+second-search-after l no-room-existential o = []
+
+-- The rows that a side's search of round r + 1 yielded; none if it was not made or found no model.
+unfoldable pub searched : Lent → Kind → ℕ → List Row
+searched l existential r = first-search l (run l r .answer) (run l r)
+searched l universal r = second-search-after l (run l r .answer) (run l (suc r))
+
+abbrev pub is-spent : Answer → Bool
+is-spent spent = true
+is-spent is-false = false
+is-spent is-true = false
+is-spent no-room-universal = false
+is-spent no-room-existential = false
+
+-- 'Universal: from the last clearing on': where round r is finished and clears, what came before it is not counted.
+abbrev pub since : Lent → Kind → ℕ → ℕ → ℕ
+since l existential r n = n
+since l universal r n = cond (is-spent (run l r .answer) && clears (l .clear-every) r) 0 n
+
+-- A search counts once.
+abbrev pub once : Bool → ℕ
+once true = 1
+once false = 0
+
+-- How often a row came in the rounds up to r.
+unfoldable pub came : Lent → Kind → ℕ → Row → ℕ
+came l side zero x = 0
+came l side (suc r) x = since l side (suc r) (came l side r x) + once (among x (searched l side r))
+
+-- A side's counts when the run ends: of each row below the table's count, how often it came.
+unfoldable pub counts : Lent → Kind → ℕ → List ℕ
+counts l side limit = map (λ (x : Entry). came l side limit (x .row)) (table side (run l limit))
+
+-- What follows of the counts.
+pub record CountsRight (l : Lent) (limit : ℕ) : Type 0 where
+  -- No row came more often than there were rounds.
+  pub at-most : (side : Kind) (x : Row) → came l side limit x ≤ run l limit .round
+  -- A row that a finished round added to its table came once, in that round.
+  pub added-once : (side : Kind) (r : ℕ) → Finished l limit r → (i : ℕ) (x : Entry) → Stands (table side (run l r)) i x
+      → ((j : ℕ) (y : Entry) → Stands (table side (run l (r - 1))) j y → y .row ≢ x .row) → came l side r (x .row) ≡ 1
+  -- 'A clearing starts the universal counts again at 1.'
+  pub restarted : (r : ℕ) → Finished l limit r → clears (l .clear-every) r ≡ true → (i : ℕ) (x : Entry) → Stands (run l r .A) i x
+      → came l universal r (x .row) ≡ 1
