@@ -23,7 +23,7 @@ use random::Random;
 use std::collections::BTreeMap;
 use std::time::Instant;
 use tally::Tally;
-use write::write;
+use write::{write, write_bound};
 
 const SEED: u64 = 1;
 
@@ -72,12 +72,12 @@ fn large(player: &mut Player, times: usize) {
     play_formulas(player, times, formulas::large);
 }
 
-/// With the program's limit each way, since a lower one would seldom leave rows without room.
+/// With the program's limit each way, since a lower one would seldom leave rows without room; and in most cases with all names bound.
 fn many_rows(player: &mut Player, times: usize) {
     for _ in 0..times {
         let random = &mut player.random;
         let formula = if random.chance(1, 2) { formulas::pairs(random) } else { formulas::layers(random) };
-        let written = write(random, &formula);
+        let written = if random.chance(3, 4) { write_bound(random, &formula) } else { write(random, &formula) };
         match player.way {
             Way::Door => player.play_door(&written.text, &Ok(written.read), formula::WORK, 1_000),
             Way::Program => player.play_written(&written),

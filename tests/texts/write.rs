@@ -60,9 +60,18 @@ fn comment(random: &mut Random) -> Vec<u8> {
 
 /// The first unknowns become existential if no block is to bind them.
 pub fn write(random: &mut Random, formula: &Formula) -> Written {
+    let free = free(random, formula);
+    write_with(random, formula, free)
+}
+
+/// With all names bound, so that every unknown keeps its kind.
+pub fn write_bound(random: &mut Random, formula: &Formula) -> Written {
+    write_with(random, formula, 0)
+}
+
+fn write_with(random: &mut Random, formula: &Formula, free: usize) -> Written {
     let mut formula = formula.clone();
     let n = formula.kinds.len();
-    let free = free(random, &formula);
     formula.kinds[..free].fill(0);
     let v = random.pick(&[n, n, n + 1, n + 10, 200, 32_767]);
     let mut names = names(random, n, v);
