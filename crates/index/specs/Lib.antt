@@ -1,3 +1,4 @@
--- The index of a table of codes (Index), and what the passes that make it leave (Passes).
+-- Which clauses a code has (Occurrences), the index of a table of entries (Index), and what the passes that make it leave (Passes).
+pub mod Occurrences
 pub mod Index
 pub mod Passes
