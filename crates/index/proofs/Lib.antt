@@ -3,3 +3,4 @@ pub mod OccurrenceLaws
 pub mod LayoutLaws
 pub mod TallyLaws
 pub mod IndexLaws
+pub mod KeptLaws
