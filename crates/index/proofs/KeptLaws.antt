@@ -136,7 +136,7 @@ unfolding removed has-list
 no-list index c s h =
     rw (le-ltb c 259 h) (go (eqb (length index) 8710))
   where
-    go : (a : Bool) → cond (a && false && leb 518 (begin-of index c) && leb (begin-of index c) (end-of index c) && leb (end-of index c) 8710) (with-list index c (without s (list-of index c))) index ≡ index
+    go : (a : Bool) → cond (a && false) (with-list index c (without s (list-of index c))) index ≡ index
     go true = refl
     go false = refl
 

@@ -4,3 +4,7 @@ pub mod LayoutLaws
 pub mod TallyLaws
 pub mod IndexLaws
 pub mod KeptLaws
+pub mod PassLaws
+pub mod ListLaws
+pub mod FitLaws
+pub mod EditLaws
