@@ -11,7 +11,7 @@ same-length : tie.Need-same-length
 same-length c = c .before .before .fill .kept .1 .0
 
 returns : tie.Need-returns
-returns c = λ _. lists (c .before .before .before .before .before .before .before .args .codes .now) (c .before .before .before .before .before .before .before .args .index .now) (c .before .before .before .before .before .before .before .pre .0) (c .before .before .before .before .before .before .before .pre .1) (c .before .before .before .before .before .before .before .pre .2) (c .before .before .fill .ensures)
+returns c = λ _. lists (c .before .before .before .before .before .before .before .args .codes .now) (c .before .before .before .before .before .before .before .args .index .now) (c .before .before .before .before .before .before .before .pre .0) (c .before .before .before .before .before .before .before .pre .1) (c .before .before .before .before .before .before .before .pre .2) (c .before .before .fill .ensures .0)
 
 returns-2 : tie.Need-returns-2
 returns-2 c = λ existential. absurd (omega arith)
