@@ -56,7 +56,7 @@ fn list_codes(codes: &[u16], side: u8, index: &mut [u16])
     requires { ⌜ (length (now codes) ≤ max-entries) × Coded max-unknowns (now codes) × (length (now index) ≡ index-size) ⌝ }
     ensures { λ _. ⌜ Indexed side (now (codes .entry)) (now (index .exit)) ⌝ }
 {
-    if side == 0 {
+    if side == 0 { // the existential one
         index::fill(codes, index);
     }
 }
