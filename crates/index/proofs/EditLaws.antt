@@ -1,13 +1,13 @@
 -- One list: a name found in it and taken out, and the list emptied. Assumes nothing.
-use Prim.Native.Nat.{ℕ, zero, suc, _+_, _-_, _≤_, _<_}
+use Prim.Native.Nat.{ℕ, suc, _+_, _-_, _≤_, _<_}
 use native.Mathlib.Numerals.{add-one}
 use native.Mathlib.Nat.{add-zero}
 use native.Mathlib.Omega.{arith}
-use mathlib.Core.Path.{_≡_, refl, sym, ap, ap₂, subst, _∙_}
+use mathlib.Core.Path.{_≡_, refl, sym, ap, ap₂, _∙_}
 use mathlib.Core.Bool.{Bool, true, false, cond, _&&_, and-eq-true-iff}
-use mathlib.Core.List.{List, [], _∷_, _++_, append-nil, append-assoc}
+use mathlib.Core.List.{List, [], _∷_, _++_, append-assoc}
 use lib.Dec.{eqb, leb, ltb}
-use lib.ListN.{length, getD, set, take, drop, replicate, length-append, length-set, length-take, length-drop, length-replicate, take-append-drop, replicate-append-replicate, List·getD-append}
+use lib.ListN.{length, getD, set, take, drop, replicate, length-append, length-drop, length-replicate, take-append-drop, replicate-append-replicate}
 use lib.Seq.{slice, slice-empty, slice-cons, length-slice, length-take-le, take-take, take-add, take-suc, drop-cons, drop-drop, drop-append-le, set-at, set-getD, getD-append-add, append-snoc}
 use borrow.Author.Tests.{eqb-true, eq-eqb, ne-eqb, lt-ltb, le-ltb, ltb-true, leb-true, le-leb, lt-leb}
 use Rattle.index.specs.Index.{begin-of, end-of, list-of, in-rooms, has-list, with-list, without, removed, cleared}
@@ -70,11 +70,6 @@ module _ (t : List ℕ) (at i : ℕ) (after : at < i) where
     split : shifted t at i ≡ front ++ (getD t (i - 1) 0 ∷ drop i t)
     split = as-front ∙ ap (λ (l : List ℕ). front ++ l) last-two
 
-    pub length-shifted : length (shifted t at i) ≡ length t
-    length-shifted =
-        ap length as-front ∙ length-append front (drop (i - 1) t)
-        ∙ omega (arith, front-length, length-drop (i - 1) t)
-
     put : (v : ℕ) → set (shifted t at i) (i - 1) v ≡ front ++ (v ∷ drop i t)
     put v = ap (λ (l : List ℕ). set l (i - 1) v) split ∙ set-at front (getD t (i - 1) 0) (drop i t) v (i - 1) front-length
 
@@ -125,10 +120,6 @@ module _ (t : List ℕ) (from i : ℕ) (order : from ≤ i) where
   blank-length inside =
       length-append (take from t) (replicate (i - from) 0)
       ∙ omega (arith, length-take-le from t inside, length-replicate {A = ℕ} (i - from) 0)
-
-  pub length-blanked : i ≤ length t → length (blanked t from i) ≡ length t
-  length-blanked inside =
-      ap length blank-split ∙ length-append blank-front (drop i t) ∙ omega (arith, blank-length (omega arith), length-drop i t)
 
   pub one-blanked : i < length t → set (blanked t from i) i 0 ≡ blanked t from (i + 1)
   unfolding blanked blank-front

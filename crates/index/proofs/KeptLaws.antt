@@ -8,18 +8,18 @@ use native.Mathlib.Nat.{add-zero}
 use mathlib.Core.Path.{_≡_, refl, sym, ap, ap₂, _∙_, subst}
 use mathlib.Core.Logic.{_⊎_, inl, inr}
 use mathlib.Core.Bool.{Bool, true, false, _&&_, _||_, cond, true≢false, or-true}
-use mathlib.Core.List.{List, [], _∷_, _++_, map, append-assoc}
-use borrow.Author.Tests.{eqb-true, eqb-false, eq-eqb, ne-eqb, lt-ltb, le-ltb, ltb-true, leb-true, le-leb}
-use lib.Dec.{eqb, leb, ltb}
-use lib.ListN.{length, getD, length-append, length-map}
+use mathlib.Core.List.{List, [], _∷_, _++_, map}
+use borrow.Author.Tests.{eqb-true, eqb-false, eq-eqb, ne-eqb, lt-ltb, le-ltb, leb-true, le-leb}
+use lib.Dec.{eqb, leb}
+use lib.ListN.{length, length-append, length-map}
 use Rattle.trimming_marks.specs.Marks.{is-left, ends, marked}
 use Rattle.index.specs.Occurrences.{whole-clause, listed-under, has-left, listed-from, listed, In}
-use Rattle.index.specs.Index.{room-begin, tally, index-of, begin-of, end-of, list-of, has-list, with-list, without, removed, cleared}
+use Rattle.index.specs.Index.{tally, index-of, list-of, has-list, with-list, without, removed, cleared}
 use Rattle.index.specs.Passes.{LaidOut}
 use Rattle.index.proofs.OccurrenceLaws.{listed-exact, listed-low}
 use Rattle.index.proofs.LayoutLaws.{Fitting, laid-has, laid-list, laid-with}
 use Rattle.index.proofs.TallyLaws.{listed-fits}
-use Rattle.index.proofs.IndexLaws.{index-laid, index-is, laid-sizes, laid-names, sizes, few-after, without-few, index-kept, index-removed, index-cleared}
+use Rattle.index.proofs.IndexLaws.{index-laid, index-is, laid-sizes, laid-names, sizes, few-after, without-few, index-cleared}
 
 -- ---- clause by clause
 

@@ -8,16 +8,16 @@ use mathlib.Core.Logic.{_⊎_, inl, inr}
 use mathlib.Core.Bool.{Bool, true, false, cond, _||_, or-true, true≢false, false≢true}
 use mathlib.Core.List.{List, [], _∷_, _++_, map, append-nil, append-assoc}
 use borrow.Author.Tests.{eqb-true, eqb-false, eq-eqb, ne-eqb}
-use lib.Dec.{eqb, ltb}
+use lib.Dec.{eqb}
 use lib.IntN.{ℤ, pos, negsuc}
-use lib.ListN.{length, getD}
+use lib.ListN.{length}
 use Rattle.formula.specs.Formula.{Clause, onto, clauses}
 use Rattle.formula.specs.Causes.{any, ended}
 use Rattle.codes.specs.Codes.{code-of, opposite, has, with-code, Reading, so-far, read-code, closed, encoding-from, encoding}
 use Rattle.codes.specs.Codes as Codes
 use Rattle.codes.specs.Clauses.{code-onto, code-clauses}
 use Rattle.codes.proofs.EncodeLaws.{even-or-odd, with-code-cases, or-swap}
-use Rattle.index.specs.Searched.{always-true, looked-up, Once, StandsFor, Stand}
+use Rattle.index.specs.Searched.{always-true, looked-up, Once, Stand}
 
 -- ---- codes in a clause
 

@@ -1,8 +1,8 @@
 // The search: positions in prefix order, with the group of rows whose other values agree before the position. Rows are parted where their
 // values differ, an own position gets the wanted value first, and a failure goes back to the last decision that it was reached by.
 ghost use mathlib.Core.Path.{_≡_};
-ghost use Prim.Native.Nat.{ℕ, _+_, _≤_, _<_};
-ghost use lib.ListN.{length, getD};
+ghost use Prim.Native.Nat.{_+_, _≤_, _<_};
+ghost use lib.ListN.{length};
 ghost use Rattle.formula.specs.Formula.{max-unknowns, max-rows, max-entries, work-size};
 ghost use Rattle.codes.specs.Clauses.{Coded};
 ghost use Rattle.index.specs.Index.{index-size};
