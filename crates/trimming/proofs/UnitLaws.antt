@@ -16,10 +16,10 @@ use Rattle.trimming_rules.specs.Trimming as Trimming
 use Rattle.trimming_rules.specs.Trimming.{keep, lower, lowest-unit}
 use Rattle.trimming_rules.proofs.ClauseLaws.{Every}
 use Rattle.trimming_marks.specs.Marks.{is-left, is-universal, first-clause, first-length, only, unit}
-use Rattle.trimming.specs.Table.{literal-of, clauses-left, Entry, Block, standing, gone, inner, Fine, shown, all-shown, Laid, literal-or-none, Chosen, Picked, lower-code}
+use Rattle.trimming.specs.Table.{literal-of, clauses-left, Entry, Block, standing, gone, inner, Fine, shown, all-shown, Laid, At, literal-or-none, Chosen, Picked, lower-code}
 use Rattle.trimming.proofs.CodeLaws.{position-code, universal-code}
 use Rattle.trimming.proofs.BlockLaws.{left-code, gone-none, entries-of, laid-clauses}
-use Rattle.trimming.proofs.PassLaws.{At, Front, front, over, front-fine, at-clause, passed-by, moved, begin}
+use Rattle.trimming.proofs.PassLaws.{Front, front, over, front-fine, at-clause, passed-by, moved, begin}
 
 -- ---- the only entry
 
