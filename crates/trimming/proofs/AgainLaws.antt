@@ -19,7 +19,7 @@ use Rattle.trimming_rules.specs.Rounds.{reduced-clause, reduced}
 use Rattle.trimming_rules.proofs.ClauseLaws.{Every, In, in-any, any-in, keep-in, keep-all}
 use Rattle.trimming_marks.specs.Marks.{is-left, marked, mark-clause, first-clause, reducible-from}
 use Rattle.index.specs.Occurrences.{listed, begins}
-use Rattle.trimming.specs.Table.{literal-of, clauses-left, Entry, Block, standing, gone, inner, whole, Fine, laid, shown, all-shown, Laid, Passed, marked-at, left-from, Indexed, Here, AllBut, Except, Irreducible, Pending, Toward, Dropped}
+use Rattle.trimming.specs.Table.{literal-of, clauses-left, Entry, Block, standing, gone, inner, whole, Fine, laid, shown, all-shown, Laid, Passed, marked-at, left-from, Indexed, Here, AllBut, Except, Irreducible, UnitKnown, Units, Pending, Toward, Dropped}
 use Rattle.trimming.proofs.BlockLaws.{map-append, block-clause, laid-clauses}
 use Rattle.trimming.proofs.ListedLaws.{block-has, names-from}
 use Rattle.trimming.proofs.ChangeLaws.{around}
@@ -29,6 +29,7 @@ use Rattle.trimming.proofs.ReduceLaws.{two-from, reduced-codes, reduced
 use Rattle.trimming.proofs.DropLaws.{marked-around}
 use Rattle.trimming.proofs.EndLaws.{Stands, stands}
 use Rattle.trimming.proofs.NamedLaws.{standing-listed, here-named, lists, shows}
+use Rattle.trimming.proofs.NotedLaws.{units-changed}
 use Rattle.trimming.proofs.OneLaws.{toward-begins, toward-ends, toward-more, Marks, after-length, after-list, Becomes, except-changed}
 
 -- ---- a reduced clause is irreducible
@@ -106,6 +107,10 @@ module _ (kinds : List ℕ) where
           written = e ∙ ap (λ (n : ℕ). marked-at n 511 start table) low-is;
         }
 
+    pub list-kept : listed 1 table′ ≡ listed 1 table
+    unfolding reduces low
+    list-kept = after-list reduces 1 (standing-listed (map (marked (reducible-from kinds 2 (s .es)) 511) (s .es)) ∙ sym (standing-listed (s .es)))
+
     pub reducing-more : (names : List ℕ) {table₀ : List ℕ} (index′ : List ℕ) → Indexed table′ index′ → Toward (reduced ks) table₀ table → Pending kinds (start ∷ names) table index → Toward (reduced ks) table₀ table′ × Pending kinds names table′ index′
     unfolding reduces low
     reducing-more names {table₀} index′ indexed′ toward p =
@@ -115,16 +120,13 @@ module _ (kinds : List ℕ) where
           laid-out = t .laid-out;
           few = let a = after-length reduces in let f = p .few in omega arith;
           indexed = indexed′;
-          standing = every-same (λ x. In x (listed 1 table)) (λ x. In x (listed 1 table′)) (λ x i. subst (In x) (sym ones) i) names (p .standing .1);
+          standing = every-same (λ x. In x (listed 1 table)) (λ x. In x (listed 1 table′)) (λ x i. subst (In x) (sym list-kept) i) names (p .standing .1);
           others = except-changed (Irreducible kinds) (start ∷ names) names start (λ o other i. behind o other i) low 511 (p .others) (h .stands .inside) (h .stands .first) table′ (e ∙ ap (λ (n : ℕ). marked-at n 511 start table) low-is) (λ xs ys b fx fy fb is here. becomes xs ys b fb is here);
         })
       where
         every-same : (P Q : ℕ → Type 0) → ((x : ℕ) → P x → Q x) → (l : List ℕ) → Every P l → Every Q l
         every-same P Q f [] all = tt
         every-same P Q f (x ∷ l) all = (f x (all .0), every-same P Q f l (all .1))
-
-        ones : listed 1 table′ ≡ listed 1 table
-        ones = after-list reduces 1 (standing-listed (map (marked (reducible-from kinds 2 (s .es)) 511) (s .es)) ∙ sym (standing-listed (s .es)))
 
         behind : (o : ℕ) → (o ≡ start → ⊥) → In o (start ∷ names) → In o names
         behind o other (inl q) = absurd (other q)
@@ -144,6 +146,19 @@ module _ (kinds : List ℕ) where
             twice : (cs : List Clause) → reduced ks (reduced ks cs) ≡ reduced ks cs
             twice [] = refl
             twice (c ∷ cs) = ap₂ _∷_ (reduced-twice ks c) (twice cs)
+
+    -- Clauses of one entry that are noted are none of those named.
+    pub units-reduced : (firsts names : List ℕ) → In start names → Units kinds firsts names names 0 table → Units kinds firsts names names 0 table′
+    unfolding low
+    units-reduced firsts names i u =
+        units-changed kinds firsts names names names names 0 start low 511 u (h .stands .inside) (h .stands .first) (λ o other j. j) (λ o j. j) table′ (e ∙ ap (λ (n : ℕ). marked-at n 511 start table) low-is)
+        (λ xs ys b fx fy fb is here. becomes xs ys b fb is here) (λ xs ys b fx fy fb is here v other f. f .apart i)
+      where
+        becomes : (xs ys : List Block) (b : Block) → Fine b → table ≡ around xs b ys → start ≡ length (laid xs) → Becomes (UnitKnown kinds firsts) names start low 511 b
+        becomes xs ys b f is here =
+            let g = clause-reduced kinds b f in
+            let l : reducible-from kinds 2 (inner b) ≡ low = sym (ap (reducible-from kinds 2) (clause-of xs ys b f is here)) ∙ low-is in
+            record { after = g .after; made = g .made ∙ ap (λ (n : ℕ). map (marked n 511) (whole b)) l; fine = g .fine; then = inl i }
 
   -- ---- all that are named are reduced
 

@@ -15,6 +15,8 @@ pub mod UnitLaws
 pub mod PureLaws
 pub mod NamedLaws
 pub mod OneLaws
+pub mod NotedLaws
+pub mod FirstLaws
 pub mod ThinLaws
 pub mod AgainLaws
 pub mod LoopLaws

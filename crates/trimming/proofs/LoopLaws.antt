@@ -1,6 +1,6 @@
 -- What the loops over names and over clauses need.
 -- Assumes nothing.
-use Prim.Native.Nat.{ℕ, zero, suc, _+_, _-_, _%_, _≤_, _<_}
+use Prim.Native.Nat.{ℕ, zero, suc, _+_, _-_, _/_, _%_, _≤_, _<_}
 use native.Mathlib.Omega.{arith}
 use native.Mathlib.Numerals.{add-one}
 use mathlib.Core.Path.{_≡_, refl, sym, _∙_, ap, ap₂, subst}
@@ -13,7 +13,7 @@ use lib.ListN.{length, getD, set, take, drop, length-append, length-map, length-
 use lib.Seq.{take-at, drop-at, getD-set-same, getD-set-other}
 use Rattle.formula.specs.Formula.{prefix, Clause}
 use Rattle.formula.proofs.Places.{drop-front}
-use Rattle.trimming_rules.proofs.ClauseLaws.{Every, In, every-from}
+use Rattle.trimming_rules.proofs.ClauseLaws.{Every, In, every-in, every-from}
 use Rattle.trimming_marks.specs.Marks.{is-left, ends, marked, mark-clause, first-clause, always-true}
 use Rattle.index.specs.Occurrences.{listed, begins, Names}
 use Rattle.index.specs.Index.{code-count, index-of, begin-of, end-of, is-code, all-codes, table-fits, filled, cleared}
@@ -28,7 +28,7 @@ use Rattle.trimming.proofs.ChangeLaws.{around, laid-around}
 use Rattle.trimming.proofs.PassLaws.{Front, front, front-fine, at-clause}
 use Rattle.trimming.proofs.MarkLaws.{marked-stays}
 use Rattle.trimming.proofs.TrueLaws.{gone-not-true}
-use Rattle.trimming.proofs.NamedLaws.{standing-listed, here-named, lists, list-told}
+use Rattle.trimming.proofs.NamedLaws.{getD-in, standing-listed, here-named, lists, list-told}
 use Rattle.trimming.proofs.ThinLaws.{in-names, saved-names, clearing-ends}
 
 -- ---- names one after the other
@@ -48,6 +48,9 @@ pub next-name : (names : List ℕ) (count i : ℕ) → i < count → count ≤ l
 next-name names count i below inside =
     drop-front (take count names) i 0 (let l = length-take count names inside in omega arith)
     ∙ ap (λ (x : ℕ). x ∷ drop (i + 1) (take count names)) (getD-take count names i below)
+
+pub name-in : (names : List ℕ) (count i : ℕ) → i < count → count ≤ length names → In (getD names i 0) (take count names)
+name-in names count i below inside = subst (λ (n : ℕ). In n (take count names)) (getD-take count names i below) (getD-in (take count names) i (let l = length-take count names inside in omega arith))
 
 pub no-names : (names : List ℕ) (count i : ℕ) → count ≤ i → count ≤ length names → drop i (take count names) ≡ []
 no-names names count i past inside = drop-of-length-le (take count names) {i = i} (let l = length-take count names inside in omega arith)
@@ -81,10 +84,10 @@ list-saved table {index} few indexed c small names count sized saved =
     (ap (λ (k : ℕ). take k names) n ∙ saved-names names (listed c table) (omega arith) (λ k below. saved .1 k (omega arith) ∙ r .at k below), omega arith)
 
 pub literals-dropped : (table names : List ℕ) {index table′ : List ℕ} (code count : ℕ) → 2 ≤ code → code < 258 → Laid table → Indexed table index → length table ≤ 8192 → take count names ≡ listed code table → Cleared code table table′ []
-    → (index′ : List ℕ) → index′ ≡ cleared index code → Dropped (without-literal (literal-of code)) (take count names) table table′ index′
+    → (index′ : List ℕ) → index′ ≡ cleared index code → Dropped (without-literal (literal-of code)) (code / 2) (take count names) table table′ index′
 literals-dropped table names {index} {table′} code count two small l indexed few saved t index′ e =
-    subst (λ (i : List ℕ). Dropped (without-literal (literal-of code)) (take count names) table table′ i) (sym e)
-    (subst (λ (n : List ℕ). Dropped (without-literal (literal-of code)) n table table′ (cleared index code)) (sym saved) (clearing-ends code two small t few l indexed))
+    subst (λ (i : List ℕ). Dropped (without-literal (literal-of code)) (code / 2) (take count names) table table′ i) (sym e)
+    (subst (λ (n : List ℕ). Dropped (without-literal (literal-of code)) (code / 2) n table table′ (cleared index code)) (sym saved) (clearing-ends code two small t few l indexed))
 
 -- ---- at first all clauses are named
 
@@ -177,7 +180,7 @@ true-kept-at table s f = sym (ap (λ (b : Bool). marked-at (cond b 0 512) 511 s 
 
 -- ---- after a literal is made true
 
-pub pending-again : (kinds : List ℕ) {change : List Clause → List Clause} {names before after index : List ℕ} → length before ≤ 8192 → Except (Irreducible kinds) [] before → Dropped change names before after index → Pending kinds names after index
+pub pending-again : (kinds : List ℕ) {change : List Clause → List Clause} {off : ℕ} {names before after index : List ℕ} → length before ≤ 8192 → Except (Irreducible kinds) [] before → Dropped change off names before after index → Pending kinds names after index
 pending-again kinds few irreducible d =
     record {
       laid-out = d .passed .laid-out;
@@ -186,3 +189,12 @@ pending-again kinds few irreducible d =
       standing = d .standing;
       others = d .irreducible kinds irreducible;
     }
+
+-- ---- the clauses that are named
+
+-- The clause that is named there is left.
+pub named-stands : {table : List ℕ} → Laid table → length table ≤ 8192 → (names : List ℕ) (count i : ℕ) → i < count → count ≤ length names → Every (λ s. In s (listed 1 table)) (take count names) → Names table 1 (getD names i 0)
+named-stands {table} l few names count i below inside all = here-named l {index = index-of table} few refl 1 (getD names i 0) (omega arith) (every-in (λ s. In s (listed 1 table)) (take count names) (getD names i 0) all (name-in names count i below inside)) .stands
+
+pub standing-still : (table′ : List ℕ) {kinds names table index : List ℕ} → Pending kinds names table index → listed 1 table′ ≡ listed 1 table → Every (λ s. In s (listed 1 table′)) names
+standing-still table′ {kinds} {names} {table} {index} p e = every-from (λ s. In s (listed 1 table′)) names (λ s i. subst (In s) (sym e) (every-in (λ x. In x (listed 1 table)) names s (p .standing) i))

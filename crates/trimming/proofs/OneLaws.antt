@@ -121,7 +121,7 @@ module _ (P : ℕ → Block → Type 0) (names names′ : List ℕ) (s : ℕ) (k
   behind o [] far all = tt
   behind o (b ∷ bs) far all = (still o b (λ e. omega arith) (all .0), behind (o + length (whole b)) bs (omega arith) (all .1))
 
-  changed : (o : ℕ) (xs : List Block) (b d : Block) (ys : List Block) → s ≡ o + length (laid xs) → length (whole d) ≡ length (whole b) → In s names′ ⊎ P s d
+  pub changed : (o : ℕ) (xs : List Block) (b d : Block) (ys : List Block) → s ≡ o + length (laid xs) → length (whole d) ≡ length (whole b) → In s names′ ⊎ P s d
       → AllBut P names o (xs ++ (b ∷ ys)) → AllBut P names′ o (xs ++ (d ∷ ys))
   changed o [] b d ys here sized then all =
       let same : s ≡ o = here ∙ (let e : o + 0 ≡ o = omega arith in e) in

@@ -1,6 +1,6 @@
 -- The clauses of a literal are dropped, and its opposite elsewhere, by the two lists.
 -- Assumes nothing.
-use Prim.Native.Nat.{ℕ, zero, suc, _+_, _-_, _%_, _≤_, _<_}
+use Prim.Native.Nat.{ℕ, zero, suc, _+_, _-_, _/_, _%_, _≤_, _<_}
 use native.Mathlib.Omega.{arith}
 use mathlib.Core.Path.{_≡_, refl, sym, _∙_, ap, ap₂, subst}
 use mathlib.Core.Logic.{_⊎_, inl, inr}
@@ -20,8 +20,9 @@ use Rattle.trimming_rules.proofs.ClauseLaws.{Every, In, every-in, every-from, w
 use Rattle.trimming_marks.specs.Marks.{is-left, marked, mark-clause, has}
 use Rattle.index.specs.Occurrences.{listed, begins}
 use Rattle.index.specs.Index.{code-count, index-of, begin-of, end-of, without, removed, cleared}
-use Rattle.trimming.specs.Table.{literal-of, codes, clauses-left, Entry, Block, standing, gone, inner, whole, Fine, laid, shown, all-shown, Laid, Passed, marked-at, Indexed, Here, AllBut, Except, Irreducible, Toward, Cleared, Dropped}
-use Rattle.trimming.proofs.CodeLaws.{opposite-literal, opposite-bounds}
+use Rattle.trimming.specs.Table.{literal-of, codes, clauses-left, Entry, Block, standing, gone, inner, whole, Fine, laid, shown, all-shown, Laid, Passed, marked-at, Indexed, Here, AllBut, Except, Irreducible, UnitKnown, Units, Toward, Cleared, Dropped}
+use Rattle.trimming.proofs.NotedLaws.{gone-unit, units-changed, no-unit, units-named}
+use Rattle.trimming.proofs.CodeLaws.{opposite-literal, opposite-bounds, opposite-half}
 use Rattle.trimming.proofs.BlockLaws.{map-append, keep-append, every-append, every-map, laid-append, shown-append, laid-clauses}
 use Rattle.trimming.proofs.ListedLaws.{block-has, names-from, listed-laid, names-append, names-above, whole-some, begins-at}
 use Rattle.trimming.proofs.IndexLaws.{as-many, Read, index-cleared}
@@ -156,10 +157,11 @@ module _ (code : ℕ) (two : 2 ≤ code) (small : code < 258) where
     pub few : length table ≤ 8192
     pub indexed : Indexed table index
     pub irreducible : (kinds : List ℕ) → Except (Irreducible kinds) [] table₀ → Except (Irreducible kinds) [] table
+    pub units : (kinds firsts : List ℕ) → Units kinds firsts [] [] (code / 2) table₀ → Units kinds firsts [] [] (code / 2) table
 
   pub thinning-begins : (table index : List ℕ) → Laid table → length table ≤ 8192 → Indexed table index → Thinning table table index
   thinning-begins table index l few indexed =
-      record { toward = toward-begins (without-clauses (literal-of code)) table l; few = few; indexed = indexed; irreducible = λ kinds p. p }
+      record { toward = toward-begins (without-clauses (literal-of code)) table l; few = few; indexed = indexed; irreducible = λ kinds p. p; units = λ kinds firsts u. u }
 
   module _ {table₀ table index : List ℕ} (t : Thinning table₀ table index) where
     pub next-here : (start : ℕ) → ltb (begin-of index code) (end-of index code) ≡ true → start ≡ getD index (begin-of index code) 0 → Here table index start
@@ -184,6 +186,7 @@ module _ (code : ℕ) (two : 2 ≤ code) (small : code < 258) where
             few = let a = after-length (goes p table′ e) in let f = t .few in omega arith;
             indexed = indexed′;
             irreducible = λ kinds all. except-changed (Irreducible kinds) [] [] start (λ o other i. i) 0 511 (t .irreducible kinds all) (spot-inside p) (spot-begins p) table′ e (λ xs ys b fx fy fb is here. becomes kinds xs ys b fx fy fb is here);
+            units = λ kinds firsts u. units-changed kinds firsts [] [] [] [] (code / 2) start 0 511 (t .units kinds firsts u) (spot-inside p) (spot-begins p) (λ o other i. i) (λ o i. i) table′ e (λ xs ys b fx fy fb is here. no-unit-left kinds firsts b fb) (λ xs ys b fx fy fb is here v other f. no-unit kinds firsts [] code two small xs ys b fx fy fb is start here in-list v other f);
           }
         where
           shown-none : without-clauses (literal-of code) [] ≡ without-clauses (literal-of code) (map literal-of (keep is-left (p .es)) ∷ [])
@@ -206,21 +209,36 @@ module _ (code : ℕ) (two : 2 ≤ code) (small : code < 258) where
                 then = inr refl;
               }
 
+          no-unit-left : (kinds firsts : List ℕ) (b : Block) → Fine b → Becomes (UnitKnown kinds firsts) [] start 0 511 b
+          no-unit-left kinds firsts (standing cl) fb =
+              record {
+                after = gone (map (marked 0 511) cl);
+                made = sym (map-append (marked 0 511) cl (0 ∷ []) ∙ ap (λ (x : ℕ). map (marked 0 511) cl ++ (x ∷ [])) (marked-goes 0 511 0 (omega arith) (omega arith) (omega arith)));
+                fine = all-marked cl fb;
+                then = inr (λ some-unit. absurd (some-unit (gone-unit kinds (map (marked 0 511) cl) (all-marked cl fb))));
+              }
+          no-unit-left kinds firsts (gone cl) fb =
+              record {
+                after = gone cl;
+                made = sym (map-append (marked 0 511) cl (512 ∷ []) ∙ ap₂ _++_ (gone-stays 0 511 cl fb) (ap (λ (x : ℕ). x ∷ []) (marked-stays 0 511 512 (λ a b r. omega arith))));
+                fine = fb;
+                then = inr (λ some-unit. absurd (some-unit (gone-unit kinds cl fb)));
+              }
+
       pub thinning-less : length (listed code table′) < length (listed code table)
       unfolding p
       thinning-less = let a = ap length (goes-from-list p table′ e (omega arith)) in let b = without-in start (listed code table) in-list in omega arith
 
-    pub thinning-ends : ltb (begin-of index code) (end-of index code) ≡ false → Dropped (without-clauses (literal-of code)) [] table₀ table index
+    pub thinning-ends : ltb (begin-of index code) (end-of index code) ≡ false → Dropped (without-clauses (literal-of code)) (code / 2) [] table₀ table index × (listed code table ≡ [])
     thinning-ends over =
-        record {
+        (record {
           passed = toward-ends (without-clauses (literal-of code)) (t .toward) (without-clauses-none (literal-of code) (clauses-left table) (none-listed (t .toward .laid-out) code two small (list-empty (t .toward .laid-out) (t .few) (t .indexed) code (omega arith) over)));
           indexed = t .indexed;
           standing = tt;
           irreducible = t .irreducible;
-        }
-
-    pub thinning-none : ltb (begin-of index code) (end-of index code) ≡ false → found (literal-of code) (clauses-left table) ≡ false
-    thinning-none over = none-listed (t .toward .laid-out) code two small (list-empty (t .toward .laid-out) (t .few) (t .indexed) code (omega arith) over)
+          units = t .units;
+        },
+        list-empty (t .toward .laid-out) (t .few) (t .indexed) code (omega arith) over)
 
 -- ---- the places of a literal
 
@@ -272,6 +290,7 @@ module _ (o : ℕ) (two : 2 ≤ o) (small : o < 258) where
         others = λ d h other. refl;
         known = λ s i. i;
         irreducible = λ kinds p. except-more (Irreducible kinds) (λ x i. absurd i) p;
+        units = λ kinds firsts u. units-named kinds firsts o two small u;
       }
 
   module _ {table₀ table : List ℕ} {start : ℕ} {rest : List ℕ} (t : Cleared o table₀ table (start ∷ rest)) where
@@ -290,6 +309,7 @@ module _ (o : ℕ) (two : 2 ≤ o) (small : o < 258) where
           others = λ d h other. loses-no-other q o two small table′ e d h other ∙ t .others d h other;
           known = λ s i. t .known s (inr i);
           irreducible = λ kinds all. except-changed (Irreducible kinds) (listed o table₀) (listed o table₀) start (λ n other i. i) o o (t .irreducible kinds all) (spot-inside q) (spot-begins q) table′ e (λ xs ys b fx fy fb is here. becomes kinds b fb);
+          units = λ kinds firsts u. units-changed kinds firsts (listed o table₀) (listed o table₀) (listed o table₀) (listed o table₀) (o / 2) start o o (t .units kinds firsts u) (spot-inside q) (spot-begins q) (λ n other i. i) (λ n i. i) table′ e (λ xs ys b fx fy fb is here. named-still kinds firsts b fb) (λ xs ys b fx fy fb is here v other f. f .apart (t .known start (inl refl)));
         }
       where
         shown-same : without-literal (literal-of o) (map literal-of (keep is-left (map (marked o o) (q .es))) ∷ []) ≡ without-literal (literal-of o) (map literal-of (keep is-left (q .es)) ∷ [])
@@ -315,19 +335,36 @@ module _ (o : ℕ) (two : 2 ≤ o) (small : o < 258) where
               then = inl (t .known start (inl refl));
             }
 
-  pub clearing-ends : {table₀ table index : List ℕ} → Cleared o table₀ table [] → length table₀ ≤ 8192 → Laid table₀ → Indexed table₀ index → Dropped (without-literal (literal-of o)) (listed o table₀) table₀ table (cleared index o)
+        named-still : (kinds firsts : List ℕ) (b : Block) → Fine b → Becomes (UnitKnown kinds firsts) (listed o table₀) start o o b
+        named-still kinds firsts (standing cl) fb =
+            record {
+              after = standing (map (marked o o) cl);
+              made = sym (map-append (marked o o) cl (0 ∷ []) ∙ ap (λ (x : ℕ). map (marked o o) cl ++ (x ∷ [])) (marked-stays o o 0 (λ a b r. omega arith)));
+              fine = marked-entries o o cl fb;
+              then = inl (t .known start (inl refl));
+            }
+        named-still kinds firsts (gone cl) fb =
+            record {
+              after = gone cl;
+              made = sym (map-append (marked o o) cl (512 ∷ []) ∙ ap₂ _++_ (gone-stays o o cl fb) (ap (λ (x : ℕ). x ∷ []) (marked-stays o o 512 (λ a b r. omega arith))));
+              fine = fb;
+              then = inl (t .known start (inl refl));
+            }
+
+  pub clearing-ends : {table₀ table index : List ℕ} → Cleared o table₀ table [] → length table₀ ≤ 8192 → Laid table₀ → Indexed table₀ index → Dropped (without-literal (literal-of o)) (o / 2) (listed o table₀) table₀ table (cleared index o)
   clearing-ends {table₀} {table} {index} t few l indexed =
       record {
         passed = toward-ends (without-literal (literal-of o)) (t .toward) (without-literal-none (literal-of o) (clauses-left table) (none-listed (t .toward .laid-out) o two small (t .own)));
         indexed = ap (λ (i : List ℕ). cleared i o) indexed ∙ index-cleared table₀ table few (t .toward .same-codes) o (omega arith) (t .others) (t .own);
         standing = every-from (λ s. In s (listed 1 table)) (listed o table₀) (λ s i. subst (In s) (sym (t .others 1 (omega arith) (λ e. omega arith))) (listed-standing l o s two small i));
         irreducible = t .irreducible;
+        units = t .units;
       }
 
 -- ---- both
 
-pub both-dropped : (code : ℕ) → 2 ≤ code → (opp : ℕ) → opp ≡ opposite code → {names table₀ table₁ table₂ index₁ index₂ : List ℕ} → Dropped (without-clauses (literal-of code)) [] table₀ table₁ index₁
-    → Dropped (without-literal (literal-of opp)) names table₁ table₂ index₂ → Dropped (set-true (literal-of code)) names table₀ table₂ index₂
+pub both-dropped : (code : ℕ) → 2 ≤ code → (opp : ℕ) → opp ≡ opposite code → {names table₀ table₁ table₂ index₁ index₂ : List ℕ} → Dropped (without-clauses (literal-of code)) (code / 2) [] table₀ table₁ index₁
+    → Dropped (without-literal (literal-of opp)) (opp / 2) names table₁ table₂ index₂ → Dropped (set-true (literal-of code)) (code / 2) names table₀ table₂ index₂
 both-dropped code two opp e {names} {table₀} {table₁} {table₂} a b =
     record {
       passed =
@@ -343,7 +380,11 @@ both-dropped code two opp e {names} {table₀} {table₁} {table₂} a b =
       indexed = b .indexed;
       standing = b .standing;
       irreducible = λ kinds all. b .irreducible kinds (a .irreducible kinds all);
+      units = λ kinds firsts u. subst (λ (n : ℕ). Units kinds firsts names names n table₂) half (b .units kinds firsts (subst (λ (n : ℕ). Units kinds firsts [] [] n table₁) (sym half) (a .units kinds firsts u)));
     }
+  where
+    half : opp / 2 ≡ code / 2
+    half = ap (λ (n : ℕ). n / 2) e ∙ opposite-half code two
 
 -- ---- names that are saved
 

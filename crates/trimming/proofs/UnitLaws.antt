@@ -23,7 +23,7 @@ use Rattle.trimming.proofs.PassLaws.{Front, front, over, front-fine, at
 
 -- ---- the only entry
 
-abbrev one : List ℕ → ℕ
+abbrev pub one : List ℕ → ℕ
 one [] = 0
 one (x ∷ []) = x
 one (x ∷ y ∷ xs) = 0
@@ -37,7 +37,7 @@ only-found x other (y ∷ c) = go (is-left y) (only-found x other c)
     go true later = ap (λ (b : Bool). cond b (only y c) 0) (ne-eqb x 0 other)
     go false later = later
 
-only-one : (c : List ℕ) → Every Entry c → only 0 c ≡ one (keep is-left c)
+pub only-one : (c : List ℕ) → Every Entry c → only 0 c ≡ one (keep is-left c)
 only-one [] all = refl
 only-one (x ∷ c) all = go (is-left x) refl (only-one c (all .1))
   where
@@ -87,11 +87,11 @@ module _ (kinds : List ℕ) where
   unfolding unit
   unit-clause c all = rw (only-one c all) (unit-list (keep is-left c) (every-left c all))
 
-  lower-none : (o : Option ℤ) → lower o none ≡ o
+  pub lower-none : (o : Option ℤ) → lower o none ≡ o
   lower-none none = refl
   lower-none (some z) = refl
 
-  unit-block : (b : Block) → Fine b → Picked (lowest-unit (prefix kinds) (shown b)) (unit kinds (inner b))
+  pub unit-block : (b : Block) → Fine b → Picked (lowest-unit (prefix kinds) (shown b)) (unit kinds (inner b))
   unit-block (standing c) f = let u = unit-clause c f in record { chosen = u .chosen; is = u .is ∙ sym (lower-none (Trimming.unit (prefix kinds) (map literal-of (keep is-left c)))) }
   unit-block (gone c) f =
       let u = unit-clause c (entries-of (gone c) f) in
@@ -156,7 +156,7 @@ module _ (kinds : List ℕ) where
           ap (λ (t : Bool). cond t (some y) (some z)) q
           ∙ sym (ap (λ (t : Bool). cond t (some x) (some z)) (lt-leb (Trimming.position x) (Trimming.position z) (omega arith)))
 
-  lowest-append : (xs ys : List Clause) → lowest-unit (prefix kinds) (xs ++ ys) ≡ lower (lowest-unit (prefix kinds) xs) (lowest-unit (prefix kinds) ys)
+  pub lowest-append : (xs ys : List Clause) → lowest-unit (prefix kinds) (xs ++ ys) ≡ lower (lowest-unit (prefix kinds) xs) (lowest-unit (prefix kinds) ys)
   lowest-append [] ys = refl
   lowest-append (x ∷ xs) ys =
       ap (lower (Trimming.unit (prefix kinds) x)) (lowest-append xs ys)

@@ -9,12 +9,12 @@ use mathlib.Core.List.{List, [], _∷_, _++_, map}
 use mathlib.Core.Option.{Option, none, some}
 use lib.Dec.{eqb, leb, ltb}
 use lib.IntN.{ℤ, pos, negsuc}
-use lib.ListN.{length, getD, take, drop}
+use lib.ListN.{length, getD, set, take, drop}
 use Rattle.formula.specs.Formula.{Kind, prefix, Clause, clauses}
 use Rattle.trimming_rules.specs.Trimming.{keep, first-of, without-literal, set-true, rule-3, found, rule-4}
 use Rattle.trimming_rules.specs.Rounds.{reduced}
 use Rattle.trimming_rules.proofs.ClauseLaws.{Every, In}
-use Rattle.trimming_marks.specs.Marks.{is-left, mark-clause, always-true}
+use Rattle.trimming_marks.specs.Marks.{is-left, mark-clause, always-true, unit}
 use Rattle.index.specs.Occurrences.{listed, Names}
 use Rattle.index.specs.Index.{code-count, index-of, begin-of, end-of}
 
@@ -157,6 +157,36 @@ pub record Except (P : ℕ → Block → Type 0) (names table : List ℕ) : Type
 abbrev pub Irreducible : List ℕ → ℕ → Block → Type 0
 Irreducible kinds o b = reduced (prefix kinds) (shown b) ≡ shown b
 
+-- ---- clauses of one entry
+
+-- A property of some clause; the first block stands at place o.
+abbrev pub SomeAt : (ℕ → Block → Type 0) → ℕ → List Block → Type 0
+SomeAt P o [] = ⊥
+SomeAt P o (b ∷ bs) = P o b ⊎ SomeAt P (o + length (whole b)) bs
+
+-- If an existential unknown is the only entry of the clause at place o, its first clause is noted there or before.
+abbrev pub UnitKnown : List ℕ → List ℕ → ℕ → Block → Type 0
+UnitKnown kinds firsts o b = (unit kinds (inner b) ≡ 0 → ⊥) → getD firsts (unit kinds (inner b) / 2) 0 ≤ o
+
+-- The clause at place o is the one that is noted of the unknown v, whose only entry it has; and it is none of those named.
+pub record FirstUnit (kinds firsts names : List ℕ) (v o : ℕ) (b : Block) : Type 0 where
+  pub noted : o ≡ getD firsts v 0
+  pub apart : In o names → ⊥
+  pub own : unit kinds (inner b) / 2 ≡ v
+  pub some-unit : unit kinds (inner b) ≡ 0 → ⊥
+
+-- The clause at `start` has the only entry x, or x is 0; it is noted if it is the first.
+unfoldable pub noted-unit : ℕ → ℕ → List ℕ → List ℕ
+noted-unit x start firsts = cond (eqb x 0) firsts (cond (ltb start (getD firsts (x / 2) 0)) (set firsts (x / 2) start) firsts)
+
+-- Of each existential unknown, the first clause whose only entry it is: exact, but for the clauses that are named and for the unknown `off`. 65,535 is none.
+pub record Units (kinds firsts names apart : List ℕ) (off : ℕ) (table : List ℕ) : Type 0 where
+  pub blocks : List Block
+  pub is : table ≡ laid blocks
+  pub fine : Every Fine blocks
+  pub complete : AllBut (UnitKnown kinds firsts) names 0 blocks
+  pub sound : (v : ℕ) → (v ≡ off → ⊥) → 0 < v → v < 129 → (getD firsts v 0 ≡ 65535 → ⊥) → SomeAt (FirstUnit kinds firsts apart v) 0 blocks
+
 -- Named clauses that are left, in a table with its index; all others are irreducible.
 pub record Pending (kinds names table index : List ℕ) : Type 0 where
   pub laid-out : Laid table
@@ -179,13 +209,15 @@ pub record Cleared (o : ℕ) (before after : List ℕ) (rest : List ℕ) : Type 
   pub others : (d : ℕ) → d < code-count → (d ≡ o → ⊥) → listed d after ≡ listed d before
   pub known : (s : ℕ) → In s rest → In s (listed o before)
   pub irreducible : (kinds : List ℕ) → Except (Irreducible kinds) [] before → Except (Irreducible kinds) (listed o before) after
+  pub units : (kinds firsts : List ℕ) → Units kinds firsts [] [] (o / 2) before → Units kinds firsts (listed o before) (listed o before) (o / 2) after
 
 -- What is dropped makes a change, and the index is kept; the clauses that are named are left, and all others are as irreducible as before.
-pub record Dropped (change : List Clause → List Clause) (names before after index : List ℕ) : Type 0 where
+pub record Dropped (change : List Clause → List Clause) (off : ℕ) (names before after index : List ℕ) : Type 0 where
   pub passed : Passed change before after
   pub indexed : Indexed after index
   pub standing : Every (λ s. In s (listed 1 after)) names
   pub irreducible : (kinds : List ℕ) → Except (Irreducible kinds) [] before → Except (Irreducible kinds) names after
+  pub units : (kinds firsts : List ℕ) → Units kinds firsts [] [] off before → Units kinds firsts names names off after
 
 -- From which code on a clause is dropped by rule 1: all of it, or nothing.
 abbrev pub true-from : List ℕ → ℕ

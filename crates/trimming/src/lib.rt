@@ -15,16 +15,17 @@ ghost use Rattle.codes.specs.Codes.{code-of, opposite as code-opposite};
 ghost use mathlib.Core.Bool.{true, false, not, cond};
 ghost use lib.Dec.{eqb, ltb};
 ghost use lib.ListN.{getD, set};
-ghost use Prim.Native.Nat.{_-_};
+ghost use Prim.Native.Nat.{_-_, _/_};
 ghost use Rattle.formula.specs.Causes.{any};
 ghost use Rattle.trimming_marks.specs.Marks.{ends, first-clause, first-length, reducible-from};
 ghost use Rattle.index.specs.Occurrences.{listed};
-ghost use Rattle.index.specs.Index.{begin-of, end-of, removed};
+ghost use Rattle.index.specs.Index.{code-count, begin-of, end-of, removed};
 ghost use Rattle.trimming_rules.specs.Trimming.{without-clauses, without-literal, set-true, lowest-unit, lowest-pure, trimmed};
 ghost use Rattle.trimming_rules.specs.Rounds.{untrue, reduced, rounds};
 ghost use Rattle.trimming_rules.specs.Proved.{Proved};
+ghost use Rattle.trimming_rules.proofs.ClauseLaws.{Every, In};
 ghost use Rattle.trimming.specs.Outcome.{formula-cause, cause as cause-of, outcome, output-after, number};
-ghost use Rattle.trimming.specs.Table.{literal-of, left, codes as codes-of, clauses-left, Laid, Passed, Chosen, Picked, Found, lower-code, pure-code, Next, true-from, Indexed, Here, marked-at, times, Dropping, At, left-from, Irreducible, Except, Pending, Dropped, Cleared};
+ghost use Rattle.trimming.specs.Table.{literal-of, left, codes as codes-of, clauses-left, Laid, Passed, Chosen, Picked, Found, pure-code, Next, true-from, Indexed, Here, marked-at, times, Dropping, At, left-from, Irreducible, Except, Units, noted-unit, Pending, Dropped, Cleared};
 
 // The entries used, zeros included; a refusal has the number of its cause.
 pub enum Trimmed {
@@ -34,7 +35,8 @@ pub enum Trimmed {
 
 const DROPPED: u16 = 512;
 
-const LAST_LEFT: u16 = 511;
+// No clause.
+const NONE: u16 = 65_535;
 
 // Trims the literals into the output table.
 pub fn trim(kinds: &[u8], literals: &[i32], output: &mut [i32]) -> Trimmed
@@ -84,7 +86,8 @@ fn with_index(kinds: &[u8], table: &mut [u16], index: &mut [u16])
     index::fill(table, index);
     drop_true(table, index);
     let mut names = [0u16; 8_192];
-    settle(kinds, table, index, &mut names);
+    let mut firsts = [NONE; 129];
+    settle(kinds, table, index, &mut names, &mut firsts);
 }
 
 // Drops a clause that is left, its end too.
@@ -213,20 +216,23 @@ fn drop_if_true(table: &mut [u16], index: &mut [u16], start: usize)
     }
 }
 
-// Rules 2 to 4. Each change takes an entry away, so there are no more rounds than entries. Only clauses that are shortened can be reduced again.
-fn settle(kinds: &[u8], table: &mut [u16], index: &mut [u16], names: &mut [u16])
-    requires { ⌜ Laid (now table) × Indexed (now table) (now index) × (length (now kinds) ≤ 128) × (length (now table) ≤ 8192) × (length (now names) ≡ 8192) ⌝ }
+// Rules 2 to 4. Each change takes an entry away, so there are no more rounds than entries. Only clauses that are shortened can be reduced again,
+// or come to have one entry; of each unknown the first clause is noted whose only entry it is.
+fn settle(kinds: &[u8], table: &mut [u16], index: &mut [u16], names: &mut [u16], firsts: &mut [u16; 129])
+    requires { ⌜ Laid (now table) × Indexed (now table) (now index) × (length (now kinds) ≤ 128) × (length (now table) ≤ 8192) × (length (now names) ≡ 8192) × (now firsts ≡ replicate 129 65535) ⌝ }
     ensures { λ _. ⌜ Passed (rounds (length (now (table .entry)) + 1) (prefix (now (kinds .entry)))) (now (table .entry)) (now (table .exit)) × Indexed (now (table .exit)) (now (index .exit)) ⌝ }
 {
     let mut rounds = table.len() + 1;
     let mut count = save(index, 1, names);
     while rounds > 0 {
         reduce(kinds, table, index, names, count);
-        let code = next(kinds, table, index);
+        note_units(kinds, table, names, count, firsts);
+        let code = next(kinds, table, index, firsts);
         if code == 0 {
             return;
         }
         count = set_true(table, index, code, names);
+        forget_unit(firsts, code);
         rounds -= 1;
     }
 }
@@ -235,6 +241,7 @@ fn settle(kinds: &[u8], table: &mut [u16], index: &mut [u16], names: &mut [u16])
 fn reduce(kinds: &[u8], table: &mut [u16], index: &mut [u16], names: &[u16], count: usize)
     requires { ⌜ Pending (now kinds) (take count (now names)) (now table) (now index) × (count ≤ 8192) × (length (now names) ≡ 8192) ⌝ }
     ensures { λ _. ⌜ Passed (reduced (prefix (now (kinds .entry)))) (now (table .entry)) (now (table .exit)) × Indexed (now (table .exit)) (now (index .exit)) × Except (Irreducible (now (kinds .entry))) [] (now (table .exit)) ⌝ }
+    ensures { λ _. ⌜ ((firsts : List ℕ) → Units (now (kinds .entry)) firsts (take count (now (names .entry))) (take count (now (names .entry))) 0 (now (table .entry)) → Units (now (kinds .entry)) firsts (take count (now (names .entry))) (take count (now (names .entry))) 0 (now (table .exit))) × (listed 1 (now (table .exit)) ≡ listed 1 (now (table .entry))) ⌝ }
 {
     let mut i = 0;
     while i < count {
@@ -282,11 +289,11 @@ fn is_left_from(x: u16, low: u16) -> bool
 }
 
 // The code whose literal rule 3 or rule 4 makes true, or 0. A universal unknown in one sign loses its literal: the opposite one is made true.
-fn next(kinds: &[u8], table: &[u16], index: &[u16]) -> u16
-    requires { ⌜ Laid (now table) × Indexed (now table) (now index) × (length (now table) ≤ 8192) × (length (now kinds) ≤ 128) ⌝ }
+fn next(kinds: &[u8], table: &[u16], index: &[u16], firsts: &[u16; 129]) -> u16
+    requires { ⌜ Laid (now table) × Indexed (now table) (now index) × (length (now table) ≤ 8192) × (length (now kinds) ≤ 128) × Units (now kinds) (now firsts) [] [] 0 (now table) ⌝ }
     ensures { λ r. ⌜ Next (prefix (now (kinds .entry))) (clauses-left (now (table .entry))) r ⌝ }
 {
-    let unit = lowest_unit(kinds, table);
+    let unit = lowest_unit(kinds, table, firsts);
     if unit != 0 {
         return unit;
     }
@@ -300,30 +307,54 @@ fn next(kinds: &[u8], table: &[u16], index: &[u16]) -> u16
     pure
 }
 
-fn lowest_unit(kinds: &[u8], table: &[u16]) -> u16
-    requires { ⌜ Laid (now table) ⌝ }
+fn lowest_unit(kinds: &[u8], table: &[u16], firsts: &[u16; 129]) -> u16
+    requires { ⌜ Units (now kinds) (now firsts) [] [] 0 (now table) × (length (now table) ≤ 8192) ⌝ }
     ensures { λ r. ⌜ Picked (lowest-unit (prefix (now (kinds .entry))) (clauses-left (now (table .entry)))) r ⌝ }
 {
-    let mut best: u16 = 0;
-    let mut start = 0;
-    while start < table.len() {
-        let code = trimming_marks::unit(kinds, table, start);
-        best = lower(best, code);
-        start = trimming_marks::past(table, start);
+    let mut name: usize = 1;
+    while name < 129 {
+        let first = firsts[name];
+        if first != NONE {
+            return trimming_marks::unit(kinds, table, wide(first));
+        }
+        name += 1;
     }
-    best
+    0
 }
 
-fn lower(best: u16, code: u16) -> u16
-    ensures { λ r. ⌜ r ≡ lower-code best code ⌝ }
+// Notes the clauses of one entry among those that are named.
+fn note_units(kinds: &[u8], table: &[u16], names: &[u16], count: usize, firsts: &mut [u16; 129])
+    requires { ⌜ Laid (now table) × (length (now table) ≤ 8192) × Every (λ s. In s (listed 1 (now table))) (take count (now names)) × Units (now kinds) (now firsts) (take count (now names)) [] 0 (now table) × (length (now firsts) ≡ 129) × (count ≤ 8192) × (length (now names) ≡ 8192) ⌝ }
+    ensures { λ _. ⌜ Units (now (kinds .entry)) (now (firsts .exit)) [] [] 0 (now (table .entry)) × (length (now (firsts .exit)) ≡ 129) ⌝ }
+{
+    let mut i = 0;
+    while i < count {
+        let start = wide(names[i]);
+        i += 1;
+        let code = trimming_marks::unit(kinds, table, start);
+        note_unit(firsts, code, start);
+    }
+}
+
+fn note_unit(firsts: &mut [u16; 129], code: u16, start: usize)
+    requires { ⌜ (code < 258) × (start < 8192) × (length (now firsts) ≡ 129) ⌝ }
+    ensures { λ _. ⌜ now (firsts .exit) ≡ noted-unit code start (now (firsts .entry)) ⌝ }
 {
     if code == 0 {
-        return best;
+        return;
     }
-    if best == 0 {
-        return code;
+    let name = (code / 2) as usize;
+    if start < wide(firsts[name]) {
+        firsts[name] = start as u16;
     }
-    if code / 2 < best / 2 { code } else { best }
+}
+
+// The unknown of a code is in no clause any more.
+fn forget_unit(firsts: &mut [u16; 129], code: u16)
+    requires { ⌜ code < 258 ⌝ }
+    ensures { λ _. ⌜ now (firsts .exit) ≡ set (now (firsts .entry)) (code / 2) 65535 ⌝ }
+{
+    firsts[(code / 2) as usize] = NONE;
 }
 
 // An unknown in one sign, by the begins and ends of two lists.
@@ -367,7 +398,7 @@ fn pure_at(index: &[u16], position: usize) -> u16
 // table of names, and their number is returned.
 fn set_true(table: &mut [u16], index: &mut [u16], code: u16, names: &mut [u16]) -> usize
     requires { ⌜ Laid (now table) × Indexed (now table) (now index) × (length (now table) ≤ 8192) × (length (now names) ≡ 8192) × (2 ≤ code) × (code < 258) ⌝ }
-    ensures { λ r. ⌜ Dropped (set-true (literal-of code)) (take r (now (names .exit))) (now (table .entry)) (now (table .exit)) (now (index .exit)) × (r ≤ 8192) ⌝ }
+    ensures { λ r. ⌜ Dropped (set-true (literal-of code)) (code / 2) (take r (now (names .exit))) (now (table .entry)) (now (table .exit)) (now (index .exit)) × (r ≤ 8192) × (listed code (now (table .exit)) ≡ []) × (listed (code-opposite code) (now (table .exit)) ≡ []) ⌝ }
 {
     drop_clauses(table, index, code);
     drop_literals(table, index, opposite(code), names)
@@ -376,7 +407,7 @@ fn set_true(table: &mut [u16], index: &mut [u16], code: u16, names: &mut [u16]) 
 // Drops the clauses that have a literal.
 fn drop_clauses(table: &mut [u16], index: &mut [u16], code: u16)
     requires { ⌜ Laid (now table) × Indexed (now table) (now index) × (length (now table) ≤ 8192) × (2 ≤ code) × (code < 258) ⌝ }
-    ensures { λ _. ⌜ Dropped (without-clauses (literal-of code)) [] (now (table .entry)) (now (table .exit)) (now (index .exit)) ⌝ }
+    ensures { λ _. ⌜ Dropped (without-clauses (literal-of code)) (code / 2) [] (now (table .entry)) (now (table .exit)) (now (index .exit)) × (listed code (now (table .exit)) ≡ []) ⌝ }
 {
     while has_names(index, code as usize) {
         let start = first_name(index, code as usize);
@@ -399,7 +430,7 @@ fn first_name(index: &[u16], code: usize) -> usize
 // Drops a literal wherever it stands; its list, which is cleared, is saved.
 fn drop_literals(table: &mut [u16], index: &mut [u16], code: u16, names: &mut [u16]) -> usize
     requires { ⌜ Laid (now table) × Indexed (now table) (now index) × (length (now table) ≤ 8192) × (length (now names) ≡ 8192) × (2 ≤ code) × (code < 258) ⌝ }
-    ensures { λ r. ⌜ Dropped (without-literal (literal-of code)) (take r (now (names .exit))) (now (table .entry)) (now (table .exit)) (now (index .exit)) × (r ≤ 8192) ⌝ }
+    ensures { λ r. ⌜ Dropped (without-literal (literal-of code)) (code / 2) (take r (now (names .exit))) (now (table .entry)) (now (table .exit)) (now (index .exit)) × (r ≤ 8192) × (listed code (now (table .exit)) ≡ []) × ((d : ℕ) → d < code-count → (d ≡ code → ⊥) → listed d (now (table .exit)) ≡ listed d (now (table .entry))) ⌝ }
 {
     let count = save(index, code as usize, names);
     mark_each(table, names, count, code);

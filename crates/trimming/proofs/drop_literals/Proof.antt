@@ -21,7 +21,7 @@ mark-each-requires c κs =
 returns : tie.Need-returns
 returns c =
     let s = list-saved ((c .before .before .before .before .before .before .before .before .before .before .before .before .before .before .before .before .before .args .table .now)) ((c .before .before .before .before .before .before .before .before .before .before .before .before .before .before .before .before .before .pre .2)) ((c .before .before .before .before .before .before .before .before .before .before .before .before .before .before .before .before .before .pre .1)) ((c .before .before .before .before .before .before .before .before .before .before .before .before .before .before .before .before .before .args .code)) (let p = (c .before .before .before .before .before .before .before .before .before .before .before .before .before .before .before .before .before .pre) in omega (arith, p .5)) ((c .before .before .before .before .before .before .before .before .before .before .before .save .last .1 .1 .0)) ((c .before .before .before .before .before .before .before .before .before .before .before .save .result)) ((c .before .before .before .before .before .before .before .before .before .before .before .save .kept .1 .1 .0) ∙ (c .before .before .before .before .before .before .before .before .before .before .before .before .before .before .before .before .before .pre .3)) ((c .before .before .before .before .before .before .before .before .before .before .before .save .ensures)) in
-    (literals-dropped ((c .before .before .before .before .before .before .before .before .before .before .before .before .before .before .before .before .before .args .table .now)) ((c .before .before .before .before .before .before .before .before .before .before .before .save .last .1 .1 .0)) ((c .before .before .before .before .before .before .before .before .before .before .before .before .before .before .before .before .before .args .code)) ((c .before .before .before .before .before .before .before .before .before .before .before .save .result)) ((c .before .before .before .before .before .before .before .before .before .before .before .before .before .before .before .before .before .pre .4)) ((c .before .before .before .before .before .before .before .before .before .before .before .before .before .before .before .before .before .pre .5)) ((c .before .before .before .before .before .before .before .before .before .before .before .before .before .before .before .before .before .pre .0)) ((c .before .before .before .before .before .before .before .before .before .before .before .before .before .before .before .before .before .pre .1)) ((c .before .before .before .before .before .before .before .before .before .before .before .before .before .before .before .before .before .pre .2)) (s .0) ((c .before .before .before .before .before .before .mark-each .ensures)) ((c .before .before .clear .last .0)) ((c .before .before .clear .ensures)), s .1)
+    (literals-dropped ((c .before .before .before .before .before .before .before .before .before .before .before .before .before .before .before .before .before .args .table .now)) ((c .before .before .before .before .before .before .before .before .before .before .before .save .last .1 .1 .0)) ((c .before .before .before .before .before .before .before .before .before .before .before .before .before .before .before .before .before .args .code)) ((c .before .before .before .before .before .before .before .before .before .before .before .save .result)) ((c .before .before .before .before .before .before .before .before .before .before .before .before .before .before .before .before .before .pre .4)) ((c .before .before .before .before .before .before .before .before .before .before .before .before .before .before .before .before .before .pre .5)) ((c .before .before .before .before .before .before .before .before .before .before .before .before .before .before .before .before .before .pre .0)) ((c .before .before .before .before .before .before .before .before .before .before .before .before .before .before .before .before .before .pre .1)) ((c .before .before .before .before .before .before .before .before .before .before .before .before .before .before .before .before .before .pre .2)) (s .0) ((c .before .before .before .before .before .before .mark-each .ensures)) ((c .before .before .clear .last .0)) ((c .before .before .clear .ensures)), s .1, (c .before .before .before .before .before .before .mark-each .ensures .own), (c .before .before .before .before .before .before .mark-each .ensures .others))
 
 clear-requires : tie.Need-clear-requires
 clear-requires c κs = search needs

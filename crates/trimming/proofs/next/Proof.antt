@@ -9,7 +9,7 @@ use Rattle.trimming.proofs.next.Statement.{statement}
 use Rattle.trimming.proofs.next.Tie as tie
 
 lowest-unit-requires : tie.Need-lowest-unit-requires
-lowest-unit-requires c κs = (c .before .before .before .pre .0)
+lowest-unit-requires c κs = ((c .before .before .before .pre .4), (c .before .before .before .pre .2))
 
 returns : tie.Need-returns
 returns c = by-unit ((c .before .before .before .before .before .args .kinds .now)) (clauses-left ((c .before .before .before .before .before .args .table .now))) ((c .before .lowest-unit .result)) ((c .before .lowest-unit .ensures)) ((c .if1 .taken))

@@ -16,10 +16,10 @@ drop-true-requires : tie.Need-drop-true-requires
 drop-true-requires c κs = ((c .before .before .before .before .before .before .before .before .before .before .pre .0), first-index ((c .before .before .before .before .before .before .before .before .before .before .args .table .now)) ((c .before .before .before .before .before .before .before .before .before .before .args .index .now)) ((c .before .before .before .before .before .before .before .before .before .before .pre .0)) ((c .before .before .before .before .before .before .before .before .before .before .pre .2)) ((c .before .before .before .before .before .before .before .before .before .before .pre .3)) ((c .before .before .before .before .fill .last .1 .0)) ((c .before .before .before .before .fill .ensures)), (c .before .before .before .before .before .before .before .before .before .before .pre .2))
 
 settle-requires : tie.Need-settle-requires
-settle-requires c κs = ((c .before .before .before .before .before .before .before .drop-true .ensures .0 .laid-out), (c .before .before .before .before .before .before .before .drop-true .ensures .1), (c .before .before .before .before .before .before .before .before .before .before .before .before .before .before .before .before .before .before .pre .1), omega (arith, (c .before .before .before .before .before .before .before .drop-true .ensures .0 .sized), (c .before .before .before .before .before .before .before .before .before .before .before .before .before .before .before .before .before .before .pre .2)), refl)
+settle-requires c κs = ((c .before .before .before .before .before .before .before .before .drop-true .ensures .0 .laid-out), (c .before .before .before .before .before .before .before .before .drop-true .ensures .1), (c .before .before .before .before .before .before .before .before .before .before .before .before .before .before .before .before .before .before .before .pre .1), omega (arith, (c .before .before .before .before .before .before .before .before .drop-true .ensures .0 .sized), (c .before .before .before .before .before .before .before .before .before .before .before .before .before .before .before .before .before .before .before .pre .2)), refl, refl)
 
 returns : tie.Need-returns
-returns c = all-rules ((c .before .before .before .before .before .before .before .before .before .before .before .before .before .before .before .before .before .before .before .before .before .before .before .before .args .kinds .now)) ((c .before .before .before .before .before .before .before .before .before .before .before .before .before .drop-true .ensures .0)) ((c .before .before .before .before .before .settle .ensures .0))
+returns c = all-rules ((c .before .before .before .before .before .before .before .before .before .before .before .before .before .before .before .before .before .before .before .before .before .before .before .before .before .args .kinds .now)) ((c .before .before .before .before .before .before .before .before .before .before .before .before .before .before .drop-true .ensures .0)) ((c .before .before .before .before .before .settle .ensures .0))
 
 fill-requires : tie.Need-fill-requires
 fill-requires c κs = search needs
