@@ -1,36 +1,34 @@
 -- Clauses that are named are reduced, and all others are irreducible.
 -- Assumes nothing.
-use Prim.Native.Nat.{ℕ, zero, suc, _+_, _-_, _%_, _≤_, _<_}
+use Prim.Native.Nat.{ℕ, _+_, _≤_}
 use native.Mathlib.Omega.{arith}
 use mathlib.Core.Path.{_≡_, refl, sym, _∙_, ap, ap₂, subst}
 use mathlib.Core.Logic.{_⊎_, inl, inr}
 use mathlib.Core.Bool.{Bool, true, false, not, cond, _||_, _&&_, true≢false, false≢true}
-use mathlib.Core.List.{List, [], _∷_, _++_, map, append-assoc, append-nil}
-use borrow.Author.Tests.{leb-true, le-leb, lt-leb, ltb-true, lt-ltb}
-use lib.Dec.{leb, ltb}
+use mathlib.Core.List.{List, [], _∷_, _++_, map}
+use borrow.Author.Tests.{le-leb, lt-ltb}
+use lib.Dec.{ltb}
 use lib.IntN.{ℤ}
-use lib.ListN.{length, getD, take, drop, length-append, length-map}
-use lib.Seq.{take-at, drop-at}
+use lib.ListN.{length, drop}
+use lib.Seq.{drop-at}
 use Rattle.formula.specs.Formula.{Kind, prefix, Clause}
 use Rattle.formula.specs.Causes.{any}
 use Rattle.trimming_rules.specs.Trimming as Trimming
 use Rattle.trimming_rules.specs.Trimming.{keep, kind-at, follows, reducible}
 use Rattle.trimming_rules.specs.Rounds.{reduced-clause, reduced}
 use Rattle.trimming_rules.proofs.ClauseLaws.{Every, In, in-any, any-in, keep-in, keep-all}
-use Rattle.trimming_marks.specs.Marks.{is-left, marked, mark-clause, first-clause, reducible-from}
-use Rattle.index.specs.Occurrences.{listed, begins}
-use Rattle.trimming.specs.Table.{literal-of, clauses-left, Entry, Block, standing, gone, inner, whole, Fine, laid, shown, all-shown, Laid, Passed, marked-at, left-from, Indexed, Here, AllBut, Except, Irreducible, UnitKnown, Units, Pending, Toward, Dropped}
+use Rattle.trimming_marks.specs.Marks.{is-left, marked, first-clause, reducible-from}
+use Rattle.index.specs.Occurrences.{listed}
+use Rattle.trimming.specs.Table.{literal-of, clauses-left, Block, standing, inner, whole, Fine, laid, shown, all-shown, Passed, marked-at, left-from, Indexed, Here, AllBut, Except, Irreducible, UnitKnown, Units, Pending, Toward}
 use Rattle.trimming.proofs.BlockLaws.{map-append, block-clause, laid-clauses}
-use Rattle.trimming.proofs.ListedLaws.{block-has, names-from}
 use Rattle.trimming.proofs.ChangeLaws.{around}
-use Rattle.trimming.proofs.PassLaws.{Change}
 use Rattle.trimming.proofs.MarkLaws.{marked-stays, marked-entries}
 use Rattle.trimming.proofs.ReduceLaws.{two-from, reduced-codes, reduced-local, clause-reduced}
 use Rattle.trimming.proofs.DropLaws.{marked-around}
 use Rattle.trimming.proofs.EndLaws.{Stands, stands}
-use Rattle.trimming.proofs.NamedLaws.{standing-listed, here-named, lists, shows}
+use Rattle.trimming.proofs.NamedLaws.{standing-listed, here-named, shows}
 use Rattle.trimming.proofs.NotedLaws.{units-changed}
-use Rattle.trimming.proofs.OneLaws.{toward-begins, toward-ends, toward-more, Marks, after-length, after-list, Becomes, except-changed}
+use Rattle.trimming.proofs.OneLaws.{toward-ends, toward-more, Marks, after-length, after-list, Becomes, except-changed}
 
 -- ---- a reduced clause is irreducible
 

@@ -1,25 +1,20 @@
 -- One clause of a table is changed: what the index becomes.
 -- Assumes nothing.
-use Prim.Native.Nat.{ℕ, zero, suc, _+_, _-_, _%_, _≤_, _<_}
+use Prim.Native.Nat.{ℕ, zero, suc, _+_, _%_, _≤_, _<_}
 use native.Mathlib.Omega.{arith}
-use mathlib.Core.Path.{_≡_, refl, sym, _∙_, ap, ap₂, subst}
-use mathlib.Core.Bool.{Bool, true, false, cond, _||_, true≢false}
-use mathlib.Core.List.{List, [], _∷_, _++_, map, append-assoc, append-nil}
-use borrow.Author.Tests.{eq-eqb, ne-eqb, eqb-true, eqb-false}
+use mathlib.Core.Path.{_≡_, refl, sym, _∙_, ap, ap₂}
+use mathlib.Core.Bool.{Bool, true, false, cond, _||_}
+use mathlib.Core.List.{List, [], _∷_, _++_, append-assoc}
+use borrow.Author.Tests.{ne-eqb}
 use lib.Dec.{eqb}
-use lib.ListN.{length, getD, set, take, drop, length-append, length-map}
-use lib.Seq.{take-at, drop-at}
-use Rattle.formula.specs.Causes.{any}
+use lib.ListN.{length, length-map}
 use Rattle.trimming_rules.proofs.ClauseLaws.{Every}
-use Rattle.trimming_marks.specs.Marks.{ends, is-left, marked, mark-clause}
 use Rattle.index.specs.Occurrences.{listed-under, has-left, listed}
 use Rattle.index.specs.Index.{code-count, index-of, without, removed}
-use Rattle.trimming.specs.Table.{codes, Entry, Block, standing, gone, whole, Fine, laid, marked-at, times, Indexed, Dropping}
-use Rattle.trimming.proofs.BlockLaws.{map-append, every-append, entry-goes-on, laid-append, block-marked}
+use Rattle.trimming.specs.Table.{codes, Entry, Block, standing, whole, Fine, laid, times}
+use Rattle.trimming.proofs.BlockLaws.{map-append, every-append, laid-append}
 use Rattle.trimming.proofs.IndexLaws.{index-same, index-removed}
 use Rattle.trimming.proofs.ListedLaws.{block-has, listed-laid, names-same, names-fewer}
-use Rattle.trimming.proofs.PassLaws.{marked-code}
-use Rattle.trimming.proofs.MarkLaws.{marked-stays, marked-goes}
 
 -- ---- a table around one block
 

@@ -1,20 +1,20 @@
 -- The entries from a code on of one clause are dropped one by one, and the index with them.
 -- Assumes nothing.
-use Prim.Native.Nat.{ℕ, zero, suc, _+_, _-_, _%_, _≤_, _<_}
+use Prim.Native.Nat.{ℕ, zero, suc, _+_, _-_, _≤_, _<_}
 use native.Mathlib.Omega.{arith}
 use mathlib.Core.Path.{_≡_, refl, sym, _∙_, ap, ap₂, subst}
 use mathlib.Core.Bool.{Bool, true, false, not, cond, true≢false}
 use mathlib.Core.List.{List, [], _∷_, _++_, map, append-assoc, append-nil}
 use borrow.Author.Tests.{eq-eqb, ne-eqb, eqb-true, eqb-false, ltb-true, ltb-false}
 use lib.Dec.{eqb, ltb}
-use lib.ListN.{length, getD, set, take, drop, length-append, length-map, length-set, replicate, length-replicate}
+use lib.ListN.{length, getD, set, drop, length-append, length-set, replicate, length-replicate}
 use lib.Seq.{take-at, drop-at, getD-set-same, getD-set-other}
 use Rattle.trimming_rules.proofs.ClauseLaws.{Every}
-use Rattle.trimming_marks.specs.Marks.{ends, is-left, marked, mark-clause, first-clause, first-length}
+use Rattle.trimming_marks.specs.Marks.{ends, marked, mark-clause, first-clause, first-length}
 use Rattle.trimming_marks.proofs.Walks.{clause-more}
 use Rattle.index.specs.Index.{code-count, index-of, removed}
-use Rattle.trimming.specs.Table.{codes, Entry, Block, standing, gone, whole, Fine, laid, marked-at, times, Indexed, Dropping}
-use Rattle.trimming.proofs.BlockLaws.{map-append, every-append, entry-goes-on, laid-append, block-marked, block-length}
+use Rattle.trimming.specs.Table.{Entry, Block, standing, whole, Fine, laid, marked-at, times, Dropping}
+use Rattle.trimming.proofs.BlockLaws.{map-append, every-append, entry-goes-on, block-marked, block-length}
 use Rattle.trimming.proofs.MarkLaws.{marked-stays, marked-goes}
 use Rattle.trimming.proofs.ListedLaws.{block-has}
 use Rattle.trimming.proofs.ChangeLaws.{around, same-index, removed-index, others-kept, own-gone, own-kept, one-codes, dropped-entry}

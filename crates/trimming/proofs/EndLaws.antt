@@ -1,21 +1,21 @@
 -- A clause that is left, where it stands; and a clause of which the last, its end, is dropped.
 -- Assumes nothing.
-use Prim.Native.Nat.{ℕ, zero, suc, _+_, _-_, _%_, _≤_, _<_}
+use Prim.Native.Nat.{ℕ, _+_, _%_, _≤_, _<_}
 use native.Mathlib.Omega.{arith}
 use mathlib.Core.Path.{_≡_, refl, sym, _∙_, ap, ap₂, subst}
-use mathlib.Core.Bool.{Bool, true, false, cond, _||_, true≢false}
-use mathlib.Core.List.{List, [], _∷_, _++_, map, append-assoc, append-nil}
-use borrow.Author.Tests.{eq-eqb, ne-eqb, ltb-true, ltb-false}
-use lib.Dec.{eqb, ltb}
-use lib.ListN.{length, getD, set, take, drop, length-append, length-map}
-use lib.Seq.{take-at, drop-at}
+use mathlib.Core.Bool.{Bool, true, false, _||_, true≢false}
+use mathlib.Core.List.{List, [], _∷_, _++_, map, append-assoc}
+use borrow.Author.Tests.{ne-eqb, ltb-true, ltb-false}
+use lib.Dec.{ltb}
+use lib.ListN.{length, getD, set, drop, length-append, length-map}
+use lib.Seq.{drop-at}
 use Rattle.trimming_rules.proofs.ClauseLaws.{Every}
-use Rattle.trimming_marks.specs.Marks.{ends, is-left, marked, mark-clause, first-clause, first-length}
-use Rattle.index.specs.Occurrences.{whole-clause, listed-under, has-left, begins}
-use Rattle.index.specs.Index.{code-count, index-of, removed}
+use Rattle.trimming_marks.specs.Marks.{marked, first-clause, first-length}
+use Rattle.index.specs.Occurrences.{whole-clause, has-left, begins}
+use Rattle.index.specs.Index.{index-of, removed}
 use Rattle.trimming.specs.Table.{codes, Entry, Block, standing, gone, whole, Fine, laid, Laid, marked-at, times, Indexed, Here, Dropping}
-use Rattle.trimming.proofs.BlockLaws.{map-append, every-append, every-map, entry-goes-on, entries-of, laid-append, block-clause, block-length, block-marked}
-use Rattle.trimming.proofs.MarkLaws.{marked-stays, marked-goes, all-marked, marked-entries}
+use Rattle.trimming.proofs.BlockLaws.{map-append, every-map, entries-of, block-clause, block-length}
+use Rattle.trimming.proofs.MarkLaws.{marked-stays, marked-goes, all-marked}
 use Rattle.trimming.proofs.ListedLaws.{block-has, whole-front, Split, splits}
 use Rattle.trimming.proofs.ChangeLaws.{around, laid-around, has-append, under-itself, entry-two, removed-index}
 use Rattle.trimming.proofs.DropLaws.{set-middle, marked-around}

@@ -1,32 +1,32 @@
 -- The first clauses of one entry are noted, forgotten and asked.
 -- Assumes nothing.
-use Prim.Native.Nat.{ℕ, zero, suc, _+_, _*_, _-_, _/_, _%_, _≤_, _<_}
+use Prim.Native.Nat.{ℕ, zero, suc, _+_, _*_, _/_, _%_, _≤_, _<_}
 use native.Mathlib.Omega.{arith}
 use mathlib.Core.Path.{_≡_, refl, sym, _∙_, ap, ap₂, subst}
 use mathlib.Core.Logic.{_⊎_, inl, inr}
-use mathlib.Core.Bool.{Bool, true, false, not, cond, _||_, _&&_, true≢false, false≢true}
-use mathlib.Core.List.{List, [], _∷_, _++_, map, append-assoc, append-nil}
+use mathlib.Core.Bool.{Bool, true, false, cond, _||_, true≢false}
+use mathlib.Core.List.{List, [], _∷_, _++_, append-assoc, append-nil}
 use mathlib.Core.Option.{Option, none, some}
 use borrow.Author.Tests.{eq-eqb, ne-eqb, eqb-true, eqb-false, ltb-true, ltb-false, le-leb, lt-leb, lt-ltb, le-ltb}
 use lib.Dec.{eqb, ltb, leb}
 use lib.IntN.{ℤ}
 use lib.ListN.{length, getD, set, drop, replicate, length-append, length-set, getD-replicate}
 use lib.Seq.{getD-set-same, getD-set-other, drop-at}
-use Rattle.formula.specs.Formula.{prefix, Clause}
+use Rattle.formula.specs.Formula.{prefix}
 use Rattle.formula.specs.Causes.{any}
 use Rattle.codes.specs.Codes.{opposite}
 use Rattle.trimming_rules.specs.Trimming as Trimming
 use Rattle.trimming_rules.specs.Trimming.{keep, lower, lowest-unit}
 use Rattle.trimming_rules.proofs.ClauseLaws.{Every, In}
-use Rattle.trimming_marks.specs.Marks.{is-left, first-clause, has, only, unit}
+use Rattle.trimming_marks.specs.Marks.{is-left, first-clause, has, unit}
 use Rattle.index.specs.Occurrences.{listed, begins, Names}
-use Rattle.trimming.specs.Table.{literal-of, clauses-left, Entry, Block, standing, gone, inner, whole, Fine, laid, shown, all-shown, Laid, Here, literal-or-none, Chosen, Picked, AllBut, SomeAt, UnitKnown, FirstUnit, noted-unit, Units}
+use Rattle.trimming.specs.Table.{literal-of, clauses-left, Entry, Block, standing, gone, inner, whole, Fine, laid, shown, all-shown, Laid, literal-or-none, Picked, AllBut, SomeAt, UnitKnown, FirstUnit, noted-unit, Units}
 use Rattle.trimming.proofs.CodeLaws.{Form, even, odd, form, opposite-even, opposite-odd, position-code}
 use Rattle.trimming.proofs.BlockLaws.{entries-of, block-clause, laid-append, laid-clauses, shown-append}
 use Rattle.trimming.proofs.ListedLaws.{block-has, names-from, whole-some, Split, splits}
 use Rattle.trimming.proofs.ChangeLaws.{around, laid-around}
-use Rattle.trimming.proofs.UnitLaws.{one, only-one, unit-block, lowest-append, lower-none, nothing-chosen, some-literal}
-use Rattle.trimming.proofs.EndLaws.{every-front, Stands, stands}
+use Rattle.trimming.proofs.UnitLaws.{one, only-one, unit-block, lowest-append, nothing-chosen, some-literal}
+use Rattle.trimming.proofs.EndLaws.{every-front}
 use Rattle.trimming.proofs.NamedLaws.{has-inner, lists, standing-listed}
 use Rattle.trimming.proofs.NotedLaws.{unit-only, gone-unit, SomeSplit, some-split, some-at, some-later}
 

@@ -6,14 +6,14 @@ use mathlib.Core.Path.{_≡_, refl, sym, _∙_, ap, ap₂}
 use mathlib.Core.Bool.{Bool, true, false, cond, true≢false}
 use mathlib.Core.List.{List, [], _∷_, _++_, append-assoc}
 use borrow.Author.Tests.{eq-eqb, ne-eqb, ltb-true, ltb-false}
-use lib.Dec.{eqb, ltb}
+use lib.Dec.{ltb}
 use lib.ListN.{length, getD, length-append}
 use Rattle.trimming_rules.proofs.ClauseLaws.{Every}
 use Rattle.trimming_marks.specs.Marks.{ends}
 use Rattle.index.specs.Occurrences.{whole-clause, has-left, listed-from, listed, begins}
 use Rattle.index.specs.Index.{without}
 use Rattle.trimming.specs.Table.{Entry, Block, standing, gone, whole, Fine, laid}
-use Rattle.trimming.proofs.BlockLaws.{entry-goes-on, entries-of, every-append, laid-append}
+use Rattle.trimming.proofs.BlockLaws.{entry-goes-on, entries-of}
 
 abbrev pub block-has : ℕ → Block → Bool
 block-has c b = has-left c (whole b)

@@ -1,34 +1,32 @@
 -- What the loops over names and over clauses need.
 -- Assumes nothing.
-use Prim.Native.Nat.{ℕ, zero, suc, _+_, _-_, _/_, _%_, _≤_, _<_}
+use Prim.Native.Nat.{ℕ, zero, suc, _+_, _/_, _%_, _≤_, _<_}
 use native.Mathlib.Omega.{arith}
-use native.Mathlib.Numerals.{add-one}
 use mathlib.Core.Path.{_≡_, refl, sym, _∙_, ap, ap₂, subst}
-use mathlib.Core.Logic.{_⊎_, inl, inr}
-use mathlib.Core.Bool.{Bool, true, false, not, cond, _||_, _&&_, true≢false, false≢true}
-use mathlib.Core.List.{List, [], _∷_, _++_, map, append-assoc, append-nil}
+use mathlib.Core.Logic.{inl, inr}
+use mathlib.Core.Bool.{Bool, true, false, cond, _&&_, true≢false, false≢true}
+use mathlib.Core.List.{List, [], _∷_, _++_}
 use borrow.Author.Tests.{eqb-true, eqb-false, eq-eqb, ne-eqb, le-leb}
-use lib.Dec.{eqb, leb}
-use lib.ListN.{length, getD, set, take, drop, length-append, length-map, length-set, drop-of-length-le}
-use lib.Seq.{take-at, drop-at, getD-set-same, getD-set-other}
-use Rattle.formula.specs.Formula.{prefix, Clause}
+use lib.Dec.{eqb}
+use lib.ListN.{length, getD, set, take, drop, drop-of-length-le}
+use lib.Seq.{getD-set-same, getD-set-other}
+use Rattle.formula.specs.Formula.{Clause}
 use Rattle.formula.proofs.Places.{drop-front}
 use Rattle.trimming_rules.proofs.ClauseLaws.{Every, In, every-in, every-from}
-use Rattle.trimming_marks.specs.Marks.{is-left, ends, marked, mark-clause, first-clause, always-true}
-use Rattle.index.specs.Occurrences.{listed, begins, Names}
+use Rattle.trimming_marks.specs.Marks.{ends, mark-clause, first-clause, always-true}
+use Rattle.index.specs.Occurrences.{listed, Names}
 use Rattle.index.specs.Index.{code-count, index-of, begin-of, end-of, is-code, all-codes, table-fits, filled, cleared}
 use Rattle.index.proofs.IndexLaws as indexes
 use Rattle.index.proofs.EditLaws.{Listed, has-is}
-use Rattle.trimming_rules.specs.Trimming.{without-literal, found}
-use Rattle.trimming.specs.Table.{literal-of, codes, clauses-left, Entry, Block, standing, gone, inner, whole, Fine, laid, shown, Laid, At, Passed, marked-at, Indexed, Here, AllBut, Except, Irreducible, Pending, Cleared, Dropped, Found, lists-some, true-from}
+use Rattle.trimming_rules.specs.Trimming.{without-literal}
+use Rattle.trimming.specs.Table.{literal-of, Entry, Block, standing, gone, inner, whole, Fine, laid, Laid, At, marked-at, Indexed, Here, AllBut, Except, Irreducible, Pending, Cleared, Dropped, true-from}
 use Rattle.trimming.proofs.BlockLaws.{every-append, laid-append, entries-of}
-use Rattle.trimming.proofs.ListedLaws.{block-has, names-from, begins-at, whole-some}
+use Rattle.trimming.proofs.ListedLaws.{block-has, names-from}
 use Rattle.trimming.proofs.IndexLaws.{Read, reads}
-use Rattle.trimming.proofs.ChangeLaws.{around, laid-around}
 use Rattle.trimming.proofs.PassLaws.{Front, front, front-fine, at-clause}
 use Rattle.trimming.proofs.MarkLaws.{marked-stays}
 use Rattle.trimming.proofs.TrueLaws.{gone-not-true}
-use Rattle.trimming.proofs.NamedLaws.{getD-in, standing-listed, here-named, lists, list-told}
+use Rattle.trimming.proofs.NamedLaws.{getD-in, standing-listed, here-named, lists}
 use Rattle.trimming.proofs.ThinLaws.{in-names, saved-names, clearing-ends}
 
 -- ---- names one after the other

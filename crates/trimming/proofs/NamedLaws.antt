@@ -1,30 +1,26 @@
 -- The clauses that the list of a code names, and what becomes of the table where one of them is changed.
 -- Assumes nothing.
-use Prim.Native.Nat.{ℕ, zero, suc, _+_, _-_, _%_, _≤_, _<_}
+use Prim.Native.Nat.{ℕ, zero, suc, _+_, _≤_, _<_}
 use native.Mathlib.Omega.{arith}
 use mathlib.Core.Path.{_≡_, refl, sym, _∙_, ap, ap₂, subst}
-use mathlib.Core.Logic.{_⊎_, inl, inr}
-use mathlib.Core.Bool.{Bool, true, false, not, cond, _||_, true≢false, false≢true}
-use mathlib.Core.List.{List, [], _∷_, _++_, map, append-assoc, append-nil}
-use borrow.Author.Tests.{eq-eqb, ne-eqb, eqb-true, eqb-false, ltb-true, ltb-false, le-ltb, lt-ltb}
+use mathlib.Core.Logic.{inl, inr}
+use mathlib.Core.Bool.{Bool, true, false, cond, _||_, false≢true}
+use mathlib.Core.List.{List, [], _∷_, _++_}
+use borrow.Author.Tests.{ne-eqb, ltb-true, ltb-false, le-ltb, lt-ltb}
 use lib.Dec.{eqb, ltb}
-use lib.ListN.{length, getD, take, drop, length-append, length-map}
-use lib.Seq.{take-at, drop-at}
-use Rattle.formula.specs.Formula.{Clause}
-use Rattle.formula.specs.Causes.{any}
+use lib.ListN.{length, getD, drop, length-append}
+use lib.Seq.{drop-at}
 use Rattle.trimming_rules.specs.Trimming.{found}
 use Rattle.trimming_rules.proofs.ClauseLaws.{Every, In}
-use Rattle.trimming_marks.specs.Marks.{ends, is-left, marked, mark-clause, first-clause, first-length, has}
-use Rattle.index.specs.Occurrences.{whole-clause, listed-under, has-left, listed, begins, Names}
-use Rattle.index.specs.Index.{code-count, index-of, begin-of, end-of, without}
-use Rattle.trimming.specs.Table.{literal-of, codes, clauses-left, Entry, Block, standing, gone, inner, whole, Fine, laid, shown, all-shown, Laid, marked-at, Indexed, Here, AllBut, Except}
-use Rattle.trimming.proofs.BlockLaws.{map-append, every-append, every-map, entry-goes-on, entries-of, laid-append, shown-append, block-clause, block-length, block-marked, laid-clauses}
+use Rattle.trimming_marks.specs.Marks.{ends, has}
+use Rattle.index.specs.Occurrences.{whole-clause, has-left, listed, begins, Names}
+use Rattle.index.specs.Index.{code-count, begin-of, end-of}
+use Rattle.trimming.specs.Table.{literal-of, clauses-left, Entry, Block, standing, gone, inner, whole, Fine, laid, shown, all-shown, Laid, Indexed, Here}
+use Rattle.trimming.proofs.BlockLaws.{entries-of, laid-clauses}
 use Rattle.trimming.proofs.IndexLaws.{Read, reads}
-use Rattle.trimming.proofs.ListedLaws.{block-has, names-from, listed-laid, whole-front, whole-some, Split, splits, begins-at}
+use Rattle.trimming.proofs.ListedLaws.{block-has, names-from, listed-laid, whole-front, whole-some, begins-at}
 use Rattle.trimming.proofs.ChangeLaws.{around, laid-around, has-append, under-itself, entry-two}
-use Rattle.trimming.proofs.PassLaws.{marked-codes, Local}
-use Rattle.trimming.proofs.DropLaws.{marked-around}
-use Rattle.trimming.proofs.EndLaws.{every-front, split-of}
+use Rattle.trimming.proofs.EndLaws.{every-front}
 use Rattle.trimming.proofs.PureLaws.{found-block, found-append}
 
 -- ---- a name of the list

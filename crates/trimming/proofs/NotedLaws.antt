@@ -1,22 +1,21 @@
 -- The first clause of each unknown that is a clause's only entry, through what is dropped.
 -- Assumes nothing.
-use Prim.Native.Nat.{ℕ, zero, suc, _+_, _-_, _/_, _%_, _≤_, _<_}
+use Prim.Native.Nat.{ℕ, _+_, _/_, _≤_, _<_}
 use native.Mathlib.Omega.{arith}
-use mathlib.Core.Path.{_≡_, refl, sym, _∙_, ap, ap₂, subst}
+use mathlib.Core.Path.{_≡_, refl, sym, _∙_, ap, subst}
 use mathlib.Core.Logic.{_⊎_, inl, inr}
-use mathlib.Core.Bool.{Bool, true, false, not, cond, _||_, _&&_, true≢false, false≢true}
-use mathlib.Core.List.{List, [], _∷_, _++_, map}
-use borrow.Author.Tests.{eq-eqb, ne-eqb, eqb-true, eqb-false, ltb-true, ltb-false}
-use lib.Dec.{eqb, ltb}
-use lib.ListN.{length, getD, set, drop, length-append, length-map, length-set}
-use lib.Seq.{getD-set-same, getD-set-other}
+use mathlib.Core.Bool.{Bool, true, false, cond, _||_, false≢true}
+use mathlib.Core.List.{List, [], _∷_, _++_}
+use borrow.Author.Tests.{eqb-true, ltb-false}
+use lib.Dec.{eqb}
+use lib.ListN.{length, length-append, length-map}
 use Rattle.formula.specs.Causes.{any}
 use Rattle.trimming_rules.specs.Trimming.{keep}
 use Rattle.trimming_rules.proofs.ClauseLaws.{Every, In}
 use Rattle.trimming_marks.specs.Marks.{is-left, is-universal, marked, has, only, unit}
 use Rattle.index.specs.Occurrences.{listed, begins}
-use Rattle.trimming.specs.Table.{Entry, Block, standing, gone, inner, whole, Fine, laid, Laid, marked-at, AllBut, Except, SomeAt, UnitKnown, FirstUnit, Units}
-use Rattle.trimming.proofs.BlockLaws.{every-append, entries-of, left-code, gone-none}
+use Rattle.trimming.specs.Table.{Entry, Block, gone, inner, whole, Fine, laid, Laid, marked-at, AllBut, SomeAt, UnitKnown, FirstUnit, Units}
+use Rattle.trimming.proofs.BlockLaws.{every-append, entries-of, gone-none}
 use Rattle.trimming.proofs.ListedLaws.{block-has, names-from, names-append, names-above, names-below, whole-some, Split, splits}
 use Rattle.trimming.proofs.ChangeLaws.{around, laid-around}
 use Rattle.trimming.proofs.UnitLaws.{one, only-one}

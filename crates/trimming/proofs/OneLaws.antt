@@ -1,24 +1,21 @@
 -- One clause of a table is marked: what that makes of the clauses that are left, of the lists, and of what holds of all clauses but some.
 -- Assumes nothing.
-use Prim.Native.Nat.{ℕ, zero, suc, _+_, _-_, _%_, _≤_, _<_}
+use Prim.Native.Nat.{ℕ, _+_, _%_, _<_}
 use native.Mathlib.Omega.{arith}
 use mathlib.Core.Path.{_≡_, refl, sym, _∙_, ap, ap₂, subst}
 use mathlib.Core.Logic.{_⊎_, inl, inr}
-use mathlib.Core.Bool.{Bool, true, false, not, cond, _||_, true≢false, false≢true}
-use mathlib.Core.List.{List, [], _∷_, _++_, map, append-assoc, append-nil}
-use borrow.Author.Tests.{eq-eqb, ne-eqb, eqb-true, eqb-false, ltb-true, ltb-false}
-use lib.Dec.{eqb, ltb}
-use lib.ListN.{length, getD, take, drop, length-append, length-map}
-use lib.Seq.{take-at, drop-at}
+use mathlib.Core.Bool.{true, false}
+use mathlib.Core.List.{List, [], _∷_, _++_, map}
+use lib.ListN.{length, length-append, length-map}
 use Rattle.formula.specs.Formula.{Clause}
 use Rattle.trimming_rules.proofs.ClauseLaws.{Every, In}
-use Rattle.trimming_marks.specs.Marks.{marked, mark-clause}
+use Rattle.trimming_marks.specs.Marks.{marked}
 use Rattle.index.specs.Occurrences.{listed, begins}
-use Rattle.index.specs.Index.{code-count, without}
-use Rattle.trimming.specs.Table.{codes, clauses-left, Entry, Block, standing, gone, whole, Fine, laid, shown, all-shown, Laid, Passed, marked-at, AllBut, Except, Toward}
-use Rattle.trimming.proofs.BlockLaws.{every-append, laid-append, shown-append, laid-clauses}
+use Rattle.index.specs.Index.{without}
+use Rattle.trimming.specs.Table.{codes, clauses-left, Block, whole, Fine, laid, shown, all-shown, Laid, Passed, marked-at, AllBut, Except, Toward}
+use Rattle.trimming.proofs.BlockLaws.{every-append, shown-append, laid-clauses}
 use Rattle.trimming.proofs.ListedLaws.{block-has, whole-some, Split, splits}
-use Rattle.trimming.proofs.ChangeLaws.{around, laid-around, around-codes, as-long, list-same, list-fewer}
+use Rattle.trimming.proofs.ChangeLaws.{around, laid-around, around-codes, list-same, list-fewer}
 use Rattle.trimming.proofs.PassLaws.{marked-codes, Local}
 use Rattle.trimming.proofs.DropLaws.{marked-around}
 use Rattle.trimming.proofs.EndLaws.{every-front}

@@ -1,4 +1,4 @@
--- A pass over the clauses of a table, and a walk that changes nothing.
+-- A pass over the clauses of a table.
 -- Assumes nothing.
 use Prim.Native.Nat.{ℕ, _+_, _%_, _≤_, _<_}
 use native.Mathlib.Omega.{arith}
@@ -84,10 +84,6 @@ module _ {table : List ℕ} {s : ℕ} (a : At table s) where
         where
           front-laid : laid (a .done ++ (b′ ∷ [])) ≡ laid (a .done) ++ whole b′
           front-laid = laid-append (a .done) (b′ ∷ []) ∙ ap (λ (l : List ℕ). laid (a .done) ++ l) (append-nil (whole b′))
-
-    unfoldable pub passed-by : (s′ : ℕ) → s′ ≡ s + first-length (drop s table) → At table s′
-    unfolding moved
-    passed-by s′ at = moved (f .b) (front-fine .0) refl table s′ (a .is ∙ ap (λ (l : List Block). laid (a .done) ++ laid l) (f .splits)) at
 
 unfoldable pub begin : {table : List ℕ} → Laid table → At table 0
 begin l = record { done = []; todo = l .blocks; is = l .is; here = refl; fine-done = tt; fine-todo = l .fine }

@@ -7,9 +7,8 @@ use mathlib.Core.Path.{_≡_, refl, sym, _∙_, ap, ap₂, subst}
 use mathlib.Core.Bool.{Bool, true, false, not, cond, _||_, true≢false}
 use mathlib.Core.List.{List, [], _∷_, _++_, map}
 use mathlib.Core.Option.{Option, some}
-use lib.Dec.{eqb}
 use lib.IntN.{ℤ, pos, negsuc, negℤ}
-use lib.ListN.{length, getD, drop, replicate, length-map, length-replicate, getD-replicate, drop-of-length-le}
+use lib.ListN.{length, drop, length-map, drop-of-length-le}
 use Rattle.formula.specs.Formula.{Kind, existential, universal, kind-of, prefix, Clause}
 use Rattle.formula.proofs.Places.{drop-front}
 use Rattle.codes.specs.Codes.{opposite}
@@ -17,12 +16,10 @@ use Rattle.trimming_rules.specs.Trimming as Trimming
 use Rattle.trimming_rules.specs.Trimming.{keep, first-of, if-some, lowest-unit, set-true, rule-3, found, one-of, lowest-pure, dropped, rule-4, kind-at, without-clauses, without-literal}
 use Rattle.trimming_rules.proofs.ClauseLaws.{Named, without-literal-none, without-clauses-none}
 use Rattle.trimming_rules.proofs.RuleLaws.{pure-stands}
-use Rattle.trimming_marks.specs.Marks.{is-left, is-universal, first-clause, first-length, has, noted}
-use Rattle.trimming_marks.proofs.Noted.{stands, length-noted, noted-stands}
-use Rattle.trimming.specs.Table.{literal-of, clauses-left, Block, standing, gone, inner, Fine, shown, all-shown, Laid, At, literal-or-none, Chosen, Picked, lists-some, pure-code, one-code, made-true, Next, Found}
+use Rattle.trimming_marks.specs.Marks.{is-left, is-universal, has}
+use Rattle.trimming.specs.Table.{literal-of, Block, standing, gone, inner, Fine, shown, literal-or-none, Chosen, Picked, lists-some, pure-code, one-code, made-true, Next, Found}
 use Rattle.trimming.proofs.CodeLaws.{literal-even, literal-odd, opposite-literal, opposite-bounds, named-code, universal-code}
-use Rattle.trimming.proofs.BlockLaws.{gone-none, entries-of, shown-append, laid-clauses}
-use Rattle.trimming.proofs.PassLaws.{Front, front, front-fine, at-clause, passed-by, moved, begin, finished}
+use Rattle.trimming.proofs.BlockLaws.{gone-none, entries-of}
 use Rattle.trimming.proofs.MarkLaws.{has-literal}
 use Rattle.trimming.proofs.UnitLaws.{nothing-chosen, some-literal}
 

@@ -7,20 +7,16 @@ use mathlib.Core.Bool.{Bool, true, false, not, cond, _&&_, _||_}
 use mathlib.Core.List.{List, [], _∷_, _++_, map}
 use borrow.Author.Tests.{ne-eqb, eqb-true, eqb-false, le-leb, leb-true}
 use lib.Dec.{eqb, leb}
-use lib.IntN.{ℤ, negℤ}
-use Rattle.formula.specs.Formula.{Clause}
-use Rattle.codes.specs.Codes.{opposite}
 use Rattle.trimming_rules.specs.Trimming as Trimming
-use Rattle.trimming_rules.specs.Trimming.{keep, without-clauses, without-literal, set-true}
+use Rattle.trimming_rules.specs.Trimming.{keep}
 use Rattle.trimming_rules.proofs.ClauseLaws.{Every}
 use Rattle.trimming_marks.specs.Marks.{is-left, marked, has}
 use Rattle.index.specs.Occurrences.{listed-under, has-left}
-use Rattle.trimming.specs.Table.{literal-of, Entry, Block, standing, gone, inner, Fine}
-use Rattle.trimming.proofs.CodeLaws.{opposite-literal, opposite-bounds, same-code}
-use Rattle.trimming.proofs.BlockLaws.{map-append, keep-append, left-code}
-use Rattle.trimming.proofs.PassLaws.{Change, Local}
+use Rattle.trimming.specs.Table.{literal-of, Entry}
+use Rattle.trimming.proofs.CodeLaws.{same-code}
+use Rattle.trimming.proofs.BlockLaws.{left-code}
 use Rattle.trimming.proofs.ChangeLaws.{under-itself}
-use Rattle.trimming.proofs.MarkLaws.{map-keep, keep-marked, among, marked-stays, marked-goes, gone-stays, all-marked, marked-entries, has-literal}
+use Rattle.trimming.proofs.MarkLaws.{map-keep, keep-marked, among, marked-stays, marked-goes}
 
 among-one : (o x : ℕ) → among o o x ≡ eqb o x
 among-one o x = go (eqb o x) refl

@@ -1,38 +1,36 @@
 -- The clauses of a literal are dropped, and its opposite elsewhere, by the two lists.
 -- Assumes nothing.
-use Prim.Native.Nat.{ℕ, zero, suc, _+_, _-_, _/_, _%_, _≤_, _<_}
+use Prim.Native.Nat.{ℕ, suc, _+_, _/_, _≤_, _<_}
 use native.Mathlib.Omega.{arith}
 use mathlib.Core.Path.{_≡_, refl, sym, _∙_, ap, ap₂, subst}
 use mathlib.Core.Logic.{_⊎_, inl, inr}
-use mathlib.Core.Bool.{Bool, true, false, not, cond, _||_, _&&_, true≢false, false≢true}
-use mathlib.Core.List.{List, [], _∷_, _++_, map, append-assoc, append-nil}
-use borrow.Author.Tests.{eq-eqb, ne-eqb, eqb-true, eqb-false, ltb-true, ltb-false}
+use mathlib.Core.Bool.{Bool, true, false, not, cond, _&&_, false≢true}
+use mathlib.Core.List.{List, [], _∷_, _++_, map}
+use borrow.Author.Tests.{eq-eqb}
 use lib.Dec.{eqb, ltb}
-use lib.IntN.{ℤ, negℤ}
-use lib.ListN.{length, getD, take, drop, set, length-append, length-map}
-use lib.Seq.{take-at, drop-at}
-use Rattle.formula.specs.Formula.{prefix, Clause}
+use lib.IntN.{ℤ}
+use lib.ListN.{length, getD, take, length-append}
+use Rattle.formula.specs.Formula.{Clause}
 use Rattle.codes.specs.Codes.{opposite}
 use Rattle.trimming_rules.specs.Trimming as Trimming
-use Rattle.trimming_rules.specs.Trimming.{keep, found, without-clauses, without-literal, set-true}
-use Rattle.trimming_rules.specs.Rounds.{reduced}
-use Rattle.trimming_rules.proofs.ClauseLaws.{Every, In, every-in, every-from, without-clauses-none, without-literal-none}
-use Rattle.trimming_marks.specs.Marks.{is-left, marked, mark-clause, has}
+use Rattle.trimming_rules.specs.Trimming.{keep, without-clauses, without-literal, set-true}
+use Rattle.trimming_rules.proofs.ClauseLaws.{Every, In, every-from, without-clauses-none, without-literal-none}
+use Rattle.trimming_marks.specs.Marks.{is-left, marked, has}
 use Rattle.index.specs.Occurrences.{listed, begins}
-use Rattle.index.specs.Index.{code-count, index-of, begin-of, end-of, without, removed, cleared}
-use Rattle.trimming.specs.Table.{literal-of, codes, clauses-left, Entry, Block, standing, gone, inner, whole, Fine, laid, shown, all-shown, Laid, Passed, marked-at, Indexed, Here, AllBut, Except, Irreducible, UnitKnown, Units, Toward, Cleared, Dropped}
+use Rattle.index.specs.Index.{code-count, begin-of, end-of, without, cleared}
+use Rattle.trimming.specs.Table.{literal-of, clauses-left, Entry, Block, standing, gone, whole, Fine, laid, Laid, marked-at, Indexed, Here, AllBut, Except, Irreducible, UnitKnown, Units, Toward, Cleared, Dropped}
 use Rattle.trimming.proofs.NotedLaws.{gone-unit, units-changed, no-unit, units-named}
-use Rattle.trimming.proofs.CodeLaws.{opposite-literal, opposite-bounds, opposite-half}
-use Rattle.trimming.proofs.BlockLaws.{map-append, keep-append, every-append, every-map, laid-append, shown-append, laid-clauses}
-use Rattle.trimming.proofs.ListedLaws.{block-has, names-from, listed-laid, names-append, names-above, whole-some, begins-at}
-use Rattle.trimming.proofs.IndexLaws.{as-many, Read, index-cleared}
+use Rattle.trimming.proofs.CodeLaws.{opposite-literal, opposite-half}
+use Rattle.trimming.proofs.BlockLaws.{map-append, keep-append, every-append}
+use Rattle.trimming.proofs.ListedLaws.{block-has, names-from, names-append, whole-some, begins-at}
+use Rattle.trimming.proofs.IndexLaws.{index-cleared}
 use Rattle.trimming.proofs.ChangeLaws.{around, laid-around}
 use Rattle.trimming.proofs.PassLaws.{Local}
 use Rattle.trimming.proofs.MarkLaws.{marked-goes, marked-stays, gone-stays, all-marked, marked-entries, has-literal, keep-keep, every-all}
 use Rattle.trimming.proofs.SetLaws.{kept-literals-of, marked-none-has, marked-other-has}
 use Rattle.trimming.proofs.EndLaws.{every-front}
-use Rattle.trimming.proofs.NamedLaws.{NamedAt, named, gone-without, standing-has, standing-listed, none-listed, list-empty, here-named, first-named, lists, shows}
-use Rattle.trimming.proofs.OneLaws.{toward-begins, toward-ends, toward-more, Marks, after-laid, after-codes, after-length, after-list, after-fewer, Becomes, except-changed}
+use Rattle.trimming.proofs.NamedLaws.{NamedAt, named, gone-without, standing-has, standing-listed, none-listed, list-empty, here-named, first-named, lists}
+use Rattle.trimming.proofs.OneLaws.{toward-begins, toward-ends, toward-more, Marks, after-length, after-list, after-fewer, Becomes, except-changed}
 
 -- ---- a clause that a code's list names
 

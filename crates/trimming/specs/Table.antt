@@ -238,10 +238,6 @@ pub record Picked (o : Option ℤ) (c : ℕ) : Type 0 where
   pub chosen : Chosen c
   pub is : literal-or-none c ≡ o
 
--- The lower unknown of two codes, the first of equals; 0 is none.
-unfoldable pub lower-code : ℕ → ℕ → ℕ
-lower-code best c = cond (eqb c 0) best (cond (eqb best 0) c (cond (ltb (c / 2) (best / 2)) c best))
-
 -- A code's list is not empty, by its begin and its end.
 abbrev pub lists-some : List ℕ → ℕ → Bool
 lists-some index c = ltb (begin-of index c) (end-of index c)

@@ -243,7 +243,7 @@ fn reduce(kinds: &[u8], table: &mut [u16], index: &mut [u16], names: &[u16], cou
     ensures { λ _. ⌜ Passed (reduced (prefix (now (kinds .entry)))) (now (table .entry)) (now (table .exit)) × Indexed (now (table .exit)) (now (index .exit)) × Except (Irreducible (now (kinds .entry))) [] (now (table .exit)) ⌝ }
     ensures { λ _. ⌜ ((firsts : List ℕ) → Units (now (kinds .entry)) firsts (take count (now (names .entry))) (take count (now (names .entry))) 0 (now (table .entry)) → Units (now (kinds .entry)) firsts (take count (now (names .entry))) (take count (now (names .entry))) 0 (now (table .exit))) × (listed 1 (now (table .exit)) ≡ listed 1 (now (table .entry))) ⌝ }
 {
-    let mut i = 0;
+    let mut i = 0; // from the first that is named
     while i < count {
         let start = wide(names[i]);
         i += 1;

@@ -1,13 +1,11 @@
 -- `trimming::count` meets its contract. The loop's invariant: what is counted and what the rest of the clause has come to the whole.
 -- Assumes nothing.
-use Prim.Native.Nat.{ℕ, _+_, _-_, _≤_, _<_}
+use Prim.Native.Nat.{_-_}
 use native.Mathlib.Omega.{arith}
 use borrow.Author.Needs.{needs}
-use mathlib.Core.Path.{_≡_, refl, sym, _∙_, ap}
-use lib.ListN.{length, getD, drop}
-use Rattle.trimming_marks.specs.Marks.{first-clause}
-use Rattle.trimming_marks.proofs.Walks.{clause-end, clause-more, clause-past}
-use Rattle.trimming.specs.Table.{times}
+use mathlib.Core.Path.{sym, _∙_}
+use lib.ListN.{length}
+use Rattle.trimming_marks.proofs.Walks.{clause-end, clause-past}
 use Rattle.trimming.proofs.DropLaws.{Counting, counting-begins, counting-more, counting-ends}
 use Rattle.trimming.proofs.count.Statement.{statement}
 use Rattle.trimming.proofs.count.Tie as tie

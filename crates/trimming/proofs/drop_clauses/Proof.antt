@@ -1,7 +1,6 @@
 -- `trimming::drop_clauses` meets its contract. The loop's invariant: no other clauses are dropped, and the index is kept.
 -- Assumes nothing.
 use borrow.Author.Needs.{needs}
-use native.Mathlib.Omega.{arith}
 use Prim.Native.Nat.{_≤_, _<_}
 use mathlib.Core.Path.{_≡_, refl, sym, _∙_}
 use lib.ListN.{length}

@@ -1,9 +1,8 @@
 -- `trimming::drop_each` meets its contract. The loop's invariant: what is dropped so far, and what is still to drop makes the clause that is wanted.
 -- Assumes nothing.
-use Prim.Native.Nat.{_+_, _-_}
+use Prim.Native.Nat.{_-_}
 use native.Mathlib.Omega.{arith}
-use mathlib.Core.Path.{_≡_, refl, sym, _∙_, ap}
-use mathlib.Core.Bool.{true, not}
+use mathlib.Core.Path.{_≡_, refl, sym, _∙_}
 use lib.ListN.{length}
 use Rattle.trimming.specs.Table.{marked-at, Dropping}
 use Rattle.trimming.proofs.DropLaws.{inside, all-dropped, ends-here, turned}

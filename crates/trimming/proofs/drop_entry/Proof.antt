@@ -2,7 +2,7 @@
 -- Assumes nothing.
 use native.Mathlib.Omega.{arith}
 use borrow.Author.Needs.{needs}
-use mathlib.Core.Path.{refl, sym, _∙_, ap, subst}
+use mathlib.Core.Path.{refl}
 use Rattle.trimming.proofs.DropLaws.{inside, passes, code-small, stands-once, drops, marks-same, moved-on}
 use Rattle.trimming.proofs.drop_entry.Statement.{statement}
 use Rattle.trimming.proofs.drop_entry.Tie as tie

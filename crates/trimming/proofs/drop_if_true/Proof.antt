@@ -1,8 +1,7 @@
 -- `trimming::drop_if_true` meets its contract.
 -- Assumes nothing.
 use borrow.Author.Needs.{needs}
-use native.Mathlib.Omega.{arith}
-use mathlib.Core.Path.{_≡_, refl, sym, _∙_, ap, subst}
+use mathlib.Core.Path.{sym, _∙_}
 use Rattle.trimming.proofs.LoopLaws.{true-here, true-dropped-at, true-kept-at}
 use Rattle.trimming.proofs.drop_if_true.Statement.{statement}
 use Rattle.trimming.proofs.drop_if_true.Tie as tie

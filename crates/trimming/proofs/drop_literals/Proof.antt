@@ -2,8 +2,7 @@
 -- Assumes nothing.
 use borrow.Author.Needs.{needs}
 use native.Mathlib.Omega.{arith}
-use Prim.Native.Nat.{_+_}
-use mathlib.Core.Path.{_≡_, refl, sym, _∙_}
+use mathlib.Core.Path.{_∙_}
 use Rattle.trimming.proofs.LoopLaws.{list-bounds, list-saved, literals-dropped}
 use Rattle.trimming.proofs.drop_literals.Statement.{statement}
 use Rattle.trimming.proofs.drop_literals.Tie as tie

@@ -1,6 +1,5 @@
 -- `trimming::forget_unit` meets its contract.
 -- Assumes nothing.
-use native.Mathlib.Omega.{arith}
 use borrow.Author.Needs.{needs}
 use mathlib.Core.Path.{refl}
 use Rattle.trimming.proofs.forget_unit.Statement.{statement}

@@ -2,8 +2,7 @@
 -- Assumes nothing.
 use borrow.Author.Needs.{needs}
 use native.Mathlib.Omega.{arith}
-use Prim.Native.Nat.{_≤_}
-use mathlib.Core.Path.{_≡_, refl, sym, _∙_, ap}
+use mathlib.Core.Path.{refl, _∙_, ap}
 use mathlib.Core.List.{_++_}
 use lib.ListN.{length, drop}
 use Rattle.trimming.proofs.TrimLaws.{filled-codes, codes-laid, same-codes-left, left-trimmed}

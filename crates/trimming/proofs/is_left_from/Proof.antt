@@ -1,7 +1,6 @@
 -- `trimming::is_left_from` meets its contract.
 -- Assumes nothing.
-use borrow.Author.Needs.{needs}
-use mathlib.Core.Path.{_≡_, refl, sym, _∙_, ap}
+use mathlib.Core.Path.{sym, ap}
 use mathlib.Core.Bool.{Bool, _&&_}
 use borrow.Author.Tests.{lt-leb, le-leb}
 use lib.Dec.{ltb}

@@ -3,7 +3,7 @@
 use borrow.Author.Needs.{needs}
 use native.Mathlib.Omega.{arith}
 use Prim.Native.Nat.{ℕ, _-_, _≤_, _<_}
-use mathlib.Core.Path.{_≡_, refl, sym, _∙_, ap}
+use mathlib.Core.Path.{_≡_, _∙_, ap}
 use lib.ListN.{getD, drop}
 use Rattle.trimming_marks.specs.Marks.{first-clause, unit}
 use Rattle.trimming.proofs.FirstLaws.{unit-found, unit-nowhere, none-before}

@@ -2,13 +2,12 @@
 -- Assumes nothing.
 use borrow.Author.Needs.{needs}
 use native.Mathlib.Omega.{arith}
-use Prim.Native.Nat.{ℕ, _+_, _-_, _≤_}
+use Prim.Native.Nat.{ℕ, _-_, _≤_}
 use mathlib.Core.Path.{_≡_, refl, sym, _∙_, ap, subst}
-use mathlib.Core.List.{List, []}
-use lib.ListN.{length, getD, take, drop}
+use lib.ListN.{length, take, drop}
 use Rattle.trimming.specs.Table.{marked-at, Cleared}
 use Rattle.trimming.proofs.LoopLaws.{next-name, no-names}
-use Rattle.trimming.proofs.ThinLaws.{clearing-begins, clear-inside, clearing-more}
+use Rattle.trimming.proofs.ThinLaws.{clearing-begins, clearing-more}
 use Rattle.trimming.proofs.mark_each.Statement.{statement}
 use Rattle.trimming.proofs.mark_each.Tie as tie
 

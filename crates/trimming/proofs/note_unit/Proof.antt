@@ -2,8 +2,6 @@
 -- Assumes nothing.
 use borrow.Author.Needs.{needs}
 use native.Mathlib.Omega.{arith}
-use mathlib.Core.Path.{_≡_, refl, sym, _∙_, ap, ap₂}
-use mathlib.Core.Bool.{Bool, true, false, cond}
 use Rattle.trimming.proofs.FirstLaws.{noted-none, noted-first, noted-later}
 use Rattle.trimming.proofs.note_unit.Statement.{statement}
 use Rattle.trimming.proofs.note_unit.Tie as tie

@@ -3,12 +3,10 @@
 use borrow.Author.Needs.{needs}
 use native.Mathlib.Omega.{arith}
 use Prim.Native.Nat.{ℕ, _+_, _-_, _≤_, _<_}
-use mathlib.Core.Path.{_≡_, refl, sym, _∙_, ap, ap₂, subst}
+use mathlib.Core.Path.{_≡_, sym, _∙_, ap, ap₂, subst}
 use mathlib.Core.List.{List, []}
 use lib.ListN.{length, getD, take, drop}
-use Rattle.trimming_rules.proofs.ClauseLaws.{Every, In}
 use Rattle.trimming_marks.specs.Marks.{first-clause, unit}
-use Rattle.index.specs.Occurrences.{listed}
 use Rattle.trimming.specs.Table.{Units, noted-unit}
 use Rattle.trimming.proofs.LoopLaws.{next-name, no-names, named-stands}
 use Rattle.trimming.proofs.FirstLaws.{units-noted, noted-length, code-small}

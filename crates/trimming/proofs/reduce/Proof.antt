@@ -5,7 +5,7 @@ use native.Mathlib.Omega.{arith}
 use Prim.Native.Nat.{ℕ, _+_, _-_, _≤_}
 use mathlib.Core.Path.{_≡_, refl, sym, _∙_, ap, subst}
 use mathlib.Core.List.{List}
-use lib.ListN.{length, getD, take, drop}
+use lib.ListN.{length, take, drop}
 use Rattle.formula.specs.Formula.{prefix}
 use Rattle.trimming_rules.specs.Rounds.{reduced}
 use Rattle.trimming_marks.specs.Marks.{first-clause, reducible-from}

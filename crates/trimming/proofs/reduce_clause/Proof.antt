@@ -3,9 +3,8 @@
 use borrow.Author.Needs.{needs}
 use native.Mathlib.Omega.{arith}
 use Prim.Native.Nat.{ℕ, _≤_}
-use mathlib.Core.Path.{_≡_, refl, sym, _∙_, ap, subst}
+use mathlib.Core.Path.{sym, _∙_, ap, subst}
 use lib.ListN.{drop}
-use Rattle.formula.specs.Causes.{any}
 use Rattle.trimming_marks.specs.Marks.{first-clause}
 use Rattle.trimming.specs.Table.{marked-at}
 use Rattle.trimming.proofs.ReduceLaws.{two-from}

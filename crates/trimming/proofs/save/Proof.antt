@@ -3,9 +3,8 @@
 use borrow.Author.Needs.{needs}
 use native.Mathlib.Omega.{arith}
 use Prim.Native.Nat.{ℕ, _+_, _-_, _≤_, _<_}
-use mathlib.Core.Path.{_≡_, refl, sym, _∙_, ap}
+use mathlib.Core.Path.{_≡_, refl, _∙_, ap}
 use lib.ListN.{length, getD, length-set}
-use Rattle.index.specs.Index.{begin-of}
 use Rattle.trimming.proofs.LoopLaws.{saved-more}
 use Rattle.trimming.proofs.save.Statement.{statement}
 use Rattle.trimming.proofs.save.Tie as tie

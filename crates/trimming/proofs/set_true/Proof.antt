@@ -2,7 +2,7 @@
 -- Assumes nothing.
 use borrow.Author.Needs.{needs}
 use native.Mathlib.Omega.{arith}
-use mathlib.Core.Path.{_≡_, refl, sym, _∙_, ap, subst}
+use mathlib.Core.Path.{sym, _∙_, ap}
 use Rattle.codes.specs.Codes.{opposite}
 use Rattle.trimming.proofs.CodeLaws.{opposite-bounds, opposite-other}
 use Rattle.index.specs.Occurrences.{listed}

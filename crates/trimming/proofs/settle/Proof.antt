@@ -1,8 +1,7 @@
 -- `trimming::settle` meets its contract. The loop's invariant: the rounds that are left make of the table what all of them make; the index is the one of what is left; and clauses that are not named are irreducible.
 -- Assumes nothing.
-use borrow.Author.Needs.{needs}
 use native.Mathlib.Omega.{arith}
-use Prim.Native.Nat.{ℕ, _+_, _-_, _/_, _≤_}
+use Prim.Native.Nat.{ℕ, _+_, _/_, _≤_}
 use mathlib.Core.Path.{_≡_, refl, sym, _∙_, ap, subst}
 use mathlib.Core.List.{List}
 use lib.ListN.{length, take, length-set, length-replicate}

@@ -2,11 +2,7 @@
 -- Assumes nothing.
 use borrow.Author.Needs.{needs}
 use native.Mathlib.Omega.{arith}
-use Prim.Native.Nat.{_+_}
-use mathlib.Core.Path.{_≡_, refl, sym, _∙_, ap}
-use lib.ListN.{length, replicate, length-replicate}
-use Rattle.formula.specs.Formula.{prefix}
-use Rattle.trimming.specs.Table.{Passed}
+use mathlib.Core.Path.{refl}
 use Rattle.trimming.proofs.LoopLaws.{first-index}
 use Rattle.trimming.proofs.TrimLaws.{all-rules}
 use Rattle.trimming.proofs.with_index.Statement.{statement}
