@@ -9,7 +9,7 @@ ghost use mathlib.Core.Path.{_≡_};
 ghost use Prim.Native.Nat.{ℕ, zero, _+_, _≤_, _<_};
 ghost use mathlib.Core.List.{List, [], _∷_, _++_, map};
 ghost use lib.ListN.{length, take, drop, replicate};
-ghost use Rattle.formula.specs.Formula.{prefix, Clause};
+ghost use Rattle.formula.specs.Formula.{max-unknowns, max-entries, prefix, Clause};
 ghost use Rattle.formula.proofs.Accepted.{Accepted as AcceptedFormula};
 ghost use Rattle.codes.specs.Codes.{code-of, opposite as code-opposite};
 ghost use mathlib.Core.Bool.{true, false, not, cond};
@@ -19,7 +19,7 @@ ghost use Prim.Native.Nat.{_-_, _/_};
 ghost use Rattle.formula.specs.Causes.{any};
 ghost use Rattle.trimming_marks.specs.Marks.{ends, first-clause, first-length, reducible-from};
 ghost use Rattle.index.specs.Occurrences.{listed};
-ghost use Rattle.index.specs.Index.{code-count, begin-of, end-of, removed};
+ghost use Rattle.index.specs.Index.{code-count, index-size, begin-of, end-of, removed};
 ghost use Rattle.trimming_rules.specs.Trimming.{without-clauses, without-literal, set-true, lowest-unit, lowest-pure, trimmed};
 ghost use Rattle.trimming_rules.specs.Rounds.{untrue, reduced, rounds};
 ghost use Rattle.trimming_rules.specs.Proved.{Proved};
@@ -51,7 +51,7 @@ pub fn trim(kinds: &[u8], literals: &[i32], output: &mut [i32]) -> Trimmed
             if output.len() < literals.len() {
                 return Trimmed::Refused(15);
             }
-            let mut table = [0u16; 8_192];
+            let mut table = [0u16; Formula::ENTRIES];
             Trimmed::Entries(over_table(kinds, literals, output, &mut table))
         }
     }
@@ -73,19 +73,19 @@ fn in_table(kinds: &[u8], literals: &[i32], output: &mut [i32], table: &mut [u16
     ensures { λ r. ⌜ now (output .exit) ≡ trimmed (now (kinds .entry)) (now (literals .entry)) ++ drop r (now (output .entry)) ⌝ }
 {
     codes::encode_entries(literals, table);
-    let mut index = [0u16; 8_710];
+    let mut index = [0u16; index::SIZE];
     with_index(kinds, table, &mut index);
     copy_left(literals, table, output)
 }
 
 // All rules, with an index that is made before the first change.
 fn with_index(kinds: &[u8], table: &mut [u16], index: &mut [u16])
-    requires { ⌜ Laid (now table) × (length (now kinds) ≤ 128) × (length (now table) ≤ 8192) × (length (now index) ≡ 8710) ⌝ }
+    requires { ⌜ Laid (now table) × (length (now kinds) ≤ max-unknowns) × (length (now table) ≤ max-entries) × (length (now index) ≡ index-size) ⌝ }
     ensures { λ _. ⌜ Passed (λ cs. rounds (length (now (table .entry)) + 1) (prefix (now (kinds .entry))) (untrue cs)) (now (table .entry)) (now (table .exit)) ⌝ }
 {
     index::fill(table, index);
     drop_true(table, index);
-    let mut names = [0u16; 8_192];
+    let mut names = [0u16; Formula::ENTRIES];
     let mut firsts = [NONE; 129];
     settle(kinds, table, index, &mut names, &mut firsts);
 }
@@ -113,7 +113,7 @@ fn drop_entries(table: &mut [u16], index: &mut [u16], start: usize, low: u16) ->
 
 // How often each code stands in the clause.
 fn count(table: &[u16], start: usize, counts: &mut [u16; 258])
-    requires { ⌜ (length (now table) ≤ 8192) × (now counts ≡ replicate 258 0) ⌝ }
+    requires { ⌜ (length (now table) ≤ max-entries) × (now counts ≡ replicate 258 0) ⌝ }
     ensures { λ _. ⌜ (length (now (counts .exit)) ≡ 258) × ((y : ℕ) → y < 258 → getD (now (counts .exit)) y 0 ≡ times y (first-clause (drop start (now (table .entry))))) ⌝ }
 {
     let mut i = start;
@@ -171,7 +171,7 @@ fn forget(index: &mut [u16], counts: &mut [u16; 258], start: usize, x: u16)
 }
 
 fn count_one(counts: &mut [u16; 258], x: u16)
-    requires { ⌜ (length (now counts) ≡ 258) × ((y : ℕ) → getD (now counts) y 0 < 8192) ⌝ }
+    requires { ⌜ (length (now counts) ≡ 258) × ((y : ℕ) → getD (now counts) y 0 < max-entries) ⌝ }
     ensures { λ _. ⌜ (length (now (counts .exit)) ≡ 258) × ((y : ℕ) → y < 258 → getD (now (counts .exit)) y 0 ≡ getD (now (counts .entry)) y 0 + times y (x ∷ [])) ⌝ }
 {
     let code = x as usize;
@@ -196,7 +196,7 @@ fn is_end(x: u16) -> bool
 
 // Rule 1. No change makes a clause always true, so once is enough.
 fn drop_true(table: &mut [u16], index: &mut [u16])
-    requires { ⌜ Laid (now table) × Indexed (now table) (now index) × (length (now table) ≤ 8192) ⌝ }
+    requires { ⌜ Laid (now table) × Indexed (now table) (now index) × (length (now table) ≤ max-entries) ⌝ }
     ensures { λ _. ⌜ Passed untrue (now (table .entry)) (now (table .exit)) × Indexed (now (table .exit)) (now (index .exit)) ⌝ }
 {
     let mut start = 0;
@@ -208,7 +208,7 @@ fn drop_true(table: &mut [u16], index: &mut [u16])
 }
 
 fn drop_if_true(table: &mut [u16], index: &mut [u16], start: usize)
-    requires { ⌜ At (now table) start × (start < length (now table)) × Indexed (now table) (now index) × (length (now table) ≤ 8192) ⌝ }
+    requires { ⌜ At (now table) start × (start < length (now table)) × Indexed (now table) (now index) × (length (now table) ≤ max-entries) ⌝ }
     ensures { λ _. ⌜ (now (table .exit) ≡ marked-at (true-from (first-clause (drop start (now (table .entry))))) 511 start (now (table .entry))) × Indexed (now (table .exit)) (now (index .exit)) ⌝ }
 {
     if trimming_marks::is_always_true(table, start) {
@@ -219,7 +219,7 @@ fn drop_if_true(table: &mut [u16], index: &mut [u16], start: usize)
 // Rules 2 to 4. Each change takes an entry away, so there are no more rounds than entries. Only clauses that are shortened can be reduced again,
 // or come to have one entry; of each unknown the first clause is noted whose only entry it is.
 fn settle(kinds: &[u8], table: &mut [u16], index: &mut [u16], names: &mut [u16], firsts: &mut [u16; 129])
-    requires { ⌜ Laid (now table) × Indexed (now table) (now index) × (length (now kinds) ≤ 128) × (length (now table) ≤ 8192) × (length (now names) ≡ 8192) × (now firsts ≡ replicate 129 65535) ⌝ }
+    requires { ⌜ Laid (now table) × Indexed (now table) (now index) × (length (now kinds) ≤ max-unknowns) × (length (now table) ≤ max-entries) × (length (now names) ≡ max-entries) × (now firsts ≡ replicate 129 65535) ⌝ }
     ensures { λ _. ⌜ Passed (rounds (length (now (table .entry)) + 1) (prefix (now (kinds .entry)))) (now (table .entry)) (now (table .exit)) × Indexed (now (table .exit)) (now (index .exit)) ⌝ }
 {
     let mut rounds = table.len() + 1;
@@ -239,7 +239,7 @@ fn settle(kinds: &[u8], table: &mut [u16], index: &mut [u16], names: &mut [u16],
 
 // Rule 2 over the clauses that are named. A universal literal that is dropped follows nothing, so once is enough.
 fn reduce(kinds: &[u8], table: &mut [u16], index: &mut [u16], names: &[u16], count: usize)
-    requires { ⌜ Pending (now kinds) (take count (now names)) (now table) (now index) × (count ≤ 8192) × (length (now names) ≡ 8192) ⌝ }
+    requires { ⌜ Pending (now kinds) (take count (now names)) (now table) (now index) × (count ≤ max-entries) × (length (now names) ≡ max-entries) ⌝ }
     ensures { λ _. ⌜ Passed (reduced (prefix (now (kinds .entry)))) (now (table .entry)) (now (table .exit)) × Indexed (now (table .exit)) (now (index .exit)) × Except (Irreducible (now (kinds .entry))) [] (now (table .exit)) ⌝ }
     ensures { λ _. ⌜ ((firsts : List ℕ) → Units (now (kinds .entry)) firsts (take count (now (names .entry))) (take count (now (names .entry))) 0 (now (table .entry)) → Units (now (kinds .entry)) firsts (take count (now (names .entry))) (take count (now (names .entry))) 0 (now (table .exit))) × (listed 1 (now (table .exit)) ≡ listed 1 (now (table .entry))) ⌝ }
 {
@@ -290,7 +290,7 @@ fn is_left_from(x: u16, low: u16) -> bool
 
 // The code whose literal rule 3 or rule 4 makes true, or 0. A universal unknown in one sign loses its literal: the opposite one is made true.
 fn next(kinds: &[u8], table: &[u16], index: &[u16], firsts: &[u16; 129]) -> u16
-    requires { ⌜ Laid (now table) × Indexed (now table) (now index) × (length (now table) ≤ 8192) × (length (now kinds) ≤ 128) × Units (now kinds) (now firsts) [] [] 0 (now table) ⌝ }
+    requires { ⌜ Laid (now table) × Indexed (now table) (now index) × (length (now table) ≤ max-entries) × (length (now kinds) ≤ max-unknowns) × Units (now kinds) (now firsts) [] [] 0 (now table) ⌝ }
     ensures { λ r. ⌜ Next (prefix (now (kinds .entry))) (clauses-left (now (table .entry))) r ⌝ }
 {
     let unit = lowest_unit(kinds, table, firsts);
@@ -308,7 +308,7 @@ fn next(kinds: &[u8], table: &[u16], index: &[u16], firsts: &[u16; 129]) -> u16
 }
 
 fn lowest_unit(kinds: &[u8], table: &[u16], firsts: &[u16; 129]) -> u16
-    requires { ⌜ Units (now kinds) (now firsts) [] [] 0 (now table) × (length (now table) ≤ 8192) ⌝ }
+    requires { ⌜ Units (now kinds) (now firsts) [] [] 0 (now table) × (length (now table) ≤ max-entries) ⌝ }
     ensures { λ r. ⌜ Picked (lowest-unit (prefix (now (kinds .entry))) (clauses-left (now (table .entry)))) r ⌝ }
 {
     let mut name: usize = 1;
@@ -324,7 +324,7 @@ fn lowest_unit(kinds: &[u8], table: &[u16], firsts: &[u16; 129]) -> u16
 
 // Notes the clauses of one entry among those that are named.
 fn note_units(kinds: &[u8], table: &[u16], names: &[u16], count: usize, firsts: &mut [u16; 129])
-    requires { ⌜ Laid (now table) × (length (now table) ≤ 8192) × Every (λ s. In s (listed 1 (now table))) (take count (now names)) × Units (now kinds) (now firsts) (take count (now names)) [] 0 (now table) × (length (now firsts) ≡ 129) × (count ≤ 8192) × (length (now names) ≡ 8192) ⌝ }
+    requires { ⌜ Laid (now table) × (length (now table) ≤ max-entries) × Every (λ s. In s (listed 1 (now table))) (take count (now names)) × Units (now kinds) (now firsts) (take count (now names)) [] 0 (now table) × (length (now firsts) ≡ 129) × (count ≤ max-entries) × (length (now names) ≡ max-entries) ⌝ }
     ensures { λ _. ⌜ Units (now (kinds .entry)) (now (firsts .exit)) [] [] 0 (now (table .entry)) × (length (now (firsts .exit)) ≡ 129) ⌝ }
 {
     let mut i = 0;
@@ -337,7 +337,7 @@ fn note_units(kinds: &[u8], table: &[u16], names: &[u16], count: usize, firsts: 
 }
 
 fn note_unit(firsts: &mut [u16; 129], code: u16, start: usize)
-    requires { ⌜ (code < 258) × (start < 8192) × (length (now firsts) ≡ 129) ⌝ }
+    requires { ⌜ (code < 258) × (start < max-entries) × (length (now firsts) ≡ 129) ⌝ }
     ensures { λ _. ⌜ now (firsts .exit) ≡ noted-unit code start (now (firsts .entry)) ⌝ }
 {
     if code == 0 {
@@ -359,7 +359,7 @@ fn forget_unit(firsts: &mut [u16; 129], code: u16)
 
 // An unknown in one sign, by the begins and ends of two lists.
 fn lowest_pure(kinds: &[u8], index: &[u16]) -> u16
-    requires { ⌜ length (now kinds) ≤ 128 ⌝ }
+    requires { ⌜ length (now kinds) ≤ max-unknowns ⌝ }
     ensures { λ r. ⌜ ((cs : List Clause) → Found (now (index .entry)) cs → Picked (lowest-pure zero (prefix (now (kinds .entry))) cs) r) ⌝ }
 {
     let mut position = 0;
@@ -374,7 +374,7 @@ fn lowest_pure(kinds: &[u8], index: &[u16]) -> u16
 }
 
 fn pure_at(index: &[u16], position: usize) -> u16
-    requires { ⌜ position < 128 ⌝ }
+    requires { ⌜ position < max-unknowns ⌝ }
     ensures { λ r. ⌜ r ≡ pure-code (now (index .entry)) position ⌝ }
 {
     let positive = has_names(index, 2 * position + 2);
@@ -397,8 +397,8 @@ fn pure_at(index: &[u16], position: usize) -> u16
 // Rules 3 and 4: clauses that have the literal are dropped, and its opposite elsewhere. The clauses that are shortened by that are named in the
 // table of names, and their number is returned.
 fn set_true(table: &mut [u16], index: &mut [u16], code: u16, names: &mut [u16]) -> usize
-    requires { ⌜ Laid (now table) × Indexed (now table) (now index) × (length (now table) ≤ 8192) × (length (now names) ≡ 8192) × (2 ≤ code) × (code < 258) ⌝ }
-    ensures { λ r. ⌜ Dropped (set-true (literal-of code)) (code / 2) (take r (now (names .exit))) (now (table .entry)) (now (table .exit)) (now (index .exit)) × (r ≤ 8192) × (listed code (now (table .exit)) ≡ []) × (listed (code-opposite code) (now (table .exit)) ≡ []) ⌝ }
+    requires { ⌜ Laid (now table) × Indexed (now table) (now index) × (length (now table) ≤ max-entries) × (length (now names) ≡ max-entries) × (2 ≤ code) × (code < 258) ⌝ }
+    ensures { λ r. ⌜ Dropped (set-true (literal-of code)) (code / 2) (take r (now (names .exit))) (now (table .entry)) (now (table .exit)) (now (index .exit)) × (r ≤ max-entries) × (listed code (now (table .exit)) ≡ []) × (listed (code-opposite code) (now (table .exit)) ≡ []) ⌝ }
 {
     drop_clauses(table, index, code);
     drop_literals(table, index, opposite(code), names)
@@ -406,7 +406,7 @@ fn set_true(table: &mut [u16], index: &mut [u16], code: u16, names: &mut [u16]) 
 
 // Drops the clauses that have a literal.
 fn drop_clauses(table: &mut [u16], index: &mut [u16], code: u16)
-    requires { ⌜ Laid (now table) × Indexed (now table) (now index) × (length (now table) ≤ 8192) × (2 ≤ code) × (code < 258) ⌝ }
+    requires { ⌜ Laid (now table) × Indexed (now table) (now index) × (length (now table) ≤ max-entries) × (2 ≤ code) × (code < 258) ⌝ }
     ensures { λ _. ⌜ Dropped (without-clauses (literal-of code)) (code / 2) [] (now (table .entry)) (now (table .exit)) (now (index .exit)) × (listed code (now (table .exit)) ≡ []) ⌝ }
 {
     while has_names(index, code as usize) {
@@ -429,8 +429,8 @@ fn first_name(index: &[u16], code: usize) -> usize
 
 // Drops a literal wherever it stands; its list, which is cleared, is saved.
 fn drop_literals(table: &mut [u16], index: &mut [u16], code: u16, names: &mut [u16]) -> usize
-    requires { ⌜ Laid (now table) × Indexed (now table) (now index) × (length (now table) ≤ 8192) × (length (now names) ≡ 8192) × (2 ≤ code) × (code < 258) ⌝ }
-    ensures { λ r. ⌜ Dropped (without-literal (literal-of code)) (code / 2) (take r (now (names .exit))) (now (table .entry)) (now (table .exit)) (now (index .exit)) × (r ≤ 8192) × (listed code (now (table .exit)) ≡ []) × ((d : ℕ) → d < code-count → (d ≡ code → ⊥) → listed d (now (table .exit)) ≡ listed d (now (table .entry))) ⌝ }
+    requires { ⌜ Laid (now table) × Indexed (now table) (now index) × (length (now table) ≤ max-entries) × (length (now names) ≡ max-entries) × (2 ≤ code) × (code < 258) ⌝ }
+    ensures { λ r. ⌜ Dropped (without-literal (literal-of code)) (code / 2) (take r (now (names .exit))) (now (table .entry)) (now (table .exit)) (now (index .exit)) × (r ≤ max-entries) × (listed code (now (table .exit)) ≡ []) × ((d : ℕ) → d < code-count → (d ≡ code → ⊥) → listed d (now (table .exit)) ≡ listed d (now (table .entry))) ⌝ }
 {
     let count = save(index, code as usize, names);
     mark_each(table, names, count, code);
@@ -440,7 +440,7 @@ fn drop_literals(table: &mut [u16], index: &mut [u16], code: u16, names: &mut [u
 
 // Copies the list of a code, and returns its length.
 fn save(index: &[u16], code: usize, names: &mut [u16]) -> usize
-    requires { ⌜ (begin-of (now index) code ≤ end-of (now index) code) × (end-of (now index) code ≤ length (now index)) × (end-of (now index) code ≤ begin-of (now index) code + length (now names)) × (length (now index) ≤ 8710) ⌝ }
+    requires { ⌜ (begin-of (now index) code ≤ end-of (now index) code) × (end-of (now index) code ≤ length (now index)) × (end-of (now index) code ≤ begin-of (now index) code + length (now names)) × (length (now index) ≤ index-size) ⌝ }
     ensures { λ r. ⌜ (begin-of (now (index .entry)) code + r ≡ end-of (now (index .entry)) code) × ((k : ℕ) → k < r → getD (now (names .exit)) k 0 ≡ getD (now (index .entry)) (begin-of (now (index .entry)) code + k) 0) ⌝ }
 {
     let from = index::begin(index, code);
@@ -454,7 +454,7 @@ fn save(index: &[u16], code: usize, names: &mut [u16]) -> usize
 }
 
 fn mark_each(table: &mut [u16], names: &[u16], count: usize, code: u16)
-    requires { ⌜ Laid (now table) × (take count (now names) ≡ listed code (now table)) × (count ≤ length (now names)) × (length (now names) ≡ 8192) × (2 ≤ code) × (code < 258) ⌝ }
+    requires { ⌜ Laid (now table) × (take count (now names) ≡ listed code (now table)) × (count ≤ length (now names)) × (length (now names) ≡ max-entries) × (2 ≤ code) × (code < 258) ⌝ }
     ensures { λ _. ⌜ Cleared code (now (table .entry)) (now (table .exit)) [] ⌝ }
 {
     let mut i = 0;

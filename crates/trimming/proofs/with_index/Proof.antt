@@ -9,13 +9,22 @@ use Rattle.trimming.proofs.with_index.Statement.{statement}
 use Rattle.trimming.proofs.with_index.Tie as tie
 
 drop-true-requires : tie.Need-drop-true-requires
-drop-true-requires c κs = ((c .before .before .before .before .before .before .before .before .before .before .pre .0), first-index ((c .before .before .before .before .before .before .before .before .before .before .args .table .now)) ((c .before .before .before .before .before .before .before .before .before .before .args .index .now)) ((c .before .before .before .before .before .before .before .before .before .before .pre .0)) ((c .before .before .before .before .before .before .before .before .before .before .pre .2)) ((c .before .before .before .before .before .before .before .before .before .before .pre .3)) ((c .before .before .before .before .fill .last .1 .0)) ((c .before .before .before .before .fill .ensures)), (c .before .before .before .before .before .before .before .before .before .before .pre .2))
+drop-true-requires c κs =
+    let start = c .before .before .before .before .before .before .before .before .before .before in
+    let fill-call = c .before .before .before .before .fill in
+    let index-made =
+        first-index (start .args .table .now) (start .args .index .now) (start .pre .0) (start .pre .2) (start .pre .3) (fill-call .last .1 .0) (fill-call .ensures .0) in
+    (start .pre .0, index-made, start .pre .2)
 
 settle-requires : tie.Need-settle-requires
-settle-requires c κs = ((c .before .before .before .before .before .before .before .before .drop-true .ensures .0 .laid-out), (c .before .before .before .before .before .before .before .before .drop-true .ensures .1), (c .before .before .before .before .before .before .before .before .before .before .before .before .before .before .before .before .before .before .before .pre .1), omega (arith, (c .before .before .before .before .before .before .before .before .drop-true .ensures .0 .sized), (c .before .before .before .before .before .before .before .before .before .before .before .before .before .before .before .before .before .before .before .pre .2)), refl, refl)
+settle-requires c κs =
+    let start = c .before .before .before .before .before .before .before .before .before .before .before .before .before .before .before .before .before .before .before in
+    let dropped = c .before .before .before .before .before .before .before .before .drop-true .ensures in
+    (dropped .0 .laid-out, dropped .1, start .pre .1, omega (arith, dropped .0 .sized, start .pre .2), refl, refl)
 
 returns : tie.Need-returns
-returns c = all-rules ((c .before .before .before .before .before .before .before .before .before .before .before .before .before .before .before .before .before .before .before .before .before .before .before .before .before .args .kinds .now)) ((c .before .before .before .before .before .before .before .before .before .before .before .before .before .before .drop-true .ensures .0)) ((c .before .before .before .before .before .settle .ensures .0))
+returns c =
+    all-rules (c .before .before .before .before .before .before .before .before .before .before .before .before .before .before .before .before .before .before .before .before .before .before .before .before .before .args .kinds .now) (c .before .before .before .before .before .before .before .before .before .before .before .before .before .before .drop-true .ensures .0) (c .before .before .before .before .before .settle .ensures .0)
 
 fill-requires : tie.Need-fill-requires
 fill-requires c κs = search needs
