@@ -51,6 +51,7 @@ fn topics() -> Vec<Topic> {
     topics.push(Box::new(witness::compare_all));
     topics.push(Box::new(sheets::compare_all));
     topics.push(Box::new(forecasts::compare_all));
+    topics.push(Box::new(trimmings::compare_listed));
     topics
 }
 

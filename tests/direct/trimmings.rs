@@ -149,6 +149,73 @@ fn large(random: &mut Random) -> (Vec<u8>, Vec<i32>) {
     }
 }
 
+/// One unknown in 2,048 clauses, in one sign and then in the other, and units that drop the clauses from the front or from the back.
+fn long_lists(random: &mut Random) -> (Vec<u8>, Vec<i32>) {
+    let kinds = vec![0; 128];
+    let back = random.chance(1, 2);
+    let unit = random.pick(&[128, -128]);
+    let mut clauses: Vec<Vec<i32>> = (0..2046)
+        .map(|i| {
+            let sign = if (i < 1023) == back { -1 } else { 1 };
+            let mut clause = vec![128 * sign, i % 126 + 1];
+            if random.chance(1, 3) {
+                clause.push(-(random.between(1, 126) as i32));
+            }
+            clause
+        })
+        .collect();
+    let place = random.below(clauses.len());
+    clauses.insert(place, vec![127]);
+    clauses.insert(if back { 0 } else { clauses.len() }, vec![unit, -127]);
+    (kinds, clauses.concat_ended())
+}
+
+/// Clauses that shrink a hundred times: a chain of units, each the opposite of a literal of every long clause; some literals stand there twice, and some
+/// clauses are always true.
+fn shrinking(random: &mut Random) -> (Vec<u8>, Vec<i32>) {
+    let kinds = (0..128).map(|_| u8::from(random.chance(1, 10))).collect();
+    let mut clauses: Vec<Vec<i32>> = vec![vec![1]];
+    clauses.extend((1..110).map(|v| vec![-v, v + 1]));
+    for _ in 0..random.between(1, 50) {
+        let mut clause: Vec<i32> = (1..=100).map(|v| -v).collect();
+        for _ in 0..random.below(40) {
+            let again = clause[random.below(clause.len())];
+            clause.insert(random.below(clause.len()), again);
+        }
+        if random.chance(1, 8) {
+            clause.push(-clause[0]);
+        }
+        clause.push(random.between(111, 128) as i32);
+        clauses.insert(random.below(clauses.len() + 1), clause);
+    }
+    let literals = clauses.concat_ended();
+    (kinds, if literals.len() <= 8192 { literals } else { literals[..=literals[..8192].iter().rposition(|&literal| literal == 0).unwrap()].to_vec() })
+}
+
+trait Ended {
+    fn concat_ended(&self) -> Vec<i32>;
+}
+
+impl Ended for Vec<Vec<i32>> {
+    /// The clauses as entries, each ended by 0.
+    fn concat_ended(&self) -> Vec<i32> {
+        self.iter().flat_map(|clause| clause.iter().copied().chain([0])).collect()
+    }
+}
+
+/// What makes the lists of the index long, or their clauses short.
+pub fn compare_listed(random: &mut Random, times: usize, tally: &mut Tally) {
+    let mut compared = 0;
+    for i in 0..16 * times {
+        let (kinds, literals) = if i % 2 == 0 { long_lists(random) } else { shrinking(random) };
+        let (wrong, left) = compare::trim(&kinds, &literals, &literals);
+        tally.case(wrong);
+        compare_left(&kinds, &literals, &left, tally);
+        compared += 1;
+    }
+    println!("trimmings with long lists and clauses that shrink: {} compared", compared);
+}
+
 pub fn compare_large(random: &mut Random, times: usize, tally: &mut Tally) {
     let (mut compared, mut most) = (0, 0);
     for _ in 0..120 * times {

@@ -1,12 +1,14 @@
 -- What the functions of the crates below leave, by the relations that the search's steps speak of. Assumes nothing.
-use Prim.Native.Nat.{ℕ, zero, suc, _+_, _≤_, _<_}
-use mathlib.Core.Path.{_≡_, refl, sym, _∙_, ap₂, subst}
+use Prim.Native.Nat.{ℕ, zero, suc, _+_, _-_, _%_, _≤_, _<_}
+use mathlib.Core.Path.{_≡_, refl, sym, _∙_, ap, ap₂, subst}
+use mathlib.Core.Logic.{inl, inr}
 use mathlib.Core.Bool.{Bool, true}
 use mathlib.Core.List.{List, [], _∷_}
 use native.Mathlib.Omega.{arith}
-use borrow.Author.Tests.{le-leb, eq-eqb, ne-eqb}
+use native.Mathlib.Decide.{decLt}
+use borrow.Author.Tests.{le-leb, eq-eqb, ne-eqb, eqb-true}
 use lib.IntN.{ℤ}
-use lib.ListN.{length, getD, take, drop, replicate}
+use lib.ListN.{length, getD, take, drop, replicate, List·getD-eq-default}
 use Rattle.formula.specs.Causes.{ended}
 use Rattle.expansion.proofs.ClauseCuts.{matrix-at}
 use Rattle.search_cells.specs.Cells.{cells}
@@ -22,10 +24,12 @@ use Rattle.search_numbering.specs.Numbering.{filled as numbered}
 use Rattle.search_numbering.specs.Wants.{WantsFilled}
 use Rattle.search_numbering.proofs.WantsFill.{wants-filled}
 use Rattle.codes.specs.Codes.{used as entries-used, filled as written-codes}
-use Rattle.codes.specs.Clauses.{code-true, code-clauses, clause-of, Ended, Coded, Names, Encoded}
+use Rattle.codes.specs.Clauses.{code-true, code-clauses, clause-of, Ended, Begins, Coded, Names, Encoded}
 use Rattle.codes.proofs.EncodeLaws.{accepted as encodable, used-length, filled-encoded}
-use Rattle.index.specs.Index.{all-codes, codes-fit, index-of, filled as indexed}
-use Rattle.index.proofs.StartLaws.{listed-start}
+use Rattle.index.specs.Occurrences.{begins}
+use Rattle.index.specs.Index.{all-codes, table-fits, index-of, filled as indexed}
+use Rattle.index.proofs.LayoutLaws.{end-is}
+use Rattle.index.proofs.IndexLaws.{read-names}
 use Rattle.search_sets.specs.Sets.{united, united-words, added, has, emptied, filled, trimmed, excused, blamed}
 use Rattle.search_sets.specs.Masks.{set-at, SetGrown, SetsKept, United, WordsUnited, Trimmed, Excused, Blamed}
 use Rattle.search_sets.proofs.SetLaws.{unite-unites, words-unite, add-grows, add-adds, has-is, empty-keeps, fill-keeps, fill-fills, trim-trims, excuse-excuses, blame-blames}
@@ -144,22 +148,54 @@ all-are-codes [] coded = refl
 all-are-codes (zero ∷ codes) coded = all-are-codes codes (λ e less. coded (suc e) (omega arith))
 all-are-codes (suc c ∷ codes) coded =
     let here = coded 0 (omega arith) (omega arith) in
-    rw (le-leb (suc c) 257 (omega arith), ne-eqb (suc c) 1 (λ e. omega arith)) (all-are-codes codes (λ e less. coded (suc e) (omega arith)))
+    let same : suc c % 512 ≡ suc c = omega arith in
+    rw (same, le-leb (suc c) 257 (omega arith), ne-eqb (suc c) 1 (λ e. omega arith)) (all-are-codes codes (λ e less. coded (suc e) (omega arith)))
 
-pub lists : (codes before : List ℕ) {index : List ℕ} → length codes ≤ 8192 → Coded 128 codes → length before ≡ 8451 → index ≡ indexed codes before → Listed codes index
-unfolding indexed codes-fit
-lists codes before few coded size e =
-    subst (λ (x : List ℕ). Listed codes x) (sym (e ∙ whole)) (listed-start codes)
+-- The index that is filled is the one of the codes.
+pub lists : (codes before : List ℕ) {index : List ℕ} → length codes ≤ 8192 → Coded 128 codes → length before ≡ 8710 → index ≡ indexed codes before → index ≡ index-of codes
+unfolding indexed table-fits
+lists codes before few coded size e = e ∙ whole
   where
     whole : indexed codes before ≡ index-of codes
-    whole = rw (le-leb (length codes) 8192 few, eq-eqb (length before) 8451 size, all-are-codes codes coded)
+    whole = rw (le-leb (length codes) 8192 few, eq-eqb (length before) 8710 size, all-are-codes codes coded)
+
+-- No code is a dropped one's, so that an end is a 0.
+code-small : (codes : List ℕ) → Coded 128 codes → (e : ℕ) → getD codes e 0 < 512
+code-small codes coded e = by-place (decLt e (length codes))
+  where
+    by-code : e < length codes → Dec (0 < getD codes e 0) → getD codes e 0 < 512
+    by-code h (yes some) = let p = coded e h some in omega arith
+    by-code h (no none) = omega arith
+
+    by-place : Dec (e < length codes) → getD codes e 0 < 512
+    by-place (yes h) = by-code h (decLt 0 (getD codes e 0))
+    by-place (no h) = omega (arith, List·getD-eq-default codes 0 {n = e} (omega arith))
+
+-- So what stands between a list's begin and its end are starts of clauses.
+pub lists-starts : (codes index : List ℕ) → length codes ≤ 8192 → Coded 128 codes → index ≡ index-of codes → Listed codes index
+lists-starts codes index few coded e = subst (λ (x : List ℕ). Listed codes x) (sym e) starts
+  where
+    start : (s : ℕ) → begins codes s ≡ true → s < length codes → Begins codes s
+    start zero b h = inl refl
+    start (suc s) b h =
+        let back : suc s - 1 ≡ s = omega arith in
+        let end = eqb-true (getD codes s 1 % 512) 0 b in
+        let same = getD-inside codes s (omega arith) in
+        let small = code-small codes coded s in
+        inr (ap (λ (n : ℕ). getD codes n 0) back ∙ omega arith)
+      where
+        getD-inside : (l : List ℕ) (i : ℕ) → i < length l → getD l i 1 ≡ getD l i 0
+        getD-inside [] i h = absurd (omega arith)
+        getD-inside (x ∷ l) zero h = refl
+        getD-inside (x ∷ l) (suc i) h = getD-inside l i (omega arith)
+
+    starts : Listed codes (index-of codes)
+    starts c at small low high =
+        let names = read-names codes few c (omega arith) at low (omega (arith, end-is (index-of codes) c (omega arith))) in
+        start (getD (index-of codes) at 0) (names .first) (names .inside)
 
 -- A table of zeros has 0 at every place, and past its end.
 pub zero-at : (n x : ℕ) → _≡_ {A = ℕ} (getD (replicate n 0) x 0) 0
 zero-at zero x = refl
 zero-at (suc n) zero = refl
 zero-at (suc n) (suc x) = zero-at n x
-
--- In an index of zeros nothing stands between two bounds.
-pub lists-nothing : (codes index : List ℕ) → ((x : ℕ) → getD index x 0 ≡ 0) → Listed codes index
-lists-nothing codes index zeros c at one most low high = absurd (omega (arith, zeros c))

@@ -252,7 +252,7 @@ settles-nothing splits codes lo hi mark w s = settles-refl 0 splits codes lo hi 
 pub noted-first : (splits codes : List ℕ) (lo hi mark : ℕ) (w x s t y : List ℕ) (r : Bool) → SetsKept s t → Settles 0 splits codes lo hi mark w x t y r → Settles 0 splits codes lo hi mark w x s y r
 noted-first splits codes lo hi mark w x s t y r noted next = settles-then 0 splits codes lo hi mark w w x s t y r (settles-noted splits codes lo hi mark w s t noted) next
 
-pub lent-noted : {splits codes w s t x : List ℕ} → Lent splits codes w s x → length t ≡ length s → Lent splits codes w t x
+pub lent-noted : {side : ℕ} {splits codes w s t x : List ℕ} → Lent side splits codes w s x → length t ≡ length s → Lent side splits codes w t x
 lent-noted lent a = record {
   rows = lent .rows;
   entries = lent .entries;
@@ -263,11 +263,23 @@ lent-noted lent a = record {
   listed = lent .listed;
 }
 
+-- What the side that is known to be the existential one is lent.
+pub lent-existential : {side : ℕ} {splits codes w s x : List ℕ} → side ≡ 0 → Lent side splits codes w s x → Lent 0 splits codes w s x
+lent-existential is lent = record {
+  rows = lent .rows;
+  entries = lent .entries;
+  coded = lent .coded;
+  area = lent .area;
+  sets-lent = lent .sets-lent;
+  index-lent = lent .index-lent;
+  listed = λ _. lent .listed is;
+}
+
 pub going-start : {splits codes : List ℕ} {lo hi mark : ℕ} {w s : List ℕ} → Going splits codes lo hi mark w w s s
 going-start {splits} {codes} {lo} {hi} {mark} {w} {s} = record { settles = settles-nothing splits codes lo hi mark w s; work = refl; sets = refl }
 
 module _ {splits codes : List ℕ} {lo hi mark : ℕ} {w u s t : List ℕ} (so-far : Going splits codes lo hi mark w u s t) where
-  pub lent-still : {x : List ℕ} → Lent splits codes w s x → Lent splits codes u t x
+  pub lent-still : {side : ℕ} {x : List ℕ} → Lent side splits codes w s x → Lent side splits codes u t x
   lent-still lent = record {
     rows = lent .rows;
     entries = lent .entries;

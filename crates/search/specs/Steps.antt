@@ -13,7 +13,7 @@ use Rattle.expansion.proofs.Node.{Node, Won, Grown, MasksWithin}
 use Rattle.expansion.proofs.ClauseCuts.{Every, Some}
 use Rattle.search_cells.specs.Cells.{cells, wants}
 use Rattle.search_cells.specs.Changes.{SameWants}
-use Rattle.index.specs.Index.{index-size}
+use Rattle.index.specs.Index.{code-count, index-size, index-of}
 use Rattle.search_sets.specs.Sets.{sets-size}
 use Rattle.search_sets.specs.Masks.{set-at, masks, cut, SetGrown, SetsKept}
 use Rattle.codes.specs.Codes.{last-code}
@@ -121,19 +121,23 @@ FromStart kinds splits codes side w u r =
     → ((i j : ℕ) → ((i < P .count) × (j < P .n) × (P .own j ≡ false) → ⊥) → cells w .level i j ≡ 0)
     → (r ≡ true → Won P 0 0 (P .count) (cells u)) × (r ≡ false → (v : ℕ → Bool) → (D : Mask) × Refuted P 0 v D 0)
 
--- What the index lists between the bounds of a code are starts of clauses.
+-- What an index lists from the begin of a code's list to its end are starts of clauses.
 abbrev pub Listed : List ℕ → List ℕ → Type 0
-Listed codes index = (c at : ℕ) → 1 ≤ c → c ≤ last-code → getD index (c - 1) 0 ≤ at → at < getD index c 0 → Begins codes (getD index at 0)
+Listed codes index = (c at : ℕ) → c ≤ last-code → getD index c 0 ≤ at → at < getD index (code-count + c) 0 → Begins codes (getD index at 0)
+
+-- The existential side finds a code's clauses through the index of the codes; the universal side looks up none.
+abbrev pub Indexed : ℕ → List ℕ → List ℕ → Type 0
+Indexed side codes index = side ≡ 0 → index ≡ index-of codes
 
 -- The sizes of what the steps are lent, and what they rest on.
-pub record Lent (splits codes work sets index : List ℕ) : Type 0 where
+pub record Lent (side : ℕ) (splits codes work sets index : List ℕ) : Type 0 where
   pub rows : length splits ≤ max-rows
   pub entries : length codes ≤ max-entries
   pub coded : Coded max-unknowns codes
   pub area : length work ≡ work-size
   pub sets-lent : length sets ≡ sets-size
   pub index-lent : length index ≡ index-size
-  pub listed : Listed codes index
+  pub listed : Indexed side codes index
 
 -- In row i every clause has a true literal, whose position's set is taken in behind those of the positions.
 pub record RowBlamed (codes w : List ℕ) (i : ℕ) (s t : List ℕ) (r : Bool) : Type 0 where

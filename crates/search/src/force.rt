@@ -1,6 +1,6 @@
 // The existential side's consequences of a value: a clause whose literals are all false but one open one forces that one (unit
 // propagation), and a clause whose literals are all false ends the branch. What is looked at, and when, is a hint: the changed positions and
-// their rows may hold anything. Of the index it is known that it lists starts of clauses.
+// their rows may hold anything. A literal's clauses are found through the index, which is the one of the codes.
 ghost use mathlib.Core.Path.{_≡_};
 ghost use Prim.Native.Nat.{_+_, _≤_, _<_};
 ghost use lib.ListN.{length};
@@ -31,7 +31,7 @@ pub(crate) fn survey(
     sets: &mut [u64],
     index: &[u16],
 ) -> bool
-    requires { ⌜ Lent (now splits) (now codes) (now work) (now sets) (now index) ⌝ }
+    requires { ⌜ Lent 0 (now splits) (now codes) (now work) (now sets) (now index) ⌝ }
     ensures { λ r. ⌜ Settles 0 (now (splits .entry)) (now (codes .entry)) 0 (length (now (splits .entry))) 1 (now (work .entry)) (now (work .exit)) (now (sets .entry)) (now (sets .exit)) r ⌝ }
 {
     search_sets::empty(sets, CHANGED);
@@ -68,7 +68,7 @@ pub(crate) fn propagate(
     lo: usize,
     hi: usize,
 ) -> bool
-    requires { ⌜ Lent (now splits) (now codes) (now work) (now sets) (now index) ⌝ }
+    requires { ⌜ Lent 0 (now splits) (now codes) (now work) (now sets) (now index) ⌝ }
     requires { ⌜ (k < max-unknowns) × (lo < hi) × (hi ≤ length (now splits)) ⌝ }
     ensures { λ r. ⌜ Settles 0 (now (splits .entry)) (now (codes .entry)) lo hi (k + 2) (now (work .entry)) (now (work .exit)) (now (sets .entry)) (now (sets .exit)) r ⌝ }
 {
@@ -88,7 +88,7 @@ fn settle(
     lo: usize,
     hi: usize,
 ) -> bool
-    requires { ⌜ Lent (now splits) (now codes) (now work) (now sets) (now index) ⌝ }
+    requires { ⌜ Lent 0 (now splits) (now codes) (now work) (now sets) (now index) ⌝ }
     requires { ⌜ hi ≤ length (now splits) ⌝ }
     ensures { λ r. ⌜ Settles 0 (now (splits .entry)) (now (codes .entry)) lo hi mark (now (work .entry)) (now (work .exit)) (now (sets .entry)) (now (sets .exit)) r ⌝ }
 {
@@ -122,7 +122,7 @@ fn visit(
     from: usize,
     to: usize,
 ) -> bool
-    requires { ⌜ Lent (now splits) (now codes) (now work) (now sets) (now index) ⌝ }
+    requires { ⌜ Lent 0 (now splits) (now codes) (now work) (now sets) (now index) ⌝ }
     requires { ⌜ (hi ≤ length (now splits)) × (k < max-unknowns) × (lo ≤ from) × (to ≤ hi) ⌝ }
     ensures { λ r. ⌜ Settles 0 (now (splits .entry)) (now (codes .entry)) lo hi mark (now (work .entry)) (now (work .exit)) (now (sets .entry)) (now (sets .exit)) r ⌝ }
 {
@@ -159,13 +159,13 @@ fn visit_row(
     from: usize,
     i: usize,
 ) -> bool
-    requires { ⌜ Lent (now splits) (now codes) (now work) (now sets) (now index) ⌝ }
+    requires { ⌜ Lent 0 (now splits) (now codes) (now work) (now sets) (now index) ⌝ }
     requires { ⌜ (lo ≤ i) × (i < hi) × (hi ≤ length (now splits)) × (1 ≤ c) × (c ≤ last-code) ⌝ }
     ensures { λ r. ⌜ Settles 0 (now (splits .entry)) (now (codes .entry)) lo hi mark (now (work .entry)) (now (work .exit)) (now (sets .entry)) (now (sets .exit)) r ⌝ }
 {
-    let end = lower(wide16(index[c]), index.len());
+    let end = lower(wide16(index[index::CODES + c]), index.len());
     let agreement = search_groups::agreement(splits, from, i);
-    let mut at = wide16(index[c - 1]);
+    let mut at = wide16(index[c]);
     while at < end {
         let start = wide16(index[at]);
         if search_groups::repeats(codes, start, agreement) {} else {
@@ -203,7 +203,7 @@ fn touch(
     i: usize,
     start: usize,
 ) -> bool
-    requires { ⌜ Lent (now splits) (now codes) (now work) (now sets) (now index) ⌝ }
+    requires { ⌜ Lent 0 (now splits) (now codes) (now work) (now sets) (now index) ⌝ }
     requires { ⌜ (lo ≤ i) × (i < hi) × (hi ≤ length (now splits)) × Begins (now codes) start ⌝ }
     ensures { λ r. ⌜ Settles 0 (now (splits .entry)) (now (codes .entry)) lo hi mark (now (work .entry)) (now (work .exit)) (now (sets .entry)) (now (sets .exit)) r ⌝ }
 {
@@ -234,7 +234,7 @@ fn force(
     start: usize,
     c: usize,
 )
-    requires { ⌜ Lent (now splits) (now codes) (now work) (now sets) (now index) ⌝ }
+    requires { ⌜ Lent 0 (now splits) (now codes) (now work) (now sets) (now index) ⌝ }
     requires { ⌜ (lo ≤ i) × (i < hi) × (hi ≤ length (now splits)) × (2 ≤ c) × (position c < max-unknowns) ⌝ }
     ensures { λ _. ⌜ (Begins (now (codes .entry)) start → Looked (now (codes .entry)) (now (work .entry)) i start c → Settles 0 (now (splits .entry)) (now (codes .entry)) lo hi mark (now (work .entry)) (now (work .exit)) (now (sets .entry)) (now (sets .exit)) true) ⌝ }
 {

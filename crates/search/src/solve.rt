@@ -1,13 +1,13 @@
 // The search: positions in prefix order, with the group of rows whose other values agree before the position. Rows are parted where their
 // values differ, an own position gets the wanted value first, and a failure goes back to the last decision that it was reached by.
 ghost use mathlib.Core.Path.{_≡_};
-ghost use Prim.Native.Nat.{ℕ, _+_, _≤_, _<_};
-ghost use lib.ListN.{length, getD};
+ghost use Prim.Native.Nat.{_+_, _≤_, _<_};
+ghost use lib.ListN.{length};
 ghost use Rattle.formula.specs.Formula.{max-unknowns, max-rows, max-entries, work-size};
 ghost use Rattle.codes.specs.Clauses.{Coded};
 ghost use Rattle.index.specs.Index.{index-size};
 ghost use Rattle.search_sets.specs.Sets.{sets-size};
-ghost use Rattle.search.specs.Steps.{Lent, Listed, Settles, Searches, Tries, Chooses, Retries, Steps, Reached, FromStart};
+ghost use Rattle.search.specs.Steps.{Lent, Indexed, Settles, Searches, Tries, Chooses, Retries, Steps, Reached, FromStart};
 use super::force;
 use super::hints::CUT;
 use super::live;
@@ -53,10 +53,10 @@ pub(crate) fn from_start(
 
 // The existential side finds a code's clauses through the index; the universal side doesn't look them up.
 fn list_codes(codes: &[u16], side: u8, index: &mut [u16])
-    requires { ⌜ (length (now codes) ≤ max-entries) × Coded max-unknowns (now codes) × (length (now index) ≡ index-size) × ((x : ℕ) → getD (now index) x 0 ≡ 0) ⌝ }
-    ensures { λ _. ⌜ Listed (now (codes .entry)) (now (index .exit)) ⌝ }
+    requires { ⌜ (length (now codes) ≤ max-entries) × Coded max-unknowns (now codes) × (length (now index) ≡ index-size) ⌝ }
+    ensures { λ _. ⌜ Indexed side (now (codes .entry)) (now (index .exit)) ⌝ }
 {
-    if side == 0 {
+    if side == 0 { // the existential one
         index::fill(codes, index);
     }
 }
@@ -70,7 +70,7 @@ fn look_around(
     index: &[u16],
     side: u8,
 ) -> bool
-    requires { ⌜ Lent (now splits) (now codes) (now work) (now sets) (now index) ⌝ }
+    requires { ⌜ Lent side (now splits) (now codes) (now work) (now sets) (now index) ⌝ }
     requires { ⌜ side ≤ 1 ⌝ }
     ensures { λ r. ⌜ Settles side (now (splits .entry)) (now (codes .entry)) 0 (length (now (splits .entry))) 1 (now (work .entry)) (now (work .exit)) (now (sets .entry)) (now (sets .exit)) r ⌝ }
 {
@@ -94,7 +94,7 @@ fn solve(
     lo: usize,
     hi: usize,
 ) -> bool
-    requires { ⌜ Lent (now splits) (now codes) (now work) (now sets) (now index) ⌝ }
+    requires { ⌜ Lent side (now splits) (now codes) (now work) (now sets) (now index) ⌝ }
     requires { ⌜ (length (now kinds) ≤ max-unknowns) × (side ≤ 1) × (k ≤ length (now kinds)) × (lo < hi) × (hi ≤ length (now splits)) ⌝ }
     ensures { λ r. ⌜ Searches (now (kinds .entry)) (now (splits .entry)) (now (codes .entry)) side k lo hi (now (work .entry)) (now (work .exit)) (now (sets .entry)) (now (sets .exit)) r ⌝ }
 {
@@ -137,7 +137,7 @@ fn step(
     mid: usize,
     hi: usize,
 ) -> bool
-    requires { ⌜ Lent (now splits) (now codes) (now work) (now sets) (now index) ⌝ }
+    requires { ⌜ Lent side (now splits) (now codes) (now work) (now sets) (now index) ⌝ }
     requires { ⌜ (length (now kinds) ≤ max-unknowns) × (side ≤ 1) × (at ≤ length (now kinds)) × (until ≤ length (now kinds)) × (lo < hi) × (hi ≤ length (now splits)) ⌝ }
     requires { ⌜ (lo ≤ mid) × (mid < hi) × (until < length (now kinds) → lo < mid) ⌝ }
     ensures { λ r. ⌜ Steps (now (kinds .entry)) (now (splits .entry)) (now (codes .entry)) side at until lo mid hi (now (work .entry)) (now (work .exit)) (now (sets .entry)) (now (sets .exit)) r ⌝ }
@@ -190,7 +190,7 @@ fn choose(
     lo: usize,
     hi: usize,
 ) -> bool
-    requires { ⌜ Lent (now splits) (now codes) (now work) (now sets) (now index) ⌝ }
+    requires { ⌜ Lent side (now splits) (now codes) (now work) (now sets) (now index) ⌝ }
     requires { ⌜ (length (now kinds) ≤ max-unknowns) × (side ≤ 1) × (k < length (now kinds)) × (lo < hi) × (hi ≤ length (now splits)) ⌝ }
     ensures { λ r. ⌜ Chooses (now (kinds .entry)) (now (splits .entry)) (now (codes .entry)) side k lo hi (now (work .entry)) (now (work .exit)) (now (sets .entry)) (now (sets .exit)) r ⌝ }
 {
@@ -242,7 +242,7 @@ fn retry(
     hi: usize,
     tried: bool,
 ) -> bool
-    requires { ⌜ Lent (now splits) (now codes) (now work) (now sets) (now index) ⌝ }
+    requires { ⌜ Lent side (now splits) (now codes) (now work) (now sets) (now index) ⌝ }
     requires { ⌜ (length (now kinds) ≤ max-unknowns) × (side ≤ 1) × (k < length (now kinds)) × (lo < hi) × (hi ≤ length (now splits)) ⌝ }
     ensures { λ r. ⌜ Retries (now (kinds .entry)) (now (splits .entry)) (now (codes .entry)) side k lo hi tried (now (work .entry)) (now (work .exit)) (now (sets .entry)) (now (sets .exit)) r ⌝ }
 {
@@ -285,7 +285,7 @@ fn attempt(
     hi: usize,
     value: bool,
 ) -> bool
-    requires { ⌜ Lent (now splits) (now codes) (now work) (now sets) (now index) ⌝ }
+    requires { ⌜ Lent side (now splits) (now codes) (now work) (now sets) (now index) ⌝ }
     requires { ⌜ (length (now kinds) ≤ max-unknowns) × (side ≤ 1) × (k < length (now kinds)) × (lo < hi) × (hi ≤ length (now splits)) ⌝ }
     ensures { λ r. ⌜ Tries (now (kinds .entry)) (now (splits .entry)) (now (codes .entry)) side k lo hi value (now (work .entry)) (now (work .exit)) (now (sets .entry)) (now (sets .exit)) r ⌝ }
 {
@@ -310,7 +310,7 @@ fn follow(
     lo: usize,
     hi: usize,
 ) -> bool
-    requires { ⌜ Lent (now splits) (now codes) (now work) (now sets) (now index) ⌝ }
+    requires { ⌜ Lent side (now splits) (now codes) (now work) (now sets) (now index) ⌝ }
     requires { ⌜ (side ≤ 1) × (k < max-unknowns) × (lo < hi) × (hi ≤ length (now splits)) ⌝ }
     ensures { λ r. ⌜ Settles side (now (splits .entry)) (now (codes .entry)) lo hi (k + 2) (now (work .entry)) (now (work .exit)) (now (sets .entry)) (now (sets .exit)) r ⌝ }
 {

@@ -88,6 +88,20 @@ opposite-bounds c two small = go (form c two) small
     go (even v) s = rw (opposite-even v) (omega arith, omega arith)
     go (odd v) s = rw (opposite-odd v) (omega arith, omega arith)
 
+pub opposite-half : (c : ℕ) → 2 ≤ c → opposite c / 2 ≡ c / 2
+opposite-half c two = go (form c two)
+  where
+    go : {c : ℕ} → Form c → opposite c / 2 ≡ c / 2
+    go (even v) = rw (opposite-even v) (omega arith)
+    go (odd v) = rw (opposite-odd v) (omega arith)
+
+pub opposite-other : (c : ℕ) → 2 ≤ c → c ≡ opposite c → ⊥
+opposite-other c two e = go (form c two) e
+  where
+    go : {c : ℕ} → Form c → c ≡ opposite c → ⊥
+    go (even v) e = let z = e ∙ opposite-even v in omega arith
+    go (odd v) e = let z = e ∙ opposite-odd v in omega arith
+
 pub position-code : (c : ℕ) → 2 ≤ c → suc (Trimming.position (literal-of c)) ≡ c / 2
 position-code c two = go (form c two)
   where

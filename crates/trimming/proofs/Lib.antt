@@ -1,13 +1,25 @@
 -- The laws of the table.
 pub mod CodeLaws
 pub mod BlockLaws
+pub mod IndexLaws
+pub mod ListedLaws
 pub mod PassLaws
 pub mod MarkLaws
+pub mod ChangeLaws
+pub mod DropLaws
+pub mod EndLaws
 pub mod TrueLaws
 pub mod SetLaws
 pub mod ReduceLaws
 pub mod UnitLaws
 pub mod PureLaws
+pub mod NamedLaws
+pub mod OneLaws
+pub mod NotedLaws
+pub mod FirstLaws
+pub mod ThinLaws
+pub mod AgainLaws
+pub mod LoopLaws
 pub mod RoundLaws
 pub mod CopyLaws
 pub mod TrimLaws

@@ -1,4 +1,4 @@
--- A pass over the clauses of a table, and a walk that changes nothing.
+-- A pass over the clauses of a table.
 -- Assumes nothing.
 use Prim.Native.Nat.{ℕ, _+_, _%_, _≤_, _<_}
 use native.Mathlib.Omega.{arith}
@@ -11,17 +11,8 @@ use lib.Seq.{take-at, drop-at}
 use Rattle.formula.specs.Formula.{Clause}
 use Rattle.trimming_rules.proofs.ClauseLaws.{Every}
 use Rattle.trimming_marks.specs.Marks.{is-left, first-clause, first-length, marked, mark-clause}
-use Rattle.trimming.specs.Table.{clauses-left, codes, Block, standing, gone, inner, whole, Fine, laid, shown, all-shown, Laid, Passed}
+use Rattle.trimming.specs.Table.{clauses-left, codes, Block, standing, gone, inner, whole, Fine, laid, shown, all-shown, Laid, At, Passed}
 use Rattle.trimming.proofs.BlockLaws.{map-append, every-append, block-clause, block-length, block-marked, laid-append, shown-append, laid-clauses}
-
--- The clauses before a place, and those from it on.
-pub record At (table : List ℕ) (s : ℕ) : Type 0 where
-  pub done : List Block
-  pub todo : List Block
-  pub is : table ≡ laid done ++ laid todo
-  pub here : s ≡ length (laid done)
-  pub fine-done : Every Fine done
-  pub fine-todo : Every Fine todo
 
 pub record Front (todo : List Block) : Type 0 where
   pub b : Block
@@ -94,10 +85,6 @@ module _ {table : List ℕ} {s : ℕ} (a : At table s) where
           front-laid : laid (a .done ++ (b′ ∷ [])) ≡ laid (a .done) ++ whole b′
           front-laid = laid-append (a .done) (b′ ∷ []) ∙ ap (λ (l : List ℕ). laid (a .done) ++ l) (append-nil (whole b′))
 
-    unfoldable pub passed-by : (s′ : ℕ) → s′ ≡ s + first-length (drop s table) → At table s′
-    unfolding moved
-    passed-by s′ at = moved (f .b) (front-fine .0) refl table s′ (a .is ∙ ap (λ (l : List Block). laid (a .done) ++ laid l) (f .splits)) at
-
 unfoldable pub begin : {table : List ℕ} → Laid table → At table 0
 begin l = record { done = []; todo = l .blocks; is = l .is; here = refl; fine-done = tt; fine-todo = l .fine }
 
@@ -119,7 +106,7 @@ marked-code low high x = go (leb low x && (leb x high && is-left x))
     go true = omega arith
     go false = refl
 
-marked-codes : (low high : ℕ) (xs : List ℕ) → codes (map (marked low high) xs) ≡ codes xs
+pub marked-codes : (low high : ℕ) (xs : List ℕ) → codes (map (marked low high) xs) ≡ codes xs
 marked-codes low high [] = refl
 marked-codes low high (x ∷ xs) = ap₂ _∷_ (marked-code low high x) (marked-codes low high xs)
 

@@ -1,4 +1,4 @@
--- The lowest unknown in one sign, found in a table with a 1 at each code that the clauses have; and the code that is made true for it.
+-- The lowest unknown in one sign, found by the lists that are not empty; and the code that is made true for it.
 -- Assumes nothing.
 use Prim.Native.Nat.{ℕ, zero, suc, _+_, _*_, _≤_, _<_}
 use native.Mathlib.Omega.{arith}
@@ -7,9 +7,8 @@ use mathlib.Core.Path.{_≡_, refl, sym, _∙_, ap, ap₂, subst}
 use mathlib.Core.Bool.{Bool, true, false, not, cond, _||_, true≢false}
 use mathlib.Core.List.{List, [], _∷_, _++_, map}
 use mathlib.Core.Option.{Option, some}
-use lib.Dec.{eqb}
 use lib.IntN.{ℤ, pos, negsuc, negℤ}
-use lib.ListN.{length, getD, drop, replicate, length-map, length-replicate, getD-replicate, drop-of-length-le}
+use lib.ListN.{length, drop, length-map, drop-of-length-le}
 use Rattle.formula.specs.Formula.{Kind, existential, universal, kind-of, prefix, Clause}
 use Rattle.formula.proofs.Places.{drop-front}
 use Rattle.codes.specs.Codes.{opposite}
@@ -17,12 +16,10 @@ use Rattle.trimming_rules.specs.Trimming as Trimming
 use Rattle.trimming_rules.specs.Trimming.{keep, first-of, if-some, lowest-unit, set-true, rule-3, found, one-of, lowest-pure, dropped, rule-4, kind-at, without-clauses, without-literal}
 use Rattle.trimming_rules.proofs.ClauseLaws.{Named, without-literal-none, without-clauses-none}
 use Rattle.trimming_rules.proofs.RuleLaws.{pure-stands}
-use Rattle.trimming_marks.specs.Marks.{is-left, is-universal, first-clause, first-length, has, noted}
-use Rattle.trimming_marks.proofs.Noted.{stands, length-noted, noted-stands}
-use Rattle.trimming.specs.Table.{literal-of, clauses-left, Block, standing, gone, inner, Fine, shown, all-shown, Laid, literal-or-none, Chosen, Picked, pure-code, one-code, made-true, Next, Found}
+use Rattle.trimming_marks.specs.Marks.{is-left, is-universal, has}
+use Rattle.trimming.specs.Table.{literal-of, Block, standing, gone, inner, Fine, shown, literal-or-none, Chosen, Picked, lists-some, pure-code, one-code, made-true, Next, Found}
 use Rattle.trimming.proofs.CodeLaws.{literal-even, literal-odd, opposite-literal, opposite-bounds, named-code, universal-code}
-use Rattle.trimming.proofs.BlockLaws.{gone-none, entries-of, shown-append, laid-clauses}
-use Rattle.trimming.proofs.PassLaws.{At, Front, front, front-fine, at-clause, passed-by, moved, begin, finished}
+use Rattle.trimming.proofs.BlockLaws.{gone-none, entries-of}
 use Rattle.trimming.proofs.MarkLaws.{has-literal}
 use Rattle.trimming.proofs.UnitLaws.{nothing-chosen, some-literal}
 
@@ -32,12 +29,12 @@ or-none : (b : Bool) → (b || false) ≡ b
 or-none true = refl
 or-none false = refl
 
-found-block : (c : ℕ) → 2 ≤ c → c < 258 → (b : Block) → Fine b → has c (inner b) ≡ found (literal-of c) (shown b)
+pub found-block : (c : ℕ) → 2 ≤ c → c < 258 → (b : Block) → Fine b → has c (inner b) ≡ found (literal-of c) (shown b)
 found-block c two small (standing l) f = sym (has-literal c two small l f) ∙ sym (or-none (Trimming.has (literal-of c) (map literal-of (keep is-left l))))
 found-block c two small (gone l) f =
     sym (has-literal c two small l (entries-of (gone l) f)) ∙ ap (λ (k : List ℕ). Trimming.has (literal-of c) (map literal-of k)) (gone-none l f)
 
-found-append : (z : ℤ) (xs ys : List Clause) → found z (xs ++ ys) ≡ (found z xs || found z ys)
+pub found-append : (z : ℤ) (xs ys : List Clause) → found z (xs ++ ys) ≡ (found z xs || found z ys)
 found-append z [] ys = refl
 found-append z (x ∷ xs) ys = ap (λ (b : Bool). Trimming.has z x || b) (found-append z xs ys) ∙ shift (Trimming.has z x) (found z xs) (found z ys)
   where
@@ -45,54 +42,11 @@ found-append z (x ∷ xs) ys = ap (λ (b : Bool). Trimming.has z x || b) (found-
     shift true b c = refl
     shift false b c = refl
 
-pub record Noting (table : List ℕ) (s : ℕ) (seen : List ℕ) : Type 0 where
-  pub at : At table s
-  pub sized : length seen ≡ 258
-  pub so-far : Found seen (all-shown (at .done))
-
-pub noting-begins : {table : List ℕ} → Laid table → (seen : List ℕ) → seen ≡ replicate 258 0 → Noting table 0 seen
-unfolding begin
-noting-begins l seen e =
-    record {
-      at = begin l;
-      sized = ap length e ∙ length-replicate {A = ℕ} 258 0;
-      so-far = λ c two small. ap (λ (s : List ℕ). eqb (getD s c 0) 1) e ∙ ap (λ (x : ℕ). eqb x 1) (getD-replicate {A = ℕ} 258 c 0 0 small);
-    }
-
-pub noting-more : {table : List ℕ} {s : ℕ} {seen : List ℕ} → Noting table s seen → s < length table → (s′ : ℕ) (seen′ : List ℕ) → seen′ ≡ noted seen (first-clause (drop s table)) → s′ ≡ s + first-length (drop s table) → Noting table s′ seen′
-unfolding passed-by moved
-noting-more {table} {s} {seen} k inside s′ seen′ en es =
-    record {
-      at = passed-by (k .at) inside s′ es;
-      sized = ap length en ∙ length-noted seen (first-clause (drop s table)) ∙ k .sized;
-      so-far = λ c two small.
-          ap (λ (l : List ℕ). stands l c) (en ∙ ap (noted seen) (at-clause (k .at) inside))
-          ∙ noted-stands (inner (f .b)) seen c (k .sized) small
-          ∙ ap₂ _||_ (found-block c two small (f .b) (front-fine (k .at) inside .0)) (k .so-far c two small)
-          ∙ swap (found (literal-of c) (shown (f .b))) (found (literal-of c) (all-shown (k .at .done)))
-          ∙ sym (ap (found (literal-of c)) (shown-append (k .at .done) (f .b ∷ [])) ∙ found-append (literal-of c) (all-shown (k .at .done)) (all-shown (f .b ∷ [])) ∙ ap (λ (b : Bool). found (literal-of c) (all-shown (k .at .done)) || b) (ap (found (literal-of c)) (append-none (shown (f .b)))));
-    }
-  where
-    f : Front (k .at .todo)
-    f = front (k .at) inside
-
-    swap : (a b : Bool) → (a || b) ≡ (b || a)
-    swap true true = refl
-    swap true false = refl
-    swap false true = refl
-    swap false false = refl
-
-    append-none : (l : List Clause) → l ++ [] ≡ l
-    append-none [] = refl
-    append-none (x ∷ l) = ap (λ (r : List Clause). x ∷ r) (append-none l)
-
-pub noting-ends : {table : List ℕ} {s : ℕ} {seen : List ℕ} → Noting table s seen → length table ≤ s → Found seen (clauses-left table)
-unfolding finished
-noting-ends {table} {s} {seen} k past =
-    let l = finished (k .at) past in
-    subst (Found seen) (sym (ap clauses-left (l .is) ∙ laid-clauses (l .blocks) (l .fine))) (k .so-far)
-
 -- ---- the unknown at a position
+
+pub one-is : (index : List ℕ) (k : ℕ) (a b : Bool) → lists-some index (2 * k + 2) ≡ a → lists-some index (2 * k + 3) ≡ b → one-code a b k ≡ pure-code index k
+unfolding pure-code
+one-is index k a b p q = sym (ap₂ (λ (c d : Bool). one-code c d k) p q)
 
 module _ (seen : List ℕ) (cs : List Clause) (h : Found seen cs) where
   one-picks : (k : ℕ) → k < 128 → (a b : Bool) → Picked (one-of a b k) (one-code a b k)

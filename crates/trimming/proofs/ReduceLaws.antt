@@ -92,7 +92,7 @@ module _ (kinds : List ℕ) where
       go true = omega arith
       go false = two
 
-  two-from : (c : List ℕ) (low : ℕ) → 2 ≤ low → 2 ≤ reducible-from kinds low c
+  pub two-from : (c : List ℕ) (low : ℕ) → 2 ≤ low → 2 ≤ reducible-from kinds low c
   two-from [] low two = two
   two-from (y ∷ c) low two = two-from c (raised kinds low y) (raised-two low y two)
 

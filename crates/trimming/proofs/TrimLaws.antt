@@ -58,6 +58,18 @@ entries-clauses (pos (suc v) ∷ y ∷ zs) e =
 entries-clauses (negsuc v ∷ y ∷ zs) e =
     onto-entries (negsuc v) (clauses (y ∷ zs)) (started y zs) ∙ ap (λ (l : List ℤ). negsuc v ∷ l) (entries-clauses (y ∷ zs) (sym (ended-behind (negsuc v) y zs) ∙ e))
 
+-- ---- rule 1, then the rounds
+
+pub all-rules : (kinds : List ℕ) {table₁ table₂ table₃ : List ℕ} → Passed untrue table₁ table₂ → Passed (rounds (length table₂ + 1) (prefix kinds)) table₂ table₃
+    → Passed (λ cs. rounds (length table₁ + 1) (prefix kinds) (untrue cs)) table₁ table₃
+all-rules kinds {table₁} {table₂} a b =
+    record {
+      laid-out = b .laid-out;
+      sized = b .sized ∙ a .sized;
+      same-codes = b .same-codes ∙ a .same-codes;
+      changed = b .changed ∙ ap₂ (λ (n : ℕ) (cs : List Clause). rounds (n + 1) (prefix kinds) cs) (a .sized) (a .changed);
+    }
+
 -- ---- the table as it is filled
 
 code-entry : (z : ℤ) → Named 128 z → Entry (code-of z)
@@ -119,27 +131,26 @@ module _ (kinds : List ℕ) (literals : List ℤ) (a : Accepted kinds literals) 
 
   -- ---- the table at the end
 
-  module _ (table₁ table₂ table₃ : List ℕ) (filled : table₁ ≡ map code-of literals) (true-dropped : Passed untrue table₁ table₂)
-      (settled : Passed (rounds (length table₂ + 1) (prefix kinds)) table₂ table₃) where
-    as-many : length table₂ ≡ length literals
-    as-many = true-dropped .sized ∙ ap length filled ∙ length-map literals code-of
+  module _ (table₁ table₂ : List ℕ) (filled : table₁ ≡ map code-of literals) (settled : Passed (λ cs. rounds (length table₁ + 1) (prefix kinds) (untrue cs)) table₁ table₂) where
+    as-many : length table₁ ≡ length literals
+    as-many = ap length filled ∙ length-map literals code-of
 
-    pub same-codes-left : codes table₃ ≡ map code-of literals
-    same-codes-left = settled .same-codes ∙ true-dropped .same-codes ∙ ap codes filled ∙ same-codes literals named
+    pub same-codes-left : codes table₂ ≡ map code-of literals
+    same-codes-left = settled .same-codes ∙ ap codes filled ∙ same-codes literals named
 
     lent-clauses : clauses-left table₁ ≡ clauses literals
     unfolding clauses-left
     lent-clauses = ap clauses (ap left filled ∙ left-codes literals named)
 
-    all-steps : clauses-left table₃ ≡ steps (length literals) (prefix kinds) (clauses literals)
+    all-steps : clauses-left table₂ ≡ steps (length literals) (prefix kinds) (clauses literals)
     all-steps =
         let sized = size-clauses literals is-ended in
         settled .changed
-        ∙ ap (rounds (length table₂ + 1) (prefix kinds)) (true-dropped .changed ∙ ap untrue lent-clauses)
-        ∙ sym (in-rounds (length table₂ + 1) (prefix kinds) (clauses literals) (let m = as-many in omega arith))
+        ∙ ap (λ (cs : List Clause). rounds (length table₁ + 1) (prefix kinds) (untrue cs)) lent-clauses
+        ∙ sym (in-rounds (length table₁ + 1) (prefix kinds) (clauses literals) (let m = as-many in omega arith))
         ∙ ap (λ (n : ℕ). steps n (prefix kinds) (clauses literals)) sized
 
-    pub left-trimmed : left table₃ ≡ trimmed kinds literals
+    pub left-trimmed : left table₂ ≡ trimmed kinds literals
     unfolding trimmed
     left-trimmed =
         let l = settled .laid-out in

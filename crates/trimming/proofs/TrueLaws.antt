@@ -38,7 +38,7 @@ always-true-literals c all = any-left literal-of is-left (λ z. Trimming.has (ne
     each (x ∷ d) all = (one x (all .0) (is-left x) refl, each d (all .1))
 
 -- In a clause that is gone no entry clashes.
-gone-not-true : (d c : List ℕ) → Every (λ x. Entry x × (512 ≤ x)) c → any (clashes d) c ≡ false
+pub gone-not-true : (d c : List ℕ) → Every (λ x. Entry x × (512 ≤ x)) c → any (clashes d) c ≡ false
 gone-not-true d [] all = refl
 gone-not-true d (x ∷ c) all = rw (le-ltb x 258 (let h = all .0 .1 in omega arith)) (gone-not-true d c (all .1))
 

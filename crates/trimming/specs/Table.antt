@@ -3,18 +3,20 @@
 -- Assumes nothing.
 use Prim.Native.Nat.{ℕ, zero, suc, _+_, _*_, _-_, _/_, _%_, _≤_, _<_}
 use mathlib.Core.Path.{_≡_}
-use mathlib.Core.Logic.{_≢_}
-use mathlib.Core.Bool.{Bool, true, false, cond}
+use mathlib.Core.Logic.{_≢_, _⊎_}
+use mathlib.Core.Bool.{Bool, true, false, cond, _&&_}
 use mathlib.Core.List.{List, [], _∷_, _++_, map}
 use mathlib.Core.Option.{Option, none, some}
-use lib.Dec.{eqb, ltb}
+use lib.Dec.{eqb, leb, ltb}
 use lib.IntN.{ℤ, pos, negsuc}
-use lib.ListN.{length, getD}
-use Rattle.formula.specs.Formula.{Kind, Clause, clauses}
-use Rattle.codes.specs.Codes.{opposite}
-use Rattle.trimming_rules.specs.Trimming.{keep, first-of, set-true, rule-3, found, rule-4}
-use Rattle.trimming_rules.proofs.ClauseLaws.{Every}
-use Rattle.trimming_marks.specs.Marks.{is-left, has, always-true}
+use lib.ListN.{length, getD, set, take, drop}
+use Rattle.formula.specs.Formula.{Kind, prefix, Clause, clauses}
+use Rattle.trimming_rules.specs.Trimming.{keep, first-of, without-literal, set-true, rule-3, found, rule-4}
+use Rattle.trimming_rules.specs.Rounds.{reduced}
+use Rattle.trimming_rules.proofs.ClauseLaws.{Every, In}
+use Rattle.trimming_marks.specs.Marks.{is-left, mark-clause, always-true, unit}
+use Rattle.index.specs.Occurrences.{listed, Names}
+use Rattle.index.specs.Index.{code-count, index-of, begin-of, end-of}
 
 -- The literal of a code; of 0 it is the 0 that ends a clause.
 unfoldable pub literal-of : ℕ → ℤ
@@ -76,6 +78,15 @@ pub record Laid (table : List ℕ) : Type 0 where
   pub is : table ≡ laid blocks
   pub fine : Every Fine blocks
 
+-- The clauses before a place, and those from it on.
+pub record At (table : List ℕ) (s : ℕ) : Type 0 where
+  pub done : List Block
+  pub todo : List Block
+  pub is : table ≡ laid done ++ laid todo
+  pub here : s ≡ length (laid done)
+  pub fine-done : Every Fine done
+  pub fine-todo : Every Fine todo
+
 -- ---- passes
 
 -- A pass makes a change of the clauses that are left; no code but the marks is changed.
@@ -85,17 +96,132 @@ pub record Passed (change : List Clause → List Clause) (before after : List �
   pub same-codes : codes after ≡ codes before
   pub changed : clauses-left after ≡ change (clauses-left before)
 
+-- ---- the index
+
+-- The index is the one that is made afresh of what is left.
+abbrev pub Indexed : List ℕ → List ℕ → Type 0
+Indexed table index = index ≡ index-of table
+
+-- A clause that is left begins at `start`, in a table with its index.
+pub record Here (table index : List ℕ) (start : ℕ) : Type 0 where
+  pub laid-out : Laid table
+  pub few : length table ≤ 8192
+  pub indexed : Indexed table index
+  pub stands : Names table 1 start
+
+-- The table with the entries from `low` to `high` of the clause that begins at `start` dropped.
+abbrev pub marked-at : ℕ → ℕ → ℕ → List ℕ → List ℕ
+marked-at low high start table = take start table ++ mark-clause low high (drop start table)
+
+-- An entry that is left, and from `low` on.
+abbrev pub left-from : ℕ → ℕ → Bool
+left-from low x = leb low x && is-left x
+
+-- How often a code stands in a clause.
+abbrev pub times : ℕ → List ℕ → ℕ
+times y [] = 0
+times y (x ∷ c) = cond (eqb y x) 1 0 + times y c
+
+-- While the entries from `low` on of a clause are dropped one by one: those before the place `at` are looked at, and of those from `at` on
+-- it is known how often each code stands there.
+pub record Dropping (low start : ℕ) (table index counts : List ℕ) (at : ℕ) : Type 0 where
+  pub xs : List Block
+  pub ys : List Block
+  pub pre : List ℕ
+  pub post : List ℕ
+  pub is : table ≡ laid xs ++ (((pre ++ post) ++ (0 ∷ [])) ++ laid ys)
+  pub here : start ≡ length (laid xs)
+  pub place : at ≡ start + length pre
+  pub fine-xs : Every Fine xs
+  pub fine-ys : Every Fine ys
+  pub fine-pre : Every Entry pre
+  pub fine-post : Every Entry post
+  pub below : Every (λ y. (y < 512 → y < low)) pre
+  pub few : length table ≤ 8192
+  pub indexed : Indexed table index
+  pub sized : length counts ≡ 258
+  pub counted : (y : ℕ) → low ≤ y → y < 258 → getD counts y 0 ≡ times y post
+
+-- A property of all clauses but those that are named; the first block stands at place o.
+abbrev pub AllBut : (ℕ → Block → Type 0) → List ℕ → ℕ → List Block → Type 0
+AllBut P names o [] = Unit {0}
+AllBut P names o (b ∷ bs) = (In o names ⊎ P o b) × AllBut P names (o + length (whole b)) bs
+
+pub record Except (P : ℕ → Block → Type 0) (names table : List ℕ) : Type 0 where
+  pub blocks : List Block
+  pub is : table ≡ laid blocks
+  pub fine : Every Fine blocks
+  pub all : AllBut P names 0 blocks
+
+-- Rule 2 has nothing to drop of a clause.
+abbrev pub Irreducible : List ℕ → ℕ → Block → Type 0
+Irreducible kinds o b = reduced (prefix kinds) (shown b) ≡ shown b
+
+-- ---- clauses of one entry
+
+-- A property of some clause; the first block stands at place o.
+abbrev pub SomeAt : (ℕ → Block → Type 0) → ℕ → List Block → Type 0
+SomeAt P o [] = ⊥
+SomeAt P o (b ∷ bs) = P o b ⊎ SomeAt P (o + length (whole b)) bs
+
+-- If an existential unknown is the only entry of the clause at place o, its first clause is noted there or before.
+abbrev pub UnitKnown : List ℕ → List ℕ → ℕ → Block → Type 0
+UnitKnown kinds firsts o b = (unit kinds (inner b) ≡ 0 → ⊥) → getD firsts (unit kinds (inner b) / 2) 0 ≤ o
+
+-- The clause at place o is the one that is noted of the unknown v, whose only entry it has; and it is none of those named.
+pub record FirstUnit (kinds firsts names : List ℕ) (v o : ℕ) (b : Block) : Type 0 where
+  pub noted : o ≡ getD firsts v 0
+  pub apart : In o names → ⊥
+  pub own : unit kinds (inner b) / 2 ≡ v
+  pub some-unit : unit kinds (inner b) ≡ 0 → ⊥
+
+-- The clause at `start` has the only entry x, or x is 0; it is noted if it is the first.
+unfoldable pub noted-unit : ℕ → ℕ → List ℕ → List ℕ
+noted-unit x start firsts = cond (eqb x 0) firsts (cond (ltb start (getD firsts (x / 2) 0)) (set firsts (x / 2) start) firsts)
+
+-- Of each existential unknown, the first clause whose only entry it is: exact, but for the clauses that are named and for the unknown `off`. 65,535 is none.
+pub record Units (kinds firsts names apart : List ℕ) (off : ℕ) (table : List ℕ) : Type 0 where
+  pub blocks : List Block
+  pub is : table ≡ laid blocks
+  pub fine : Every Fine blocks
+  pub complete : AllBut (UnitKnown kinds firsts) names 0 blocks
+  pub sound : (v : ℕ) → (v ≡ off → ⊥) → 0 < v → v < 129 → (getD firsts v 0 ≡ 65535 → ⊥) → SomeAt (FirstUnit kinds firsts apart v) 0 blocks
+
+-- Named clauses that are left, in a table with its index; all others are irreducible.
+pub record Pending (kinds names table index : List ℕ) : Type 0 where
+  pub laid-out : Laid table
+  pub few : length table ≤ 8192
+  pub indexed : Indexed table index
+  pub standing : Every (λ s. In s (listed 1 table)) names
+  pub others : Except (Irreducible kinds) names table
+
+-- On the way to a change: it has still to make the same of what is left.
+pub record Toward (change : List Clause → List Clause) (before after : List ℕ) : Type 0 where
+  pub laid-out : Laid after
+  pub sized : length after ≡ length before
+  pub same-codes : codes after ≡ codes before
+  pub same : change (clauses-left after) ≡ change (clauses-left before)
+
+-- A code's literal is dropped of its clauses, all but the rest.
+pub record Cleared (o : ℕ) (before after : List ℕ) (rest : List ℕ) : Type 0 where
+  pub toward : Toward (without-literal (literal-of o)) before after
+  pub own : listed o after ≡ rest
+  pub others : (d : ℕ) → d < code-count → (d ≡ o → ⊥) → listed d after ≡ listed d before
+  pub known : (s : ℕ) → In s rest → In s (listed o before)
+  pub irreducible : (kinds : List ℕ) → Except (Irreducible kinds) [] before → Except (Irreducible kinds) (listed o before) after
+  pub units : (kinds firsts : List ℕ) → Units kinds firsts [] [] (o / 2) before → Units kinds firsts (listed o before) (listed o before) (o / 2) after
+
+-- What is dropped makes a change, and the index is kept; the clauses that are named are left, and all others are as irreducible as before.
+pub record Dropped (change : List Clause → List Clause) (off : ℕ) (names before after index : List ℕ) : Type 0 where
+  pub passed : Passed change before after
+  pub indexed : Indexed after index
+  pub standing : Every (λ s. In s (listed 1 after)) names
+  pub irreducible : (kinds : List ℕ) → Except (Irreducible kinds) [] before → Except (Irreducible kinds) names after
+  pub units : (kinds firsts : List ℕ) → Units kinds firsts [] [] off before → Units kinds firsts names names off after
+
 -- From which code on a clause is dropped by rule 1: all of it, or nothing.
 abbrev pub true-from : List ℕ → ℕ
 true-from c = cond (always-true c) 0 512
-
--- What is dropped of a clause where a code's literal is made true: all of it if it has the literal, else the opposite literal; from one
--- code up to another.
-abbrev pub set-from : ℕ → List ℕ → ℕ
-set-from code c = cond (has code c) 0 (opposite code)
-
-abbrev pub up-to : ℕ → ℕ
-up-to low = cond (eqb low 0) 511 low
 
 -- A number for a literal, or for none.
 abbrev pub literal-or-none : ℕ → Option ℤ
@@ -112,11 +238,11 @@ pub record Picked (o : Option ℤ) (c : ℕ) : Type 0 where
   pub chosen : Chosen c
   pub is : literal-or-none c ≡ o
 
--- The lower unknown of two codes, the first of equals; 0 is none.
-unfoldable pub lower-code : ℕ → ℕ → ℕ
-lower-code best c = cond (eqb c 0) best (cond (eqb best 0) c (cond (ltb (c / 2) (best / 2)) c best))
+-- A code's list is not empty, by its begin and its end.
+abbrev pub lists-some : List ℕ → ℕ → Bool
+lists-some index c = ltb (begin-of index c) (end-of index c)
 
--- The code of the unknown at position k that stands in one sign only, of those with a 1.
+-- The code of the unknown at position k that stands in one sign only, by the two lists.
 abbrev pub one-code : Bool → Bool → ℕ → ℕ
 one-code true true k = 0
 one-code true false k = 2 * k + 2
@@ -124,7 +250,7 @@ one-code false true k = 2 * k + 3
 one-code false false k = 0
 
 unfoldable pub pure-code : List ℕ → ℕ → ℕ
-pure-code seen k = one-code (eqb (getD seen (2 * k + 2) 0) 1) (eqb (getD seen (2 * k + 3) 0) 1) k
+pure-code index k = one-code (lists-some index (2 * k + 2)) (lists-some index (2 * k + 3)) k
 
 -- The change that makes a code's literal true, if it is one.
 abbrev pub made-true : ℕ → List Clause → Option (List Clause)
@@ -136,6 +262,6 @@ pub record Next (ks : List Kind) (cs : List Clause) (c : ℕ) : Type 0 where
   pub chosen : Chosen c
   pub change : first-of (rule-3 ks cs) (rule-4 ks cs) ≡ made-true c cs
 
--- A 1 stands just at the codes that the clauses have.
+-- The lists that are not empty are those of the codes that the clauses have.
 abbrev pub Found : List ℕ → List Clause → Type 0
-Found seen cs = (c : ℕ) → 2 ≤ c → c < 258 → eqb (getD seen c 0) 1 ≡ found (literal-of c) cs
+Found index cs = (c : ℕ) → 2 ≤ c → c < 258 → lists-some index c ≡ found (literal-of c) cs

@@ -1,43 +1,50 @@
 -- `trimming::drop_true` meets its contract. The loop's invariant: the clauses passed are changed, and the others are not.
 -- Assumes nothing.
-use Prim.Native.Nat.{_-_}
-use native.Mathlib.Omega.{arith}
 use borrow.Author.Needs.{needs}
-use mathlib.Core.Path.{refl}
+use native.Mathlib.Omega.{arith}
+use Prim.Native.Nat.{_-_}
+use mathlib.Core.Path.{_≡_, refl, _∙_}
+use lib.ListN.{length, drop}
+use Rattle.trimming_marks.specs.Marks.{first-clause}
 use Rattle.trimming_rules.specs.Rounds.{untrue}
-use Rattle.trimming.specs.Table.{true-from}
+use Rattle.trimming.specs.Table.{Indexed, true-from}
 use Rattle.trimming.proofs.TrueLaws.{untrue-local, true-dropped}
-use lib.ListN.{length}
 use Rattle.trimming.proofs.PassLaws.{Passing, passing-begins, passing-more, passing-ends, goes-on}
 use Rattle.trimming.proofs.drop_true.Statement.{statement}
 use Rattle.trimming.proofs.drop_true.Tie as tie
 
 abbrev Inv-loop : tie.InvT-loop
-Inv-loop table₀ start₀ table start = Passing untrue table₀ table start
+Inv-loop table₀ index₀ start₀ table index start = Passing untrue table₀ table start × Indexed table index × (length index ≡ length index₀)
 
 abbrev μ-loop : tie.MeasureT-loop
-μ-loop table₀ start₀ table start = length table - start
+μ-loop table₀ index₀ start₀ table index start = length table - start
 
 loop-holds : tie.Need-loop-holds Inv-loop μ-loop
-loop-holds c = passing-begins untrue untrue-local (c .before .pre)
+loop-holds c = (passing-begins untrue untrue-local ((c .before .before .pre .0)), (c .before .before .pre .1), refl)
 
-always-true-from-requires : tie.Need-always-true-from-requires Inv-loop μ-loop
-always-true-from-requires c κs = search needs
-
-mark-requires : tie.Need-mark-requires Inv-loop μ-loop
-mark-requires c κs = search needs
+drop-if-true-requires : tie.Need-drop-if-true-requires Inv-loop μ-loop
+drop-if-true-requires c κs = ((c .before .before .before .before .before .loop .inv .0 .at), (c .before .before .before .before .loop-test .taken), (c .before .before .before .before .before .loop .inv .1), omega (arith, (c .before .before .before .before .before .loop .inv .0 .sized), (c .before .before .before .before .before .before .before .before .pre .2)))
 
 loop-less : tie.Need-loop-less Inv-loop μ-loop
-loop-less c = let w = goes-on (c .before .before .before .before .before .before .before .loop .inv .at) (c .before .before .before .before .before .before .loop-test .taken) in omega (arith, c .before .before .mark .ensures .0, c .before .before .mark .kept .0)
+loop-less c = let w = goes-on ((c .before .before .before .before .before .before .before .before .before .before .loop .inv .0 .at)) ((c .before .before .before .before .before .before .before .before .before .loop-test .taken)) in omega (arith, (c .before .before .before .before .before .before .before .past .ensures), (c .before .before .before .before .drop-if-true .kept .0))
 
 loop-again : tie.Need-loop-again Inv-loop μ-loop
-loop-again c = passing-more untrue untrue-local true-from (λ l. 511) true-dropped (c .before .before .before .before .before .before .before .loop .inv) (c .before .before .before .before .before .before .loop-test .taken) (c .before .before .before .before .always-true-from .result) 511 (c .before .before .mark .result) (c .before .before .mark .last .0) (c .before .before .before .before .always-true-from .ensures) refl (c .before .before .mark .ensures .0) (c .before .before .mark .ensures .1)
+loop-again c =
+    (passing-more untrue untrue-local true-from (λ l. 511) true-dropped ((c .before .before .before .before .before .before .before .before .before .before .loop .inv .0)) ((c .before .before .before .before .before .before .before .before .before .loop-test .taken)) (true-from (first-clause (drop ((c .before .before .before .before .before .before .before .before .before .before .loop .start)) ((c .before .before .before .before .before .before .before .before .before .before .loop .table))))) 511 ((c .before .before .before .before .before .before .before .past .result)) ((c .before .before .before .before .drop-if-true .last .0)) refl refl ((c .before .before .before .before .before .before .before .past .ensures)) ((c .before .before .before .before .drop-if-true .ensures .0)),
+    (c .before .before .before .before .drop-if-true .ensures .1),
+    (c .before .before .before .before .drop-if-true .kept .1 .0) ∙ (c .before .before .before .before .before .before .before .before .before .before .loop .inv .2))
 
 same-length : tie.Need-same-length Inv-loop μ-loop
-same-length c = c .before .loop .inv .sized
+same-length c = (c .before .loop .inv .0 .sized)
+
+same-length-2 : tie.Need-same-length-2 Inv-loop μ-loop
+same-length-2 c = (c .before .loop .inv .2)
 
 returns : tie.Need-returns Inv-loop μ-loop
-returns c = passing-ends untrue untrue-local (c .before .loop .inv) (c .loop-test .left)
+returns c = (passing-ends untrue untrue-local ((c .before .loop .inv .0)) ((c .loop-test .left)), (c .before .loop .inv .1))
+
+past-requires : tie.Need-past-requires Inv-loop μ-loop
+past-requires c κs = search needs
 
 pub drop-true-spec : {M : Type 1} → statement M
 drop-true-spec =
@@ -46,9 +53,10 @@ drop-true-spec =
     Inv-loop
     μ-loop
     loop-holds
-    always-true-from-requires
-    mark-requires
+    past-requires
+    drop-if-true-requires
     loop-less
     loop-again
     same-length
+    same-length-2
     returns)

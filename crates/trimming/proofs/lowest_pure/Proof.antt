@@ -1,23 +1,53 @@
--- `trimming::lowest_pure` meets its contract.
+-- `trimming::lowest_pure` meets its contract. The loop's invariant: no unknown passed stands in one sign only.
 -- Assumes nothing.
+use native.Mathlib.Omega.{arith}
+use Prim.Native.Nat.{_-_, _≤_}
 use mathlib.Core.Path.{refl}
-use Rattle.trimming.specs.Table.{clauses-left}
+use mathlib.Core.List.{List}
+use lib.ListN.{length}
+use Rattle.formula.specs.Formula.{Clause}
+use Rattle.trimming.specs.Table.{Found}
+use Rattle.trimming.proofs.PureLaws.{FromHere, pure-found, pure-later, pure-nowhere}
 use Rattle.trimming.proofs.lowest_pure.Statement.{statement}
 use Rattle.trimming.proofs.lowest_pure.Tie as tie
 
-note-all-requires : tie.Need-note-all-requires
-note-all-requires c κs = (c .before .before .before .pre .0, refl)
+abbrev Inv-loop : tie.InvT-loop
+Inv-loop kinds index position₀ position = (few : length kinds ≤ 128) (cs : List Clause) (h : Found index cs) → FromHere index cs h kinds few position
 
-first-pure-requires : tie.Need-first-pure-requires
-first-pure-requires c κs = c .before .before .before .before .before .pre .1
+abbrev μ-loop : tie.MeasureT-loop
+μ-loop kinds index position₀ position = length kinds - position
 
-returns : tie.Need-returns
-returns c = c .first-pure .ensures (clauses-left (c .before .before .before .before .before .before .args .table .now)) (c .before .before .note-all .ensures)
+loop-holds : tie.Need-loop-holds Inv-loop μ-loop
+loop-holds c = λ few cs h. refl
+
+pure-at-requires : tie.Need-pure-at-requires Inv-loop μ-loop
+pure-at-requires c κs = omega arith
+
+returns : tie.Need-returns Inv-loop μ-loop
+returns c = λ cs h. pure-found ((c .before .before .before .before .before .before .args .index .now)) cs h ((c .before .before .before .before .before .before .args .kinds .now)) ((c .before .before .before .before .before .before .pre)) ((c .before .before .before .loop .position)) ((c .before .pure-at .result)) ((c .before .before .loop-test .taken)) ((c .before .before .before .loop .inv) ((c .before .before .before .before .before .before .pre)) cs h) ((c .before .pure-at .ensures)) ((c .if1 .taken))
+
+add-position : tie.Need-add-position Inv-loop μ-loop
+add-position c = omega arith
+
+loop-less : tie.Need-loop-less Inv-loop μ-loop
+loop-less c = omega arith
+
+loop-again : tie.Need-loop-again Inv-loop μ-loop
+loop-again c = λ few cs h. pure-later ((c .before .before .before .before .before .before .args .index .now)) cs h ((c .before .before .before .before .before .before .args .kinds .now)) ((c .before .before .before .before .before .before .pre)) ((c .before .before .before .loop .position)) ((c .before .pure-at .result)) ((c .before .before .loop-test .taken)) ((c .before .before .before .loop .inv) ((c .before .before .before .before .before .before .pre)) cs h) ((c .before .pure-at .ensures)) ((c .if1 .left))
+
+returns-2 : tie.Need-returns-2 Inv-loop μ-loop
+returns-2 c = λ cs h. pure-nowhere ((c .before .before .before .before .args .index .now)) cs h ((c .before .before .before .before .args .kinds .now)) ((c .before .before .before .before .pre)) ((c .before .loop .position)) ((c .loop-test .left)) ((c .before .loop .inv) ((c .before .before .before .before .pre)) cs h)
 
 pub lowest-pure-spec : {M : Type 1} → statement M
 lowest-pure-spec =
     tie.close
     (tie.spec
-    note-all-requires
-    first-pure-requires
-    returns)
+    Inv-loop
+    μ-loop
+    loop-holds
+    pure-at-requires
+    returns
+    add-position
+    loop-less
+    loop-again
+    returns-2)

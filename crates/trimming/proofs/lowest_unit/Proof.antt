@@ -1,40 +1,50 @@
--- `trimming::lowest_unit` meets its contract. The loop's invariant: `best` is the lowest unit of the clauses passed.
+-- `trimming::lowest_unit` meets its contract. The loop's invariant: no unknown passed is noted.
 -- Assumes nothing.
-use Prim.Native.Nat.{_-_}
-use native.Mathlib.Omega.{arith}
 use borrow.Author.Needs.{needs}
-use lib.ListN.{length}
-use Rattle.trimming.proofs.PassLaws.{goes-on}
-use Rattle.trimming.proofs.UnitLaws.{Looking, looking-begins, looking-more, looking-ends}
+use native.Mathlib.Omega.{arith}
+use Prim.Native.Nat.{ℕ, _-_, _≤_, _<_}
+use mathlib.Core.Path.{_≡_, _∙_, ap}
+use lib.ListN.{getD, drop}
+use Rattle.trimming_marks.specs.Marks.{first-clause, unit}
+use Rattle.trimming.proofs.FirstLaws.{unit-found, unit-nowhere, none-before}
 use Rattle.trimming.proofs.lowest_unit.Statement.{statement}
 use Rattle.trimming.proofs.lowest_unit.Tie as tie
 
 abbrev Inv-loop : tie.InvT-loop
-Inv-loop kinds table best₀ start₀ best start = Looking kinds table start best
+Inv-loop kinds table firsts name₀ name = (0 < name) × (name ≤ 129) × ((w : ℕ) → 0 < w → w < name → getD firsts w 0 ≡ 65535)
 
 abbrev μ-loop : tie.MeasureT-loop
-μ-loop kinds table best₀ start₀ best start = length table - start
+μ-loop kinds table firsts name₀ name = 129 - name
 
 loop-holds : tie.Need-loop-holds Inv-loop μ-loop
-loop-holds c = looking-begins (c .before .before .args .kinds .now) (c .before .before .pre)
+loop-holds c = (omega arith, omega arith, λ w a b. absurd (omega arith))
+
+returns : tie.Need-returns Inv-loop μ-loop
+returns c = unit-found ((c .before .before .before .before .before .before .before .before .args .kinds .now)) ((c .before .before .before .before .before .before .before .before .args .firsts .now)) ((c .before .before .before .before .before .before .before .before .pre .0)) ((c .before .before .before .before .before .before .before .before .pre .1)) ((c .before .before .before .before .before .loop .name)) ((c .before .before .before .before .before .loop .inv .0)) ((c .before .before .before .before .loop-test .taken)) ((c .before .before .before .before .before .loop .inv .2)) ((c .before .before .if1 .taken)) ((c .unit .result)) ((c .unit .ensures) ∙ ap (λ (n : ℕ). unit ((c .before .before .before .before .before .before .before .before .args .kinds .now)) (first-clause (drop n ((c .before .before .before .before .before .before .before .before .args .table .now))))) ((c .before .wide .ensures)))
+
+add-name : tie.Need-add-name Inv-loop μ-loop
+add-name c = omega arith
+
+loop-less : tie.Need-loop-less Inv-loop μ-loop
+loop-less c = omega arith
+
+loop-again : tie.Need-loop-again Inv-loop μ-loop
+loop-again c = (omega arith, omega arith, none-before ((c .before .before .before .before .before .before .args .firsts .now)) ((c .before .before .before .loop .name)) ((c .before .before .before .loop .inv .2)) ((c .if1 .left)))
+
+returns-2 : tie.Need-returns-2 Inv-loop μ-loop
+returns-2 c = unit-nowhere ((c .before .before .before .before .args .kinds .now)) ((c .before .before .before .before .args .firsts .now)) ((c .before .before .before .before .pre .0)) ((c .before .before .before .before .pre .1)) (λ w a b. (c .before .loop .inv .2) w a (let l = (c .loop-test .left) in omega arith))
+
+mul-first : tie.Need-mul-first Inv-loop μ-loop
+mul-first c = search needs
+
+element-copy-out-first : tie.Need-element-copy-out-first Inv-loop μ-loop
+element-copy-out-first c = search needs
+
+wide-requires : tie.Need-wide-requires Inv-loop μ-loop
+wide-requires c κs = search needs
 
 unit-requires : tie.Need-unit-requires Inv-loop μ-loop
 unit-requires c κs = search needs
-
-lower-requires : tie.Need-lower-requires Inv-loop μ-loop
-lower-requires c κs = search needs
-
-past-requires : tie.Need-past-requires Inv-loop μ-loop
-past-requires c κs = search needs
-
-loop-less : tie.Need-loop-less Inv-loop μ-loop
-loop-less c = let w = goes-on (c .before .before .before .before .loop .inv .at) (c .before .before .before .loop-test .taken) in omega (arith, c .past .ensures)
-
-loop-again : tie.Need-loop-again Inv-loop μ-loop
-loop-again c = looking-more (c .before .before .before .before .before .before .before .args .kinds .now) (c .before .before .before .before .loop .inv) (c .before .before .before .loop-test .taken) (c .before .before .unit .result) (c .before .lower .result) (c .past .result) (c .before .before .unit .ensures) (c .before .lower .ensures) (c .past .ensures)
-
-returns : tie.Need-returns Inv-loop μ-loop
-returns c = looking-ends (c .before .before .before .before .args .kinds .now) (c .before .loop .inv) (c .loop-test .left)
 
 pub lowest-unit-spec : {M : Type 1} → statement M
 lowest-unit-spec =
@@ -43,9 +53,12 @@ lowest-unit-spec =
     Inv-loop
     μ-loop
     loop-holds
+    mul-first
+    element-copy-out-first
+    wide-requires
     unit-requires
-    lower-requires
-    past-requires
+    returns
+    add-name
     loop-less
     loop-again
-    returns)
+    returns-2)

@@ -1,27 +1,41 @@
 -- `trimming::pure_at` meets its contract.
 -- Assumes nothing.
 use borrow.Author.Needs.{needs}
-use Rattle.trimming.specs.Table.{pure-code}
+use mathlib.Core.Path.{sym, _∙_}
+use mathlib.Core.Bool.{true, false}
+use Rattle.trimming.proofs.PureLaws.{one-is}
 use Rattle.trimming.proofs.pure_at.Statement.{statement}
 use Rattle.trimming.proofs.pure_at.Tie as tie
 
-mul-positive : tie.Need-mul-positive
-mul-positive c = search needs
+returns : tie.Need-returns
+returns c = one-is ((c .before .before .before .before .before .args .index .now)) ((c .before .before .before .before .before .args .position)) true true (sym ((c .before .before .before .has-names .ensures)) ∙ (c .before .if1 .taken)) (sym ((c .before .before .has-names2 .ensures)) ∙ (c .if2 .taken))
 
-add-positive : tie.Need-add-positive
-add-positive c = search needs
+returns-2 : tie.Need-returns-2
+returns-2 c = one-is ((c .before .before .before .before .before .args .index .now)) ((c .before .before .before .before .before .args .position)) true false (sym ((c .before .before .before .has-names .ensures)) ∙ (c .before .if1 .taken)) (sym ((c .before .before .has-names2 .ensures)) ∙ (c .if2 .left))
 
-element-copy-out-positive : tie.Need-element-copy-out-positive
-element-copy-out-positive c = search needs
+returns-3 : tie.Need-returns-3
+returns-3 c = one-is ((c .before .before .before .before .before .args .index .now)) ((c .before .before .before .before .before .args .position)) false true (sym ((c .before .before .before .has-names .ensures)) ∙ (c .before .if1 .left)) (sym ((c .before .before .has-names2 .ensures)) ∙ (c .if3 .taken))
 
-mul-negative : tie.Need-mul-negative
-mul-negative c = search needs
+returns-4 : tie.Need-returns-4
+returns-4 c = one-is ((c .before .before .before .before .before .args .index .now)) ((c .before .before .before .before .before .args .position)) false false (sym ((c .before .before .before .has-names .ensures)) ∙ (c .before .if1 .left)) (sym ((c .before .before .has-names2 .ensures)) ∙ (c .if3 .left))
 
-add-negative : tie.Need-add-negative
-add-negative c = search needs
+mul-has-names : tie.Need-mul-has-names
+mul-has-names c = search needs
 
-element-copy-out-negative : tie.Need-element-copy-out-negative
-element-copy-out-negative c = search needs
+add-has-names : tie.Need-add-has-names
+add-has-names c = search needs
+
+has-names-requires : tie.Need-has-names-requires
+has-names-requires c κs = search needs
+
+mul-has-names-2 : tie.Need-mul-has-names-2
+mul-has-names-2 c = search needs
+
+add-has-names-2 : tie.Need-add-has-names-2
+add-has-names-2 c = search needs
+
+has-names-requires-2 : tie.Need-has-names-requires-2
+has-names-requires-2 c κs = search needs
 
 mul-result : tie.Need-mul-result
 mul-result c = search needs
@@ -41,32 +55,16 @@ add-result-2 c = search needs
 cast-result-2 : tie.Need-cast-result-2
 cast-result-2 c = search needs
 
-returns : tie.Need-returns
-unfolding pure-code
-returns c = rw (c .before .if1 .taken, c .if2 .taken)
-
-returns-2 : tie.Need-returns-2
-unfolding pure-code
-returns-2 c = rw (c .before .if1 .taken, c .if2 .left)
-
-returns-3 : tie.Need-returns-3
-unfolding pure-code
-returns-3 c = rw (c .before .if1 .left, c .if3 .taken)
-
-returns-4 : tie.Need-returns-4
-unfolding pure-code
-returns-4 c = rw (c .before .if1 .left, c .if3 .left)
-
 pub pure-at-spec : {M : Type 1} → statement M
 pure-at-spec =
     tie.close
     (tie.spec
-    mul-positive
-    add-positive
-    element-copy-out-positive
-    mul-negative
-    add-negative
-    element-copy-out-negative
+    mul-has-names
+    add-has-names
+    has-names-requires
+    mul-has-names-2
+    add-has-names-2
+    has-names-requires-2
     mul-result
     add-result
     cast-result

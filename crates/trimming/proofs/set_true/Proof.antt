@@ -1,58 +1,46 @@
--- `trimming::set_true` meets its contract. The loop's invariant: the clauses passed are changed, and the others are not.
+-- `trimming::set_true` meets its contract.
 -- Assumes nothing.
-use Prim.Native.Nat.{_-_}
-use native.Mathlib.Omega.{arith}
 use borrow.Author.Needs.{needs}
-use mathlib.Core.Path.{_∙_, ap}
-use Rattle.trimming_rules.specs.Trimming.{set-true}
-use Rattle.trimming.specs.Table.{literal-of, set-from, up-to}
-use Rattle.trimming.proofs.SetLaws.{set-local, literal-set}
-use lib.ListN.{length}
-use Rattle.trimming.proofs.PassLaws.{Passing, passing-begins, passing-more, passing-ends, goes-on}
+use native.Mathlib.Omega.{arith}
+use mathlib.Core.Path.{sym, _∙_, ap}
+use Rattle.codes.specs.Codes.{opposite}
+use Rattle.trimming.proofs.CodeLaws.{opposite-bounds, opposite-other}
+use Rattle.index.specs.Occurrences.{listed}
+use Rattle.trimming.proofs.ThinLaws.{both-dropped}
 use Rattle.trimming.proofs.set_true.Statement.{statement}
 use Rattle.trimming.proofs.set_true.Tie as tie
 
-abbrev Inv-loop : tie.InvT-loop
-Inv-loop table₀ code start₀ table start = Passing (set-true (literal-of code)) table₀ table start
+drop-clauses-requires : tie.Need-drop-clauses-requires
+drop-clauses-requires c κs = ((c .before .before .before .before .before .pre .0), (c .before .before .before .before .before .pre .1), (c .before .before .before .before .before .pre .2), (c .before .before .before .before .before .pre .4), (c .before .before .before .before .before .pre .5))
 
-abbrev μ-loop : tie.MeasureT-loop
-μ-loop table₀ code start₀ table start = length table - start
+opposite-requires : tie.Need-opposite-requires
+opposite-requires c κs = ((c .before .before .before .before .before .before .before .before .before .before .before .before .pre .4), (c .before .before .before .before .before .before .before .before .before .before .before .before .pre .5))
 
-loop-holds : tie.Need-loop-holds Inv-loop μ-loop
-loop-holds c = passing-begins (set-true (literal-of (c .before .args .code))) (set-local (literal-of (c .before .args .code))) (c .before .pre .0)
+drop-literals-requires : tie.Need-drop-literals-requires
+drop-literals-requires c κs =
+    let b = opposite-bounds ((c .before .before .before .before .before .before .before .before .before .before .before .before .before .before .args .code)) ((c .before .before .before .before .before .before .before .before .before .before .before .before .before .before .pre .4)) ((c .before .before .before .before .before .before .before .before .before .before .before .before .before .before .pre .5)) in
+    ((c .before .before .before .before .before .before .before .before .drop-clauses .ensures .0 .passed .laid-out), (c .before .before .before .before .before .before .before .before .drop-clauses .ensures .0 .indexed), omega (arith, (c .before .before .before .before .before .before .before .before .drop-clauses .ensures .0 .passed .sized), (c .before .before .before .before .before .before .before .before .before .before .before .before .before .before .pre .2)), (c .before .before .before .before .before .before .before .before .before .before .before .before .before .before .pre .3), omega (arith, b .0, (c .before .opposite .ensures)), omega (arith, b .1, (c .before .opposite .ensures)))
 
-set-true-from-requires : tie.Need-set-true-from-requires Inv-loop μ-loop
-set-true-from-requires c κs = (c .before .before .before .before .pre .1, c .before .before .before .before .pre .2)
+returns : tie.Need-returns
+returns c = (both-dropped ((c .before .before .before .before .before .before .before .before .before .before .before .before .before .before .before .before .before .before .before .before .before .args .code)) ((c .before .before .before .before .before .before .before .before .before .before .before .before .before .before .before .before .before .before .before .before .before .pre .4)) ((c .before .before .before .before .before .before .before .before .opposite .result)) ((c .before .before .before .before .before .before .before .before .opposite .ensures)) ((c .before .before .before .before .before .before .before .before .before .before .before .before .before .before .before .drop-clauses .ensures .0)) ((c .before .before .before .before .before .before .drop-literals .ensures .0)), (c .before .before .before .before .before .before .drop-literals .ensures .1), (c .before .before .before .before .before .before .drop-literals .ensures .3) ((c .before .before .before .before .before .before .before .before .before .before .before .before .before .before .before .before .before .before .before .before .before .args .code)) (omega (arith, (c .before .before .before .before .before .before .before .before .before .before .before .before .before .before .before .before .before .before .before .before .before .pre .5))) (λ e. opposite-other ((c .before .before .before .before .before .before .before .before .before .before .before .before .before .before .before .before .before .before .before .before .before .args .code)) ((c .before .before .before .before .before .before .before .before .before .before .before .before .before .before .before .before .before .before .before .before .before .pre .4)) (e ∙ (c .before .before .before .before .before .before .before .before .opposite .ensures))) ∙ (c .before .before .before .before .before .before .before .before .before .before .before .before .before .before .before .drop-clauses .ensures .1), ap (λ n. listed n ((c .before .before .before .before .before .before .drop-literals .last .0))) (sym ((c .before .before .before .before .before .before .before .before .opposite .ensures))) ∙ (c .before .before .before .before .before .before .drop-literals .ensures .2))
 
-up-to-requires : tie.Need-up-to-requires Inv-loop μ-loop
-up-to-requires c κs = search needs
+same-length : tie.Need-same-length
+same-length c = search needs
 
-mark-requires : tie.Need-mark-requires Inv-loop μ-loop
-mark-requires c κs = search needs
+same-length-2 : tie.Need-same-length-2
+same-length-2 c = search needs
 
-loop-less : tie.Need-loop-less Inv-loop μ-loop
-loop-less c = let w = goes-on (c .before .before .before .before .before .before .before .before .loop .inv .at) (c .before .before .before .before .before .before .before .loop-test .taken) in omega (arith, c .before .before .mark .ensures .0, c .before .before .mark .kept .0)
-
-loop-again : tie.Need-loop-again Inv-loop μ-loop
-loop-again c = passing-more (set-true (literal-of (c .before .before .before .before .before .before .before .before .before .before .args .code))) (set-local (literal-of (c .before .before .before .before .before .before .before .before .before .before .args .code))) (set-from (c .before .before .before .before .before .before .before .before .before .before .args .code)) (λ l. up-to (set-from (c .before .before .before .before .before .before .before .before .before .before .args .code) l)) (literal-set (c .before .before .before .before .before .before .before .before .before .before .args .code) (c .before .before .before .before .before .before .before .before .before .before .pre .1) (c .before .before .before .before .before .before .before .before .before .before .pre .2)) (c .before .before .before .before .before .before .before .before .loop .inv) (c .before .before .before .before .before .before .before .loop-test .taken) (c .before .before .before .before .before .set-true-from .result) (c .before .before .before .up-to .result) (c .before .before .mark .result) (c .before .before .mark .last .0) (c .before .before .before .before .before .set-true-from .ensures) (c .before .before .before .up-to .ensures ∙ ap up-to (c .before .before .before .before .before .set-true-from .ensures)) (c .before .before .mark .ensures .0) (c .before .before .mark .ensures .1)
-
-same-length : tie.Need-same-length Inv-loop μ-loop
-same-length c = c .before .loop .inv .sized
-
-returns : tie.Need-returns Inv-loop μ-loop
-returns c = passing-ends (set-true (literal-of (c .before .before .before .args .code))) (set-local (literal-of (c .before .before .before .args .code))) (c .before .loop .inv) (c .loop-test .left)
+same-length-3 : tie.Need-same-length-3
+same-length-3 c = search needs
 
 pub set-true-spec : {M : Type 1} → statement M
 set-true-spec =
     tie.close
     (tie.spec
-    Inv-loop
-    μ-loop
-    loop-holds
-    set-true-from-requires
-    up-to-requires
-    mark-requires
-    loop-less
-    loop-again
+    drop-clauses-requires
+    opposite-requires
+    drop-literals-requires
     same-length
+    same-length-2
+    same-length-3
     returns)

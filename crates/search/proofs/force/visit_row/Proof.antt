@@ -1,20 +1,24 @@
 -- `force::visit_row` meets its contract. The invariant: no look has failed. Assumes nothing.
-use Prim.Native.Nat.{ℕ, _≤_, _-_}
-use mathlib.Core.Path.{sym, _∙_, subst}
+use Prim.Native.Nat.{ℕ, _+_, _≤_, _-_}
+use mathlib.Core.Path.{refl, sym, _∙_, subst}
 use mathlib.Core.Logic.{⊎-elim}
 use native.Mathlib.Omega.{arith}
 use lib.ListN.{length, getD}
 use Rattle.codes.specs.Clauses.{Begins}
 use Rattle.search.proofs.ForceLaws.{Going, going-start, going-then, going-at, going-ends, lent-still}
+use Rattle.search.proofs.CallLaws.{lists-starts}
 use Rattle.search.proofs.force.visit_row.Statement.{statement}
 use Rattle.search.proofs.force.visit_row.Tie as tie
 
 abbrev Inv-loop : tie.InvT-loop
 Inv-loop splits codes work₀ sets₀ index mark lo hi c from i end agreement at₀ work sets at =
-    (end ≤ length index) × (end ≤ getD index c 0) × (getD index (c - 1) 0 ≤ at) × Going splits codes lo hi mark work₀ work sets₀ sets
+    (end ≤ length index) × (end ≤ getD index (259 + c) 0) × (getD index c 0 ≤ at) × Going splits codes lo hi mark work₀ work sets₀ sets
 
 abbrev μ-loop : tie.MeasureT-loop
 μ-loop splits codes work₀ sets₀ index mark lo hi c from i end agreement at₀ work sets at = end - at
+
+add-wide16 : tie.Need-add-wide16 Inv-loop μ-loop
+add-wide16 c = omega arith
 
 mul-wide16 : tie.Need-mul-wide16 Inv-loop μ-loop
 mul-wide16 c = omega arith
@@ -30,9 +34,6 @@ lower-requires c κs = tt
 
 agreement-requires : tie.Need-agreement-requires Inv-loop μ-loop
 agreement-requires c κs = tt
-
-sub-wide16 : tie.Need-sub-wide16 Inv-loop μ-loop
-sub-wide16 c = omega arith
 
 mul-wide16-2 : tie.Need-mul-wide16-2 Inv-loop μ-loop
 mul-wide16-2 c = omega arith
@@ -59,7 +60,7 @@ repeats-requires : tie.Need-repeats-requires Inv-loop μ-loop
 repeats-requires c κs = tt
 
 touch-requires : tie.Need-touch-requires Inv-loop μ-loop
-touch-requires c κs = (lent-still (c .before .before .before .before .before .before .before .loop .inv .3) (c .before .before .before .before .before .before .before .before .before .before .before .before .before .before .before .before .before .before .before .pre .0), (omega arith, omega arith, omega arith, subst (λ (x : ℕ). Begins (c .before .before .before .before .before .before .before .before .before .before .before .before .before .before .before .before .before .before .before .args .codes .now) x) (sym (c .before .before .before .before .wide163 .ensures)) (c .before .before .before .before .before .before .before .before .before .before .before .before .before .before .before .before .before .before .before .pre .0 .listed (c .before .before .before .before .before .before .before .before .before .before .before .before .before .before .before .before .before .before .before .args .c) (c .before .before .before .before .before .before .before .loop .at) (c .before .before .before .before .before .before .before .before .before .before .before .before .before .before .before .before .before .before .before .pre .1 .3) (c .before .before .before .before .before .before .before .before .before .before .before .before .before .before .before .before .before .before .before .pre .1 .4) (c .before .before .before .before .before .before .before .loop .inv .2) (omega (arith, c .before .before .before .before .before .before .before .loop .inv .1)))))
+touch-requires c κs = (lent-still (c .before .before .before .before .before .before .before .loop .inv .3) (c .before .before .before .before .before .before .before .before .before .before .before .before .before .before .before .before .before .before .before .pre .0), (omega arith, omega arith, omega arith, subst (λ (x : ℕ). Begins (c .before .before .before .before .before .before .before .before .before .before .before .before .before .before .before .before .before .before .before .args .codes .now) x) (sym (c .before .before .before .before .wide163 .ensures)) (lists-starts (c .before .before .before .before .before .before .before .before .before .before .before .before .before .before .before .before .before .before .before .args .codes .now) (c .before .before .before .before .before .before .before .before .before .before .before .before .before .before .before .before .before .before .before .args .index .now) (c .before .before .before .before .before .before .before .before .before .before .before .before .before .before .before .before .before .before .before .pre .0 .entries) (c .before .before .before .before .before .before .before .before .before .before .before .before .before .before .before .before .before .before .before .pre .0 .coded) (c .before .before .before .before .before .before .before .before .before .before .before .before .before .before .before .before .before .before .before .pre .0 .listed refl) (c .before .before .before .before .before .before .before .before .before .before .before .before .before .before .before .before .before .before .before .args .c) (c .before .before .before .before .before .before .before .loop .at) (c .before .before .before .before .before .before .before .before .before .before .before .before .before .before .before .before .before .before .before .pre .1 .4) (c .before .before .before .before .before .before .before .loop .inv .2) (omega (arith, c .before .before .before .before .before .before .before .loop .inv .1)))))
 
 same-length : tie.Need-same-length Inv-loop μ-loop
 same-length c = c .before .before .before .before .before .touch .kept .1 .1 .0 ∙ c .before .before .before .before .before .before .before .before .before .before .before .before .before .loop .inv .3 .work
@@ -102,12 +103,12 @@ visit-row-spec =
     (tie.spec
     Inv-loop
     μ-loop
+    add-wide16
     mul-wide16
     shared-slice-read-wide16
     wide16-requires
     lower-requires
     agreement-requires
-    sub-wide16
     mul-wide16-2
     shared-slice-read-wide16-2
     wide16-requires-2

@@ -3,6 +3,7 @@ use Prim.Native.Nat.{_+_}
 use mathlib.Core.Path.{_≡_}
 use native.Mathlib.Omega.{arith}
 use borrow.Author.Needs.{needs}
+use Rattle.search.proofs.ForceLaws.{lent-existential}
 use Rattle.search.proofs.solve.follow.Statement.{statement}
 use Rattle.search.proofs.solve.follow.Tie as tie
 
@@ -10,7 +11,7 @@ check-requires : tie.Need-check-requires
 check-requires c κs = search needs
 
 propagate-requires : tie.Need-propagate-requires
-propagate-requires c κs = search needs
+propagate-requires c κs = let p = c .before .before .before .before .before .before .before .before .pre in let existential : c .before .before .before .before .before .before .before .before .args .side ≡ 0 = (let p = c .before .before .before .before .before .before .before .before .pre in omega arith) in (lent-existential existential (c .before .before .before .before .before .before .before .before .pre .0), (omega arith, omega arith, omega arith))
 
 same-length : tie.Need-same-length
 same-length c = search needs

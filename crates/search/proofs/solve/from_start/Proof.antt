@@ -2,7 +2,6 @@
 use borrow.Author.Needs.{needs}
 use native.Mathlib.Omega.{arith}
 use mathlib.Core.Path.{refl, _∙_}
-use Rattle.search.proofs.CallLaws.{zero-at}
 use Rattle.search.proofs.SearchSteps.{start-searched, start-refuted}
 use Rattle.search.proofs.solve.from_start.Statement.{statement}
 use Rattle.search.proofs.solve.from_start.Tie as tie
@@ -11,7 +10,7 @@ slice-aggregate-list-codes : tie.Need-slice-aggregate-list-codes
 slice-aggregate-list-codes c = search needs
 
 list-codes-requires : tie.Need-list-codes-requires
-list-codes-requires c κs = (c .before .before .before .before .before .pre .3, c .before .before .before .before .before .pre .4, refl, zero-at 8451)
+list-codes-requires c κs = (c .before .before .before .before .before .pre .3, c .before .before .before .before .before .pre .4, refl)
 
 slice-aggregate-look-around : tie.Need-slice-aggregate-look-around
 slice-aggregate-look-around c = search needs

@@ -2,6 +2,7 @@
 use mathlib.Core.Path.{_≡_}
 use native.Mathlib.Omega.{arith}
 use borrow.Author.Needs.{needs}
+use Rattle.search.proofs.ForceLaws.{lent-existential}
 use Rattle.search.proofs.solve.look_around.Statement.{statement}
 use Rattle.search.proofs.solve.look_around.Tie as tie
 
@@ -9,7 +10,7 @@ check-requires : tie.Need-check-requires
 check-requires c κs = search needs
 
 survey-requires : tie.Need-survey-requires
-survey-requires c κs = search needs
+survey-requires c κs = let existential : c .before .before .before .before .before .before .before .before .args .side ≡ 0 = (let p = c .before .before .before .before .before .before .before .before .pre in omega arith) in lent-existential existential (c .before .before .before .before .before .before .before .before .pre .0)
 
 same-length : tie.Need-same-length
 same-length c = search needs

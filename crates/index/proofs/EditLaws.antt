@@ -1,0 +1,293 @@
+-- One list: a name found in it and taken out, and the list emptied. Assumes nothing.
+use Prim.Native.Nat.{ℕ, suc, _+_, _-_, _≤_, _<_}
+use native.Mathlib.Numerals.{add-one}
+use native.Mathlib.Nat.{add-zero}
+use native.Mathlib.Omega.{arith}
+use mathlib.Core.Path.{_≡_, refl, sym, ap, ap₂, _∙_}
+use mathlib.Core.Bool.{Bool, true, false, cond, _&&_, and-eq-true-iff}
+use mathlib.Core.List.{List, [], _∷_, _++_, append-assoc}
+use lib.Dec.{eqb, leb, ltb}
+use lib.ListN.{length, getD, set, take, drop, replicate, length-append, length-drop, length-replicate, take-append-drop, replicate-append-replicate}
+use lib.Seq.{slice, slice-empty, slice-cons, length-slice, length-take-le, take-take, take-add, take-suc, drop-cons, drop-drop, drop-append-le, set-at, set-getD, getD-append-add, append-snoc}
+use borrow.Author.Tests.{eqb-true, eq-eqb, ne-eqb, lt-ltb, le-ltb, ltb-true, leb-true, le-leb, lt-leb}
+use Rattle.index.specs.Index.{begin-of, end-of, list-of, in-rooms, has-list, with-list, without, removed, cleared}
+use Rattle.index.specs.Passes.{blanked, before, closed-up}
+use Rattle.index.proofs.LayoutLaws.{end-is}
+
+-- ---- a name is looked for
+
+module _ (t : List ℕ) (s at to : ℕ) (h : at < to) (inside : to ≤ length t) where
+  before-cons : before s (slice at to t) ≡ cond (eqb s (getD t at 0)) 0 (suc (before s (slice (suc at) to t)))
+  before-cons = ap (before s) (slice-cons at to t 0 h inside)
+
+  pub found-here : getD t at 0 ≡ s → at + before s (slice at to t) ≡ at
+  found-here same =
+      ap (λ (n : ℕ). at + n) (before-cons ∙ ap (λ (b : Bool). cond b 0 (suc (before s (slice (suc at) to t)))) (eq-eqb s (getD t at 0) (sym same))) ∙ add-zero at
+
+  pub found-later : (getD t at 0 ≡ s → ⊥) → at + before s (slice at to t) ≡ (at + 1) + before s (slice (at + 1) to t)
+  found-later other =
+      ap (λ (n : ℕ). at + n) (before-cons ∙ ap (λ (b : Bool). cond b 0 (suc (before s (slice (suc at) to t)))) (ne-eqb s (getD t at 0) (λ e. other (sym e))))
+      ∙ (let on : at + suc (before s (slice (suc at) to t)) ≡ at + 1 + before s (slice (suc at) to t) = omega arith in on)
+      ∙ ap (λ (n : ℕ). at + 1 + before s (slice n to t)) (sym (add-one at))
+
+pub found-nowhere : (t : List ℕ) (s to : ℕ) → to + before s (slice to to t) ≡ to
+found-nowhere t s to = ap (λ (l : List ℕ). to + before s l) (slice-empty to t) ∙ add-zero to
+
+-- ---- places closed up
+
+-- What stands behind place `at`, up to i, is one place up.
+unfoldable pub shifted : List ℕ → ℕ → ℕ → List ℕ
+shifted t at i = take at t ++ (slice (suc at) i t ++ drop (i - 1) t)
+
+pub none-shifted : (t : List ℕ) (at : ℕ) → t ≡ shifted t at (at + 1)
+unfolding shifted
+none-shifted t at =
+    sym (ap (λ (n : ℕ). take at t ++ (slice (suc at) n t ++ drop (n - 1) t)) (add-one at)
+    ∙ ap (λ (l : List ℕ). take at t ++ (l ++ drop (suc at - 1) t)) (slice-empty (suc at) t)
+    ∙ ap (λ (n : ℕ). take at t ++ drop n t) (let back : suc at - 1 ≡ at = omega arith in back)
+    ∙ take-append-drop at t)
+
+module _ (t : List ℕ) (at i : ℕ) (after : at < i) where
+  front : List ℕ
+  front = take at t ++ slice (suc at) i t
+
+  as-front : shifted t at i ≡ front ++ drop (i - 1) t
+  unfolding shifted front
+  as-front = sym (append-assoc (take at t) (slice (suc at) i t) (drop (i - 1) t))
+
+  module _ (inside : i ≤ length t) where
+    front-length : length front ≡ i - 1
+    unfolding front
+    front-length =
+        length-append (take at t) (slice (suc at) i t)
+        ∙ omega (arith, length-take-le at t (omega arith), length-slice (suc at) i t inside)
+
+    last-two : drop (i - 1) t ≡ getD t (i - 1) 0 ∷ drop i t
+    last-two =
+        drop-cons t (i - 1) 0 (omega arith)
+        ∙ ap (λ (n : ℕ). getD t (i - 1) 0 ∷ drop n t) (let on : suc (i - 1) ≡ i = omega arith in on)
+
+    split : shifted t at i ≡ front ++ (getD t (i - 1) 0 ∷ drop i t)
+    split = as-front ∙ ap (λ (l : List ℕ). front ++ l) last-two
+
+    put : (v : ℕ) → set (shifted t at i) (i - 1) v ≡ front ++ (v ∷ drop i t)
+    put v = ap (λ (l : List ℕ). set l (i - 1) v) split ∙ set-at front (getD t (i - 1) 0) (drop i t) v (i - 1) front-length
+
+    pub last-blank : set (shifted t at i) (i - 1) 0 ≡ closed-up t at i
+    unfolding closed-up front
+    last-blank = put 0 ∙ append-assoc (take at t) (slice (suc at) i t) (0 ∷ drop i t)
+
+  module _ (more : i < length t) where
+    pub read-shifted : getD (shifted t at i) i 0 ≡ getD t i 0
+    read-shifted =
+        ap (λ (l : List ℕ). getD l i 0) (split (omega arith))
+        ∙ ap (λ (n : ℕ). getD (front ++ (getD t (i - 1) 0 ∷ drop i t)) n 0) (let there : i ≡ length front + 1 = omega (arith, front-length (omega arith)) in there)
+        ∙ getD-append-add front (getD t (i - 1) 0 ∷ drop i t) 1 0
+        ∙ ap (λ (l : List ℕ). getD l 0 0) (drop-cons t i 0 more)
+
+    pub one-shifted : set (shifted t at i) (i - 1) (getD t i 0) ≡ shifted t at (i + 1)
+    unfolding shifted front
+    one-shifted =
+        put (omega arith) (getD t i 0)
+        ∙ sym (append-snoc front (getD t i 0) (drop i t))
+        ∙ ap (λ (l : List ℕ). l ++ drop i t) (append-assoc (take at t) (slice (suc at) i t) (getD t i 0 ∷ []) ∙ ap (λ (l : List ℕ). take at t ++ l) (sym longer))
+        ∙ append-assoc (take at t) (slice (suc at) (i + 1) t) (drop i t)
+        ∙ ap (λ (n : ℕ). take at t ++ (slice (suc at) (i + 1) t ++ drop n t)) (let back : i ≡ i + 1 - 1 = omega arith in back)
+      where
+        longer : slice (suc at) (i + 1) t ≡ slice (suc at) i t ++ (getD t i 0 ∷ [])
+        longer =
+            ap (λ (n : ℕ). drop (suc at) (take n t)) (add-one i)
+            ∙ ap (drop (suc at)) (take-suc t i 0 more)
+            ∙ drop-append-le (suc at) (take i t) (getD t i 0 ∷ []) (omega (arith, length-take-le i t (omega arith)))
+
+-- ---- places blanked
+
+pub none-blanked : (t : List ℕ) (from : ℕ) → t ≡ blanked t from from
+unfolding blanked
+none-blanked t from =
+    sym (ap (λ (n : ℕ). take from t ++ (replicate n 0 ++ drop from t)) (let none : from - from ≡ 0 = omega arith in none) ∙ take-append-drop from t)
+
+module _ (t : List ℕ) (from i : ℕ) (order : from ≤ i) where
+  blank-front : List ℕ
+  blank-front = take from t ++ replicate (i - from) 0
+
+  blank-split : blanked t from i ≡ blank-front ++ drop i t
+  unfolding blanked blank-front
+  blank-split = sym (append-assoc (take from t) (replicate (i - from) 0) (drop i t))
+
+  blank-length : from ≤ length t → length blank-front ≡ i
+  unfolding blank-front
+  blank-length inside =
+      length-append (take from t) (replicate (i - from) 0)
+      ∙ omega (arith, length-take-le from t inside, length-replicate {A = ℕ} (i - from) 0)
+
+  pub one-blanked : i < length t → set (blanked t from i) i 0 ≡ blanked t from (i + 1)
+  unfolding blanked blank-front
+  one-blanked more =
+      ap (λ (l : List ℕ). set l i 0) (blank-split ∙ ap (λ (l : List ℕ). blank-front ++ l) (drop-cons t i 0 more))
+      ∙ set-at blank-front (getD t i 0) (drop (suc i) t) 0 i (blank-length (omega arith))
+      ∙ append-assoc (take from t) (replicate (i - from) 0) (0 ∷ drop (suc i) t)
+      ∙ ap (λ (l : List ℕ). take from t ++ l)
+      (sym (append-assoc (replicate (i - from) 0) (replicate 1 0) (drop (suc i) t))
+      ∙ ap (λ (l : List ℕ). l ++ drop (suc i) t)
+      (replicate-append-replicate {A = ℕ} (i - from) 1 0 ∙ ap (λ (n : ℕ). replicate {A = ℕ} n 0) (let on : i - from + 1 ≡ i + 1 - from = omega arith in on))
+      ∙ ap (λ (n : ℕ). replicate (i + 1 - from) 0 ++ drop n t) (sym (add-one i)))
+
+-- ---- the list of a code
+
+pub record Listed (t : List ℕ) (c : ℕ) : Type 0 where
+  pub sized : length t ≡ 8710
+  pub small : c < 259
+  pub from : 518 ≤ begin-of t c
+  pub order : begin-of t c ≤ end-of t c
+  pub to : end-of t c ≤ 8710
+
+pub has-is : (t : List ℕ) (c : ℕ) → has-list t c ≡ true → Listed t c
+unfolding has-list in-rooms
+has-is t c h =
+    let one = and-eq-true-iff (eqb (length t) 8710) (ltb c 259 && (leb 518 (begin-of t c) && (leb (begin-of t c) (end-of t c) && leb (end-of t c) 8710))) .0 h in
+    let two = and-eq-true-iff (ltb c 259) (leb 518 (begin-of t c) && (leb (begin-of t c) (end-of t c) && leb (end-of t c) 8710)) .0 (one .1) in
+    let three = and-eq-true-iff (leb 518 (begin-of t c)) (leb (begin-of t c) (end-of t c) && leb (end-of t c) 8710) .0 (two .1) in
+    let four = and-eq-true-iff (leb (begin-of t c) (end-of t c)) (leb (end-of t c) 8710) .0 (three .1) in
+    record {
+      sized = eqb-true (length t) 8710 (one .0);
+      small = ltb-true c 259 (two .0);
+      from = leb-true 518 (begin-of t c) (three .0);
+      order = leb-true (begin-of t c) (end-of t c) (four .0);
+      to = leb-true (end-of t c) 8710 (four .1);
+    }
+
+pub other-size : (t : List ℕ) (c : ℕ) → (length t ≡ 8710 → ⊥) → has-list t c ≡ false
+unfolding has-list
+other-size t c other = ap (λ (b : Bool). b && (ltb c 259 && in-rooms (begin-of t c) (end-of t c))) (ne-eqb (length t) 8710 other)
+
+pub no-code : (t : List ℕ) (c : ℕ) → length t ≡ 8710 → 259 ≤ c → has-list t c ≡ false
+unfolding has-list
+no-code t c size above = rw (eq-eqb (length t) 8710 size, le-ltb c 259 above) refl
+
+pub code-list : (t : List ℕ) (c : ℕ) → length t ≡ 8710 → c < 259 → has-list t c ≡ in-rooms (begin-of t c) (end-of t c)
+unfolding has-list
+code-list t c size small = rw (eq-eqb (length t) 8710 size, lt-ltb c 259 small) refl
+
+module _ (from to : ℕ) where
+  pub low-rooms : from < 518 → in-rooms from to ≡ false
+  unfolding in-rooms
+  low-rooms h = ap (λ (b : Bool). b && (leb from to && leb to 8710)) (lt-leb 518 from h)
+
+  pub crossed-rooms : 518 ≤ from → to < from → in-rooms from to ≡ false
+  unfolding in-rooms
+  crossed-rooms h k = rw (le-leb 518 from h, lt-leb from to k) refl
+
+  pub rooms-end : 518 ≤ from → from ≤ to → in-rooms from to ≡ leb to 8710
+  unfolding in-rooms
+  rooms-end h k = rw (le-leb 518 from h, le-leb from to k) refl
+
+-- ---- what is left of a list
+
+without-at : (s : ℕ) (l : List ℕ) → before s l < length l → without s l ≡ take (before s l) l ++ drop (suc (before s l)) l
+without-at s [] h = absurd (omega arith)
+without-at s (x ∷ l) h = go (eqb s x) refl (without-at s l)
+  where
+    go : (b : Bool) → eqb s x ≡ b → (before s l < length l → without s l ≡ take (before s l) l ++ drop (suc (before s l)) l)
+        → cond b l (x ∷ without s l) ≡ take (cond b 0 (suc (before s l))) (x ∷ l) ++ drop (suc (cond b 0 (suc (before s l)))) (x ∷ l)
+    go true e later = refl
+    go false e later = ap (λ (r : List ℕ). x ∷ r) (later (inner (ap (λ (b : Bool). cond b 0 (suc (before s l))) e)))
+      where
+        inner : before s (x ∷ l) ≡ suc (before s l) → before s l < length l
+        inner q = omega arith
+
+without-none : (s : ℕ) (l : List ℕ) → length l ≤ before s l → without s l ≡ l
+without-none s [] h = refl
+without-none s (x ∷ l) h = go (eqb s x) refl (without-none s l)
+  where
+    go : (b : Bool) → eqb s x ≡ b → (length l ≤ before s l → without s l ≡ l) → cond b l (x ∷ without s l) ≡ x ∷ l
+    go true e later = absurd (let q = ap (λ (b : Bool). cond b 0 (suc (before s l))) e in none q)
+      where
+        none : before s (x ∷ l) ≡ 0 → ⊥
+        none q = omega arith
+    go false e later = ap (λ (r : List ℕ). x ∷ r) (later (inner (ap (λ (b : Bool). cond b 0 (suc (before s l))) e)))
+      where
+        inner : before s (x ∷ l) ≡ suc (before s l) → length l ≤ before s l
+        inner q = omega arith
+
+pub not-removed : (t : List ℕ) (c s : ℕ) → has-list t c ≡ false → t ≡ removed t c s
+unfolding removed
+not-removed t c s none = sym (ap (λ (b : Bool). cond b (with-list t c (without s (list-of t c))) t) none)
+
+pub not-cleared : (t : List ℕ) (c : ℕ) → has-list t c ≡ false → t ≡ cleared t c
+unfolding cleared
+not-cleared t c none = sym (ap (λ (b : Bool). cond b (with-list t c []) t) none)
+
+module _ (t : List ℕ) (c : ℕ) (has : has-list t c ≡ true) where
+  is : Listed t c
+  is = has-is t c has
+
+  abbrev from : ℕ
+  from = begin-of t c
+
+  abbrev to : ℕ
+  to = end-of t c
+
+  list-long : length (list-of t c) ≡ to - from
+  list-long = length-slice from to t (omega (arith, is .sized, is .to))
+
+  -- The list as it is, put back.
+  list-back : take from t ++ (list-of t c ++ drop to t) ≡ t
+  list-back =
+      sym (append-assoc (take from t) (list-of t c) (drop to t))
+      ∙ ap (λ (l : List ℕ). l ++ drop to t)
+      (ap (λ (l : List ℕ). l ++ list-of t c) (sym (take-take from to t (is .order))) ∙ take-append-drop from (take to t))
+      ∙ take-append-drop to t
+
+  pub blank-cleared : set (blanked t from to) (259 + c) from ≡ cleared t c
+  unfolding blanked cleared with-list
+  blank-cleared =
+      ap₂ (λ (n m : ℕ). set (take from t ++ (replicate n 0 ++ drop to t)) (259 + c) m) (let a : to - from ≡ to - from - 0 = omega arith in a) (let a : from ≡ from + 0 = omega arith in a)
+      ∙ sym (ap (λ (b : Bool). cond b (with-list t c []) t) has)
+
+  module _ (s : ℕ) where
+    abbrev j : ℕ
+    j = before s (list-of t c)
+
+    -- The name is not there.
+    pub none-removed : to ≤ from + j → t ≡ removed t c s
+    unfolding removed with-list
+    none-removed past =
+        sym (ap (λ (b : Bool). cond b (with-list t c (without s (list-of t c))) t) has
+        ∙ ap (with-list t c) (without-none s (list-of t c) (omega (arith, list-long)))
+        ∙ ap₂ (λ (n m : ℕ). set (take from t ++ (list-of t c ++ (replicate n 0 ++ drop to t))) (259 + c) m)
+        (let a : to - from - length (list-of t c) ≡ 0 = omega (arith, list-long) in a) (let a : from + length (list-of t c) ≡ getD t (259 + c) 0 = omega (arith, list-long, is .order, end-is t c (is .small)) in a)
+        ∙ ap (λ (l : List ℕ). set l (259 + c) (getD t (259 + c) 0)) list-back
+        ∙ set-getD t (259 + c) 0)
+
+    -- It is taken out.
+    module _ (found : from + j < to) where
+      there : j < length (list-of t c)
+      there = omega (arith, list-long)
+
+      front-there : take (from + j) t ≡ take from t ++ take j (list-of t c)
+      front-there =
+          sym (take-take (from + j) to t (omega arith))
+          ∙ take-add from j (take to t)
+          ∙ ap (λ (l : List ℕ). l ++ take j (list-of t c)) (take-take from to t (is .order))
+
+      back-there : slice (suc (from + j)) to t ≡ drop (suc j) (list-of t c)
+      back-there = sym (drop-drop (suc j) from (take to t) ∙ ap (λ (n : ℕ). drop n (take to t)) (let a : from + suc j ≡ suc (from + j) = omega arith in a))
+
+      left-long : length (take j (list-of t c) ++ drop (suc j) (list-of t c)) ≡ to - from - 1
+      left-long =
+          length-append (take j (list-of t c)) (drop (suc j) (list-of t c))
+          ∙ omega (arith, length-take-le j (list-of t c) (omega (arith, there)), length-drop (suc j) (list-of t c), list-long, there)
+
+      pub one-removed : set (closed-up t (from + j) to) (259 + c) (to - 1) ≡ removed t c s
+      unfolding closed-up removed with-list
+      one-removed =
+          ap (λ (l : List ℕ). set l (259 + c) (to - 1))
+          (ap₂ (λ (l m : List ℕ). l ++ (m ++ (0 ∷ drop to t))) front-there back-there
+          ∙ append-assoc (take from t) (take j (list-of t c)) (drop (suc j) (list-of t c) ++ (0 ∷ drop to t))
+          ∙ ap (λ (l : List ℕ). take from t ++ l) (sym (append-assoc (take j (list-of t c)) (drop (suc j) (list-of t c)) (0 ∷ drop to t))))
+          ∙ ap₂ (λ (n m : ℕ). set (take from t ++ ((take j (list-of t c) ++ drop (suc j) (list-of t c)) ++ (replicate n 0 ++ drop to t))) (259 + c) m)
+          (let a : 1 ≡ to - from - length (take j (list-of t c) ++ drop (suc j) (list-of t c)) = omega (arith, left-long) in a)
+          (let a : to - 1 ≡ from + length (take j (list-of t c) ++ drop (suc j) (list-of t c)) = omega (arith, left-long) in a)
+          ∙ ap (with-list t c) (sym (without-at s (list-of t c) there))
+          ∙ sym (ap (λ (b : Bool). cond b (with-list t c (without s (list-of t c))) t) has)

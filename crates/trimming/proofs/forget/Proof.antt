@@ -1,0 +1,51 @@
+-- `trimming::forget` meets its contract.
+-- Assumes nothing.
+use borrow.Author.Needs.{needs}
+use mathlib.Core.Path.{refl, sym, _∙_, ap}
+use mathlib.Core.Bool.{Bool, cond}
+use borrow.Author.Tests.{eq-eqb, ne-eqb}
+use lib.ListN.{getD}
+use Rattle.index.specs.Index.{removed}
+use Rattle.trimming.proofs.forget.Statement.{statement}
+use Rattle.trimming.proofs.forget.Tie as tie
+
+mul-left : tie.Need-mul-left
+mul-left c = search needs
+
+element-copy-out-left : tie.Need-element-copy-out-left
+element-copy-out-left c = search needs
+
+sub-counts : tie.Need-sub-counts
+sub-counts c = search needs
+
+mul-counts : tie.Need-mul-counts
+mul-counts c = search needs
+
+element-write-counts : tie.Need-element-write-counts
+element-write-counts c = search needs
+
+remove-requires : tie.Need-remove-requires
+remove-requires c κs = search needs
+
+same-length : tie.Need-same-length
+same-length c = search needs
+
+returns : tie.Need-returns
+returns c = ((c .before .before .remove .ensures) ∙ sym (ap (λ (b : Bool). cond b (removed ((c .before .before .before .before .before .before .before .args .index .now)) ((c .before .before .before .before .before .before .before .args .x)) ((c .before .before .before .before .before .before .before .args .start))) ((c .before .before .before .before .before .before .before .args .index .now))) (eq-eqb (getD ((c .before .before .before .before .before .before .before .args .counts .now)) ((c .before .before .before .before .before .before .before .args .x)) 0) 1 (c .before .before .before .before .if1 .taken))), refl)
+
+returns-2 : tie.Need-returns-2
+returns-2 c = (sym (ap (λ (b : Bool). cond b (removed ((c .before .before .before .args .index .now)) ((c .before .before .before .args .x)) ((c .before .before .before .args .start))) ((c .before .before .before .args .index .now))) (ne-eqb (getD ((c .before .before .before .args .counts .now)) ((c .before .before .before .args .x)) 0) 1 (c .if1 .left))), refl)
+
+pub forget-spec : {M : Type 1} → statement M
+forget-spec =
+    tie.close
+    (tie.spec
+    mul-left
+    element-copy-out-left
+    sub-counts
+    mul-counts
+    element-write-counts
+    remove-requires
+    same-length
+    returns
+    returns-2)
