@@ -1,6 +1,10 @@
--- Worked names; lists of names; the meaning by position is the meaning by name; closing keeps the meaning.
+-- Worked names; lists of names; the meaning by position is the meaning by name; closing keeps the meaning; the
+-- clauses of a gate list have the circuit's.
 pub mod Examples
 pub mod NameLaws
 pub mod Positions
 pub mod Closing
 pub mod ClosingRight
+pub mod GateHolds
+pub mod GateLaws
+pub mod CircuitRight
