@@ -29,7 +29,7 @@ module _ (F : List ℕ) where
   flat-one (pos (suc v) ∷ c) zs k = rw (flat-one c zs (k .1)) refl
   flat-one (negsuc v ∷ c) zs k = rw (flat-one c zs (k .1)) refl
 
-  pub clauses-flat : (cs : List Clause) → AllIn F cs → clauses (flat cs) ≡ cs
+  clauses-flat : (cs : List Clause) → AllIn F cs → clauses (flat cs) ≡ cs
   clauses-flat [] k = refl
   clauses-flat (c ∷ cs) k = flat-one c (flat cs) (k .0) ∙ ap (λ (ds : List Clause). c ∷ ds) (clauses-flat cs (k .1))
 
@@ -39,7 +39,7 @@ module _ (F : List ℕ) where
   known-one (pos (suc v) ∷ c) zs k m = (k .0, known-one c zs (k .1) m)
   known-one (negsuc v ∷ c) zs k m = (k .0, known-one c zs (k .1) m)
 
-  pub known-flat : (cs : List Clause) → AllIn F cs → Known F (flat cs)
+  known-flat : (cs : List Clause) → AllIn F cs → Known F (flat cs)
   known-flat [] k = tt
   known-flat (c ∷ cs) k = known-one c (flat cs) (k .0) (known-flat cs (k .1))
 
@@ -101,7 +101,7 @@ module _ (F : List ℕ) where
         ),
       )
 
-  wider : (known : List ℕ) → ((v : ℕ) → In v known → In v F) → (c : Clause) → InAll known c → InAll F c
+  pub wider : (known : List ℕ) → ((v : ℕ) → In v known → In v F) → (c : Clause) → InAll known c → InAll F c
   wider known sub [] k = tt
   wider known sub (pos zero ∷ c) k = absurd k
   wider known sub (pos (suc v) ∷ c) k = (sub (suc v) (k .0), wider known sub c (k .1))
@@ -115,7 +115,7 @@ module _ (F : List ℕ) where
   more-known known n sub i v (inl e) = subst (λ (m : ℕ). In m F) e i
   more-known known n sub i v (inr j) = sub v j
 
-  pub list-in : (known : List ℕ) (gates : List Gate) (o : ℤ) → ((v : ℕ) → In v known → In v F) → ((v : ℕ) → In v (names-of gates) → In v F) → Ordered known gates → Here o
+  list-in : (known : List ℕ) (gates : List Gate) (o : ℤ) → ((v : ℕ) → In v known → In v F) → ((v : ℕ) → In v (names-of gates) → In v F) → Ordered known gates → Here o
       → AllIn F (clauses-of gates o)
   list-in known [] o sub new ord h = (h, tt)
   list-in known (gate ∷ gates) o sub new ord h =
@@ -135,6 +135,15 @@ append-distinct (x ∷ xs) ys d e apart = (λ i. go (in-append x xs ys i), appen
     go (inl a) = d .0 a
     go (inr b) = apart x b (inl refl)
 
+pub circuit-distinct : (xs : List ℕ) (gates : List Gate) → Distinct xs → Ordered xs gates → Distinct (circuit-names xs gates)
+circuit-distinct xs gates d ord = append-distinct xs (names-of gates) d (gates-distinct xs gates ord) (λ v i k. later-new xs gates ord v i k)
+
+circuit-in : (xs : List ℕ) (gates : List Gate) (o : ℤ) → Ordered xs gates → InAll (circuit-names xs gates) (o ∷ []) → AllIn (circuit-names xs gates) (clauses-of gates o)
+circuit-in xs gates o ord h = list-in (xs ++ names-of gates) xs gates o (λ v i. in-front v xs (names-of gates) i) (λ v i. in-behind v xs (names-of gates) i) ord h
+
+pub circuit-known : (xs : List ℕ) (gates : List Gate) (o : ℤ) → Ordered xs gates → InAll (circuit-names xs gates) (o ∷ []) → Known (circuit-names xs gates) (flat (clauses-of gates o))
+circuit-known xs gates o ord h = known-flat (xs ++ names-of gates) (clauses-of gates o) (circuit-in xs gates o ord h)
+
 length-last : (ks : List Kind) (xs ys : List ℕ) → length ks ≡ length xs → length (ks ++ existentials ys []) ≡ length (xs ++ ys)
 length-last ks xs ys e = omega (arith, length-append ks (existentials ys []), length-append xs ys, ends ys)
   where
@@ -147,10 +156,10 @@ list-right : (ks : List Kind) (xs : List ℕ) (gates : List Gate) (o : ℤ) → 
     → meaning (ks ++ existentials (names-of gates) []) (matrix (clauses (map (placed (xs ++ names-of gates)) (flat (clauses-of gates o)))))
     ≡ named-meaning ks xs (circuit gates o) g
 list-right ks xs gates o e d ord h g =
-    let all = list-in (xs ++ names-of gates) xs gates o (λ v i. in-front v xs (names-of gates) i) (λ v i. in-behind v xs (names-of gates) i) ord h in
+    let all = circuit-in xs gates o ord h in
     positions-right (ks ++ existentials (names-of gates) []) (xs ++ names-of gates) (flat (clauses-of gates o)) g (length-last ks xs (names-of gates) e)
-    (append-distinct xs (names-of gates) d (gates-distinct xs gates ord) (λ v i k. later-new xs gates ord v i k))
-    (known-flat (xs ++ names-of gates) (clauses-of gates o) all)
+    (circuit-distinct xs gates d ord)
+    (circuit-known xs gates o ord h)
     ∙ ap (λ (cs : List Clause). named-meaning (ks ++ existentials (names-of gates) []) (xs ++ names-of gates) (named-matrix cs) g)
     (clauses-flat (xs ++ names-of gates) (clauses-of gates o) all)
     ∙ gate-list-right ks xs gates o e ord g
