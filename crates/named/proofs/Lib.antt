@@ -2,7 +2,9 @@
 -- clauses of a gate list have the circuit's.
 pub mod Examples
 pub mod NameLaws
+pub mod PlaceLaws
 pub mod Positions
+pub mod CauseLaws
 pub mod Closing
 pub mod ClosingRight
 pub mod GateHolds

@@ -8,8 +8,9 @@ use mathlib.Core.List.{List, [], _∷_, _++_}
 use mathlib.Core.Logic.{_⊎_, inl, inr}
 use borrow.Author.Tests.{eq-eqb, ne-eqb, eqb-true, eqb-false}
 use lib.Dec.{eqb}
-use lib.IntN.{ℤ, pos, negsuc}
-use lib.ListN.{length}
+use lib.IntN.{ℤ, pos, negsuc, natAbs}
+use lib.ListN.{length, getD, take, drop, take-append-drop}
+use lib.Seq.{take-take}
 use Rattle.named.specs.Named.{among, place-from, position, signed, placed}
 use Rattle.named.specs.Names.{In, Distinct, Above, Rising, UpTo, Known}
 use Rattle.named.specs.Closing.{insert}
@@ -36,6 +37,14 @@ pub not-among : (v : ℕ) (xs : List ℕ) → among v xs ≡ false → In v xs �
 not-among v xs e i = true≢false (sym (in-among v xs i) ∙ e)
 
 -- Two lists in a row.
+or-assoc : (a b c : Bool) → (a || (b || c)) ≡ ((a || b) || c)
+or-assoc true b c = refl
+or-assoc false b c = refl
+
+pub among-append : (v : ℕ) (xs ys : List ℕ) → among v (xs ++ ys) ≡ (among v xs || among v ys)
+among-append v [] ys = refl
+among-append v (x ∷ xs) ys = ap (λ (b : Bool). eqb x v || b) (among-append v xs ys) ∙ or-assoc (eqb x v) (among v xs) (among v ys)
+
 pub in-append : (v : ℕ) (xs ys : List ℕ) → In v (xs ++ ys) → In v xs ⊎ In v ys
 in-append v [] ys i = inr i
 in-append v (x ∷ xs) ys (inl e) = inl (inl e)
@@ -58,6 +67,16 @@ pub distinct-front : (xs ys : List ℕ) → Distinct (xs ++ ys) → Distinct xs
 distinct-front [] ys d = tt
 distinct-front (x ∷ xs) ys d = (λ i. d .0 (in-front x xs ys i), distinct-front xs ys (d .1))
 
+pub distinct-take : (m n : ℕ) (xs : List ℕ) → m ≤ n → Distinct (take n xs) → Distinct (take m xs)
+distinct-take m n xs h d =
+    distinct-front (take m xs) (drop m (take n xs))
+    (subst (λ (l : List ℕ). Distinct (l ++ drop m (take n xs))) (take-take m n xs h) (subst Distinct (sym (take-append-drop m (take n xs))) d))
+
+pub distinct-last : (xs : List ℕ) (v : ℕ) → Distinct (xs ++ (v ∷ [])) → In v xs → ⊥
+distinct-last [] v d i = i
+distinct-last (x ∷ xs) v d (inl e) = d .0 (in-behind x xs (v ∷ []) (inl (sym e)))
+distinct-last (x ∷ xs) v d (inr i) = distinct-last xs v (d .1) i
+
 -- A name behind the others, which it is none of.
 pub distinct-behind : (xs : List ℕ) (v : ℕ) → Distinct xs → (In v xs → ⊥) → Distinct (xs ++ (v ∷ []))
 distinct-behind [] v d new = (λ i. i, tt)
@@ -73,6 +92,11 @@ up-to-in m [] v u i = absurd i
 up-to-in m (x ∷ xs) v u (inl e) = omega (arith, u .0)
 up-to-in m (x ∷ xs) v u (inr i) = up-to-in m xs v (u .1) i
 
+pub up-to-at : (m : ℕ) (xs : List ℕ) (i : ℕ) → UpTo m xs → getD xs i 0 ≤ m
+up-to-at m [] i u = omega arith
+up-to-at m (x ∷ xs) zero u = u .0
+up-to-at m (x ∷ xs) (suc i) u = up-to-at m xs i (u .1)
+
 pub up-to-append : (m : ℕ) (xs ys : List ℕ) → UpTo m xs → UpTo m ys → UpTo m (xs ++ ys)
 up-to-append m [] ys u w = w
 up-to-append m (x ∷ xs) ys u w = (u .0, up-to-append m xs ys (u .1) w)
@@ -83,6 +107,16 @@ known-more xs ys more [] k = tt
 known-more xs ys more (pos zero ∷ zs) k = known-more xs ys more zs k
 known-more xs ys more (pos (suc v) ∷ zs) k = (more (suc v) (k .0), known-more xs ys more zs (k .1))
 known-more xs ys more (negsuc v ∷ zs) k = (more (suc v) (k .0), known-more xs ys more zs (k .1))
+
+-- The names of known entries are as small as the names.
+pub known-at : (m : ℕ) (xs : List ℕ) → UpTo m xs → (zs : List ℤ) → Known xs zs → (i : ℕ) → natAbs (getD zs i (pos 0)) ≤ m
+known-at m xs u [] k i = omega arith
+known-at m xs u (pos zero ∷ zs) k zero = omega arith
+known-at m xs u (pos zero ∷ zs) k (suc i) = known-at m xs u zs k i
+known-at m xs u (pos (suc v) ∷ zs) k zero = up-to-in m xs (suc v) u (k .0)
+known-at m xs u (pos (suc v) ∷ zs) k (suc i) = known-at m xs u zs (k .1) i
+known-at m xs u (negsuc v ∷ zs) k zero = up-to-in m xs (suc v) u (k .0)
+known-at m xs u (negsuc v ∷ zs) k (suc i) = known-at m xs u zs (k .1) i
 
 pub known-append : (xs : List ℕ) (zs ws : List ℤ) → Known xs zs → Known xs ws → Known xs (zs ++ ws)
 known-append xs [] ws k l = l
@@ -127,6 +161,23 @@ among-insert w v (x ∷ xs) = go (ordered v x) (among-insert w (max v x) xs)
         → (eqb (min v x) w || among w (insert (max v x) xs)) ≡ (eqb v w || (eqb x w || among w xs))
     go (stays a b l) ih = rw (ih, a, b) refl
     go (moves a b l) ih = rw (ih, a, b) (swap-or (eqb x w) (eqb v w) (among w xs))
+
+-- A name behind others, or among rising ones in front of others, is there as they are.
+or-swap : (a b : Bool) → (a || (b || false)) ≡ (b || a)
+or-swap true true = refl
+or-swap true false = refl
+or-swap false true = refl
+or-swap false false = refl
+
+pub among-behind : (w v : ℕ) (xs : List ℕ) → among w (xs ++ (v ∷ [])) ≡ (eqb v w || among w xs)
+among-behind w v xs = among-append w xs (v ∷ []) ∙ or-swap (among w xs) (eqb v w)
+
+pub among-inserted : (w v : ℕ) (xs ys : List ℕ) → among w (insert v xs ++ ys) ≡ (eqb v w || among w (xs ++ ys))
+among-inserted w v xs ys =
+    among-append w (insert v xs) ys
+    ∙ ap (λ (b : Bool). b || among w ys) (among-insert w v xs)
+    ∙ sym (or-assoc (eqb v w) (among w xs) (among w ys))
+    ∙ ap (λ (b : Bool). eqb v w || b) (sym (among-append w xs ys))
 
 pub insert-has : (v : ℕ) (xs ys : List ℕ) (w : ℕ) → In w (insert v xs ++ ys) → (v ≡ w) ⊎ In w (xs ++ ys)
 insert-has v [] ys w i = i
@@ -221,6 +272,6 @@ rising-insert v (x ∷ xs) r new =
     let p = parted v x xs r new in
     above-insert (min v x) (max v x) xs (p .0) (p .1) (p .2)
 
-pub up-to-insert : (m v : ℕ) (xs : List ℕ) → v ≤ m → UpTo m xs → UpTo m (insert v xs)
-up-to-insert m v [] h u = (h, tt)
-up-to-insert m v (x ∷ xs) h u = (omega (arith, u .0), up-to-insert m (max v x) xs (omega (arith, u .0)) (u .1))
+pub up-to-inserted : (m v : ℕ) (xs ys : List ℕ) → v ≤ m → UpTo m (xs ++ ys) → UpTo m (insert v xs ++ ys)
+up-to-inserted m v [] ys h u = (h, u)
+up-to-inserted m v (x ∷ xs) ys h u = (omega (arith, u .0), up-to-inserted m (max v x) xs ys (omega (arith, u .0)) (u .1))

@@ -123,6 +123,10 @@ module _ (names : List ℕ) where
       go false q (inl same) more = absurd (eqb-false x v q same)
       go false q (inr there) more = (more there .0, rw q (more there .1))
 
+  pub position-some : (v : ℕ) → In v names → (i : ℕ) × (position v names ≡ suc i)
+  unfolding position
+  position-some v i = place-some 0 v names i
+
   map-onto : (z : ℤ) (cs : List Clause) → map (map (placed names)) (onto z cs) ≡ onto (placed names z) (map (map (placed names)) cs)
   map-onto z [] = refl
   map-onto z (c ∷ cs) = refl

@@ -1,9 +1,10 @@
 // What is read, closed and written: the names bound nowhere in front of the bound ones, their kinds, and each entry by its position.
 ghost use mathlib.Core.Path.{_≡_};
 ghost use Prim.Native.Nat.{ℕ, _+_, _≤_, _<_};
-ghost use mathlib.Core.List.{List, [], _++_, map};
+ghost use mathlib.Core.List.{List, [], map};
 ghost use lib.IntN.{pos, natAbs};
 ghost use lib.ListN.{length, getD, take, drop, replicate};
+ghost use lib.Seq.{paste};
 ghost use Rattle.formula.specs.Formula.{max-unknowns, max-entries};
 ghost use Rattle.named.specs.Named.{placed};
 ghost use Rattle.named.specs.Names.{Distinct, UpTo};
@@ -48,7 +49,7 @@ pub(crate) fn hand_over(
 // Copies n names, from one place on to another.
 fn copy_names(to: &mut [u16], at: usize, from: &[u16; Formula::UNKNOWNS], start: usize, n: usize)
     requires { ⌜ (at + n ≤ length (now to)) × (length (now from) ≡ max-unknowns) × (start + n ≤ max-unknowns) ⌝ }
-    ensures { λ _. ⌜ now (to .exit) ≡ take at (now (to .entry)) ++ (take n (drop start (now (from .entry))) ++ drop (at + n) (now (to .entry))) ⌝ }
+    ensures { λ _. ⌜ now (to .exit) ≡ paste (now (to .entry)) at (drop start (now (from .entry))) n ⌝ }
 {
     let mut i = 0;
     while i < n {
@@ -60,7 +61,7 @@ fn copy_names(to: &mut [u16], at: usize, from: &[u16; Formula::UNKNOWNS], start:
 // Copies the first n kinds, to a place on.
 fn copy_kinds(to: &mut [u8], at: usize, from: &[u8; Formula::UNKNOWNS], n: usize)
     requires { ⌜ (at + n ≤ length (now to)) × (length (now from) ≡ max-unknowns) × (n ≤ max-unknowns) ⌝ }
-    ensures { λ _. ⌜ now (to .exit) ≡ take at (now (to .entry)) ++ (take n (now (from .entry)) ++ drop (at + n) (now (to .entry))) ⌝ }
+    ensures { λ _. ⌜ now (to .exit) ≡ paste (now (to .entry)) at (now (from .entry)) n ⌝ }
 {
     let mut i = 0;
     while i < n {
@@ -72,7 +73,7 @@ fn copy_kinds(to: &mut [u8], at: usize, from: &[u8; Formula::UNKNOWNS], n: usize
 // Makes the first n kinds existential.
 fn clear_kinds(to: &mut [u8], n: usize)
     requires { ⌜ n ≤ length (now to) ⌝ }
-    ensures { λ _. ⌜ now (to .exit) ≡ replicate n 0 ++ drop n (now (to .entry)) ⌝ }
+    ensures { λ _. ⌜ now (to .exit) ≡ paste (now (to .entry)) 0 (replicate n 0) n ⌝ }
 {
     let mut i = 0;
     while i < n {
@@ -85,7 +86,7 @@ fn clear_kinds(to: &mut [u8], n: usize)
 fn place_entries(to: &mut [i32], from: &[i32; Formula::ENTRIES], m: usize, names: &[u16], n: usize)
     requires { ⌜ (m ≤ length (now to)) × (length (now from) ≡ max-entries) × (m ≤ max-entries) × (n ≤ length (now names)) × (n ≤ max-unknowns) ⌝ }
     requires { ⌜ Placeable (take n (now names)) (take m (now from)) ⌝ }
-    ensures { λ _. ⌜ now (to .exit) ≡ map (placed (take n (now (names .entry)))) (take m (now (from .entry))) ++ drop m (now (to .entry)) ⌝ }
+    ensures { λ _. ⌜ now (to .exit) ≡ paste (now (to .entry)) 0 (map (placed (take n (now (names .entry)))) (now (from .entry))) m ⌝ }
 {
     let mut places = [0u8; names::PLACES];
     index_names(&mut places, names, n);
@@ -99,17 +100,17 @@ fn index_names(places: &mut [u8; names::PLACES], names: &[u16], n: usize)
 {
     let mut i = 0;
     while i < n {
-        let v = name_at(names, i);
+        let v = wide(names[i]);
         i += 1;
         places[v] = i as u8;
     }
 }
 
-fn name_at(names: &[u16], i: usize) -> usize
-    requires { ⌜ i < length (now names) ⌝ }
-    ensures { λ r. ⌜ r ≡ getD (now (names .entry)) i 0 ⌝ }
+// A name as an index.
+fn wide(name: u16) -> usize
+    ensures { λ r. ⌜ r ≡ name ⌝ }
 {
-    names[i] as usize
+    name as usize
 }
 
 // Writes the first m entries, each by the position that the table has.
@@ -120,7 +121,7 @@ fn write_entries(
     places: &[u8; names::PLACES],
 )
     requires { ⌜ (m ≤ length (now to)) × (length (now from) ≡ max-entries) × (m ≤ max-entries) × ((i : ℕ) → i < m → natAbs (getD (now from) i (pos 0)) ≤ max-variables) ⌝ }
-    ensures { λ _. ⌜ ((names : List ℕ) → Indexed names (now (places .entry)) → now (to .exit) ≡ map (placed names) (take m (now (from .entry))) ++ drop m (now (to .entry))) ⌝ }
+    ensures { λ _. ⌜ ((names : List ℕ) → Indexed names (now (places .entry)) → now (to .exit) ≡ paste (now (to .entry)) 0 (map (placed names) (now (from .entry))) m) ⌝ }
 {
     let mut i = 0;
     while i < m {
@@ -135,10 +136,10 @@ fn by_position(entry: i32, places: &[u8; names::PLACES]) -> i32
     requires { ⌜ natAbs entry ≤ max-variables ⌝ }
     ensures { λ r. ⌜ ((names : List ℕ) → Indexed names (now (places .entry)) → r ≡ placed names entry) ⌝ }
 {
-    if entry == 0 {
+    let v = formula::magnitude(entry) as usize;
+    if v == 0 {
         return 0;
     }
-    let v = formula::magnitude(entry) as usize;
     let p = position_of(places[v]);
     names::signed(entry < 0, p)
 }

@@ -1,6 +1,6 @@
 // Names bound and names placed in front, and the words of prefix and clause lines taken one by one.
 ghost use mathlib.Core.Path.{_≡_};
-ghost use Prim.Native.Nat.{_+_, _-_, _≤_, _<_, min, max};
+ghost use Prim.Native.Nat.{_+_, _≤_, _<_, min, max};
 ghost use mathlib.Core.Bool.{true, cond};
 ghost use mathlib.Core.List.{_++_};
 ghost use lib.Dec.{ltb};
@@ -180,12 +180,13 @@ fn entry(word: &[u8], variables: usize, places: &[u8; PLACES], n: usize, m: usiz
 fn place_cause(new: bool, n: usize, m: usize) -> u32
     ensures { λ r. ⌜ r ≡ cond new (cond (ltb n max-unknowns) (cause-of-room m) 14) (cause-of-room m) ⌝ }
 {
-    if new {
-        if n < Formula::UNKNOWNS {} else {
-            return 14;
-        }
+    if new {} else {
+        return room_cause(m);
     }
-    room_cause(m)
+    if n < Formula::UNKNOWNS {
+        return room_cause(m);
+    }
+    14
 }
 
 fn room_cause(m: usize) -> u32
@@ -221,18 +222,19 @@ fn place(
     if new {} else {
         return free;
     }
-    insert(names, bound, bound + free, name as u16);
+    insert(names, bound, free, name as u16);
     places[name] = 1;
     free + 1
 }
 
-// Inserts a name into the rising ones between two places: of two names the smaller stays, the larger goes on.
-fn insert(names: &mut [u16; Formula::UNKNOWNS], start: usize, end: usize, name: u16)
-    requires { ⌜ (start ≤ end) × (end < max-unknowns) × (length (now names) ≡ max-unknowns) ⌝ }
-    ensures { λ _. ⌜ now (names .exit) ≡ take start (now (names .entry)) ++ (inserted name (take (end - start) (drop start (now (names .entry)))) ++ drop (end + 1) (now (names .entry))) ⌝ }
+// Inserts a name into the rising ones behind the bound ones: of two names the smaller stays, the larger goes on.
+fn insert(names: &mut [u16; Formula::UNKNOWNS], bound: usize, free: usize, name: u16)
+    requires { ⌜ (bound + free < max-unknowns) × (length (now names) ≡ max-unknowns) ⌝ }
+    ensures { λ _. ⌜ now (names .exit) ≡ take bound (now (names .entry)) ++ (inserted name (free-in bound free (now (names .entry))) ++ drop (bound + free + 1) (now (names .entry))) ⌝ }
 {
+    let end = bound + free;
     let mut carry = name;
-    let mut i = start;
+    let mut i = bound;
     while i < end {
         let x = names[i];
         names[i] = smaller(carry, x);
