@@ -23,7 +23,7 @@ use Rattle.named.specs.Gates.{Gate, clauses-of, names-of}
 use Rattle.named.specs.CircuitRight.{Some, Fits, Ordered, circuit-kinds, circuit-names}
 use Rattle.named.proofs.NameLaws.{among-in, not-among, in-append, in-front, in-behind, distinct-behind, up-to-append}
 use Rattle.named.proofs.CircuitRight.{wider}
-use Rattle.text.specs.Reading.{max-variables, State, bind, entry, input-cause, first-cause, inputs-cause, inputs-of, function-of, gate-of, entries-of-gate, with-gate}
+use Rattle.text.specs.Reading.{max-variables, State, bind, literal-of, input-cause, first-cause, inputs-cause, inputs-of, function-of, gate-of, entries-of-gate, with-gate}
 use Rattle.text.specs.GatesRight.{Drawing, names-in, with-block, with-gate-line}
 
 -- The entries of the gates' clauses, before O.
@@ -124,10 +124,14 @@ ordered-behind : (known : List ℕ) (gates : List Gate) (gate : Gate) → Ordere
     → InAll (known ++ names-of gates) (gate .inputs) → Fits (gate .function) (gate .inputs) → Ordered known (gates ++ (gate ∷ []))
 ordered-behind known [] gate ord new some ins fits =
     ((λ i. new (in-front (gate .name) known [] i)), some, wider known (known ++ []) (λ v i. subst (In v) (append-nil known) i) (gate .inputs) ins, fits, tt)
-ordered-behind known (g ∷ gs) gate ord new some ins fits =
-    (ord .0, ord .1, ord .2, ord .3,
-    ordered-behind (g .name ∷ known) gs gate (ord .4) (λ i. new (back known (g .name) (names-of gs) (gate .name) i)) some
-    (wider ((g .name ∷ known) ++ names-of gs) (known ++ (g .name ∷ names-of gs)) (λ v i. moved known (g .name) (names-of gs) v i) (gate .inputs) ins) fits)
+ordered-behind known (g ∷ gs) gate ord new some ins fits = (
+  ord .0,
+  ord .1,
+  ord .2,
+  ord .3,
+  ordered-behind (g .name ∷ known) gs gate (ord .4) (λ i. new (back known (g .name) (names-of gs) (gate .name) i)) some
+      (wider ((g .name ∷ known) ++ names-of gs) (known ++ (g .name ∷ names-of gs)) (λ v i. moved known (g .name) (names-of gs) v i) (gate .inputs) ins) fits,
+)
 
 some-name : (v : ℕ) → (v ≡ 0 → ⊥) → Some (pos v)
 some-name zero some = absurd (some refl)
@@ -181,21 +185,16 @@ first-cause-none : (a b : ℕ) → first-cause a b ≡ 0 → (a ≡ 0) × (b ≡
 first-cause-none zero b e = (refl, e)
 first-cause-none (suc a) b e = absurd (omega arith)
 
-entry-input : (w : Bytes) → is-zero w ≡ false → entry w ≡ signed (negative w) (number (unsigned w))
-unfolding entry
-entry-input w e = rw e refl
-
 pub inputs-known : (names : List ℕ) → (In 0 names → ⊥) → (ws : List Bytes) → inputs-cause names ws ≡ 0 → InAll names (inputs-of ws)
 inputs-known names none [] e = tt
 inputs-known names none (w ∷ ws) e = go (is-zero w) refl e (inputs-known names none ws)
   where
     go : (b : Bool) → is-zero w ≡ b → cond b 0 (first-cause (input-cause names w) (inputs-cause names ws)) ≡ 0 → (inputs-cause names ws ≡ 0 → InAll names (inputs-of ws))
-        → InAll names (cond b [] (entry w ∷ inputs-of ws))
+        → InAll names (cond b [] (literal-of w ∷ inputs-of ws))
     go true q e more = tt
     go false q e more =
         let both = first-cause-none (input-cause names w) (inputs-cause names ws) e in
-        in-all-more names (entry w) (inputs-of ws)
-        (subst (λ (z : ℤ). InAll names (z ∷ [])) (sym (entry-input w q)) (known-literal names (negative w) (number (unsigned w)) none (input-known names w (both .0))))
+        in-all-more names (literal-of w) (inputs-of ws) (known-literal names (negative w) (number (unsigned w)) none (input-known names w (both .0)))
         (more (both .1))
 
 -- The shape of a gate line: its name is not 0, and `^` has two inputs.
@@ -215,7 +214,7 @@ two-inputs (a ∷ b ∷ c ∷ []) shape three = go (is-zero a) (is-literal a) (i
   where
     go : (p p′ q q′ r r′ : Bool) → is-zero a ≡ p → is-zero b ≡ q → is-zero c ≡ r
         → cond p false (p′ && cond q false (q′ && cond r true (r′ && false))) ≡ true
-        → length (cond p [] (entry a ∷ cond q [] (entry b ∷ cond r [] (entry c ∷ [])))) ≡ 2
+        → length (cond p [] (literal-of a ∷ cond q [] (literal-of b ∷ cond r [] (literal-of c ∷ [])))) ≡ 2
     go true p′ q q′ r r′ ea eb ec e = absurd (false≢true e)
     go false p′ true q′ r r′ ea eb ec e = absurd (false≢true (and-true p′ false e .1))
     go false p′ false q′ true r′ ea eb ec e = refl

@@ -12,7 +12,7 @@ use Rattle.formula.specs.Formula.{max-unknowns, prefix}
 use Rattle.formula.specs.Meaning.{verdict}
 use Rattle.gates.specs.Clauses.{flat}
 use Rattle.lines.specs.Lines.{Bytes, Line, ended, unended, lines, words, first, rest, third, fourth, fifth}
-use Rattle.lines.specs.Numbers.{number, is-zero}
+use Rattle.lines.specs.Numbers.{number, unsigned, is-zero}
 use Rattle.lines.specs.Shapes.{is-comment, is-problem, is-prefix, is-gate}
 use Rattle.named.specs.Named.{Values, among, placed, named-meaning}
 use Rattle.named.specs.Names.{In, Distinct, UpTo, InAll, Known}
@@ -21,14 +21,14 @@ use Rattle.named.specs.Gates.{Gate, circuit, clauses-of}
 use Rattle.named.specs.CircuitRight.{circuit-kinds, circuit-names}
 use Rattle.named.proofs.NameLaws.{among-in}
 use Rattle.named.proofs.CircuitRight.{circuit-distinct, circuit-known, circuit-right}
-use Rattle.text.specs.Reading.{max-variables, State, Step, went, fault, unless, name-cause, bind, bind-all, kind-of-word, prefix-line, entry, gate-cause, inputs-cause, gate-of, limit-cause, clauses-of-gate, entries-of-gate, with-gate, gate-line, body-line, step, Scan, whole, stopped, go-on, clause-list, gate-list, with-output, output-cause, finish, body, problem-cause, range-of-output, max-items, opened, Read, taken, closed, result-of, scan, read-gates, gates-read}
+use Rattle.text.specs.Reading.{max-variables, State, Step, went, fault, unless, name-cause, bind, bind-all, kind-of-word, prefix-line, literal-of, gate-cause, inputs-cause, gate-of, limit-cause, clauses-of-gate, entries-of-gate, with-gate, gate-line, body-line, step, Scan, whole, stopped, go-on, clause-list, gate-list, with-output, output-cause, finish, body, problem-cause, output-range, max-items, opened, Read, taken, closed, result-of, scan, read-gates, gates-read}
 use Rattle.text.specs.Steps.{Placeable}
 use Rattle.text.specs.GatesRight.{Drawing, names-in, with-block, with-gate-line, draw-line, draw, p-words, behind-p, nothing, drawing, output-of, GatesRight}
 use Rattle.text.proofs.ScanLaws.{cond-so, Steps, Scans, unless-so, go-on-so, bind-all-so, body-so, scan-so}
 use Rattle.text.proofs.DrawnLaws.{made-entries, Drawn, blocks, bind-drawn, block-none, block-more, made-output, gate-drawn, known-literal, inputs-known, Shaped, gate-shaped}
 
 -- Of the causes nothing is said here.
-abbrev Any : ℕ → Type 0
+abbrev pub Any : ℕ → Type 0
 Any n = Unit {0}
 
 -- A prefix line.
@@ -183,7 +183,7 @@ output-ended : (s : State) (d : Drawing) (o : ℤ) → Drawn s d → output-caus
 unfolding closed
 output-ended s d o t none =
     let here : InAll (circuit-names (d .names) (d .gates)) (o ∷ []) =
-        subst (λ (l : List ℕ). InAll l (o ∷ [])) (t .names) (literal-known (s .names) o (t .some) (output-known s o none)) in
+    subst (λ (l : List ℕ). InAll l (o ∷ [])) (t .names) (literal-known (s .names) o (t .some) (output-known s o none)) in
     let entries : s .entries ++ (o ∷ pos 0 ∷ []) ≡ flat (clauses-of (d .gates) o) = ap (λ (l : List ℤ). l ++ (o ∷ pos 0 ∷ [])) (t .entries) ∙ made-output (d .gates) o in
     let all : closed-names (s .free) (s .names) ≡ circuit-names (d .names) (d .gates) = ap₂ closed-names (t .free) (t .names) in
     record {
@@ -232,7 +232,7 @@ body-ended all o line ls s k p =
 few-variables : (line : Bytes) → problem-cause true line ≡ 0 → number (third (words line)) ≤ max-variables
 unfolding problem-cause
 few-variables line e =
-    go (is-problem true line) (ltb max-variables (number (third (words line)))) (ltb (max-items true) (number (fourth (words line)))) (range-of-output true (words line)) refl e
+    go (is-problem true line) (ltb max-variables (number (third (words line)))) (ltb (max-items true) (number (fourth (words line)))) (output-range true (number (unsigned (fifth (words line))))) refl e
   where
     go : (a b : Bool) (c : Bool) (d : ℕ) → ltb max-variables (number (third (words line))) ≡ b → _≡_ {A = ℕ} (cond a (cond b 11 (cond c 11 d)) 10) 0
         → number (third (words line)) ≤ max-variables
@@ -257,21 +257,21 @@ opened-drawn ws few =
       few = few;
     }
 
-abbrev All-ended : List Line → State → Type 0
-All-ended ls t = Ended (draw nothing (behind-p ls)) (entry (fifth (p-words ls))) t
+abbrev pub All-ended : List Line → State → Type 0
+All-ended ls t = Ended (draw nothing (behind-p ls)) (literal-of (fifth (p-words ls))) t
 
-p-line-ended : (line : Bytes) (ls : List Line) (x : Scan) → is-comment line ≡ false → Scans Any (Ended (draw nothing ls) (entry (fifth (words line)))) x
+p-line-ended : (line : Bytes) (ls : List Line) (x : Scan) → is-comment line ≡ false → Scans Any (Ended (draw nothing ls) (literal-of (fifth (words line)))) x
     → Scans Any (All-ended (ended line ∷ ls)) x
 p-line-ended line ls x c p = go (is-comment line) c
   where
-    go : (b : Bool) → b ≡ false → Scans Any (Ended (draw nothing (cond b (behind-p ls) ls)) (entry (fifth (cond b (p-words ls) (words line))))) x
+    go : (b : Bool) → b ≡ false → Scans Any (Ended (draw nothing (cond b (behind-p ls) ls)) (literal-of (fifth (cond b (p-words ls) (words line))))) x
     go true e = absurd (true≢false e)
     go false e = p
 
 c-line-ended : (line : Bytes) (ls : List Line) (t : State) → is-comment line ≡ true → All-ended ls t → All-ended (ended line ∷ ls) t
 c-line-ended line ls t c p = go (is-comment line) c
   where
-    go : (b : Bool) → b ≡ true → Ended (draw nothing (cond b (behind-p ls) ls)) (entry (fifth (cond b (p-words ls) (words line)))) t
+    go : (b : Bool) → b ≡ true → Ended (draw nothing (cond b (behind-p ls) ls)) (literal-of (fifth (cond b (p-words ls) (words line)))) t
     go true e = p
     go false e = absurd (false≢true e)
 
@@ -279,13 +279,13 @@ pub scan-ended : (text : Bytes) (kinds literals names : ℕ) → Scans Any (All-
 scan-ended text kinds literals names =
     scan-so Any true tt All-ended
     (λ line ls k c.
-    let lines-behind : State → Scan = λ t. body (gate-list (entry (fifth (words line))) k) t (suc k) ls in
+    let lines-behind : State → Scan = λ t. body (gate-list (literal-of (fifth (words line))) k) t (suc k) ls in
     let opening = unless (problem-cause true line) (went (opened (words line))) in
     p-line-ended line ls (go-on opening k lines-behind) c
-    (go-on-so Any (λ s. Lines (draw nothing ls) ls s) (Ended (draw nothing ls) (entry (fifth (words line)))) opening k lines-behind
+    (go-on-so Any (λ s. Lines (draw nothing ls) ls s) (Ended (draw nothing ls) (literal-of (fifth (words line)))) opening k lines-behind
     (unless-so Any (λ s. Lines (draw nothing ls) ls s) (problem-cause true line) (went (opened (words line))) (λ _. tt)
     (λ none. record { so-far = nothing; drawn = opened-drawn (words line) (few-variables line none); whole = refl }))
-    (λ s p. body-ended (draw nothing ls) (entry (fifth (words line))) k ls s (suc k) p)))
+    (λ s p. body-ended (draw nothing ls) (literal-of (fifth (words line))) k ls s (suc k) p)))
     c-line-ended tt text kinds literals names
 
 pub gates-right : (text : Bytes) → GatesRight text
@@ -296,6 +296,6 @@ gates-right text r e g = go (scan true text 128 8192 128) (scan-ended text 128 8
     carried value s same right = subst (λ (q : Read). verdict (q .kinds) (q .literals) ≡ value) same right
 
     go : (x : Scan) → Scans Any (All-ended (lines text)) x → result-of x ≡ taken r
-        → verdict (r .kinds) (r .literals) ≡ named-meaning (prefix (draw nothing (behind-p (lines text)) .kinds)) (draw nothing (behind-p (lines text)) .names) (circuit (draw nothing (behind-p (lines text)) .gates) (entry (fifth (p-words (lines text))))) g
+        → verdict (r .kinds) (r .literals) ≡ named-meaning (prefix (draw nothing (behind-p (lines text)) .kinds)) (draw nothing (behind-p (lines text)) .names) (circuit (draw nothing (behind-p (lines text)) .gates) (literal-of (fifth (p-words (lines text))))) g
     go (whole s) p e = let same : closed s ≡ r = cc in carried _ s same (p .right g)
     go (stopped n line) p e = let z : _≡_ {A = ℕ} 0 1 = cc in absurd (omega arith)

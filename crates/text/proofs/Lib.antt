@@ -8,7 +8,13 @@ pub mod InsertLaws
 pub mod WordLaws
 pub mod KeptLaws
 pub mod BodyLaws
+pub mod GateLineLaws
+pub mod GateStateLaws
+pub mod GateLineRead
+pub mod ScanLaws
 pub mod TextLaws
 pub mod ClosedRight
+pub mod DrawnLaws
+pub mod GatesRight
 pub mod ReadingLaws
 pub mod FrontLaws

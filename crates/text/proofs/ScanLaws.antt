@@ -62,7 +62,7 @@ module _ (Bad : ℕ → Type 0) where
   -- A text, from its first line on: P says what is to be shown of the end, from all the lines that are left.
   module _ (gates : Bool) (bad : Bad 10) (Q : List Line → State → Type 0)
       (p-line : (line : Bytes) (ls : List Line) (k : ℕ) → is-comment line ≡ false
-          → Scans (Q (ended line ∷ ls)) (go-on (unless (problem-cause gates line) (went (opened (words line)))) k (λ t. body (form-of gates (words line) k) t (suc k) ls)))
+      → Scans (Q (ended line ∷ ls)) (go-on (unless (problem-cause gates line) (went (opened (words line)))) k (λ t. body (form-of gates (words line) k) t (suc k) ls)))
       (c-line : (line : Bytes) (ls : List Line) (s : State) → is-comment line ≡ true → Q ls s → Q (ended line ∷ ls) s) where
     comments-more : (x : Scan) (line : Bytes) (ls : List Line) → is-comment line ≡ true → Scans (Q ls) x → Scans (Q (ended line ∷ ls)) x
     comments-more (whole s) line ls c q = c-line line ls s c q

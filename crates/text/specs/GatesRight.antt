@@ -13,7 +13,7 @@ use Rattle.lines.specs.Numbers.{number, is-zero}
 use Rattle.lines.specs.Shapes.{is-comment, is-gate}
 use Rattle.named.specs.Named.{Values, named-meaning}
 use Rattle.named.specs.Gates.{Gate, circuit}
-use Rattle.text.specs.Reading.{entry, kind-of-word, gate-of, Read, taken, gates-read}
+use Rattle.text.specs.Reading.{literal-of, kind-of-word, gate-of, Read, taken, gates-read}
 
 -- What the lines behind the p line say: the kind and the name of each unknown in prefix order, and the gates in order.
 pub record Drawing : Type 0 where
@@ -66,7 +66,7 @@ unfoldable pub drawing : Bytes → Drawing
 drawing text = draw nothing (behind-p (lines text))
 
 unfoldable pub output-of : Bytes → ℤ
-output-of text = entry (fifth (p-words (lines text)))
+output-of text = literal-of (fifth (p-words (lines text)))
 
 -- The verdict of what is written is the circuit's value under the prefix, whatever values names have that it does not bind.
 abbrev pub GatesRight : Bytes → Type 0

@@ -95,8 +95,11 @@ literal-cause variables names used w =
     (cond (has-place names (number (unsigned w))) (room-cause used) 14))
 
 -- 'Literals: v or -v', v being the name; 0 for the closing 0.
+abbrev pub literal-of : Bytes → ℤ
+literal-of w = signed (negative w) (number (unsigned w))
+
 unfoldable pub entry : Bytes → ℤ
-entry w = cond (is-zero w) (pos 0) (signed (negative w) (number (unsigned w)))
+entry w = cond (is-zero w) (pos 0) (literal-of w)
 
 -- The names bound nowhere, with that of a word if it is new.
 unfoldable pub free-with : List ℕ → List ℕ → Bytes → List ℕ
@@ -158,7 +161,7 @@ abbrev pub inputs-of : List Bytes → List ℤ
 inputs-of [] = []
 inputs-of (w ∷ ws) =
     let more = inputs-of ws in
-    cond (is-zero w) [] (entry w ∷ more)
+    cond (is-zero w) [] (literal-of w ∷ more)
 
 -- The gate of a gate line's words.
 abbrev pub function-of : Bytes → Function
@@ -278,22 +281,22 @@ abbrev pub max-items : Bool → ℕ
 max-items false = max-clauses
 max-items true = max-unknowns
 
--- 'Names are 1 to 32,767.'
-abbrev pub range-of-output : Bool → List Bytes → ℕ
-range-of-output false ws = 0
-range-of-output true ws = cond (ltb max-variables (number (unsigned (fifth ws)))) 11 0
+-- 'Names are 1 to 32,767', O's too.
+abbrev pub output-range : Bool → ℕ → ℕ
+output-range false v = 0
+output-range true v = cond (ltb max-variables v) 11 0
 
 -- The p line's causes: '10 for the whole line', then V, then C; or V, G and O.
 unfoldable pub problem-cause : Bool → Bytes → ℕ
 problem-cause gates line =
     cond (is-problem gates line)
-    (cond (ltb max-variables (number (third (words line)))) 11 (cond (ltb (max-items gates) (number (fourth (words line)))) 11 (range-of-output gates (words line))))
+    (cond (ltb max-variables (number (third (words line)))) 11 (cond (ltb (max-items gates) (number (fourth (words line)))) 11 (output-range gates (number (unsigned (fifth (words line)))))))
     10
 
 -- What the p line, line k, says of the form.
 abbrev pub form-of : Bool → List Bytes → ℕ → Form
 form-of false ws k = clause-list
-form-of true ws k = gate-list (entry (fifth ws)) k
+form-of true ws k = gate-list (literal-of (fifth ws)) k
 
 -- The state after the p line.
 unfoldable pub opened : List Bytes → State
