@@ -21,14 +21,14 @@ read-refused {result} {n = n} {line = line} so e = result-refused result n line 
 
 -- The reader took the text: the formula stands at the front of the tables, and V and C are returned.
 pub record Front (result : Result) (unknowns entries variables clauses : ℕ) (kinds : List ℕ) (literals : List ℤ) : Type 0 where
-  pub it : Read
-  pub whole : result ≡ taken it
+  pub formula : Read
+  pub whole : result ≡ taken formula
   pub kinds-there : unknowns ≤ length kinds
   pub literals-there : entries ≤ length literals
-  pub kinds-front : take unknowns kinds ≡ it .kinds
-  pub literals-front : take entries literals ≡ it .literals
-  pub variables-so : variables ≡ it .variables
-  pub clauses-so : clauses ≡ it .clauses
+  pub kinds-front : take unknowns kinds ≡ formula .kinds
+  pub literals-front : take entries literals ≡ formula .literals
+  pub variables-so : variables ≡ formula .variables
+  pub clauses-so : clauses ≡ formula .clauses
 
 over-there : {A : Type 0} (new old table : List A) (n : ℕ) → table ≡ over new old → n ≡ length new → n ≤ length table
 over-there new old table n e same = omega (arith, ap length e, length-append new (drop (length new) old))
@@ -44,7 +44,7 @@ front-of (taken r) {K = K} {L = L} {K′ = K′} {L′ = L′} {u = u} {e = e} s
     let entries : e ≡ length (r .literals) = cc (so .returns) in
     let kinds : u ≡ length (r .kinds) = omega (arith, so .fitting .0) in
     record {
-      it = r;
+      formula = r;
       whole = refl;
       kinds-there = over-there (r .kinds) K K′ u (so .writes-kinds) kinds;
       literals-there = over-there (r .literals) L L′ e (so .writes-literals) entries;

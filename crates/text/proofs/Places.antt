@@ -64,12 +64,12 @@ indexed-append {names} {P} indexed v p small new last = record { size = simp len
     go w h false e =
         getD-set-other P v w p 0 (λ d. eqb-false v w e (sym d)) ∙ indexed .right w h ∙ sym (place-other 1 v w names (eqb-false v w e))
 
-pub indexed-more : (N : List ℕ) {P : List ℕ} (i : ℕ) → Indexed (take i N) P → i < length N → getD N i 0 ≤ max-variables → Distinct (take (i + 1) N)
-    → Indexed (take (i + 1) N) (set P (getD N i 0) (i + 1))
-indexed-more N {P} i x h small different =
+pub indexed-more : (N : List ℕ) {P : List ℕ} (i : ℕ) {v : ℕ} → v ≡ getD N i 0 → Indexed (take i N) P → i < length N → getD N i 0 ≤ max-variables → Distinct (take (i + 1) N)
+    → Indexed (take (i + 1) N) (set P v (i + 1))
+indexed-more N {P} i {v} is x h small different =
     let l = length-take-le i N (omega arith) in
     let e : take (i + 1) N ≡ take i N ++ (getD N i 0 ∷ []) = rw (add-one i) (take-suc N i 0 h) in
-    rw e
+    rw (is, e)
     (indexed-append x (getD N i 0) (i + 1) small
     (position-none (getD N i 0) (take i N) (distinct-last (take i N) (getD N i 0) (subst Distinct e different)))
     (omega arith))

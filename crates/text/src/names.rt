@@ -179,17 +179,17 @@ fn entry(word: &[u8], variables: usize, places: &[u8; PLACES], n: usize, m: usiz
     }
 }
 
-// The cause of a literal: a new name wants one of the places, and each literal an entry.
-fn place_cause(new: bool, n: usize, m: usize) -> u32
-    ensures { λ r. ⌜ r ≡ cond new (cond (ltb n max-unknowns) (cause-of-room m) 14) (cause-of-room m) ⌝ }
+// The cause of a literal: a new name wants a place besides those placed, and each literal an entry.
+fn place_cause(new: bool, placed: usize, m: usize) -> u32
+    ensures { λ r. ⌜ r ≡ cond new (cond (ltb placed max-unknowns) (cause-of-room m) 14) (cause-of-room m) ⌝ }
 {
     if new {} else {
         return room_cause(m);
     }
-    if n < Formula::UNKNOWNS {
+    if placed < Formula::UNKNOWNS {
         return room_cause(m);
     }
-    14
+    14 // no place is left
 }
 
 fn room_cause(m: usize) -> u32

@@ -44,7 +44,7 @@ loop-less c = omega arith
 loop-again : tie.Need-loop-again Inv-loop μ-loop
 loop-again c =
     let small : getD (c .before .before .before .before .before .args .names .now) (c .before .before .before .loop .i) 0 ≤ 32767 = omega (arith, up-to-at 32767 (take (c .before .before .before .before .before .args .n) (c .before .before .before .before .before .args .names .now)) (c .before .before .before .loop .i) (c .before .before .before .before .before .pre .4), getD-take (c .before .before .before .before .before .args .n) (c .before .before .before .before .before .args .names .now) (c .before .before .before .loop .i) 0 (omega arith)) in
-    (omega arith, rw (c .wide .ensures) (indexed-more (c .before .before .before .before .before .args .names .now) (c .before .before .before .loop .i) (c .before .before .before .loop .inv .1) (omega arith) small (distinct-take (c .before .before .before .loop .i + 1) (c .before .before .before .before .before .args .n) (c .before .before .before .before .before .args .names .now) (omega arith) (c .before .before .before .before .before .pre .3))))
+    (omega arith, indexed-more (c .before .before .before .before .before .args .names .now) (c .before .before .before .loop .i) (c .wide .ensures) (c .before .before .before .loop .inv .1) (omega arith) small (distinct-take (c .before .before .before .loop .i + 1) (c .before .before .before .before .before .args .n) (c .before .before .before .before .before .args .names .now) (omega arith) (c .before .before .before .before .before .pre .3)))
 
 returns : tie.Need-returns Inv-loop μ-loop
 returns c = let e : c .before .loop .i ≡ c .before .before .before .args .n = omega arith in rw (← e) (c .before .loop .inv .1)

@@ -2,6 +2,7 @@
 use mathlib.Core.Path.{refl, sym, ap, _∙_}
 use native.Mathlib.Omega.{arith}
 use borrow.Author.Tests.{lt-ltb, le-ltb}
+use Rattle.named.specs.Named.{signed as with-sign}
 use Rattle.text.proofs.GateLineLaws.{input-above, input-unknown, input-taken}
 use borrow.Author.Needs.{needs}
 use Rattle.text.proofs.gate.read_input.Statement.{statement}

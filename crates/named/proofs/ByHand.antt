@@ -1,4 +1,4 @@
--- Worked equations: free names in order, and a formula closed by them. Assumes nothing.
+-- Worked by hand: free names in order, and a formula closed by them. Assumes nothing.
 use Prim.Native.Nat.{ℕ}
 use mathlib.Core.Path.{_≡_, refl}
 use mathlib.Core.List.{List, [], _∷_}
