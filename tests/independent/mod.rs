@@ -1,5 +1,5 @@
 //! 01's rules, written from its words apart from the engine: the formula, its meaning by brute force, preferences, rows, copies and the
-//! first model, the run, the judge, the reader; 02's opening, trimming, fee, witness file and season sheet; and what the program prints and the C
+//! first model, the run, the judge, the reader; 02's opening, trimming, fee, witness file, gate lists and season sheet; and what the program prints and the C
 //! function returns. With them what the tests share: random
 //! cases, lent tables with guards, the count of cases, jobs on several threads.
 
@@ -10,6 +10,7 @@ pub mod answers;
 pub mod draw;
 pub mod fee;
 pub mod formula;
+pub mod gates;
 pub mod jobs;
 pub mod lent;
 pub mod meaning;
