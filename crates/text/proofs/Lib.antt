@@ -1,4 +1,5 @@
--- The laws that the proofs of the functions cite, callees first; then what a caller of `read` goes on with.
+-- Gate lists worked by hand; the laws that the proofs of the functions cite, callees first; then what a caller of `read` goes on with.
+pub mod ByHand
 pub mod Tables
 pub mod Places
 pub mod Negation
