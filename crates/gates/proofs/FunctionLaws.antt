@@ -1,7 +1,7 @@
 -- What the code writes for each function is the definition's. Assumes nothing.
 use Prim.Native.Nat.{_^_, _<_}
-use mathlib.Core.Path.{_≡_, refl, sym, ap, ap₂, _∙_}
-use mathlib.Core.Bool.{true, false, _||_, or-true}
+use mathlib.Core.Path.{_≡_, refl, sym, ap, _∙_}
+use mathlib.Core.Bool.{true, false, or-true}
 use mathlib.Core.List.{List, [], _∷_, _++_, map}
 use lib.IntN.{ℤ, pos, negℤ, natAbs}
 use mir.Facts.{toZ-ofZ}
@@ -9,7 +9,6 @@ use mir.Syntax.{w32}
 use mir.Val.{SFits, ofZ}
 use Rattle.formula.specs.Causes.{any, beyond}
 use Rattle.formula.specs.Formula.{Clause}
-use Rattle.formula.proofs.Any.{or-none}
 use Rattle.formula.proofs.Opposite.{beyond-lowest, beyond-other}
 use Rattle.gates.specs.declared.Function.{Function}
 use Rattle.gates.specs.declared.Function.the-variants.{And, Or, Xor}

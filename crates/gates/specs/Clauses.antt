@@ -1,5 +1,4 @@
 -- The clauses of one gate. Assumes nothing.
-use Prim.Native.Nat.{zero}
 use mathlib.Core.List.{List, [], _∷_, _++_, map}
 use lib.IntN.{ℤ, pos, negℤ}
 use Rattle.formula.specs.Formula.{Clause}

@@ -1,7 +1,7 @@
 -- What private functions promise; no public contract rests on it. Assumes nothing.
 use Prim.Native.Nat.{ℕ, _≤_}
 use mathlib.Core.Path.{_≡_}
-use mathlib.Core.Bool.{Bool, true, false, _&&_}
+use mathlib.Core.Bool.{Bool, _&&_}
 use lib.ListN.{length, drop}
 use Rattle.lines.specs.Lines.{Bytes, words, first, rest, second, same}
 use Rattle.lines.specs.Shapes.{is-trimmed, p-word, form-word}

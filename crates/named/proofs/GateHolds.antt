@@ -1,24 +1,18 @@
 -- A gate's clauses hold exactly if its name has the value of its function of the inputs. It is proved for `&`; `|` is `&` with every sign turned,
 -- and `^` is a table of eight. Assumes nothing.
-use Prim.Native.Nat.{ℕ, zero, suc, _+_}
+use Prim.Native.Nat.{zero, suc}
 use native.Mathlib.Omega.{arith}
-use mathlib.Core.Path.{_≡_, refl, sym, ap, ap₂, subst, _∙_}
-use mathlib.Core.Bool.{Bool, true, false, cond, not, _&&_, _||_, false≢true}
+use mathlib.Core.Path.{_≡_, refl, sym, ap, ap₂, _∙_}
+use mathlib.Core.Bool.{Bool, true, false, not, _&&_, _||_}
 use mathlib.Core.List.{List, [], _∷_, _++_, map}
-use mathlib.Core.Logic.{_⊎_, inl, inr}
-use borrow.Author.Tests.{eq-eqb, ne-eqb, eqb-true, eqb-false}
-use lib.Dec.{eqb}
 use lib.IntN.{ℤ, pos, negsuc, negℤ}
-use lib.ListN.{length}
-use Rattle.formula.specs.Formula.{Kind, existential, universal, Clause}
+use Rattle.formula.specs.Formula.{Clause}
 use Rattle.gates.specs.declared.Function.{Function}
 use Rattle.gates.specs.declared.Function.the-variants.{And, Or, Xor}
 use Rattle.gates.specs.Clauses.{with-each, negated, gate-clauses}
-use Rattle.named.specs.Named.{Values, with-value, by-name, named-clause, named-matrix, quantify, named-meaning}
-use Rattle.named.specs.Names.{In, InAll}
-use Rattle.named.specs.Gates.{Gate, all-of, any-of, differ, value-of, gate-value, circuit, clauses-of, names-of}
-use Rattle.named.specs.CircuitRight.{Some, Fits, Ordered}
-use Rattle.named.proofs.Closing.{existentials, Looks}
+use Rattle.named.specs.Named.{Values, by-name, named-clause, named-matrix}
+use Rattle.named.specs.Gates.{all-of, any-of, differ, value-of}
+use Rattle.named.specs.CircuitRight.{Some, Fits}
 
 abbrev pub same : Bool → Bool → Bool
 same true b = b

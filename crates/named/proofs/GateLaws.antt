@@ -1,15 +1,14 @@
 -- The clauses of a gate list have the circuit's meaning, by names: nothing here speaks of one of the functions. Assumes nothing.
-use Prim.Native.Nat.{ℕ, zero, suc, _+_}
+use Prim.Native.Nat.{ℕ, zero, suc}
 use native.Mathlib.Omega.{arith}
 use mathlib.Core.Path.{_≡_, refl, sym, ap, ap₂, subst, _∙_}
-use mathlib.Core.Bool.{Bool, true, false, cond, not, _&&_, _||_}
+use mathlib.Core.Bool.{Bool, true, false, not, _&&_, _||_}
 use mathlib.Core.List.{List, [], _∷_, _++_, map}
-use mathlib.Core.Logic.{_⊎_, inl, inr}
+use mathlib.Core.Logic.{inl, inr}
 use borrow.Author.Tests.{eq-eqb, ne-eqb}
-use lib.Dec.{eqb}
 use lib.IntN.{ℤ, pos, negsuc}
 use lib.ListN.{length}
-use Rattle.formula.specs.Formula.{Kind, existential, universal, Clause}
+use Rattle.formula.specs.Formula.{Kind, Clause}
 use Rattle.gates.specs.Clauses.{gate-clauses}
 use Rattle.named.specs.Named.{Values, with-value, by-name, named-matrix, quantify, named-meaning}
 use Rattle.named.specs.Names.{In, InAll}

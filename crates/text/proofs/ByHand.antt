@@ -1,15 +1,14 @@
 -- Gate lists worked by hand: what is read of them, entry by entry. Assumes nothing.
-use Prim.Native.Nat.{ℕ}
 use mathlib.Core.Path.{_≡_, refl}
 use mathlib.Core.Bool.{true, false}
-use mathlib.Core.List.{List, [], _∷_}
-use lib.IntN.{ℤ, pos, negsuc}
+use mathlib.Core.List.{[], _∷_}
+use lib.IntN.{pos, negsuc}
 use Rattle.formula.specs.Meaning.{verdict}
 use Rattle.lines.specs.Lines.{Bytes, lines, words}
 use Rattle.lines.specs.Numbers as Numbers
 use Rattle.lines.specs.Shapes.{is-comment, is-trimmed, is-problem, is-led, is-gate}
 use Rattle.named.specs.Named.{position}
-use Rattle.text.specs.Reading.{read-gates, gates-read, scan, closed, taken, refused, problem-cause, opened, body-line, prefix-line, gate-line, name-cause, gate-cause, input-cause, limit-cause, output-cause, Read}
+use Rattle.text.specs.Reading.{read-gates, gates-read, scan, closed, taken, refused, problem-cause, opened, body-line, prefix-line, gate-line, name-cause, gate-cause, input-cause, limit-cause, output-cause}
 
 -- `p gate 2 3 9`, `a 2 0`, `e 1 0`, `& 9 2 1 0`, `^ 3 9 -2 0`, `| 5 3 1 0`.
 abbrev three-gates : Bytes

@@ -1,30 +1,28 @@
 -- What a gate list's lines leave in the state: the prefix and the gates that they say, each gate behind all before it. Assumes nothing.
-use Prim.Native.Nat.{ℕ, zero, suc, _+_, _≤_, _<_}
+use Prim.Native.Nat.{ℕ, zero, suc, _≤_}
 use native.Mathlib.Omega.{arith}
 use mathlib.Core.Path.{_≡_, refl, sym, ap, ap₂, subst, _∙_}
-use mathlib.Core.Bool.{Bool, true, false, cond, not, _&&_, _||_, true≢false, false≢true}
+use mathlib.Core.Bool.{Bool, true, false, cond, _&&_, _||_, false≢true}
 use mathlib.Core.List.{List, [], _∷_, _++_, append-assoc, append-nil}
 use mathlib.Core.Logic.{_⊎_, inl, inr}
-use borrow.Author.Tests.{ltb-true, ltb-false, leb-true, eqb-true, eqb-false}
+use borrow.Author.Tests.{leb-true, eqb-true}
 use lib.Dec.{eqb, leb, ltb}
-use lib.IntN.{ℤ, pos, negsuc, natAbs}
+use lib.IntN.{ℤ, pos, negsuc}
 use lib.ListN.{length, replicate, length-append}
-use Rattle.formula.specs.Formula.{Clause}
-use Rattle.gates.specs.declared.Function.{Function}
-use Rattle.gates.specs.declared.Function.the-variants.{And, Or, Xor}
 use Rattle.gates.specs.Clauses.{gate-clauses, flat}
 use Rattle.gates.proofs.FunctionLaws.{flat-append}
 use Rattle.lines.specs.Lines.{Bytes, words, first, rest, second, same}
 use Rattle.lines.specs.Numbers.{number, unsigned, negative, no-number, is-zero, is-name, is-literal}
-use Rattle.lines.specs.Shapes.{is-trimmed, is-empty, closed-by-zero, a-word, e-word, and-word, or-word, xor-word, good-word, leads, is-led, is-prefix, has-three, three-if, is-gate}
+use Rattle.lines.specs.Shapes.{is-trimmed, closed-by-zero, and-word, or-word, xor-word, leads, is-led, is-prefix, has-three, three-if, is-gate}
 use Rattle.named.specs.Named.{among, signed}
 use Rattle.named.specs.Names.{In, Distinct, UpTo, InAll}
 use Rattle.named.specs.Gates.{Gate, clauses-of, names-of}
 use Rattle.named.specs.CircuitRight.{Some, Fits, Ordered, circuit-kinds, circuit-names}
 use Rattle.named.proofs.NameLaws.{among-in, not-among, in-append, in-front, in-behind, distinct-behind, up-to-append}
 use Rattle.named.proofs.CircuitRight.{wider}
-use Rattle.text.specs.Reading.{max-variables, State, bind, literal-of, input-cause, first-cause, inputs-cause, inputs-of, function-of, gate-of, entries-of-gate, with-gate}
-use Rattle.text.specs.GatesRight.{Drawing, names-in, with-block, with-gate-line}
+use Rattle.text.specs.Reading.{max-variables, State, bind, literal-of, input-cause, first-cause, inputs-cause, inputs-of, function-of, entries-of-gate, with-gate}
+use Rattle.text.proofs.KeptLaws.{and-both}
+use Rattle.text.specs.GatesRight.{Drawing, with-block, with-gate-line}
 
 -- The entries of the gates' clauses, before O.
 abbrev pub made-entries : List Gate → List ℤ
@@ -198,12 +196,8 @@ inputs-known names none (w ∷ ws) e = go (is-zero w) refl e (inputs-known names
         (more (both .1))
 
 -- The shape of a gate line: its name is not 0, and `^` has two inputs.
-pub and-true : (a b : Bool) → (a && b) ≡ true → (a ≡ true) × (b ≡ true)
-and-true true b e = (refl, e)
-and-true false b e = absurd (false≢true e)
-
 pub name-some : (w : Bytes) → is-name w ≡ true → number w ≡ 0 → ⊥
-name-some w e none = let one = leb-true 1 (number w) (and-true (leb 1 (number w)) (ltb (number w) no-number) e .0) in omega arith
+name-some w e none = let one = leb-true 1 (number w) (and-both (leb 1 (number w)) (ltb (number w) no-number) e .0) in omega arith
 
 two-inputs : (ws : List Bytes) → closed-by-zero is-literal ws ≡ true → has-three ws ≡ true → length (inputs-of ws) ≡ 2
 two-inputs [] shape three = absurd (false≢true shape)
@@ -216,16 +210,16 @@ two-inputs (a ∷ b ∷ c ∷ []) shape three = go (is-zero a) (is-literal a) (i
         → cond p false (p′ && cond q false (q′ && cond r true (r′ && false))) ≡ true
         → length (cond p [] (literal-of a ∷ cond q [] (literal-of b ∷ cond r [] (literal-of c ∷ [])))) ≡ 2
     go true p′ q q′ r r′ ea eb ec e = absurd (false≢true e)
-    go false p′ true q′ r r′ ea eb ec e = absurd (false≢true (and-true p′ false e .1))
+    go false p′ true q′ r r′ ea eb ec e = absurd (false≢true (and-both p′ false e .1))
     go false p′ false q′ true r′ ea eb ec e = refl
-    go false p′ false q′ false r′ ea eb ec e = absurd (false≢true (and-true r′ false (and-true q′ (r′ && false) (and-true p′ (q′ && (r′ && false)) e .1) .1) .1))
+    go false p′ false q′ false r′ ea eb ec e = absurd (false≢true (and-both r′ false (and-both q′ (r′ && false) (and-both p′ (q′ && (r′ && false)) e .1) .1) .1))
 
 same-word : (w x : Bytes) → same w x ≡ true → w ≡ x
 same-word [] [] e = refl
 same-word [] (y ∷ ys) e = absurd (false≢true e)
 same-word (x ∷ xs) [] e = absurd (false≢true e)
 same-word (x ∷ xs) (y ∷ ys) e =
-    let both = and-true (eqb x y) (same xs ys) e in
+    let both = and-both (eqb x y) (same xs ys) e in
     ap₂ _∷_ (eqb-true x y (both .0)) (same-word xs ys (both .1))
 
 -- Each gate line has the word of one function, and no prefix line has.
@@ -264,10 +258,10 @@ pub gate-shaped : (line : Bytes) → is-gate line ≡ true → Shaped line
 unfolding is-gate is-led
 gate-shaped line e =
     let ws = words line in
-    let both = and-true (is-led true line) (three-if (same (first ws) xor-word) (rest (rest ws))) e in
-    let led = and-true (is-trimmed line && leads true (first ws) && is-name (second ws)) (closed-by-zero is-literal (rest (rest ws))) (both .0) in
-    let named = and-true (is-trimmed line && leads true (first ws)) (is-name (second ws)) (led .0) in
-    let lead = and-true (is-trimmed line) (leads true (first ws)) (named .0) in
+    let both = and-both (is-led true line) (three-if (same (first ws) xor-word) (rest (rest ws))) e in
+    let led = and-both (is-trimmed line && leads true (first ws) && is-name (second ws)) (closed-by-zero is-literal (rest (rest ws))) (both .0) in
+    let named = and-both (is-trimmed line && leads true (first ws)) (is-name (second ws)) (led .0) in
+    let lead = and-both (is-trimmed line) (leads true (first ws)) (named .0) in
     record {
       named = name-some (second ws) (named .1);
       fits = fitting (first ws) (rest (rest ws)) (lead .1) (led .1) (both .1);

@@ -3,19 +3,19 @@ use Prim.Native.Nat.{ℕ, zero, suc, _+_, _^_, _≤_, _<_}
 use native.Mathlib.Omega.{arith}
 use native.Mathlib.Numerals.{add-one}
 use mathlib.Core.Path.{_≡_, refl, sym, ap, subst, _∙_}
-use mathlib.Core.Bool.{Bool, true, false, cond, _||_}
-use mathlib.Core.List.{List, [], _∷_, _++_, map, append-assoc}
-use borrow.Author.Tests.{lt-ltb, le-ltb, le-leb, lt-leb, ltb-true, ltb-false, leb-true, leb-false, eqb-true, eqb-false}
+use mathlib.Core.Bool.{Bool, true, false, cond}
+use mathlib.Core.List.{List, [], _∷_, _++_, append-assoc, append-nil}
+use borrow.Author.Tests.{lt-ltb, le-ltb, ltb-true, leb-true, leb-false, eqb-true, eqb-false}
 use lib.Dec.{eqb, leb, ltb}
-use lib.IntN.{ℤ, pos, negsuc, negℤ, natAbs}
+use lib.IntN.{ℤ, pos, negℤ, natAbs}
 use lib.ListN.{length, take, drop, getD, set, length-append, length-drop, length-set}
-use lib.Seq.{take-suc-set, getD-set-same, getD-set-other, set-out, length-take-le, take-at, getD-take}
+use lib.Seq.{take-suc-set, getD-set-same, getD-set-other, length-take-le, take-at}
 use mir.Facts.{toZ-ofZ}
 use mir.Syntax.{w32}
 use mir.Val.{ofZ, toZ}
 use Rattle.gates.proofs.EntryLaws.{small-fits}
 use Rattle.formula.specs.Formula.{max-clauses, max-entries, Clause}
-use Rattle.formula.specs.Causes.{any, beyond}
+use Rattle.formula.specs.Causes.{beyond}
 use Rattle.formula.proofs.Any.{none-any}
 use Rattle.gates.specs.declared.Function.{Function}
 use Rattle.gates.specs.declared.Function.the-variants.{And, Or, Xor}
@@ -26,6 +26,7 @@ use Rattle.lines.specs.Numbers.{number, unsigned, negative, is-zero}
 use Rattle.named.specs.Named.{signed}
 use Rattle.named.specs.CircuitRight.{Fits}
 use Rattle.text.specs.Reading.{max-variables, literal-of, input-cause, first-cause, inputs-cause, inputs-of, limit-cause}
+use Rattle.text.proofs.KeptLaws.{signed-size}
 use Rattle.text.proofs.Places.{mark-none, mark-some}
 use Rattle.text.specs.Steps.{Marked, Input-read, Inputs-read, clause-count, Gate-put}
 
@@ -68,11 +69,6 @@ unfolding entries-of
 entries-all f v is small each = rw (small-none (pos v) small, none-any (beyond 2147483647) (pos 0) is (λ j. small-none (getD is j (pos 0)) (each j))) refl
 
 -- A literal as its bits give it.
-pub signed-size : (b : Bool) (v : ℕ) → natAbs (signed b v) ≡ v
-signed-size true zero = refl
-signed-size true (suc v) = refl
-signed-size false v = refl
-
 pub signed-bits : (b : Bool) (v : ℕ) (y : ℤ) → v ≤ max-variables → y ≡ signed b v → toZ w32 (ofZ w32 y) ≡ signed b v
 signed-bits b v y small same = toZ-ofZ (small-fits y (subst (λ (x : ℤ). natAbs x < 2 ^ 31) (sym same) (omega (arith, signed-size b v)))) ∙ same
 
@@ -129,13 +125,9 @@ module _ (line : Bytes) (i : ℕ) (P : List ℕ) (count at : ℕ) (I : List ℤ)
         size = p .size;
         right = λ names m. sym (p .right names m ∙ free names);
         many = λ _. sym (p .many ∙ ap (λ (l : List ℤ). count + length l) none ∙ omega arith);
-        kept = λ _ few. sym (p .kept few ∙ ap (λ (l : List ℤ). take count I ++ l) none ∙ append-end (take count I));
+        kept = λ _ few. sym (p .kept few ∙ ap (λ (l : List ℤ). take count I ++ l) none ∙ append-nil (take count I));
         small = p .small;
       }
-    where
-      append-end : (l : List ℤ) → l ++ [] ≡ l
-      append-end [] = refl
-      append-end (x ∷ l) = ap (λ (r : List ℤ). x ∷ r) (append-end l)
 
   -- No word is left.
   pub passed-all : words (drop at line) ≡ [] → Inputs-read line i P 0 count I

@@ -1,8 +1,8 @@
 -- A gate line is read: what is held afterwards is what the definition says. Assumes nothing.
-use Prim.Native.Nat.{ℕ, zero, suc, _+_, _≤_, _<_}
+use Prim.Native.Nat.{ℕ, suc, _+_, _≤_, _<_}
 use native.Mathlib.Omega.{arith}
 use native.Mathlib.Numerals.{add-one}
-use mathlib.Core.Path.{_≡_, refl, sym, ap, subst, _∙_}
+use mathlib.Core.Path.{_≡_, refl, sym, ap, _∙_}
 use mathlib.Core.Bool.{true}
 use mathlib.Core.List.{List, [], _∷_, _++_}
 use borrow.Author.Tests.{lt-ltb, le-ltb}
@@ -13,7 +13,7 @@ use Rattle.formula.specs.Formula.{max-clauses, max-entries}
 use Rattle.lines.specs.Lines.{Bytes, words, rest, second}
 use Rattle.lines.specs.Numbers.{number}
 use Rattle.text.specs.declared.body.Counts.{Counts}
-use Rattle.text.specs.Reading.{State, Step, went, unless, gate-cause, first-cause, inputs-cause, gate-of, clauses-of-gate, entries-of-gate, limit-cause, with-gate, gate-line, max-variables, output-cause, whole}
+use Rattle.text.specs.Reading.{State, went, unless, gate-cause, first-cause, inputs-cause, gate-of, clauses-of-gate, entries-of-gate, limit-cause, with-gate, gate-line, max-variables, output-cause, whole}
 use Rattle.text.specs.Steps.{Marked, free-in, placed-in, Sized, held, Line-read, Gate-named, Clauses-put, Name-bound, Output-added, outcome, settled}
 use Rattle.text.proofs.NameLaws.{refused-alike}
 use Rattle.text.proofs.BodyLaws.{resized, marked-bound}

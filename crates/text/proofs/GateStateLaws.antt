@@ -1,11 +1,10 @@
 -- Gate lines, and O, as the counts and the tables hold what they give. Assumes nothing.
 use Prim.Native.Nat.{ℕ, zero, suc, _+_, _≤_, _<_}
 use native.Mathlib.Omega.{arith}
-use native.Mathlib.Numerals.{add-one}
 use mathlib.Core.Path.{_≡_, refl, sym, ap, subst, _∙_}
-use mathlib.Core.Bool.{Bool, true, false, cond}
+use mathlib.Core.Bool.{true}
 use mathlib.Core.List.{List, [], _∷_, _++_}
-use borrow.Author.Tests.{lt-ltb, le-ltb}
+use borrow.Author.Tests.{lt-ltb}
 use lib.IntN.{ℤ, pos, natAbs}
 use lib.ListN.{length, take, drop, getD, set, replicate, length-set}
 use lib.Seq.{take-suc-set}
@@ -19,7 +18,7 @@ use Rattle.lines.specs.Numbers.{number}
 use Rattle.lines.specs.Shapes.{is-gate}
 use Rattle.named.specs.CircuitRight.{Fits}
 use Rattle.text.specs.Reading.{max-variables, State, Step, went, unless, gate-cause, first-cause, inputs-cause, inputs-of, function-of, gate-of, clauses-of-gate, entries-of-gate, limit-cause, with-gate, gate-line}
-use Rattle.text.specs.Steps.{Marked, Inputs-read, Gate-put, Clauses-put, clause-count}
+use Rattle.text.specs.Steps.{Inputs-read, Gate-put, Clauses-put, clause-count}
 use Rattle.text.proofs.DrawnLaws.{gate-shaped}
 use Rattle.text.proofs.GateLineLaws.{entries-all}
 

@@ -1,10 +1,10 @@
 -- What is written of a gate list has the circuit's value under the prefix. Assumes nothing.
-use Prim.Native.Nat.{ℕ, zero, suc, _+_, _≤_, _<_}
+use Prim.Native.Nat.{ℕ, zero, suc, _+_, _≤_}
 use native.Mathlib.Omega.{arith}
 use mathlib.Core.Path.{_≡_, refl, sym, ap, ap₂, subst, _∙_}
 use mathlib.Core.Bool.{Bool, true, false, cond, _&&_, true≢false, false≢true}
 use mathlib.Core.List.{List, [], _∷_, _++_, map}
-use borrow.Author.Tests.{ltb-true, ltb-false, eqb-true, eqb-false}
+use borrow.Author.Tests.{ltb-false, eqb-true, eqb-false}
 use lib.Dec.{eqb, ltb}
 use lib.IntN.{ℤ, pos, negsuc, natAbs}
 use lib.ListN.{length}
@@ -21,27 +21,19 @@ use Rattle.named.specs.Gates.{Gate, circuit, clauses-of}
 use Rattle.named.specs.CircuitRight.{circuit-kinds, circuit-names}
 use Rattle.named.proofs.NameLaws.{among-in}
 use Rattle.named.proofs.CircuitRight.{circuit-distinct, circuit-known, circuit-right}
-use Rattle.text.specs.Reading.{max-variables, State, Step, went, fault, unless, name-cause, bind, bind-all, kind-of-word, prefix-line, literal-of, gate-cause, inputs-cause, gate-of, limit-cause, clauses-of-gate, entries-of-gate, with-gate, gate-line, body-line, step, Scan, whole, stopped, go-on, clause-list, gate-list, with-output, output-cause, finish, body, problem-cause, output-range, max-items, opened, Read, taken, closed, result-of, scan, read-gates, gates-read}
+use Rattle.text.specs.Reading.{max-variables, State, Step, went, fault, unless, name-cause, bind, kind-of-word, prefix-line, literal-of, gate-cause, inputs-cause, gate-of, limit-cause, clauses-of-gate, entries-of-gate, with-gate, gate-line, body-line, step, Scan, whole, stopped, go-on, gate-list, with-output, output-cause, finish, body, problem-cause, output-range, max-items, opened, Read, taken, closed, result-of, scan, read-gates}
 use Rattle.text.specs.Steps.{Placeable}
 use Rattle.text.specs.GatesRight.{Drawing, names-in, with-block, with-gate-line, draw-line, draw, p-words, behind-p, nothing, drawing, output-of, GatesRight}
+use Rattle.text.proofs.NameLaws.{name-cause-zero}
+use Rattle.text.proofs.KeptLaws.{and-both}
 use Rattle.text.proofs.ScanLaws.{cond-so, Steps, Scans, unless-so, go-on-so, bind-all-so, body-so, scan-so}
-use Rattle.text.proofs.DrawnLaws.{made-entries, Drawn, blocks, bind-drawn, block-none, block-more, made-output, gate-drawn, known-literal, inputs-known, Shaped, gate-shaped}
+use Rattle.text.proofs.DrawnLaws.{Drawn, blocks, bind-drawn, block-none, block-more, made-output, gate-drawn, inputs-known, gate-shaped}
 
 -- Of the causes nothing is said here.
 abbrev pub Any : ℕ → Type 0
 Any n = Unit {0}
 
--- A prefix line.
-name-free : (variables : ℕ) (names : List ℕ) (v : ℕ) → name-cause variables names v ≡ 0 → (v ≤ variables) × (among v names ≡ false)
-unfolding name-cause
-name-free variables names v e = go (ltb variables v) (among v names) (ltb (length names) max-unknowns) refl refl e
-  where
-    go : (a b c : Bool) → ltb variables v ≡ a → among v names ≡ b → _≡_ {A = ℕ} (cond a 11 (cond b 12 (cond c 0 14))) 0 → (v ≤ variables) × (among v names ≡ false)
-    go true b c p q e = absurd (omega arith)
-    go false true c p q e = absurd (omega arith)
-    go false false c p q e = (ltb-false variables v p, q)
-
--- The state, and what the words that are left add to the drawing.
+-- A prefix line: the state, and what the words that are left add to the drawing.
 record Words (kind : ℕ) (all : Drawing) (ws : List Bytes) (s : State) : Type 0 where
   kinds : List ℕ
   names : List ℕ
@@ -55,12 +47,12 @@ words-done kind all s vs ks xs d none e =
 words-more : (kind : ℕ) (all : Drawing) (s : State) (w : Bytes) (ws : List Bytes) → is-zero w ≡ false → name-cause (s .variables) (s .names) (number w) ≡ 0
     → Words kind all (w ∷ ws) s → Words kind all ws (bind kind s (number w))
 words-more kind all s w ws some free p =
-    let facts = name-free (s .variables) (s .names) (number w) free in
+    let facts = name-cause-zero (s .variables) (s .names) (number w) free in
     let first-name : names-in (w ∷ ws) ≡ number w ∷ names-in ws = rw some refl in
     record {
       kinds = p .kinds ++ (kind ∷ []);
       names = p .names ++ (number w ∷ []);
-      drawn = bind-drawn kind (number w) s (p .kinds) (p .names) (p .drawn) (facts .0) (facts .1) (eqb-false (number w) 0 some);
+      drawn = bind-drawn kind (number w) s (p .kinds) (p .names) (p .drawn) (facts .0) (facts .2) (eqb-false (number w) 0 some);
       whole =
           sym (block-more kind (number w) (p .kinds) (p .names) (names-in ws))
           ∙ ap (with-block (blocks (p .kinds) (p .names)) kind) (sym first-name)
@@ -138,10 +130,6 @@ line-drawn s d line t =
   where
     Q : State → Type 0
     Q u = Drawn u (cond (is-gate line) (with-gate-line d (gate-of (words line))) (with-block d (kind-of-word (first (words line))) (names-in (rest (words line)))))
-
-    and-both : (a b : Bool) → (a && b) ≡ true → (a ≡ true) × (b ≡ true)
-    and-both true b e = (refl, e)
-    and-both false b e = absurd (false≢true e)
 
     go : (b : Bool) → is-gate line ≡ b → is-prefix line ≡ true
         → Steps Any (λ u. Drawn u (with-block d (kind-of-word (first (words line))) (names-in (rest (words line))))) (prefix-line s (words line))

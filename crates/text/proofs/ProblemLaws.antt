@@ -9,7 +9,7 @@ use native.Mathlib.Decide.{decLt}
 use borrow.Author.Tests.{eqb-true, ltb-false}
 use lib.Dec.{leb, ltb, eqb}
 use lib.ListN.{length, take, drop}
-use Rattle.formula.specs.Formula.{max-unknowns, max-clauses, max-entries}
+use Rattle.formula.specs.Formula.{max-unknowns, max-entries}
 use Rattle.lines.specs.Lines.{Bytes, lines, fifth}
 use Rattle.lines.specs.Numbers.{number, unsigned, negative}
 use Rattle.lines.specs.Places.{before}

@@ -1,9 +1,9 @@
 -- What holds of every text: a cause's number is one of 9 to 12 and 14, and its line is within the text's lines or right behind them; of a text that
 -- is taken causes 1 to 3 don't apply, V and C are within their limits, and its names have positions.
 -- Assumes nothing.
-use Prim.Native.Nat.{ℕ, zero, suc, _+_, _≤_, _<_}
+use Prim.Native.Nat.{ℕ, zero, suc, _+_, _≤_}
 use native.Mathlib.Omega.{arith}
-use mathlib.Core.Path.{_≡_, refl, ap, subst, _∙_}
+use mathlib.Core.Path.{_≡_, refl, subst, _∙_}
 use mathlib.Core.Bool.{Bool, true, false, cond, _&&_, false≢true}
 use mathlib.Core.List.{List, [], _∷_}
 use borrow.Author.Tests.{ltb-true, ltb-false, leb-true, eqb-true}
@@ -20,7 +20,7 @@ use Rattle.lines.specs.Shapes.{is-comment, is-problem, is-prefix, is-clause, is
 use Rattle.named.specs.Named.{among, placed}
 use Rattle.named.specs.Closing.{closed-names, closed-kinds, closed-literals}
 use Rattle.named.proofs.CauseLaws.{length-map, kinds-known, as-many-closed, zeros-placed, ended-placed, placed-within}
-use Rattle.text.specs.Reading.{max-bytes, max-variables, State, Step, went, fault, unless, name-cause, bind, bind-all, kind-of-word, prefix-line, has-place, literal-cause, add-entry, add-entries, clause-read, clause-line, body-line, step, Scan, whole, stopped, go-on, finish, body, problem-cause, opened, problem, after-comments, lent-well, scan, Read, closed, Result, taken, refused, result-of, read, clause-list}
+use Rattle.text.specs.Reading.{max-bytes, max-variables, State, Step, went, fault, unless, name-cause, kind-of-word, prefix-line, has-place, literal-cause, add-entry, add-entries, clause-read, clause-line, body-line, step, Scan, whole, stopped, go-on, finish, body, problem-cause, opened, problem, after-comments, lent-well, scan, Read, closed, Result, taken, refused, result-of, read, clause-list}
 use Rattle.text.proofs.NameLaws.{name-cause-zero, literal-cause-zero}
 use Rattle.text.proofs.ScanLaws.{cond-so, NoneOr, Steps, Scans, unless-so, go-on-so, bind-all-so, body-so, scan-so}
 use Rattle.text.proofs.KeptLaws.{Whole, Open, Closed, and-both, bind-whole, add-zero, add-literal}

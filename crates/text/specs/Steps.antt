@@ -13,7 +13,7 @@ use Rattle.gates.specs.declared.Function.{Function}
 use Rattle.gates.specs.declared.Function.the-variants.{And, Or, Xor}
 use Rattle.gates.specs.Clauses.{gate-clauses, flat}
 use Rattle.lines.specs.Lines.{Bytes, lines, words, rest, second, third, fourth}
-use Rattle.lines.specs.Numbers.{number, unsigned}
+use Rattle.lines.specs.Numbers.{number}
 use Rattle.formula.specs.Meaning.{bit}
 use Rattle.named.specs.Named.{among, position, signed}
 use Rattle.named.specs.Names.{Distinct, UpTo, Known}

@@ -1,8 +1,5 @@
 -- Assumes nothing.
-use mathlib.Core.Path.{_≡_, refl, ap, sym, _∙_}
-use mathlib.Core.Bool.{false, true}
-use Rattle.lines.specs.Lines.{words, first, rest}
-use Rattle.lines.specs.Numbers.{is-literal}
+use mathlib.Core.Path.{refl, ap, sym, _∙_}
 use Rattle.lines.specs.Shapes.{is-empty}
 use Rattle.lines.proofs.ShapeLaws.{next-empty}
 use borrow.Author.Needs.{needs}

@@ -1,6 +1,5 @@
 -- A line is a prefix line, a clause or gate line, or refused. Assumes nothing.
-use mathlib.Core.Path.{_≡_, refl, sym, subst, _∙_}
-use mathlib.Core.Bool.{Bool, true, false}
+use mathlib.Core.Path.{refl, sym, _∙_}
 use native.Mathlib.Omega.{arith}
 use Rattle.lines.specs.Shapes.{is-prefix}
 use Rattle.text.specs.Steps.{held}

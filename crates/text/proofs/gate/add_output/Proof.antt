@@ -1,11 +1,12 @@
 -- O's name is known or not, and its clause has room or not. Assumes nothing.
 use Prim.Native.Nat.{_+_}
-use mathlib.Core.Path.{refl, sym, ap, _∙_}
+use mathlib.Core.Path.{refl, sym, ap}
 use native.Mathlib.Omega.{arith}
 use lib.IntN.{ℤ, pos}
 use lib.ListN.{set}
 use Rattle.named.specs.Named.{signed}
-use Rattle.text.proofs.GateLineLaws.{signed-size, signed-bits}
+use Rattle.text.proofs.KeptLaws.{signed-size}
+use Rattle.text.proofs.GateLineLaws.{signed-bits}
 use Rattle.text.proofs.GateLineRead.{output-unknown, output-over, output-full, output-taken}
 use borrow.Author.Needs.{needs}
 use Rattle.text.proofs.gate.add_output.Statement.{statement}

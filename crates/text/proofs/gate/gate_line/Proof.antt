@@ -1,11 +1,7 @@
 -- A gate line: its number, its name, its clauses; then the name is bound. Assumes nothing.
-use Prim.Native.Nat.{_+_}
-use mathlib.Core.Path.{_≡_, refl, sym, ap, _∙_}
+use mathlib.Core.Path.{refl, ap, _∙_}
 use native.Mathlib.Omega.{arith}
-use native.Mathlib.Numerals.{add-one}
 use borrow.Author.Tests.{le-ltb}
-use lib.ListN.{length, take}
-use lib.Seq.{length-take-le}
 use Rattle.lines.specs.Lines.{words}
 use Rattle.lines.specs.Numbers.{number}
 use Rattle.lines.proofs.ShapeLaws.{taken-word}

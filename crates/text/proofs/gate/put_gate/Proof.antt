@@ -1,8 +1,7 @@
 -- The limits are tested, then the clauses are put. Assumes nothing.
 use Prim.Native.Nat.{_+_, _-_}
-use mathlib.Core.Path.{_≡_, refl, sym, ap, _∙_}
+use mathlib.Core.Path.{_≡_, ap, _∙_}
 use native.Mathlib.Omega.{arith}
-use lib.IntN.{ℤ, pos}
 use lib.ListN.{length, take}
 use Rattle.gates.specs.declared.Function.{Function}
 use Rattle.gates.specs.Put.{place-behind, laid}

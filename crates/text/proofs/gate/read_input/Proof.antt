@@ -1,7 +1,5 @@
 -- An input is above all names, not known, or known. Assumes nothing.
-use mathlib.Core.Path.{refl, sym, ap, _∙_}
-use native.Mathlib.Omega.{arith}
-use borrow.Author.Tests.{lt-ltb, le-ltb}
+use mathlib.Core.Path.{ap, _∙_}
 use Rattle.named.specs.Named.{signed as with-sign}
 use Rattle.text.proofs.GateLineLaws.{input-above, input-unknown, input-taken}
 use borrow.Author.Needs.{needs}
