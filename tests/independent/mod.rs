@@ -1,7 +1,7 @@
 //! 01's rules, written from its words apart from the engine: the formula, its meaning by brute force, preferences, rows, copies and the
-//! first model, the run, the judge, the reader; 02's opening, clearing, return counts, trimming, forecast, fee, witness file and season sheet; and what
-//! the program prints and the C function returns. With them what the tests share: random cases, lent tables with guards, the count of cases, jobs on
-//! several threads.
+//! first model, the run, the judge, the reader; 02's opening, clearing, return counts, trimming, forecast, fee, witness file, gate lists and season
+//! sheet; and what the program prints and the C function returns. With them what the tests share: random cases, lent tables with guards, the count
+//! of cases, jobs on several threads.
 
 // No test uses all of it.
 #![allow(dead_code)]
@@ -12,6 +12,7 @@ pub mod draw;
 pub mod fee;
 pub mod forecast;
 pub mod formula;
+pub mod gates;
 pub mod jobs;
 pub mod lent;
 pub mod meaning;

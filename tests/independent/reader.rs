@@ -180,11 +180,11 @@ fn shape(line: &[u8]) -> Option<Line> {
 }
 
 /// What the tokens are, if each is one.
-fn each<T>(tokens: &[&[u8]], one: fn(&[u8]) -> Option<T>) -> Option<Vec<T>> {
+pub fn each<T>(tokens: &[&[u8]], one: fn(&[u8]) -> Option<T>) -> Option<Vec<T>> {
     tokens.iter().map(|token| one(token)).collect()
 }
 
-fn number(token: &[u8]) -> Option<u32> {
+pub fn number(token: &[u8]) -> Option<u32> {
     let has_leading_zero = token.len() > 1 && token[0] == b'0';
     if !(1..=5).contains(&token.len()) || has_leading_zero || !token.iter().all(u8::is_ascii_digit) {
         return None;
@@ -192,11 +192,11 @@ fn number(token: &[u8]) -> Option<u32> {
     Some(token.iter().fold(0, |number, digit| 10 * number + u32::from(digit - b'0')))
 }
 
-fn name(token: &[u8]) -> Option<u32> {
+pub fn name(token: &[u8]) -> Option<u32> {
     number(token).filter(|&name| name > 0)
 }
 
-fn literal(token: &[u8]) -> Option<i32> {
+pub fn literal(token: &[u8]) -> Option<i32> {
     match token.strip_prefix(b"-") {
         Some(negated) => name(negated).map(|name| -(name as i32)),
         None => name(token).map(|name| name as i32),

@@ -13,7 +13,7 @@ use Rattle.rounds.proofs.RoundLaws.{Over}
 use Rattle.rounds.proofs.RunLaws.{run-stays}
 use Rattle.lines.specs.Lines.{lines, words}
 use Rattle.lines.specs.Numbers as Numbers
-use Rattle.lines.specs.Shapes.{is-comment, is-trimmed, is-problem, is-prefix, is-clause}
+use Rattle.lines.specs.Shapes.{is-comment, is-trimmed, is-problem, is-led, is-clause}
 use Rattle.named.specs.Named.{position}
 use Rattle.text.specs.Reading.{Read, taken, name-cause, prefix-line, literal-cause, entry, free-with, clause-line, body-line, problem-cause, opened, scan, closed, read, text-read}
 use Rattle.report.specs.Report.{ascii, decimal, line-one, line-two, result-lines}
@@ -33,7 +33,7 @@ abbrev formula : Read
 formula = record { kinds = kinds; names = 1 ∷ 2 ∷ []; literals = literals; variables = 2; clauses = 2 }
 
 read-so : text-read text ≡ taken formula
-unfolding read scan closed lines words Numbers.number-within Numbers.number-shape Numbers.unsigned is-comment is-trimmed is-problem is-prefix is-clause problem-cause opened body-line prefix-line clause-line name-cause literal-cause entry free-with position
+unfolding read scan closed lines words Numbers.number-within Numbers.number-shape Numbers.unsigned is-comment is-trimmed is-problem is-led is-clause problem-cause opened body-line prefix-line clause-line name-cause literal-cause entry free-with position
 read-so = refl
 
 -- The run has ended in round 2.

@@ -1,15 +1,15 @@
 -- Words closed by zero, taken from the left. Assumes nothing.
 use Prim.Native.Nat.{ℕ, _-_, _<_}
 use mathlib.Core.Path.{_≡_, refl, ap, _∙_}
-use mathlib.Core.Bool.{Bool, true, false}
+use mathlib.Core.Bool.{Bool, true, false, _&&_}
 use mathlib.Core.List.{List, _∷_}
 use native.Mathlib.Omega.{arith}
 use native.Mathlib.Decide.{decLt}
 use borrow.Author.Tests.{eq-eqb, ne-eqb}
-use lib.Dec.{eqb}
+use lib.Dec.{ltb, eqb}
 use lib.ListN.{take, drop}
 use Rattle.lines.specs.Lines.{Bytes, words, first, rest}
-use Rattle.lines.specs.Numbers.{is-zero}
+use Rattle.lines.specs.Numbers.{is-zero, no-number}
 use Rattle.lines.specs.Shapes.{is-empty, closed-by-zero}
 use Rattle.lines.specs.Places.{Next}
 
@@ -34,3 +34,8 @@ module _ (good : Bytes → Bool) (w : Bytes) (ws : List Bytes) where
 
   pub closed-more : is-zero w ≡ false → good w ≡ true → closed-by-zero good (w ∷ ws) ≡ closed-by-zero good ws
   closed-more h k = rw (h, k) refl
+
+-- The parts of a p line in the definition's order.
+pub whole-problem : (a b d : Bool) {opens ends e : Bool} {m n m′ n′ : ℕ} → opens ≡ (a && b && d) → ends ≡ e → m ≡ m′ → n ≡ n′
+    → (opens && ends && ltb m no-number && ltb n no-number) ≡ (a && b && d && e && ltb m′ no-number && ltb n′ no-number)
+whole-problem a b d o q v c = rw (o, q, v, c) refl

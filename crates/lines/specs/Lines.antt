@@ -71,6 +71,9 @@ third ws = first (rest (rest ws))
 abbrev pub fourth : List Bytes → Bytes
 fourth ws = first (rest (rest (rest ws)))
 
+abbrev pub fifth : List Bytes → Bytes
+fifth ws = first (rest (rest (rest (rest ws))))
+
 -- Two lists of bytes are the same.
 abbrev pub same : Bytes → Bytes → Bool
 same [] [] = true

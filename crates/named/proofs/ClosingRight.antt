@@ -19,7 +19,7 @@ length-existentials : (free : List ℕ) (ks : List Kind) (names : List ℕ) → 
 length-existentials [] ks names e = e
 length-existentials (x ∷ free) ks names e = ap suc (length-existentials free ks names e)
 
-length-prefix : (kinds : List ℕ) → length (prefix kinds) ≡ length kinds
+pub length-prefix : (kinds : List ℕ) → length (prefix kinds) ≡ length kinds
 length-prefix [] = refl
 length-prefix (k ∷ kinds) = ap suc (length-prefix kinds)
 

@@ -1,4 +1,5 @@
--- Worked names; lists of names; the meaning by position is the meaning by name; closing keeps the meaning.
+-- Worked names; lists of names; the meaning by position is the meaning by name; closing keeps the meaning; the clauses of a gate list have the
+-- circuit's.
 pub mod ByHand
 pub mod NameLaws
 pub mod PlaceLaws
@@ -6,3 +7,6 @@ pub mod Positions
 pub mod CauseLaws
 pub mod Closing
 pub mod ClosingRight
+pub mod GateHolds
+pub mod GateLaws
+pub mod CircuitRight

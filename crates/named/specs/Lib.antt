@@ -1,5 +1,7 @@
--- A formula by its names, and names that no block binds.
+-- A formula by its names, names that no block binds, and gate lists.
 pub mod Named
 pub mod Names
 pub mod Closing
 pub mod ClosingRight
+pub mod Gates
+pub mod CircuitRight

@@ -1,4 +1,4 @@
--- What the exported reader of texts returns and reports.
+-- What the exported readers of texts and of gate lists return and report.
 -- Assumes nothing.
 use Prim.Native.Nat.{ℕ, _+_}
 use mathlib.Core.Path.{_≡_}

@@ -1,9 +1,9 @@
-// The reader of texts, exported with a number for its answer: 0 for a text that is taken, or 100 plus the number of a refusal. What it returns
-// besides is reported to five places, 0 where it does not apply.
+// The readers of texts and of gate lists, exported with a number for their answer: 0 for a text that is taken, or 100 plus the number of a refusal.
+// What they return besides is reported to five places, 0 where it does not apply.
 use text::Reading;
 ghost use mathlib.Core.Path.{_≡_};
 ghost use lib.ListN.{length};
-ghost use Rattle.text.specs.Reading.{read as definition};
+ghost use Rattle.text.specs.Reading.{read as definition, read-gates as gates-definition};
 ghost use Rattle.probe.specs.TextReader.{text-number as number-of, text-told, TextRead};
 
 #[no_mangle]
@@ -21,6 +21,30 @@ pub extern "C" fn probe_read_text(
     ensures { λ r. ⌜ TextRead (definition (now (text .entry)) (length (now (kinds .entry))) (length (now (literals .entry))) (length (now (names .entry)))) r (now (unknowns .exit)) (now (entries .exit)) (now (variables .exit)) (now (clauses .exit)) (now (line .exit)) (now (kinds .entry)) (now (literals .entry)) (now (names .entry)) (now (kinds .exit)) (now (literals .exit)) (now (names .exit)) ⌝ }
 {
     let answer = text::read(text, kinds, literals, names);
+    let told = told_text(answer);
+    *unknowns = told.unknowns;
+    *entries = told.entries;
+    *variables = told.variables;
+    *clauses = told.clauses;
+    *line = told.line;
+    text_number(answer)
+}
+
+#[no_mangle]
+pub extern "C" fn probe_read_gates(
+    text: &[u8],
+    kinds: &mut [u8],
+    literals: &mut [i32],
+    names: &mut [u16],
+    unknowns: &mut usize,
+    entries: &mut usize,
+    variables: &mut usize,
+    clauses: &mut usize,
+    line: &mut usize,
+) -> u64
+    ensures { λ r. ⌜ TextRead (gates-definition (now (text .entry)) (length (now (kinds .entry))) (length (now (literals .entry))) (length (now (names .entry)))) r (now (unknowns .exit)) (now (entries .exit)) (now (variables .exit)) (now (clauses .exit)) (now (line .exit)) (now (kinds .entry)) (now (literals .entry)) (now (names .entry)) (now (kinds .exit)) (now (literals .exit)) (now (names .exit)) ⌝ }
+{
+    let answer = text::read_gates(text, kinds, literals, names);
     let told = told_text(answer);
     *unknowns = told.unknowns;
     *entries = told.entries;

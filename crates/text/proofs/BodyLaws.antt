@@ -10,14 +10,14 @@ use lib.IntN.{ℤ}
 use lib.ListN.{take}
 use Rattle.text.specs.declared.body.Counts.{Counts}
 use Rattle.lines.specs.Lines.{Bytes, words}
-use Rattle.lines.specs.Shapes.{is-prefix, is-clause}
-use Rattle.text.specs.Reading.{State, went, fault, unless, prefix-line, clause-line, clause-read, body-line, Scan, go-on}
-use Rattle.text.specs.Steps.{Marked, placed-in, Sized, settled}
+use Rattle.lines.specs.Shapes.{is-prefix, is-gate}
+use Rattle.text.specs.Reading.{State, went, fault, unless, prefix-line, clause-read, clause-line, gate-line, is-item, item-line, body-line, is-gates, Scan, go-on}
+use Rattle.text.specs.Steps.{Marked, placed-in, Sized, settled, Line-read, form-at}
 
 -- The sizes do not hang on the cause, the line and C.
 pub resized : {c d : Counts} {K N : List ℕ} {L : List ℤ}
-    → c .bound ≡ d .bound → c .free ≡ d .free → c .entries ≡ d .entries → c .variables ≡ d .variables → c .«clauses_read» ≡ d .«clauses_read» → Sized c K N L → Sized d K N L
-resized b f e v r z =
+    → c .bound ≡ d .bound → c .free ≡ d .free → c .entries ≡ d .entries → c .variables ≡ d .variables → c .«clauses_read» ≡ d .«clauses_read» → c .made ≡ d .made → Sized c K N L → Sized d K N L
+resized b f e v r m z =
     record {
       kinds = z .kinds;
       names = z .names;
@@ -26,6 +26,7 @@ resized b f e v r z =
       entries = omega (arith, z .entries);
       variables = omega (arith, z .variables);
       unread = λ none. sym f ∙ z .unread (r ∙ none);
+      made = omega (arith, z .made);
     }
 
 -- Before the first clause line no name is free.
@@ -47,15 +48,32 @@ pub settled-refused : (cause : ℕ) → (cause ≡ 0 → ⊥) → (s t : State) 
 settled-refused zero h s t k more = absurd (h refl)
 settled-refused (suc c) h s t k more = refl
 
-module _ (s : State) (line : Bytes) where
-  pub body-prefix : (eqb (s .clauses-read) 0 && is-prefix line) ≡ true → body-line s line ≡ prefix-line s (words line)
+module _ (gates : Bool) (s : State) (line : Bytes) where
+  pub body-prefix : (eqb (s .clauses-read) 0 && is-prefix line) ≡ true → body-line gates s line ≡ prefix-line s (words line)
   unfolding body-line
   body-prefix h = rw h refl
 
-  pub body-clause : (eqb (s .clauses-read) 0 && is-prefix line) ≡ false → is-clause line ≡ true → body-line s line ≡ clause-line s (words line)
+  pub body-item : (eqb (s .clauses-read) 0 && is-prefix line) ≡ false → is-item gates line ≡ true → body-line gates s line ≡ item-line gates s (words line)
   unfolding body-line
-  body-clause h k = rw (h, k) refl
+  body-item h k = rw (h, k) refl
 
-  pub body-none : (eqb (s .clauses-read) 0 && is-prefix line) ≡ false → is-clause line ≡ false → body-line s line ≡ fault 10
+  pub body-none : (eqb (s .clauses-read) 0 && is-prefix line) ≡ false → is-item gates line ≡ false → body-line gates s line ≡ fault 10
   unfolding body-line
   body-none h k = rw (h, k) refl
+
+-- A line behind the prefix, by the form.
+pub gate-shape : (gates : Bool) (line : Bytes) → gates ≡ true → is-item gates line ≡ true → is-gate line ≡ true
+gate-shape gates line so e = subst (λ (b : Bool). is-item b line ≡ true) so e
+
+module _ (gates : Bool) where
+  pub gate-item : gates ≡ true → (s : State) (line : Bytes) → (eqb (s .clauses-read) 0 && is-prefix line) ≡ false → is-item gates line ≡ true
+      → {c r : Counts} {K N P : List ℕ} {L : List ℤ} → Line-read true (gate-line s (words line)) c r K N P L → Line-read gates (body-line gates s line) c r K N P L
+  gate-item so s line h k read = rw (body-item gates s line h k, so) read
+
+  pub clause-item : gates ≡ false → (s : State) (line : Bytes) → (eqb (s .clauses-read) 0 && is-prefix line) ≡ false → is-item gates line ≡ true
+      → {c r : Counts} {K N P : List ℕ} {L : List ℤ} → Line-read false (clause-line s (words line)) c r K N P L → Line-read gates (body-line gates s line) c r K N P L
+  clause-item so s line h k read = rw (body-item gates s line h k, so) read
+
+pub form-gates : (gates minus : Bool) (v k : ℕ) → is-gates (form-at gates minus v k) ≡ gates
+form-gates false minus v k = refl
+form-gates true minus v k = refl

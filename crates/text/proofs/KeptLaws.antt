@@ -180,7 +180,7 @@ signed-some b zero some = absurd (some refl)
 signed-some true (suc p) some = refl
 signed-some false (suc p) some = refl
 
-signed-size : (b : Bool) (p : ℕ) → natAbs (signed b p) ≡ p
+pub signed-size : (b : Bool) (p : ℕ) → natAbs (signed b p) ≡ p
 signed-size true zero = refl
 signed-size true (suc p) = refl
 signed-size false p = refl

@@ -1,4 +1,5 @@
--- The laws that the proofs of the functions cite, callees first; then what a caller of `read` goes on with.
+-- Gate lists worked by hand; the laws that the proofs of the functions cite, callees first; then what a caller of `read` goes on with.
+pub mod ByHand
 pub mod Tables
 pub mod Places
 pub mod Negation
@@ -8,7 +9,13 @@ pub mod InsertLaws
 pub mod WordLaws
 pub mod KeptLaws
 pub mod BodyLaws
+pub mod GateLineLaws
+pub mod GateStateLaws
+pub mod GateLineRead
+pub mod ScanLaws
 pub mod TextLaws
 pub mod ClosedRight
+pub mod DrawnLaws
+pub mod GatesRight
 pub mod ReadingLaws
 pub mod FrontLaws

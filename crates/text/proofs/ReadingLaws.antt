@@ -1,13 +1,14 @@
 -- From the lines of a text to what is returned and written. Assumes nothing.
 use Prim.Native.Nat.{ℕ, zero, suc, _+_, _≤_}
 use mathlib.Core.Path.{_≡_, refl, sym, ap, ap₂, subst, _∙_}
+use mathlib.Core.Bool.{Bool, true, false}
 use mathlib.Core.List.{List, [], _∷_, _++_, map}
 use native.Mathlib.Nat.{zero-add}
 use native.Mathlib.Omega.{arith}
 use lib.IntN.{ℤ}
 use lib.ListN.{length, take, drop, replicate, length-drop, length-replicate, length-append}
 use lib.Seq.{paste, take-all, take-at, drop-at, drop-drop, length-take-le}
-use Rattle.lines.specs.Lines.{Bytes}
+use Rattle.lines.specs.Lines.{Bytes, lines}
 use Rattle.named.specs.Named.{placed}
 use Rattle.named.specs.Closing.{closed-kinds}
 use Rattle.named.proofs.CauseLaws.{length-map, as-many-closed}
@@ -16,7 +17,9 @@ use Rattle.text.specs.declared.Reading.the-variants.{Taken, Refused}
 use Rattle.text.specs.Reading.{Scan, whole, stopped, closed, taken, result-of, scan, Read-so, over}
 use Rattle.text.specs.Steps.{free-in, placed-in, outcome, settled, held, Sized, Placeable}
 use Rattle.text.proofs.KeptLaws.{Whole}
-use Rattle.text.proofs.TextLaws.{Scans, scan-whole}
+use Rattle.text.proofs.ScanLaws.{Scans}
+use Rattle.text.proofs.TextLaws.{OfText, scan-whole}
+use Rattle.text.proofs.GatesRight.{Any, All-ended, scan-ended}
 
 -- A refusal leaves the tables.
 pub refused-whole : {x : Scan} {number line : ℕ} {K : List ℕ} {L : List ℤ} {N : List ℕ} → x ≡ stopped number line
@@ -36,10 +39,11 @@ unfolding outcome
 outcome-taken c K N L h = rw h refl
 
 -- The names of a text whose lines are all read have positions.
-pub scan-placeable : (text : Bytes) (kinds literals names : ℕ) (c : Counts) (K N : List ℕ) (L : List ℤ) → scan text kinds literals names ≡ whole (held c K N L)
+pub scan-placeable : (gates : Bool) (text : Bytes) (kinds literals names : ℕ) (c : Counts) (K N : List ℕ) (L : List ℤ) → scan gates text kinds literals names ≡ whole (held c K N L)
     → Placeable (placed-in (c .bound) (c .free) N) (take (c .entries) L)
 unfolding held
-scan-placeable text kinds literals names c K N L e = subst (Scans Whole) e (scan-whole text kinds literals names) .kept .placeable
+scan-placeable false text kinds literals names c K N L e = subst (Scans OfText Whole) e (scan-whole text kinds literals names) .kept .placeable
+scan-placeable true text kinds literals names c K N L e = subst (Scans Any (All-ended (lines text))) e (scan-ended text kinds literals names) .placeable
 
 -- A table with the first n entries of another over its own, or with those of two.
 paste-over : {A : Type 0} (old new : List A) (n : ℕ) → n ≤ length new → paste old 0 new n ≡ over (take n new) old

@@ -1,9 +1,9 @@
 -- What holds of every text: a cause's number is one of 9 to 12 and 14, and its line is within the text's lines or right behind them; of a text that
 -- is taken causes 1 to 3 don't apply, V and C are within their limits, and its names have positions.
 -- Assumes nothing.
-use Prim.Native.Nat.{ℕ, zero, suc, _+_, _≤_, _<_}
+use Prim.Native.Nat.{ℕ, zero, suc, _+_, _≤_}
 use native.Mathlib.Omega.{arith}
-use mathlib.Core.Path.{_≡_, refl, ap, subst, _∙_}
+use mathlib.Core.Path.{_≡_, refl, subst, _∙_}
 use mathlib.Core.Bool.{Bool, true, false, cond, _&&_, false≢true}
 use mathlib.Core.List.{List, [], _∷_}
 use borrow.Author.Tests.{ltb-true, ltb-false, leb-true, eqb-true}
@@ -20,8 +20,9 @@ use Rattle.lines.specs.Shapes.{is-comment, is-problem, is-prefix, is-clause, is
 use Rattle.named.specs.Named.{among, placed}
 use Rattle.named.specs.Closing.{closed-names, closed-kinds, closed-literals}
 use Rattle.named.proofs.CauseLaws.{length-map, kinds-known, as-many-closed, zeros-placed, ended-placed, placed-within}
-use Rattle.text.specs.Reading.{max-bytes, max-variables, State, Step, went, fault, unless, name-cause, bind, bind-all, kind-of-word, prefix-line, has-place, literal-cause, add-entry, add-entries, clause-read, clause-line, body-line, step, Scan, whole, stopped, go-on, finish, body, problem-cause, opened, problem, after-comments, lent-well, scan, Read, closed, Result, taken, refused, result-of, read}
+use Rattle.text.specs.Reading.{max-bytes, max-variables, State, Step, went, fault, unless, name-cause, kind-of-word, prefix-line, has-place, literal-cause, add-entry, add-entries, clause-read, clause-line, body-line, step, Scan, whole, stopped, go-on, finish, body, problem-cause, opened, problem, after-comments, lent-well, scan, Read, closed, Result, taken, refused, result-of, read, clause-list}
 use Rattle.text.proofs.NameLaws.{name-cause-zero, literal-cause-zero}
+use Rattle.text.proofs.ScanLaws.{cond-so, NoneOr, Steps, Scans, unless-so, go-on-so, bind-all-so, body-so, scan-so}
 use Rattle.text.proofs.KeptLaws.{Whole, Open, Closed, and-both, bind-whole, add-zero, add-literal}
 
 -- A number of the text's causes. 13, of names bound nowhere, is none of them.
@@ -34,25 +35,12 @@ pub record OfText (n : ℕ) : Type 0 where
 abbrev NoneOrOfText : ℕ → Type 0
 NoneOrOfText n = (1 ≤ n → 9 ≤ n) × (n ≤ 14) × (n ≡ 13 → ⊥)
 
-abbrev Steps : (State → Type 0) → Step → Type 0
-Steps P (went s) = P s
-Steps P (fault n) = OfText n
-
-abbrev pub Scans : (State → Type 0) → Scan → Type 0
-Scans P (whole s) = P s
-Scans P (stopped n line) = OfText n
-
 abbrev pub Results : (Read → Type 0) → Result → Type 0
 Results P (taken r) = P r
 Results P (refused n line) = OfText n
 
-cond-so : {A : Type 0} (P : A → Type 0) (b : Bool) (x y : A) → (b ≡ true → P x) → (b ≡ false → P y) → P (cond b x y)
-cond-so P true x y t f = t refl
-cond-so P false x y t f = f refl
-
-unless-so : (P : State → Type 0) (n : ℕ) (t : Step) → NoneOrOfText n → (n ≡ 0 → Steps P t) → Steps P (unless n t)
-unless-so P zero t small then = then refl
-unless-so P (suc n) t small then = record { from-9 = small .0 (omega arith); to-14 = small .1; not-13 = small .2 }
+of-text : (n : ℕ) → NoneOrOfText n → NoneOr OfText n
+of-text n small some = record { from-9 = small .0 (omega arith); to-14 = small .1; not-13 = small .2 }
 
 -- A name in a prefix line.
 name-cause-of-text : (variables : ℕ) (names : List ℕ) (v : ℕ) → NoneOrOfText (name-cause variables names v)
@@ -65,26 +53,21 @@ name-cause-of-text variables names v = go (ltb variables v) (among v names) (ltb
     go false false true = (λ some. omega arith, omega arith, λ e. omega arith)
     go false false false = (λ some. omega arith, omega arith, λ e. omega arith)
 
-bind-all-whole : (kind : ℕ) → other-kind kind ≡ false → (ws : List Bytes) (s : State) → s .clauses-read ≡ 0 → Whole s → Steps Whole (bind-all kind s ws)
-bind-all-whole kind known [] s start w = w
-bind-all-whole kind known (word ∷ ws) s start w =
-    cond-so (Steps Whole) (is-zero word) (went s)
-    (unless (name-cause (s .variables) (s .names) (number word)) (bind-all kind (bind kind s (number word)) ws)) (λ _. w)
-    (λ _.
-    unless-so Whole (name-cause (s .variables) (s .names) (number word)) (bind-all kind (bind kind s (number word)) ws)
-    (name-cause-of-text (s .variables) (s .names) (number word))
-    (λ none.
-    let facts = name-cause-zero (s .variables) (s .names) (number word) none in
-    bind-all-whole kind known ws (bind kind s (number word)) start
-    (bind-whole kind s (number word) known (facts .0) (facts .1) (facts .2) start w)))
-
 kind-known : (b : Bool) → other-kind (cond b 1 0) ≡ false
 kind-known true = refl
 kind-known false = refl
 
-prefix-whole : (s : State) (ws : List Bytes) → s .clauses-read ≡ 0 → Whole s → Steps Whole (prefix-line s ws)
+prefix-whole : (s : State) (ws : List Bytes) → s .clauses-read ≡ 0 → Whole s → Steps OfText Whole (prefix-line s ws)
 unfolding prefix-line
-prefix-whole s ws start w = bind-all-whole (kind-of-word (first ws)) (kind-known (same (first ws) a-word)) (rest ws) s start w
+prefix-whole s ws start w =
+    bind-all-so OfText (kind-of-word (first ws)) (λ _ t. (t .clauses-read ≡ 0) × Whole t) Whole
+    (λ t word. of-text (name-cause (t .variables) (t .names) (number word)) (name-cause-of-text (t .variables) (t .names) (number word)))
+    (λ t p. p .1)
+    (λ t word more zero p. p .1)
+    (λ t word more some none p.
+    let facts = name-cause-zero (t .variables) (t .names) (number word) none in
+    (p .0, bind-whole (kind-of-word (first ws)) t (number word) (kind-known (same (first ws) a-word)) (facts .0) (facts .1) (facts .2) (p .0) (p .1)))
+    (rest ws) s (start, w)
 
 -- A word of a clause line.
 literal-cause-of-text : (variables : ℕ) (names : List ℕ) (used : ℕ) (w : Bytes) → NoneOrOfText (literal-cause variables names used w)
@@ -100,23 +83,23 @@ literal-cause-of-text variables names used w =
     go false false true false = (λ some. omega arith, omega arith, λ e. omega arith)
     go false false false d = (λ some. omega arith, omega arith, λ e. omega arith)
 
-add-entries-closed : (ws : List Bytes) (s : State) → closed-by-zero is-literal ws ≡ true → Open s → Steps Closed (add-entries s ws)
+add-entries-closed : (ws : List Bytes) (s : State) → closed-by-zero is-literal ws ≡ true → Open s → Steps OfText Closed (add-entries s ws)
 add-entries-closed [] s shape o = absurd (false≢true shape)
 add-entries-closed (w ∷ ws) s shape o =
-    unless-so Closed (literal-cause (s .variables) (closed-names (s .free) (s .names)) (length (s .entries)) w) (add-entries (add-entry s w) ws)
-    (literal-cause-of-text (s .variables) (closed-names (s .free) (s .names)) (length (s .entries)) w)
+    unless-so OfText Closed (literal-cause (s .variables) (closed-names (s .free) (s .names)) (length (s .entries)) w) (add-entries (add-entry s w) ws)
+    (of-text (literal-cause (s .variables) (closed-names (s .free) (s .names)) (length (s .entries)) w) (literal-cause-of-text (s .variables) (closed-names (s .free) (s .names)) (length (s .entries)) w))
     (λ none. go (is-zero w) ws refl shape none (add-entries-closed ws))
   where
     go : (b : Bool) (ws : List Bytes) → is-zero w ≡ b → cond b (is-empty ws) (is-literal w && closed-by-zero is-literal ws) ≡ true
         → literal-cause (s .variables) (closed-names (s .free) (s .names)) (length (s .entries)) w ≡ 0
-        → ((t : State) → closed-by-zero is-literal ws ≡ true → Open t → Steps Closed (add-entries t ws)) → Steps Closed (add-entries (add-entry s w) ws)
+        → ((t : State) → closed-by-zero is-literal ws ≡ true → Open t → Steps OfText Closed (add-entries t ws)) → Steps OfText Closed (add-entries (add-entry s w) ws)
     go true [] e shape none more = add-zero s w e (literal-cause-zero (s .variables) (closed-names (s .free) (s .names)) (length (s .entries)) w none) o
     go true (x ∷ xs) e shape none more = absurd (false≢true shape)
     go false ws e shape none more =
         let both = and-both (is-literal w) (closed-by-zero is-literal ws) shape in
         more (add-entry s w) (both .1) (add-literal s w e (both .0) none o)
 
-clause-counted : (t : Step) → Steps Closed t → Steps Whole (clause-read t)
+clause-counted : (t : Step) → Steps OfText Closed t → Steps OfText Whole (clause-read t)
 clause-counted (fault n) p = p
 clause-counted (went s) c =
     let K = c .kept in
@@ -139,45 +122,39 @@ clause-counted (went s) c =
       unread = λ none. absurd (omega arith);
     }
 
-clause-whole : (s : State) (line : Bytes) → is-clause line ≡ true → Whole s → Steps Whole (clause-line s (words line))
+clause-whole : (s : State) (line : Bytes) → is-clause line ≡ true → Whole s → Steps OfText Whole (clause-line s (words line))
 unfolding is-clause clause-line
 clause-whole s line shape w =
-    cond-so (Steps Whole) (ltb (s .clauses-read) (s .clauses)) (clause-read (add-entries s (words line))) (fault 14)
+    cond-so (Steps OfText Whole) (ltb (s .clauses-read) (s .clauses)) (clause-read (add-entries s (words line))) (fault 14)
     (λ below.
     clause-counted (add-entries s (words line))
     (add-entries-closed (words line) s (and-both (is-trimmed line) (closed-by-zero is-literal (words line)) shape .1)
     (record { kept = w .kept; in-count = ltb-true (s .clauses-read) (s .clauses) below })))
     (λ _. record { from-9 = omega arith; to-14 = omega arith; not-13 = λ e. omega arith })
 
-body-line-whole : (s : State) (line : Bytes) → Whole s → Steps Whole (body-line s line)
+body-line-whole : (s : State) (line : Bytes) → Whole s → Steps OfText Whole (body-line false s line)
 unfolding body-line
 body-line-whole s line w =
-    cond-so (Steps Whole) (eqb (s .clauses-read) 0 && is-prefix line) (prefix-line s (words line))
+    cond-so (Steps OfText Whole) (eqb (s .clauses-read) 0 && is-prefix line) (prefix-line s (words line))
     (cond (is-clause line) (clause-line s (words line)) (fault 10))
     (λ both. prefix-whole s (words line) (eqb-true (s .clauses-read) 0 (and-both (eqb (s .clauses-read) 0) (is-prefix line) both .0)) w)
     (λ _.
-    cond-so (Steps Whole) (is-clause line) (clause-line s (words line)) (fault 10) (λ shape. clause-whole s line shape w)
+    cond-so (Steps OfText Whole) (is-clause line) (clause-line s (words line)) (fault 10) (λ shape. clause-whole s line shape w)
     (λ _. record { from-9 = omega arith; to-14 = omega arith; not-13 = λ e. omega arith }))
 
-step-whole : (s : State) (l : Line) → Whole s → Steps Whole (step s l)
+step-whole : (s : State) (l : Line) → Whole s → Steps OfText Whole (step false s l)
 step-whole s (line-ended line) w = body-line-whole s line w
 step-whole s (unended line) w = record { from-9 = omega arith; to-14 = omega arith; not-13 = λ e. omega arith }
 
-go-on-whole : (t : Step) (k : ℕ) (more : State → Scan) → Steps Whole t → ((s : State) → Whole s → Scans Whole (more s)) → Scans Whole (go-on t k more)
-go-on-whole (fault n) k more p then = p
-go-on-whole (went s) k more p then = then s p
-
-body-whole : (ls : List Line) (s : State) (k : ℕ) → Whole s → Scans Whole (body s k ls)
-body-whole [] s k w =
-    cond-so (Scans Whole) (eqb (s .clauses-read) (s .clauses)) (whole s) (stopped 14 k) (λ _. w)
+finish-whole : (s : State) (k : ℕ) → Whole s → Scans OfText Whole (finish clause-list s k)
+finish-whole s k w =
+    cond-so (Scans OfText Whole) (eqb (s .clauses-read) (s .clauses)) (whole s) (stopped 14 k) (λ _. w)
     (λ _. record { from-9 = omega arith; to-14 = omega arith; not-13 = λ e. omega arith })
-body-whole (l ∷ ls) s k w =
-    go-on-whole (step s l) k (λ t. body t (suc k) ls) (step-whole s l w) (λ t v. body-whole ls t (suc k) v)
 
 -- The p line.
-problem-cause-of-text : (line : Bytes) → NoneOrOfText (problem-cause line)
+problem-cause-of-text : (line : Bytes) → NoneOrOfText (problem-cause false line)
 unfolding problem-cause
-problem-cause-of-text line = go (is-problem line) (ltb max-variables (number (third (words line)))) (ltb max-clauses (number (fourth (words line))))
+problem-cause-of-text line = go (is-problem false line) (ltb max-variables (number (third (words line)))) (ltb max-clauses (number (fourth (words line))))
   where
     go : (a b c : Bool) → NoneOrOfText (cond a (cond b 11 (cond c 11 0)) 10)
     go true true c = (λ some. omega arith, omega arith, λ e. omega arith)
@@ -189,10 +166,10 @@ problem-cause-of-text line = go (is-problem line) (ltb max-variables (number (th
 abbrev Ranged : List Bytes → Type 0
 Ranged ws = (number (third ws) ≤ max-variables) × (number (fourth ws) ≤ max-clauses)
 
-problem-cause-zero : (line : Bytes) → problem-cause line ≡ 0 → Ranged (words line)
+problem-cause-zero : (line : Bytes) → problem-cause false line ≡ 0 → Ranged (words line)
 unfolding problem-cause
 problem-cause-zero line none =
-    go (is-problem line) (ltb max-variables (number (third (words line)))) (ltb max-clauses (number (fourth (words line)))) refl refl none
+    go (is-problem false line) (ltb max-variables (number (third (words line)))) (ltb max-clauses (number (fourth (words line)))) refl refl none
   where
     go : (a b c : Bool) → ltb max-variables (number (third (words line))) ≡ b → ltb max-clauses (number (fourth (words line))) ≡ c
         → _≡_ {A = ℕ} (cond a (cond b 11 (cond c 11 0)) 10) 0 → Ranged (words line)
@@ -224,30 +201,22 @@ opened-whole ws few =
       unread = λ _. refl;
     }
 
-problem-whole : (ls : List Line) (k : ℕ) → Scans Whole (problem k ls)
-problem-whole [] k = record { from-9 = omega arith; to-14 = omega arith; not-13 = λ e. omega arith }
-problem-whole (unended line ∷ ls) k = record { from-9 = omega arith; to-14 = omega arith; not-13 = λ e. omega arith }
-problem-whole (line-ended line ∷ ls) k =
-    go-on-whole (unless (problem-cause line) (went (opened (words line)))) k (λ t. body t (suc k) ls)
-    (unless-so Whole (problem-cause line) (went (opened (words line))) (problem-cause-of-text line)
+problem-whole : (line : Bytes) (ls : List Line) (k : ℕ)
+    → Scans OfText Whole (go-on (unless (problem-cause false line) (went (opened (words line)))) k (λ t. body clause-list t (suc k) ls))
+problem-whole line ls k =
+    go-on-so OfText Whole Whole (unless (problem-cause false line) (went (opened (words line)))) k (λ t. body clause-list t (suc k) ls)
+    (unless-so OfText Whole (problem-cause false line) (went (opened (words line))) (of-text (problem-cause false line) (problem-cause-of-text line))
     (λ none. opened-whole (words line) (problem-cause-zero line none)))
-    (λ t v. body-whole ls t (suc k) v)
+    (λ t v. body-so OfText clause-list (λ _ u. Whole u) Whole (λ u l more q. step-whole u l q) finish-whole ls t (suc k) v)
 
-comments-whole : (ls : List Line) (k : ℕ) → Scans Whole (after-comments k ls)
-comments-whole [] k = problem-whole [] k
-comments-whole (unended line ∷ ls) k = problem-whole (unended line ∷ ls) k
-comments-whole (line-ended line ∷ ls) k =
-    cond-so (Scans Whole) (is-comment line) (after-comments (suc k) ls) (problem k (line-ended line ∷ ls)) (λ _. comments-whole ls (suc k))
-    (λ _. problem-whole (line-ended line ∷ ls) k)
-
-pub scan-whole : (text : Bytes) (kinds literals names : ℕ) → Scans Whole (scan text kinds literals names)
-unfolding scan
+pub scan-whole : (text : Bytes) (kinds literals names : ℕ) → Scans OfText Whole (scan false text kinds literals names)
 scan-whole text kinds literals names =
-    cond-so (Scans Whole) (lent-well text kinds literals names) (after-comments 1 (lines text)) (stopped 9 0) (λ _. comments-whole (lines text) 1)
-    (λ _. record { from-9 = omega arith; to-14 = omega arith; not-13 = λ e. omega arith })
+    scan-so OfText false (record { from-9 = omega arith; to-14 = omega arith; not-13 = λ e. omega arith }) (λ _ t. Whole t)
+    (λ line ls k c. problem-whole line ls k) (λ line ls t c w. w)
+    (record { from-9 = omega arith; to-14 = omega arith; not-13 = λ e. omega arith }) text kinds literals names
 
 -- From the state after the last line to what is read.
-pub results-so : (P : State → Type 0) (Q : Read → Type 0) → ((s : State) → P s → Q (closed s)) → (x : Scan) → Scans P x → Results Q (result-of x)
+pub results-so : (P : State → Type 0) (Q : Read → Type 0) → ((s : State) → P s → Q (closed s)) → (x : Scan) → Scans OfText P x → Results Q (result-of x)
 results-so P Q implies (whole s) p = implies s p
 results-so P Q implies (stopped n line) p = p
 
@@ -279,7 +248,7 @@ whole-passes s w =
 
 pub read-passes : (text : Bytes) (kinds literals names : ℕ) → Results Passes (read text kinds literals names)
 unfolding read
-read-passes text kinds literals names = results-so Whole Passes whole-passes (scan text kinds literals names) (scan-whole text kinds literals names)
+read-passes text kinds literals names = results-so Whole Passes whole-passes (scan false text kinds literals names) (scan-whole text kinds literals names)
 
 -- A refusal's line is at most the number of lines and one.
 abbrev To : ℕ → Scan → Type 0
@@ -290,22 +259,22 @@ go-on-to : (m : ℕ) (t : Step) (k : ℕ) (more : State → Scan) → k ≤ m �
 go-on-to m (fault n) k more small then = small
 go-on-to m (went s) k more small then = then s
 
-body-to : (ls : List Line) (s : State) (k m : ℕ) → k + length ls ≤ m → To m (body s k ls)
+body-to : (ls : List Line) (s : State) (k m : ℕ) → k + length ls ≤ m → To m (body clause-list s k ls)
 body-to [] s k m small = cond-so (To m) (eqb (s .clauses-read) (s .clauses)) (whole s) (stopped 14 k) (λ _. tt) (λ _. omega arith)
-body-to (l ∷ ls) s k m small = go-on-to m (step s l) k (λ t. body t (suc k) ls) (omega arith) (λ t. body-to ls t (suc k) m (omega arith))
+body-to (l ∷ ls) s k m small = go-on-to m (step false s l) k (λ t. body clause-list t (suc k) ls) (omega arith) (λ t. body-to ls t (suc k) m (omega arith))
 
-problem-to : (ls : List Line) (k m : ℕ) → k + length ls ≤ m → To m (problem k ls)
+problem-to : (ls : List Line) (k m : ℕ) → k + length ls ≤ m → To m (problem false k ls)
 problem-to [] k m small = omega arith
 problem-to (unended line ∷ ls) k m small = omega arith
 problem-to (line-ended line ∷ ls) k m small =
-    go-on-to m (unless (problem-cause line) (went (opened (words line)))) k (λ t. body t (suc k) ls) (omega arith)
+    go-on-to m (unless (problem-cause false line) (went (opened (words line)))) k (λ t. body clause-list t (suc k) ls) (omega arith)
     (λ t. body-to ls t (suc k) m (omega arith))
 
-comments-to : (ls : List Line) (k m : ℕ) → k + length ls ≤ m → To m (after-comments k ls)
+comments-to : (ls : List Line) (k m : ℕ) → k + length ls ≤ m → To m (after-comments false k ls)
 comments-to [] k m small = problem-to [] k m small
 comments-to (unended line ∷ ls) k m small = problem-to (unended line ∷ ls) k m small
 comments-to (line-ended line ∷ ls) k m small =
-    cond-so (To m) (is-comment line) (after-comments (suc k) ls) (problem k (line-ended line ∷ ls)) (λ _. comments-to ls (suc k) m (omega arith))
+    cond-so (To m) (is-comment line) (after-comments false (suc k) ls) (problem false k (line-ended line ∷ ls)) (λ _. comments-to ls (suc k) m (omega arith))
     (λ _. problem-to (line-ended line ∷ ls) k m small)
 
 -- A text has no more lines than bytes.
@@ -336,10 +305,10 @@ short-if-lent-well text kinds literals names well = go (leb (length text) max-by
     go true e w = leb-true (length text) max-bytes e
     go false e w = absurd (false≢true w)
 
-scan-to : (text : Bytes) (kinds literals names : ℕ) → To (2 + max-bytes) (scan text kinds literals names)
+scan-to : (text : Bytes) (kinds literals names : ℕ) → To (2 + max-bytes) (scan false text kinds literals names)
 unfolding scan
 scan-to text kinds literals names =
-    cond-so (To (2 + max-bytes)) (lent-well text kinds literals names) (after-comments 1 (lines text)) (stopped 9 0)
+    cond-so (To (2 + max-bytes)) (lent-well text kinds literals names) (after-comments false 1 (lines text)) (stopped 9 0)
     (λ well. comments-to (lines text) 1 (2 + max-bytes) (omega (arith, lines-many text, short-if-lent-well text kinds literals names well)))
     (λ _. omega arith)
 
@@ -350,4 +319,4 @@ stopped-if-refused (stopped m k) n line e = cc
 pub refused-line : (text : Bytes) (kinds literals names n line : ℕ) → read text kinds literals names ≡ refused n line → line ≤ 2 + max-bytes
 unfolding read
 refused-line text kinds literals names n line e =
-    subst (To (2 + max-bytes)) (stopped-if-refused (scan text kinds literals names) n line e) (scan-to text kinds literals names)
+    subst (To (2 + max-bytes)) (stopped-if-refused (scan false text kinds literals names) n line e) (scan-to text kinds literals names)

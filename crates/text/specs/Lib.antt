@@ -2,4 +2,5 @@
 -- `named`; what holds of the names bound nowhere. Steps has only what private functions promise.
 pub mod Reading
 pub mod ClosedRight
+pub mod GatesRight
 pub mod Steps

@@ -1,19 +1,24 @@
--- 01's reader: what a text gives, and the first cause, with its line, for which it is refused. A text is read by its names, and positions are
--- given once, after its last line, since a name that no block binds (02) moves all others. Assumes nothing.
-use Prim.Native.Nat.{ℕ, zero, suc, _≤_}
+-- 01's reader, and 02's for gate lists: what a text gives, and the first cause, with its line, for which it is refused. A text is read by its
+-- names, and positions are given once, after its last line, since a name that no block binds (02) moves all others. Both forms of a text share
+-- everything but the p line's end, the lines behind the prefix and the end of the text; `gates` says that a text is a gate list. Assumes nothing.
+use Prim.Native.Nat.{ℕ, zero, suc, _+_, _≤_}
 use mathlib.Core.Path.{_≡_}
 use mathlib.Core.Bool.{Bool, true, false, cond, _&&_, _||_}
 use mathlib.Core.List.{List, [], _∷_, _++_}
 use lib.Dec.{leb, ltb, eqb}
-use lib.IntN.{ℤ, pos}
+use lib.IntN.{ℤ, pos, natAbs}
 use lib.ListN.{length, drop}
 use Rattle.formula.specs.Formula.{max-unknowns, max-clauses, max-entries}
 use Rattle.text.specs.declared.Reading.{Reading}
 use Rattle.text.specs.declared.Reading.the-variants.{Taken, Refused}
-use Rattle.lines.specs.Lines.{Bytes, Line, ended, unended, lines, words, first, rest, third, fourth, same}
+use Rattle.gates.specs.Clauses.{gate-clauses, flat}
+use Rattle.gates.specs.declared.Function.{Function}
+use Rattle.gates.specs.declared.Function.the-variants.{And, Or, Xor}
+use Rattle.lines.specs.Lines.{Bytes, Line, ended, unended, lines, words, first, rest, second, third, fourth, fifth, same}
 use Rattle.lines.specs.Numbers.{number, is-zero, negative, unsigned}
-use Rattle.lines.specs.Shapes.{is-comment, is-problem, is-prefix, is-clause, a-word}
+use Rattle.lines.specs.Shapes.{is-comment, is-problem, is-prefix, is-clause, is-gate, a-word, and-word, or-word}
 use Rattle.named.specs.Named.{among, signed}
+use Rattle.named.specs.Gates.{Gate}
 use Rattle.named.specs.Closing.{insert, closed-names, closed-kinds, closed-literals}
 
 -- 'Text over 65,536 bytes'; 'V is at most 32,767'.
@@ -23,9 +28,9 @@ max-bytes = 65536
 abbrev pub max-variables : ℕ
 max-variables = 32767
 
--- What has been read so far, by name: V and C of the p line; the kind and the name of each unknown that a block binds, in prefix order; the names
--- that stand in a clause and that no block binds, rising; the entries of the clauses, v or -v for the name v, 0 for the end of a clause; and the
--- number of clause lines.
+-- What has been read so far, by name: V of the p line, and how many lines it wants behind the prefix, C or G; the kind and the name of each
+-- unknown that a block binds, in prefix order, and behind them of each gate; the names that stand in a clause and that no block binds, rising; the
+-- entries of the clauses, v or -v for the name v, 0 for the end of a clause; the number of clause or gate lines; and the clauses made of gates.
 pub record State : Type 0 where
   pub variables : ℕ
   pub clauses : ℕ
@@ -34,6 +39,7 @@ pub record State : Type 0 where
   pub free : List ℕ
   pub entries : List ℤ
   pub clauses-read : ℕ
+  pub made : ℕ
 
 -- A line is taken, or refused for a cause.
 pub data Step : Type 0 where
@@ -55,7 +61,7 @@ name-cause variables names v =
 -- A name is bound behind those bound before.
 abbrev pub with-prefix : State → List ℕ → List ℕ → State
 with-prefix s kinds names =
-    record { variables = s .variables; clauses = s .clauses; kinds = kinds; names = names; free = s .free; entries = s .entries; clauses-read = s .clauses-read }
+    record { variables = s .variables; clauses = s .clauses; kinds = kinds; names = names; free = s .free; entries = s .entries; clauses-read = s .clauses-read; made = s .made }
 
 abbrev pub bind : ℕ → State → ℕ → State
 bind kind s v = with-prefix s (s .kinds ++ (kind ∷ [])) (s .names ++ (v ∷ []))
@@ -89,8 +95,11 @@ literal-cause variables names used w =
     (cond (has-place names (number (unsigned w))) (room-cause used) 14))
 
 -- 'Literals: v or -v', v being the name; 0 for the closing 0.
+abbrev pub literal-of : Bytes → ℤ
+literal-of w = signed (negative w) (number (unsigned w))
+
 unfoldable pub entry : Bytes → ℤ
-entry w = cond (is-zero w) (pos 0) (signed (negative w) (number (unsigned w)))
+entry w = cond (is-zero w) (pos 0) (literal-of w)
 
 -- The names bound nowhere, with that of a word if it is new.
 unfoldable pub free-with : List ℕ → List ℕ → Bytes → List ℕ
@@ -100,7 +109,7 @@ free-with free names w =
 -- A word's entry is added behind those before.
 abbrev pub with-entries : State → List ℕ → List ℤ → State
 with-entries s free entries =
-    record { variables = s .variables; clauses = s .clauses; kinds = s .kinds; names = s .names; free = free; entries = entries; clauses-read = s .clauses-read }
+    record { variables = s .variables; clauses = s .clauses; kinds = s .kinds; names = s .names; free = free; entries = entries; clauses-read = s .clauses-read; made = s .made }
 
 abbrev pub add-entry : State → Bytes → State
 add-entry s w = with-entries s (free-with (s .free) (s .names) w) (s .entries ++ (entry w ∷ []))
@@ -116,22 +125,106 @@ add-entries s (w ∷ ws) =
 abbrev pub clause-read : Step → Step
 clause-read (fault cause) = fault cause
 clause-read (went s) =
-    went (record { variables = s .variables; clauses = s .clauses; kinds = s .kinds; names = s .names; free = s .free; entries = s .entries; clauses-read = suc (s .clauses-read) })
+    went (record { variables = s .variables; clauses = s .clauses; kinds = s .kinds; names = s .names; free = s .free; entries = s .entries; clauses-read = suc (s .clauses-read); made = s .made })
 
 -- 'Then 14 for a line too many, then tokens from the left'.
 unfoldable pub clause-line : State → List Bytes → Step
 clause-line s ws = cond (ltb (s .clauses-read) (s .clauses)) (clause-read (add-entries s ws)) (fault 14)
 
--- A line after the p line: 'then prefix lines .. then clause lines', so a prefix line only before the first clause line.
--- '10 for the whole line' comes first, and the missing LF is one of its reasons.
-unfoldable pub body-line : State → Bytes → Step
-body-line s line =
-    cond (eqb (s .clauses-read) 0 && is-prefix line) (prefix-line s (words line))
-    (cond (is-clause line) (clause-line s (words line)) (fault 10))
+-- Gate lists. 'It refuses with 19 an input or O that is neither bound nor an earlier gate, and with 20 a gate name already used; both stand where 13
+-- and 12 stood.' A gate's name: 11, 20, 14. 'V bounds those in prefix lines', and no others.
+unfoldable pub gate-cause : List ℕ → ℕ → ℕ
+gate-cause names v =
+    cond (ltb max-variables v) 11
+    (cond (among v names) 20
+    (cond (ltb (length names) max-unknowns) 0 14))
 
-abbrev pub step : State → Line → Step
-step s (ended line) = body-line s line
-step s (unended line) = fault 10
+-- An input: 11, 19. The gate itself is no earlier one, so its own name is not yet among these.
+unfoldable pub input-cause : List ℕ → Bytes → ℕ
+input-cause names w =
+    cond (ltb max-variables (number (unsigned w))) 11
+    (cond (among (number (unsigned w)) names) 0 19)
+
+-- The first of two causes.
+abbrev pub first-cause : ℕ → ℕ → ℕ
+first-cause zero later = later
+first-cause (suc cause) later = suc cause
+
+-- The words of a gate line behind its name, from the left: the first cause of an input, and the inputs by name. The closing 0 has no cause.
+abbrev pub inputs-cause : List ℕ → List Bytes → ℕ
+inputs-cause names [] = 0
+inputs-cause names (w ∷ ws) =
+    let more = inputs-cause names ws in
+    cond (is-zero w) 0 (first-cause (input-cause names w) more)
+
+abbrev pub inputs-of : List Bytes → List ℤ
+inputs-of [] = []
+inputs-of (w ∷ ws) =
+    let more = inputs-of ws in
+    cond (is-zero w) [] (literal-of w ∷ more)
+
+-- The gate of a gate line's words.
+abbrev pub function-of : Bytes → Function
+function-of w = cond (same w and-word) And (cond (same w or-word) Or Xor)
+
+abbrev pub gate-of : List Bytes → Gate
+gate-of ws = record { function = function-of (first ws); name = number (second ws); inputs = inputs-of (rest (rest ws)) }
+
+-- The entries of its clauses, and how many clauses they are.
+abbrev pub entries-of-gate : Gate → List ℤ
+entries-of-gate gate = flat (gate-clauses (gate .function) (pos (gate .name)) (gate .inputs))
+
+abbrev pub clauses-of-gate : Gate → ℕ
+clauses-of-gate gate = length (gate-clauses (gate .function) (pos (gate .name)) (gate .inputs))
+
+-- '14 covers .., after its tokens, a line whose clauses pass the limits': so many clauses and entries in all.
+unfoldable pub limit-cause : ℕ → ℕ → ℕ
+limit-cause clauses entries = cond (ltb max-clauses clauses) 14 (cond (ltb max-entries entries) 14 0)
+
+-- A gate is 'a last existential unknown': its name is bound behind all others, with the kind 0, and its clauses come behind those before.
+abbrev pub with-gate : State → Gate → State
+with-gate s gate =
+    record {
+      variables = s .variables;
+      clauses = s .clauses;
+      kinds = s .kinds ++ (0 ∷ []);
+      names = s .names ++ (gate .name ∷ []);
+      free = s .free;
+      entries = s .entries ++ entries-of-gate gate;
+      clauses-read = suc (s .clauses-read);
+      made = s .made + clauses-of-gate gate;
+    }
+
+-- '14 covers gate lines other than G', then the tokens from the left, then the limits.
+unfoldable pub gate-line : State → List Bytes → Step
+gate-line s ws =
+    let gate = gate-of ws in
+    cond (ltb (s .clauses-read) (s .clauses))
+    (unless (gate-cause (s .names) (gate .name))
+    (unless (inputs-cause (s .names) (rest (rest ws)))
+    (unless (limit-cause (s .made + clauses-of-gate gate) (length (s .entries) + length (entries-of-gate gate)))
+    (went (with-gate s gate)))))
+    (fault 14)
+
+-- A line behind the prefix.
+abbrev pub is-item : Bool → Bytes → Bool
+is-item false line = is-clause line
+is-item true line = is-gate line
+
+abbrev pub item-line : Bool → State → List Bytes → Step
+item-line false s ws = clause-line s ws
+item-line true s ws = gate-line s ws
+
+-- A line after the p line: 'then prefix lines .. then clause lines', or gate lines, so a prefix line only before the first of them.
+-- '10 for the whole line' comes first, and the missing LF is one of its reasons.
+unfoldable pub body-line : Bool → State → Bytes → Step
+body-line gates s line =
+    cond (eqb (s .clauses-read) 0 && is-prefix line) (prefix-line s (words line))
+    (cond (is-item gates line) (item-line gates s (words line)) (fault 10))
+
+abbrev pub step : Bool → State → Line → Step
+step gates s (ended line) = body-line gates s line
+step gates s (unended line) = fault 10
 
 -- The lines of a text gone through: the state after the last one, or a cause and its line.
 pub data Scan : Type 0 where
@@ -143,39 +236,86 @@ abbrev pub go-on : Step → ℕ → (State → Scan) → Scan
 go-on (fault cause) k more = stopped cause k
 go-on (went s) k more = more s
 
--- Behind the last line, which line k would follow: 'Clauses other than C .. too few: last + 1'.
-abbrev pub finish : State → ℕ → Scan
-finish s k = cond (eqb (s .clauses-read) (s .clauses)) (whole s) (stopped 14 k)
+-- What the end of a text needs: nothing, or O and the number of the p line.
+pub data Form : Type 0 where
+  clause-list : Form
+  gate-list : ℤ → ℕ → Form
+
+abbrev pub is-gates : Form → Bool
+is-gates clause-list = false
+is-gates (gate-list o line) = true
+
+-- 'Last comes O alone', and C is the number of clauses made.
+abbrev pub with-output : State → ℤ → State
+with-output s o =
+    record {
+      variables = s .variables;
+      clauses = suc (s .made);
+      kinds = s .kinds;
+      names = s .names;
+      free = s .free;
+      entries = s .entries ++ (o ∷ pos 0 ∷ []);
+      clauses-read = s .clauses-read;
+      made = suc (s .made);
+    }
+
+unfoldable pub output-cause : State → ℤ → ℕ
+output-cause s o = cond (among (natAbs o) (s .names)) (limit-cause (suc (s .made)) (length (s .entries) + 2)) 19
+
+-- 'O is looked up once all G lines have passed and reported at the p line.'
+abbrev pub ending : Form → State → ℕ → Scan
+ending clause-list s k = whole s
+ending (gate-list o line) s k = go-on (unless (output-cause s o) (went (with-output s o))) line whole
+
+-- Behind the last line, which line k would follow: 'Clauses other than C .. too few: last + 1', and so for gate lines.
+abbrev pub finish : Form → State → ℕ → Scan
+finish form s k = cond (eqb (s .clauses-read) (s .clauses)) (ending form s k) (stopped 14 k)
 
 -- The lines after the p line; k is the number of the first of them.
-abbrev pub body : State → ℕ → List Line → Scan
-body s k [] = finish s k
-body s k (l ∷ ls) = go-on (step s l) k (λ t. body t (suc k) ls)
+abbrev pub body : Form → State → ℕ → List Line → Scan
+body form s k [] = finish form s k
+body form s k (l ∷ ls) = go-on (step (is-gates form) s l) k (λ t. body form t (suc k) ls)
 
--- The p line's causes: '10 for the whole line', then V, then C.
-unfoldable pub problem-cause : Bytes → ℕ
-problem-cause line =
-    cond (is-problem line)
-    (cond (ltb max-variables (number (third (words line)))) 11 (cond (ltb max-clauses (number (fourth (words line)))) 11 0))
+-- 'C at most 2,048'; 'G is at most 128, else 11'.
+abbrev pub max-items : Bool → ℕ
+max-items false = max-clauses
+max-items true = max-unknowns
+
+-- 'Names are 1 to 32,767', O's too.
+abbrev pub output-range : Bool → ℕ → ℕ
+output-range false v = 0
+output-range true v = cond (ltb max-variables v) 11 0
+
+-- The p line's causes: '10 for the whole line', then V, then C; or V, G and O.
+unfoldable pub problem-cause : Bool → Bytes → ℕ
+problem-cause gates line =
+    cond (is-problem gates line)
+    (cond (ltb max-variables (number (third (words line)))) 11 (cond (ltb (max-items gates) (number (fourth (words line)))) 11 (output-range gates (number (unsigned (fifth (words line)))))))
     10
+
+-- What the p line, line k, says of the form.
+abbrev pub form-of : Bool → List Bytes → ℕ → Form
+form-of false ws k = clause-list
+form-of true ws k = gate-list (literal-of (fifth ws)) k
 
 -- The state after the p line.
 unfoldable pub opened : List Bytes → State
-opened ws = record { variables = number (third ws); clauses = number (fourth ws); kinds = []; names = []; free = []; entries = []; clauses-read = 0 }
+opened ws = record { variables = number (third ws); clauses = number (fourth ws); kinds = []; names = []; free = []; entries = []; clauses-read = 0; made = 0 }
 
 -- 'A p line that never comes is reported at last line + 1.' Line k is the first that is no c line.
-abbrev pub problem : ℕ → List Line → Scan
-problem k [] = stopped 10 k
-problem k (unended line ∷ ls) = stopped 10 k
-problem k (ended line ∷ ls) = go-on (unless (problem-cause line) (went (opened (words line)))) k (λ t. body t (suc k) ls)
+abbrev pub problem : Bool → ℕ → List Line → Scan
+problem gates k [] = stopped 10 k
+problem gates k (unended line ∷ ls) = stopped 10 k
+problem gates k (ended line ∷ ls) =
+    go-on (unless (problem-cause gates line) (went (opened (words line)))) k (λ t. body (form-of gates (words line) k) t (suc k) ls)
 
 -- 'First any lines beginning with c'; they count as lines.
-abbrev pub after-comments : ℕ → List Line → Scan
-after-comments k [] = problem k []
-after-comments k (unended line ∷ ls) = problem k (unended line ∷ ls)
-after-comments k (ended line ∷ ls) =
-    let more = after-comments (suc k) ls in
-    cond (is-comment line) more (problem k (ended line ∷ ls))
+abbrev pub after-comments : Bool → ℕ → List Line → Scan
+after-comments gates k [] = problem gates k []
+after-comments gates k (unended line ∷ ls) = problem gates k (unended line ∷ ls)
+after-comments gates k (ended line ∷ ls) =
+    let more = after-comments gates (suc k) ls in
+    cond (is-comment line) more (problem gates k (ended line ∷ ls))
 
 -- 'Text over 65,536 bytes, or tables not 128, 8,192, 128: number, line 0'.
 abbrev pub lent-well : Bytes → ℕ → ℕ → ℕ → Bool
@@ -183,8 +323,8 @@ lent-well text kinds literals names =
     leb (length text) max-bytes && eqb kinds max-unknowns && eqb literals max-entries && eqb names max-unknowns
 
 -- The lines of a text, with tables of these lengths lent.
-unfoldable pub scan : Bytes → ℕ → ℕ → ℕ → Scan
-scan text kinds literals names = cond (lent-well text kinds literals names) (after-comments 1 (lines text)) (stopped 9 0)
+unfoldable pub scan : Bool → Bytes → ℕ → ℕ → ℕ → Scan
+scan gates text kinds literals names = cond (lent-well text kinds literals names) (after-comments gates 1 (lines text)) (stopped 9 0)
 
 -- What is read of a text: kinds and names in prefix order, literals by position, V and C.
 pub record Read : Type 0 where
@@ -214,9 +354,12 @@ abbrev pub result-of : Scan → Result
 result-of (whole s) = taken (closed s)
 result-of (stopped number line) = refused number line
 
--- The reading of a text, with tables of these lengths lent.
+-- The reading of a text, with tables of these lengths lent: of clauses, or of gates.
 unfoldable pub read : Bytes → ℕ → ℕ → ℕ → Result
-read text kinds literals names = result-of (scan text kinds literals names)
+read text kinds literals names = result-of (scan false text kinds literals names)
+
+unfoldable pub read-gates : Bytes → ℕ → ℕ → ℕ → Result
+read-gates text kinds literals names = result-of (scan true text kinds literals names)
 
 -- 'Returns n, the literals used, V and C', or number and line.
 abbrev pub returned : Result → Reading
@@ -268,4 +411,7 @@ abbrev pub text-read : Bytes → Result
 text-read text = read text max-unknowns max-entries max-unknowns
 
 abbrev pub text-scan : Bytes → Scan
-text-scan text = scan text max-unknowns max-entries max-unknowns
+text-scan text = scan false text max-unknowns max-entries max-unknowns
+
+abbrev pub gates-read : Bytes → Result
+gates-read text = read-gates text max-unknowns max-entries max-unknowns

@@ -1,44 +1,56 @@
 -- What private functions promise; the contract of `read` rests on none of it. Assumes nothing.
 use Prim.Native.Nat.{ℕ, zero, suc, _+_, _≤_, _<_}
 use mathlib.Core.Path.{_≡_}
-use mathlib.Core.Bool.{Bool, true, cond}
-use mathlib.Core.List.{List, []}
+use mathlib.Core.Bool.{Bool, true, false, cond}
+use mathlib.Core.List.{List, [], _∷_, _++_}
 use lib.Dec.{ltb}
-use lib.IntN.{ℤ}
+use lib.IntN.{ℤ, pos, natAbs}
 use lib.ListN.{length, getD, take, drop}
 use Rattle.formula.specs.Formula.{max-unknowns, max-clauses, max-entries}
 use Rattle.text.specs.declared.body.Counts.{Counts}
 use Rattle.text.specs.declared.opening.Opened.{Opened}
-use Rattle.lines.specs.Lines.{Bytes, lines, words, third, fourth}
+use Rattle.gates.specs.declared.Function.{Function}
+use Rattle.gates.specs.declared.Function.the-variants.{And, Or, Xor}
+use Rattle.gates.specs.Clauses.{gate-clauses, flat}
+use Rattle.lines.specs.Lines.{Bytes, lines, words, rest, second, third, fourth}
 use Rattle.lines.specs.Numbers.{number}
 use Rattle.formula.specs.Meaning.{bit}
-use Rattle.named.specs.Named.{among, position}
+use Rattle.named.specs.Named.{among, position, signed}
 use Rattle.named.specs.Names.{Distinct, UpTo, Known}
+use Rattle.named.specs.CircuitRight.{Fits}
 use Rattle.named.specs.Closing.{insert, closed-names}
-use Rattle.text.specs.Reading.{max-variables, name-cause, State, Step, went, unless, with-prefix, with-entries, bind-all, add-entries, literal-cause, entry, free-with, problem-cause, problem, after-comments, body, scan, Scan, whole, stopped}
+use Rattle.text.specs.Reading.{max-variables, name-cause, State, Step, went, unless, with-prefix, with-entries, bind-all, add-entries, literal-cause, entry, free-with, literal-of, gate-cause, input-cause, first-cause, inputs-cause, inputs-of, gate-of, clauses-of-gate, entries-of-gate, limit-cause, ending, max-items, output-range, problem-cause, Form, clause-list, gate-list, form-of, problem, after-comments, body, scan, Scan, whole, stopped}
 
 -- The cause of a p line, whose shape is good or not.
-unfoldable pub range-cause : Bool → ℕ → ℕ → ℕ
-range-cause good v c = cond good (cond (ltb max-variables v) 11 (cond (ltb max-clauses c) 11 0)) 10
+unfoldable pub range-cause : Bool → Bool → ℕ → ℕ → ℕ → ℕ
+range-cause gates good v c o = cond good (cond (ltb max-variables v) 11 (cond (ltb (max-items gates) c) 11 (output-range gates o))) 10
 
-pub record Problem-read (line : Bytes) (cause variables clauses : ℕ) : Type 0 where
-  pub right : cause ≡ problem-cause line
+-- The form of a text whose p line, line k, has the literal of the name v, with its sign, if it has one.
+abbrev pub form-at : Bool → Bool → ℕ → ℕ → Form
+form-at false minus v k = clause-list
+form-at true minus v k = gate-list (signed minus v) k
+
+pub record Problem-read (gates : Bool) (line : Bytes) (cause variables clauses output : ℕ) (minus : Bool) : Type 0 where
+  pub right : cause ≡ problem-cause gates line
   pub v : variables ≡ number (third (words line))
   pub c : clauses ≡ number (fourth (words line))
   pub small : cause ≡ 0 → variables ≤ max-variables
+  pub form : (k : ℕ) → form-at gates minus output k ≡ form-of gates (words line) k
+  pub named : cause ≡ 0 → gates ≡ true → output ≤ max-variables
 
 -- The state after the p line.
 unfoldable pub fresh : Opened → State
-fresh o = record { variables = o .variables; clauses = o .clauses; kinds = []; names = []; free = []; entries = []; clauses-read = 0 }
+fresh o = record { variables = o .variables; clauses = o .clauses; kinds = []; names = []; free = []; entries = []; clauses-read = 0; made = 0 }
 
 -- A text is read up to its p line, tables of these lengths being lent.
-pub record Opened-read (text : Bytes) (kinds literals names : ℕ) (o : Opened) : Type 0 where
-  pub refusal : (o .cause ≡ 0 → ⊥) → scan text kinds literals names ≡ stopped (o .cause) (o .line)
-  pub right : o .cause ≡ 0 → scan text kinds literals names ≡ body (fresh o) (o .line + 1) (lines (drop (o .at) text))
+pub record Opened-read (gates : Bool) (text : Bytes) (kinds literals names : ℕ) (o : Opened) : Type 0 where
+  pub refusal : (o .cause ≡ 0 → ⊥) → scan gates text kinds literals names ≡ stopped (o .cause) (o .line)
+  pub right : o .cause ≡ 0 → scan gates text kinds literals names ≡ body (form-at gates (o .negative) (o .output) (o .line)) (fresh o) (o .line + 1) (lines (drop (o .at) text))
   pub sizes : o .cause ≡ 0 → (kinds ≡ max-unknowns) × (literals ≡ max-entries) × (names ≡ max-unknowns)
   pub within : o .cause ≡ 0 → o .at ≤ length text
   pub line : o .cause ≡ 0 → o .line ≤ o .at
   pub small : o .cause ≡ 0 → o .variables ≤ max-variables
+  pub named : o .cause ≡ 0 → gates ≡ true → o .output ≤ max-variables
 
 -- A table by name has an entry for each name, and one for 0.
 abbrev pub max-places : ℕ
@@ -112,6 +124,7 @@ pub record Sized (c : Counts) (K N : List ℕ) (L : List ℤ) : Type 0 where
   pub entries : c .entries ≤ max-entries
   pub variables : c .variables ≤ max-variables
   pub unread : c .«clauses_read» ≡ 0 → c .free ≡ 0
+  pub made : c .made ≤ max-clauses
 
 -- The state that the counts and the tables hold.
 unfoldable pub held : Counts → List ℕ → List ℕ → List ℤ → State
@@ -124,6 +137,7 @@ held c K N L =
       free = free-in (c .bound) (c .free) N;
       entries = take (c .entries) L;
       clauses-read = c .«clauses_read»;
+      made = c .made;
     }
 
 abbrev pub settled : ℕ → ℕ → State → Scan
@@ -135,10 +149,11 @@ unfoldable pub outcome : Counts → List ℕ → List ℕ → List ℤ → Scan
 outcome c K N L = settled (c .cause) (c .line) (held c K N L)
 
 -- A line is read: what is held afterwards is what was to be expected of it.
-pub record Line-read (expected : Step) (c r : Counts) (K′ N′ P′ : List ℕ) (L′ : List ℤ) : Type 0 where
+pub record Line-read (gates : Bool) (expected : Step) (c r : Counts) (K′ N′ P′ : List ℕ) (L′ : List ℤ) : Type 0 where
   pub sized : Sized r K′ N′ L′
   pub marked : Marked (placed-in (r .bound) (r .free) N′) P′
   pub line : r .line ≡ c .line
+  pub free : gates ≡ true → r .free ≡ c .free
   pub right : unless (r .cause) (went (held r K′ N′ L′)) ≡ expected
 
 -- The whole text is read.
@@ -152,8 +167,65 @@ pub record Placeable (names : List ℕ) (entries : List ℤ) : Type 0 where
   pub small : UpTo max-variables names
   pub known : Known names entries
 
+-- A gate's name, n names being placed.
+pub record Gate-named (v n : ℕ) (P : List ℕ) (cause : ℕ) : Type 0 where
+  pub room : cause ≡ 0 → (v ≤ max-variables) × (n < max-unknowns)
+  pub right : (names : List ℕ) → length names ≡ n → Marked names P → cause ≡ gate-cause names v
+
+-- An input.
+pub record Input-read (P : List ℕ) (w : Bytes) (cause : ℕ) (literal : ℤ) : Type 0 where
+  pub right : (names : List ℕ) → Marked names P → cause ≡ input-cause names w
+  pub written : cause ≡ 0 → literal ≡ literal-of w
+  pub small : natAbs literal ≤ max-variables
+
+-- The inputs of a gate line from i on: their first cause, their number, and themselves, if there are not too many to be kept.
+pub record Inputs-read (line : Bytes) (i : ℕ) (P : List ℕ) (cause count : ℕ) (I : List ℤ) : Type 0 where
+  pub size : length I ≡ max-clauses
+  pub right : (names : List ℕ) → Marked names P → cause ≡ inputs-cause names (words (drop i line))
+  pub many : cause ≡ 0 → count ≡ length (inputs-of (words (drop i line)))
+  pub kept : cause ≡ 0 → count ≤ max-clauses → take count I ≡ inputs-of (words (drop i line))
+  pub small : (j : ℕ) → natAbs (getD I j (pos 0)) ≤ max-variables
+
+-- The clauses of a gate, by the number of its inputs.
+abbrev pub clause-count : Function → ℕ → ℕ
+clause-count And n = n + 1
+clause-count Or n = n + 1
+clause-count Xor n = 4
+
+-- The clauses of the gate v behind m entries, `made` clauses being made; its inputs are kept in I, if there are not too many.
+pub record Gate-put (f : Function) (v : ℕ) (I : List ℤ) (count made m : ℕ) (L : List ℤ) (cause entries all : ℕ) (L′ : List ℤ) : Type 0 where
+  pub size : length L′ ≡ max-entries
+  pub room : entries ≤ max-entries
+  pub limit : all ≤ max-clauses
+  pub right : (is : List ℤ) → length is ≡ count → (count ≤ max-clauses → take count I ≡ is) → Fits f is
+      → (cause ≡ limit-cause (made + length (gate-clauses f (pos v) is)) (m + length (flat (gate-clauses f (pos v) is))))
+      × (cause ≡ 0 → (take entries L′ ≡ take m L ++ flat (gate-clauses f (pos v) is)) × (all ≡ made + length (gate-clauses f (pos v) is)))
+
+-- The same of a whole gate line.
+pub record Clauses-put (line : Bytes) (v made m : ℕ) (P : List ℕ) (L : List ℤ) (cause entries all : ℕ) (L′ : List ℤ) : Type 0 where
+  pub size : length L′ ≡ max-entries
+  pub room : entries ≤ max-entries
+  pub limit : all ≤ max-clauses
+  pub right : (names : List ℕ) → Marked names P → v ≡ number (second (words line))
+      → (cause ≡ first-cause (inputs-cause names (rest (rest (words line)))) (limit-cause (made + clauses-of-gate (gate-of (words line))) (m + length (entries-of-gate (gate-of (words line))))))
+      × (cause ≡ 0 → (take entries L′ ≡ take m L ++ entries-of-gate (gate-of (words line))) × (all ≡ made + clauses-of-gate (gate-of (words line))))
+
+-- The name v is bound behind n names.
+pub record Name-bound (kind v n : ℕ) (K N P K′ N′ P′ : List ℕ) : Type 0 where
+  pub kinds : length K′ ≡ max-unknowns
+  pub names : length N′ ≡ max-unknowns
+  pub kinds-more : take (n + 1) K′ ≡ take n K ++ (kind ∷ [])
+  pub names-more : take (n + 1) N′ ≡ take n N ++ (v ∷ [])
+  pub marked : Marked (take n N) P → Marked (take (n + 1) N′) P′
+
+-- O is looked up, and its clause is added.
+pub record Output-added (c : Counts) (output : ℤ) (line : ℕ) (P : List ℕ) (L : List ℤ) (r : Counts) (L′ : List ℤ) : Type 0 where
+  pub sized : (K N : List ℕ) → Sized c K N L → Sized r K N L′
+  pub right : c .cause ≡ 0 → c .free ≡ 0 → (K N : List ℕ) → Sized c K N L → Marked (take (c .bound) N) P
+      → (k : ℕ) → outcome r K N L′ ≡ ending (gate-list output line) (held c K N L) k
+
 -- The c lines end at a place, where the line of this number starts.
 pub record Comments-read (text : Bytes) (at line : ℕ) : Type 0 where
   pub within : at ≤ length text
   pub small : line ≤ at + 1
-  pub right : problem line (lines (drop at text)) ≡ after-comments 1 (lines text)
+  pub right : (gates : Bool) → problem gates line (lines (drop at text)) ≡ after-comments gates 1 (lines text)

@@ -1,9 +1,11 @@
-// The reader of texts after QDIMACS 1.1, narrowed as in 'Text': from a text's bytes to kinds, literals and names, with causes 9 to 12 and 14.
-// `read` promises, for every input, the outcome and every entry of the three lent tables, and that names bound nowhere are existential in front of
-// everything. It leaves what a formula means to others.
+// The readers of texts after QDIMACS 1.1, narrowed as in 'Text', and of gate lists: from a text's bytes to kinds, literals and names, with causes 9 to
+// 12, 14, 19 and 20. `read` and `read_gates` promise, for every input, the outcome and every entry of the three lent tables; `read` that names bound
+// nowhere are existential in front of everything, `read_gates` that the verdict of what it writes is the circuit's value under the prefix.
+// They are one reader, which is told the form of the text. What a formula means is left to others.
 ghost use lib.ListN.{length};
-ghost use Rattle.text.specs.Reading.{read as definition, Read-so};
+ghost use Rattle.text.specs.Reading.{read as definition, read-gates as gates-definition, scan, result-of, Read-so};
 ghost use Rattle.text.specs.ClosedRight.{ClosedRight};
+ghost use Rattle.text.specs.GatesRight.{GatesRight};
 use formula::Formula;
 
 // The most bytes of a text.
@@ -11,6 +13,7 @@ pub const BYTES: usize = 65_536;
 
 mod body;
 mod closing;
+mod gate;
 mod names;
 mod opening;
 
@@ -33,7 +36,28 @@ pub fn read(text: &[u8], kinds: &mut [u8], literals: &mut [i32], names: &mut [u1
     ensures written { λ r. ⌜ Read-so (definition (now (text .entry)) (length (now (kinds .entry))) (length (now (literals .entry))) (length (now (names .entry)))) r (now (kinds .entry)) (now (literals .entry)) (now (names .entry)) (now (kinds .exit)) (now (literals .exit)) (now (names .exit)) ⌝ }
     ensures proved { λ _. ⌜ ClosedRight (now (text .entry)) ⌝ }
 {
-    let o = opening::read_opening(text, kinds.len(), literals.len(), names.len());
+    read_as(text, false, kinds, literals, names)
+}
+
+// Reads a gate list, and writes its clauses. The tables are written only if all of it is taken.
+pub fn read_gates(text: &[u8], kinds: &mut [u8], literals: &mut [i32], names: &mut [u16]) -> Reading
+    ensures written { λ r. ⌜ Read-so (gates-definition (now (text .entry)) (length (now (kinds .entry))) (length (now (literals .entry))) (length (now (names .entry)))) r (now (kinds .entry)) (now (literals .entry)) (now (names .entry)) (now (kinds .exit)) (now (literals .exit)) (now (names .exit)) ⌝ }
+    ensures proved { λ _. ⌜ GatesRight (now (text .entry)) ⌝ }
+{
+    read_as(text, true, kinds, literals, names)
+}
+
+// Reads a text of clauses or of gates.
+fn read_as(
+    text: &[u8],
+    gates: bool,
+    kinds: &mut [u8],
+    literals: &mut [i32],
+    names: &mut [u16],
+) -> Reading
+    ensures { λ r. ⌜ Read-so (result-of (scan gates (now (text .entry)) (length (now (kinds .entry))) (length (now (literals .entry))) (length (now (names .entry))))) r (now (kinds .entry)) (now (literals .entry)) (now (names .entry)) (now (kinds .exit)) (now (literals .exit)) (now (names .exit)) ⌝ }
+{
+    let o = opening::read_opening(text, gates, kinds.len(), literals.len(), names.len());
     if o.cause != 0 {
         return Reading::Refused {
             number: o.cause,
@@ -43,7 +67,14 @@ pub fn read(text: &[u8], kinds: &mut [u8], literals: &mut [i32], names: &mut [u1
     let mut own_kinds = [0u8; Formula::UNKNOWNS];
     let mut own_literals = [0i32; Formula::ENTRIES];
     let mut own_names = [0u16; Formula::UNKNOWNS];
-    let c = body::read_lines(text, o, &mut own_kinds, &mut own_literals, &mut own_names);
+    let c = body::read_lines(
+        text,
+        gates,
+        o,
+        &mut own_kinds,
+        &mut own_literals,
+        &mut own_names,
+    );
     if c.cause != 0 {
         return Reading::Refused {
             number: c.cause,

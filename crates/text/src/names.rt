@@ -16,6 +16,9 @@ use lines::numbers;
 // A table by name has an entry for each name, and one for 0. Here it marks the names that are placed.
 pub(crate) const PLACES: usize = 32_768;
 
+// The largest name.
+pub(crate) const VARIABLES: usize = 32_767;
+
 // How far a prefix line was taken: the names bound, and a cause, 0 for none.
 pub(crate) struct Used {
     pub(crate) count: usize,

@@ -3,27 +3,33 @@ ghost use mathlib.Core.Path.{_≡_};
 ghost use mathlib.Core.Bool.{_&&_};
 ghost use lib.Dec.{leb, eqb};
 ghost use Rattle.formula.specs.Formula.{max-unknowns, max-entries};
-ghost use Rattle.text.specs.Reading.{max-bytes};
+ghost use Rattle.text.specs.Reading.{max-bytes, max-items};
 ghost use Rattle.text.specs.Steps.{Opened-read, Comments-read, Problem-read, range-cause as range};
 use super::BYTES;
+use crate::names;
 use formula::Formula;
 use lines::shapes;
 
-// V is at most this.
-const VARIABLES: usize = 32_767;
-
-// A text up to its p line: a cause, 0 for none, and its line, which is the p line's without one; then V, C and where the next line starts.
+// A text up to its p line: a cause, 0 for none, and its line, which is the p line's without one; then V, C or G, O, and where the next line starts.
 pub(crate) struct Opened {
     pub(crate) cause: u32,
     pub(crate) line: usize,
     pub(crate) variables: usize,
     pub(crate) clauses: usize,
+    pub(crate) output: usize,
+    pub(crate) negative: bool,
     pub(crate) at: usize,
 }
 
 // Reads the lines up to the p line, tables of these lengths being lent.
-pub(crate) fn read_opening(text: &[u8], kinds: usize, literals: usize, names: usize) -> Opened
-    ensures { λ r. ⌜ Opened-read (now (text .entry)) kinds literals names r ⌝ }
+pub(crate) fn read_opening(
+    text: &[u8],
+    gates: bool,
+    kinds: usize,
+    literals: usize,
+    names: usize,
+) -> Opened
+    ensures { λ r. ⌜ Opened-read gates (now (text .entry)) kinds literals names r ⌝ }
 {
     if lent_well(text.len(), kinds, literals, names) {} else {
         return Opened {
@@ -31,6 +37,8 @@ pub(crate) fn read_opening(text: &[u8], kinds: usize, literals: usize, names: us
             line: 0,
             variables: 0,
             clauses: 0,
+            output: 0,
+            negative: false,
             at: 0,
         };
     }
@@ -44,16 +52,20 @@ pub(crate) fn read_opening(text: &[u8], kinds: usize, literals: usize, names: us
             line,
             variables: 0,
             clauses: 0,
+            output: 0,
+            negative: false,
             at,
         };
     }
-    let p = read_problem(&text[at..end]);
+    let p = read_problem(&text[at..end], gates);
     let next = end + 1;
     Opened {
         cause: p.cause,
         line,
         variables: p.variables,
         clauses: p.clauses,
+        output: p.output,
+        negative: p.negative,
         at: next,
     }
 }
@@ -99,37 +111,58 @@ fn comments(text: &[u8]) -> Place
     Place { at, line }
 }
 
-// The p line's cause, 0 for none, and its numbers.
+// The p line's cause, 0 for none, its numbers, and its literal's name and sign.
 struct Problem {
     cause: u32,
     variables: usize,
     clauses: usize,
+    output: usize,
+    negative: bool,
 }
 
 // Reads the p line.
-fn read_problem(line: &[u8]) -> Problem
-    ensures { λ r. ⌜ Problem-read (now (line .entry)) (r .cause) (r .variables) (r .clauses) ⌝ }
+fn read_problem(line: &[u8], gates: bool) -> Problem
+    ensures { λ r. ⌜ Problem-read gates (now (line .entry)) (r .cause) (r .variables) (r .clauses) (r .output) (r .negative) ⌝ }
 {
-    let p = shapes::p_line(line);
+    let p = shapes::p_line(line, gates);
     Problem {
-        cause: range_cause(p.good, p.variables, p.clauses),
+        cause: range_cause(gates, p.good, p.variables, p.clauses, p.output),
         variables: p.variables,
         clauses: p.clauses,
+        output: p.output,
+        negative: p.negative,
     }
 }
 
 // The cause of a p line whose shape is good or not, 0 for none.
-fn range_cause(good: bool, variables: usize, clauses: usize) -> u32
-    ensures { λ r. ⌜ r ≡ range good variables clauses ⌝ }
+fn range_cause(gates: bool, good: bool, variables: usize, clauses: usize, output: usize) -> u32
+    ensures { λ r. ⌜ r ≡ range gates good variables clauses output ⌝ }
 {
     if good {} else {
         return 10;
     }
-    if VARIABLES < variables {
+    if names::VARIABLES < variables {
         return 11;
     }
-    if Formula::CLAUSES < clauses {
+    if items(gates) < clauses {
+        return 11;
+    }
+    if gates {} else {
+        return 0;
+    }
+    if names::VARIABLES < output {
         return 11;
     }
     0
+}
+
+// The most lines behind the prefix.
+fn items(gates: bool) -> usize
+    ensures { λ r. ⌜ r ≡ max-items gates ⌝ }
+{
+    if gates {
+        Formula::UNKNOWNS
+    } else {
+        Formula::CLAUSES
+    }
 }

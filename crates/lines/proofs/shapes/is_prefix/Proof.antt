@@ -1,98 +1,13 @@
--- The first two words are tested, then the others. Assumes nothing.
-use mathlib.Core.Path.{_≡_, refl, ap, sym, _∙_}
-use mathlib.Core.Bool.{true, false, _||_}
-use Rattle.lines.specs.Lines.{words, first, second, same}
-use Rattle.lines.specs.Numbers.{is-name}
-use Rattle.lines.specs.Shapes.{is-trimmed, a-word, e-word, is-prefix, closed-by-zero}
-use Rattle.lines.proofs.ShapeLaws.{taken-word}
+-- Assumes nothing.
 use borrow.Author.Needs.{needs}
 use Rattle.lines.proofs.shapes.is_prefix.Statement.{statement}
 use Rattle.lines.proofs.shapes.is_prefix.Tie as tie
 
-next-requires : tie.Need-next-requires
-next-requires c κs = search needs
-
-next-requires-2 : tie.Need-next-requires-2
-next-requires-2 c κs = search needs
-
-is-trimmed-requires : tie.Need-is-trimmed-requires
-is-trimmed-requires c κs = search needs
+is-led-requires : tie.Need-is-led-requires
+is-led-requires c κs = search needs
 
 returns : tie.Need-returns
-unfolding is-prefix
-returns c =
-    let t : is-trimmed (c .before .before .before .before .before .args .line .now) ≡ false = sym (c .before .is-trimmed .ensures) ∙ c .if1 .left in rw t refl
-
-sub-is-kind : tie.Need-sub-is-kind
-sub-is-kind c = search needs
-
-part-is-kind-start : tie.Need-part-is-kind-start
-part-is-kind-start c = search needs
-
-part-is-kind-end : tie.Need-part-is-kind-end
-part-is-kind-end c = search needs
-
-is-kind-requires : tie.Need-is-kind-requires
-is-kind-requires c κs = search needs
-
-returns-2 : tie.Need-returns-2
-unfolding is-prefix
-returns-2 c =
-    let q0 = taken-word {ws = words (c .before .before .before .before .before .before .before .before .args .line .now)} (c .before .before .before .before .before .before .next .ensures) refl in
-    let q1 = taken-word (c .before .before .before .before .before .next2 .ensures) (q0 .1) in
-    let t : is-trimmed (c .before .before .before .before .before .before .before .before .args .line .now) ≡ true = sym (c .before .before .before .before .is-trimmed .ensures) ∙ c .before .before .before .if1 .taken in
-    let k : (same (first (words (c .before .before .before .before .before .before .before .before .args .line .now))) a-word || same (first (words (c .before .before .before .before .before .before .before .before .args .line .now))) e-word) ≡ false = sym (c .before .is-kind .ensures ∙ ap (λ w. same w a-word || same w e-word) (q0 .0)) ∙ c .if2 .left in rw (t, k) refl
-
-sub-is-name : tie.Need-sub-is-name
-sub-is-name c = search needs
-
-part-is-name-start : tie.Need-part-is-name-start
-part-is-name-start c = search needs
-
-part-is-name-end : tie.Need-part-is-name-end
-part-is-name-end c = search needs
-
-is-name-requires : tie.Need-is-name-requires
-is-name-requires c κs = search needs
-
-returns-3 : tie.Need-returns-3
-unfolding is-prefix
-returns-3 c =
-    let q0 = taken-word {ws = words (c .before .before .before .before .before .before .before .before .before .before .before .args .line .now)} (c .before .before .before .before .before .before .before .before .before .next .ensures) refl in
-    let q1 = taken-word (c .before .before .before .before .before .before .before .before .next2 .ensures) (q0 .1) in
-    let t : is-trimmed (c .before .before .before .before .before .before .before .before .before .before .before .args .line .now) ≡ true = sym (c .before .before .before .before .before .before .before .is-trimmed .ensures) ∙ c .before .before .before .before .before .before .if1 .taken in
-    let k : (same (first (words (c .before .before .before .before .before .before .before .before .before .before .before .args .line .now))) a-word || same (first (words (c .before .before .before .before .before .before .before .before .before .before .before .args .line .now))) e-word) ≡ true = sym (c .before .before .before .before .is-kind .ensures ∙ ap (λ w. same w a-word || same w e-word) (q0 .0)) ∙ c .before .before .before .if2 .taken in
-    let n : is-name (second (words (c .before .before .before .before .before .before .before .before .before .before .before .args .line .now))) ≡ false = sym (c .before .is-name .ensures ∙ ap is-name (q1 .0)) ∙ c .if3 .left in rw (t, k, n) refl
-
-closed-requires : tie.Need-closed-requires
-closed-requires c κs = search needs
-
-returns-4 : tie.Need-returns-4
-unfolding is-prefix
-returns-4 c =
-    let q0 = taken-word {ws = words (c .before .before .before .before .before .before .before .before .before .before .before .before .args .line .now)} (c .before .before .before .before .before .before .before .before .before .before .next .ensures) refl in
-    let q1 = taken-word (c .before .before .before .before .before .before .before .before .before .next2 .ensures) (q0 .1) in
-    let t : is-trimmed (c .before .before .before .before .before .before .before .before .before .before .before .before .args .line .now) ≡ true = sym (c .before .before .before .before .before .before .before .before .is-trimmed .ensures) ∙ c .before .before .before .before .before .before .before .if1 .taken in
-    let k : (same (first (words (c .before .before .before .before .before .before .before .before .before .before .before .before .args .line .now))) a-word || same (first (words (c .before .before .before .before .before .before .before .before .before .before .before .before .args .line .now))) e-word) ≡ true = sym (c .before .before .before .before .before .is-kind .ensures ∙ ap (λ w. same w a-word || same w e-word) (q0 .0)) ∙ c .before .before .before .before .if2 .taken in
-    let n : is-name (second (words (c .before .before .before .before .before .before .before .before .before .before .before .before .args .line .now))) ≡ true = sym (c .before .before .is-name .ensures ∙ ap is-name (q1 .0)) ∙ c .before .if3 .taken in rw (t, k, n) (c .closed .ensures ∙ ap (closed-by-zero is-name) (q1 .1))
+returns c = search needs
 
 pub is-prefix-spec : {M : Type 1} → statement M
-is-prefix-spec =
-    tie.close
-    (tie.spec
-    next-requires
-    next-requires-2
-    is-trimmed-requires
-    returns
-    sub-is-kind
-    part-is-kind-start
-    part-is-kind-end
-    is-kind-requires
-    returns-2
-    sub-is-name
-    part-is-name-start
-    part-is-name-end
-    is-name-requires
-    returns-3
-    closed-requires
-    returns-4)
+is-prefix-spec = tie.close (tie.spec is-led-requires returns)

@@ -1,10 +1,10 @@
 -- The first two words of the p line. Assumes nothing.
 use mathlib.Core.Path.{_≡_, refl, ap, sym, _∙_}
 use mathlib.Core.Bool.{true, false}
-use borrow.Author.Needs.{needs}
 use Rattle.lines.specs.Lines.{words, first, same}
-use Rattle.lines.specs.Shapes.{is-trimmed, p-word, cnf-word}
+use Rattle.lines.specs.Shapes.{is-trimmed, p-word, form-word}
 use Rattle.lines.proofs.ShapeLaws.{taken-word}
+use borrow.Author.Needs.{needs}
 use Rattle.lines.proofs.shapes.opens.Statement.{statement}
 use Rattle.lines.proofs.shapes.opens.Tie as tie
 
@@ -47,28 +47,25 @@ returns-2 c =
     let s1 : same (first (words (c .before .before .before .before .before .before .before .before .before .args .line .now))) p-word ≡ false = sym (c .before .same .ensures ∙ ap (λ w. same w p-word) (q0 .0)) ∙ c .if2 .left in
     record { right = rw (t, s1) refl; within = c .before .before .before .before .before .before .next2 .ensures .within; others = q1 .1 }
 
-sub-same-2 : tie.Need-sub-same-2
-sub-same-2 c = search needs
+sub-is-form : tie.Need-sub-is-form
+sub-is-form c = search needs
 
-part-same-start-2 : tie.Need-part-same-start-2
-part-same-start-2 c = search needs
+part-is-form-start : tie.Need-part-is-form-start
+part-is-form-start c = search needs
 
-part-same-end-2 : tie.Need-part-same-end-2
-part-same-end-2 c = search needs
+part-is-form-end : tie.Need-part-is-form-end
+part-is-form-end c = search needs
 
-slice-aggregate-same-2 : tie.Need-slice-aggregate-same-2
-slice-aggregate-same-2 c = search needs
-
-same-requires-2 : tie.Need-same-requires-2
-same-requires-2 c κs = search needs
+is-form-requires : tie.Need-is-form-requires
+is-form-requires c κs = search needs
 
 returns-3 : tie.Need-returns-3
 returns-3 c =
-    let q0 = taken-word {ws = words (c .before .before .before .before .before .before .before .before .before .before .before .before .args .line .now)} (c .before .before .before .before .before .before .before .before .before .before .next .ensures) refl in
-    let q1 = taken-word (c .before .before .before .before .before .before .before .before .before .next2 .ensures) (q0 .1) in
-    let t : is-trimmed (c .before .before .before .before .before .before .before .before .before .before .before .before .args .line .now) ≡ true = sym (c .before .before .before .before .before .before .before .before .is-trimmed .ensures) ∙ c .before .before .before .before .before .before .before .if1 .taken in
-    let s1 : same (first (words (c .before .before .before .before .before .before .before .before .before .before .before .before .args .line .now))) p-word ≡ true = sym (c .before .before .before .before .same .ensures ∙ ap (λ w. same w p-word) (q0 .0)) ∙ c .before .before .before .if2 .taken in
-    record { right = rw (t, s1) (c .same2 .ensures ∙ ap (λ w. same w cnf-word) (q1 .0)); within = c .before .before .before .before .before .before .before .before .before .next2 .ensures .within; others = q1 .1 }
+    let q0 = taken-word {ws = words (c .before .before .before .before .before .before .before .before .before .before .before .args .line .now)} (c .before .before .before .before .before .before .before .before .before .next .ensures) refl in
+    let q1 = taken-word (c .before .before .before .before .before .before .before .before .next2 .ensures) (q0 .1) in
+    let t : is-trimmed (c .before .before .before .before .before .before .before .before .before .before .before .args .line .now) ≡ true = sym (c .before .before .before .before .before .before .before .is-trimmed .ensures) ∙ c .before .before .before .before .before .before .if1 .taken in
+    let s1 : same (first (words (c .before .before .before .before .before .before .before .before .before .before .before .args .line .now))) p-word ≡ true = sym (c .before .before .before .same .ensures ∙ ap (λ w. same w p-word) (q0 .0)) ∙ c .before .before .if2 .taken in
+    record { right = rw (t, s1) (c .is-form .ensures ∙ ap (λ w. same w (form-word (c .before .before .before .before .before .before .before .before .before .before .before .args .gates))) (q1 .0)); within = c .before .before .before .before .before .before .before .before .next2 .ensures .within; others = q1 .1 }
 
 pub opens-spec : {M : Type 1} → statement M
 opens-spec =
@@ -84,9 +81,8 @@ opens-spec =
     slice-aggregate-same
     same-requires
     returns-2
-    sub-same-2
-    part-same-start-2
-    part-same-end-2
-    slice-aggregate-same-2
-    same-requires-2
+    sub-is-form
+    part-is-form-start
+    part-is-form-end
+    is-form-requires
     returns-3)

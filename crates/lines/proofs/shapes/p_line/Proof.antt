@@ -1,12 +1,10 @@
 -- The words of the p line are tested one by one. Assumes nothing.
-use mathlib.Core.Path.{_≡_, refl, ap, sym, _∙_}
-use mathlib.Core.Bool.{true, false}
+use mathlib.Core.Path.{ap, _∙_}
+use Rattle.lines.specs.Lines.{words, first, second, same}
+use Rattle.lines.specs.Numbers.{number, unsigned, negative}
+use Rattle.lines.specs.Shapes.{is-problem, ends-problem, is-trimmed, p-word, form-word}
+use Rattle.lines.proofs.ShapeLaws.{taken-word, whole-problem}
 use borrow.Author.Needs.{needs}
-use borrow.Author.Tests.{eq-eqb, ne-eqb}
-use Rattle.lines.specs.Lines.{words, rest}
-use Rattle.lines.specs.Numbers.{number}
-use Rattle.lines.specs.Shapes.{is-empty, is-problem}
-use Rattle.lines.proofs.ShapeLaws.{taken-word, next-empty}
 use Rattle.lines.proofs.shapes.p_line.Statement.{statement}
 use Rattle.lines.proofs.shapes.p_line.Tie as tie
 
@@ -46,40 +44,53 @@ part-number-end-2 c = search needs
 number-requires-2 : tie.Need-number-requires-2
 number-requires-2 c κs = search needs
 
+sub-magnitude : tie.Need-sub-magnitude
+sub-magnitude c = search needs
+
+part-magnitude-start : tie.Need-part-magnitude-start
+part-magnitude-start c = search needs
+
+part-magnitude-end : tie.Need-part-magnitude-end
+part-magnitude-end c = search needs
+
+magnitude-requires : tie.Need-magnitude-requires
+magnitude-requires c κs = search needs
+
+sub-negative : tie.Need-sub-negative
+sub-negative c = search needs
+
+part-negative-start : tie.Need-part-negative-start
+part-negative-start c = search needs
+
+part-negative-end : tie.Need-part-negative-end
+part-negative-end c = search needs
+
+negative-requires : tie.Need-negative-requires
+negative-requires c κs = search needs
+
+ends-requires : tie.Need-ends-requires
+ends-requires c κs = search needs
+
+is-whole-requires : tie.Need-is-whole-requires
+is-whole-requires c κs = search needs
+
 returns : tie.Need-returns
 unfolding is-problem
 returns c =
-    let q2 = taken-word (c .before .before .before .before .before .before .before .next .ensures) (c .before .before .before .before .before .before .before .before .opens .ensures .others) in
-    let q3 = taken-word (c .before .before .before .before .before .before .next2 .ensures) (q2 .1) in
-    let v = c .before .before .before .number .ensures ∙ ap number (q2 .0) in
-    let c′ = c .before .number2 .ensures ∙ ap number (q3 .0) in
-    let g = sym (c .before .before .before .before .before .before .before .before .opens .ensures .right) ∙ c .if1 .left in
-    (rw g refl, v, c′)
-
-returns-2 : tie.Need-returns-2
-unfolding is-problem
-returns-2 c =
-    let q2 = taken-word (c .before .before .before .before .before .before .before .before .before .next .ensures) (c .before .before .before .before .before .before .before .before .before .before .opens .ensures .others) in
-    let q3 = taken-word (c .before .before .before .before .before .before .before .before .next2 .ensures) (q2 .1) in
-    let v = c .before .before .before .before .before .number .ensures ∙ ap number (q2 .0) in
-    let c′ = c .before .before .before .number2 .ensures ∙ ap number (q3 .0) in
-    let g = sym (c .before .before .before .before .before .before .before .before .before .before .opens .ensures .right) ∙ c .before .before .if1 .taken in
-    let e4 : is-empty (rest (rest (rest (rest (words (c .before .before .before .before .before .before .before .before .before .before .before .before .args .line .now)))))) ≡ false = sym (next-empty (c .before .before .before .before .before .before .before .next3 .ensures) ∙ ap is-empty (q3 .1)) ∙ ne-eqb (c .before .before .before .before .before .before .before .next3 .result .start) (c .before .before .before .before .before .before .before .next3 .result .end) (c .if2 .taken) in
-    (rw (g, e4) refl, v, c′)
-
-are-numbers-requires : tie.Need-are-numbers-requires
-are-numbers-requires c κs = search needs
-
-returns-3 : tie.Need-returns-3
-unfolding is-problem
-returns-3 c =
-    let q2 = taken-word (c .before .before .before .before .before .before .before .before .before .before .next .ensures) (c .before .before .before .before .before .before .before .before .before .before .before .opens .ensures .others) in
-    let q3 = taken-word (c .before .before .before .before .before .before .before .before .before .next2 .ensures) (q2 .1) in
-    let v = c .before .before .before .before .before .before .number .ensures ∙ ap number (q2 .0) in
-    let c′ = c .before .before .before .before .number2 .ensures ∙ ap number (q3 .0) in
-    let g = sym (c .before .before .before .before .before .before .before .before .before .before .before .opens .ensures .right) ∙ c .before .before .before .if1 .taken in
-    let e4 : is-empty (rest (rest (rest (rest (words (c .before .before .before .before .before .before .before .before .before .before .before .before .before .args .line .now)))))) ≡ true = sym (next-empty (c .before .before .before .before .before .before .before .before .next3 .ensures) ∙ ap is-empty (q3 .1)) ∙ eq-eqb (c .before .before .before .before .before .before .before .before .next3 .result .start) (c .before .before .before .before .before .before .before .before .next3 .result .end) (c .before .if2 .left) in
-    (rw (g, e4, ← v, ← c′) (c .are-numbers .ensures), v, c′)
+    let q2 = taken-word (c .before .before .before .before .before .before .before .before .before .before .before .before .next .ensures) (c .before .before .before .before .before .before .before .before .before .before .before .before .before .opens .ensures .others) in
+    let q3 = taken-word (c .before .before .before .before .before .before .before .before .before .before .before .next2 .ensures) (q2 .1) in
+    let q4 = taken-word (c .before .before .before .before .before .before .before .before .before .before .next3 .ensures) (q3 .1) in
+    let v′ = c .before .before .before .before .before .before .before .before .number .ensures ∙ ap number (q2 .0) in
+    let c′ = c .before .before .before .before .before .before .number2 .ensures ∙ ap number (q3 .0) in
+    let line = c .before .before .before .before .before .before .before .before .before .before .before .before .before .before .before .args .line .now in
+    let gates = c .before .before .before .before .before .before .before .before .before .before .before .before .before .before .before .args .gates in
+    record {
+      shape = c .is-whole .ensures ∙ whole-problem (is-trimmed line) (same (first (words line)) p-word) (same (second (words line)) (form-word gates)) (c .before .before .before .before .before .before .before .before .before .before .before .before .before .opens .ensures .right) (c .before .ends .ensures ∙ ap (ends-problem (c .before .before .before .before .before .before .before .before .before .before .before .before .before .before .before .args .gates)) (q3 .1)) v′ c′;
+      v = v′;
+      c = c′;
+      o = c .before .before .before .before .magnitude .ensures ∙ ap (λ w. number (unsigned w)) (q4 .0);
+      sign = c .before .before .negative .ensures ∙ ap negative (q4 .0);
+    }
 
 pub p-line-spec : {M : Type 1} → statement M
 p-line-spec =
@@ -97,7 +108,14 @@ p-line-spec =
     part-number-start-2
     part-number-end-2
     number-requires-2
-    returns
-    returns-2
-    are-numbers-requires
-    returns-3)
+    sub-magnitude
+    part-magnitude-start
+    part-magnitude-end
+    magnitude-requires
+    sub-negative
+    part-negative-start
+    part-negative-end
+    negative-requires
+    ends-requires
+    is-whole-requires
+    returns)

@@ -1,10 +1,10 @@
--- A line is a prefix line, a clause line, or refused. Assumes nothing.
+-- A line is a prefix line, a clause or gate line, or refused. Assumes nothing.
 use mathlib.Core.Path.{refl, sym, _∙_}
 use native.Mathlib.Omega.{arith}
-use borrow.Author.Needs.{needs}
 use Rattle.lines.specs.Shapes.{is-prefix}
 use Rattle.text.specs.Steps.{held}
-use Rattle.text.proofs.BodyLaws.{resized, none-read, marked-bound, body-prefix, body-clause, body-none}
+use Rattle.text.proofs.BodyLaws.{resized, none-read, marked-bound, body-prefix, body-none, gate-shape, gate-item, clause-item}
+use borrow.Author.Needs.{needs}
 use Rattle.text.proofs.body.body_line.Statement.{statement}
 use Rattle.text.proofs.body.body_line.Tie as tie
 
@@ -19,21 +19,28 @@ prefix-line-requires c κs =
 
 returns : tie.Need-returns
 unfolding held
-returns c = rw (body-prefix (held (c .before .before .before .before .before .before .before .args .c) (c .before .before .before .before .before .before .before .args .kinds .now) (c .before .before .before .before .before .before .before .args .names .now) (c .before .before .before .before .before .before .before .args .literals .now)) (c .before .before .before .before .before .before .before .args .line .now) (sym (c .before .before .before .before .before .binds .ensures) ∙ c .before .before .before .before .if1 .taken)) (c .prefix-line .ensures (c .before .before .before .before .before .before .before .args .literals .now) (c .before .before .before .before .before .before .before .pre .0))
+returns c = rw (body-prefix (c .before .before .before .before .before .before .before .args .gates) (held (c .before .before .before .before .before .before .before .args .c) (c .before .before .before .before .before .before .before .args .kinds .now) (c .before .before .before .before .before .before .before .args .names .now) (c .before .before .before .before .before .before .before .args .literals .now)) (c .before .before .before .before .before .before .before .args .line .now) (sym (c .before .before .before .before .before .binds .ensures) ∙ c .before .before .before .before .if1 .taken)) (c .prefix-line .ensures (c .before .before .before .before .before .before .before .args .gates) (c .before .before .before .before .before .before .before .args .literals .now) (c .before .before .before .before .before .before .before .pre .0))
 
-is-clause-requires : tie.Need-is-clause-requires
-is-clause-requires c κs = search needs
-
-clause-line-requires : tie.Need-clause-line-requires
-clause-line-requires c κs = let z = c .before .before .before .before .before .before .before .before .pre .0 in (z .literals, z .names, z .variables, z .unknowns, z .entries, c .before .before .before .before .before .before .before .before .pre .1)
+is-item-requires : tie.Need-is-item-requires
+is-item-requires c κs = search needs
 
 returns-2 : tie.Need-returns-2
 unfolding held
-returns-2 c = rw (body-clause (held (c .before .before .before .before .before .before .before .before .before .args .c) (c .before .before .before .before .before .before .before .before .before .args .kinds .now) (c .before .before .before .before .before .before .before .before .before .args .names .now) (c .before .before .before .before .before .before .before .before .before .args .literals .now)) (c .before .before .before .before .before .before .before .before .before .args .line .now) (sym (c .before .before .before .before .before .before .before .binds .ensures) ∙ c .before .before .before .before .before .before .if1 .left) (sym (c .before .before .before .before .before .is-clause .ensures) ∙ c .before .before .before .before .if2 .taken)) (c .clause-line .ensures (c .before .before .before .before .before .before .before .before .before .args .kinds .now) (c .before .before .before .before .before .before .before .before .before .pre .0))
+returns-2 c = rw (body-none (c .before .before .before .before .before .args .gates) (held (c .before .before .before .before .before .args .c) (c .before .before .before .before .before .args .kinds .now) (c .before .before .before .before .before .args .names .now) (c .before .before .before .before .before .args .literals .now)) (c .before .before .before .before .before .args .line .now) (sym (c .before .before .before .binds .ensures) ∙ c .before .before .if1 .left) (sym (c .before .is-item .ensures) ∙ c .if2 .left)) (record { sized = resized refl refl refl refl refl refl (c .before .before .before .before .before .pre .0); marked = c .before .before .before .before .before .pre .1; line = refl; free = λ _. refl; right = refl })
+
+gate-line-requires : tie.Need-gate-line-requires
+gate-line-requires c κs = (c .before .before .before .before .before .before .before .before .before .before .pre .0, c .before .before .before .before .before .before .before .before .before .before .pre .1, c .before .before .before .before .before .before .before .before .before .before .pre .2 (c .before .before .before .before .if3 .taken), gate-shape (c .before .before .before .before .before .before .before .before .before .before .args .gates) (c .before .before .before .before .before .before .before .before .before .before .args .line .now) (c .before .before .before .before .if3 .taken) (sym (c .before .before .before .before .before .before .is-item .ensures) ∙ c .before .before .before .before .before .if2 .taken))
 
 returns-3 : tie.Need-returns-3
 unfolding held
-returns-3 c = rw (body-none (held (c .before .before .before .before .before .args .c) (c .before .before .before .before .before .args .kinds .now) (c .before .before .before .before .before .args .names .now) (c .before .before .before .before .before .args .literals .now)) (c .before .before .before .before .before .args .line .now) (sym (c .before .before .before .binds .ensures) ∙ c .before .before .if1 .left) (sym (c .before .is-clause .ensures) ∙ c .if2 .left)) (record { sized = resized refl refl refl refl refl (c .before .before .before .before .before .pre .0); marked = c .before .before .before .before .before .pre .1; line = refl; right = refl })
+returns-3 c = gate-item (c .before .before .before .before .before .before .before .before .before .before .before .args .gates) (c .before .before .before .before .before .if3 .taken) (held (c .before .before .before .before .before .before .before .before .before .before .before .args .c) (c .before .before .before .before .before .before .before .before .before .before .before .args .kinds .now) (c .before .before .before .before .before .before .before .before .before .before .before .args .names .now) (c .before .before .before .before .before .before .before .before .before .before .before .args .literals .now)) (c .before .before .before .before .before .before .before .before .before .before .before .args .line .now) (sym (c .before .before .before .before .before .before .before .before .before .binds .ensures) ∙ c .before .before .before .before .before .before .before .before .if1 .left) (sym (c .before .before .before .before .before .before .before .is-item .ensures) ∙ c .before .before .before .before .before .before .if2 .taken) (c .gate-line .ensures)
+
+clause-line-requires : tie.Need-clause-line-requires
+clause-line-requires c κs = let z = c .before .before .before .before .before .before .before .before .before .pre .0 in (z .literals, z .names, z .variables, z .unknowns, z .entries, c .before .before .before .before .before .before .before .before .before .pre .1)
+
+returns-4 : tie.Need-returns-4
+unfolding held
+returns-4 c = clause-item (c .before .before .before .before .before .before .before .before .before .before .args .gates) (c .before .before .before .before .if3 .left) (held (c .before .before .before .before .before .before .before .before .before .before .args .c) (c .before .before .before .before .before .before .before .before .before .before .args .kinds .now) (c .before .before .before .before .before .before .before .before .before .before .args .names .now) (c .before .before .before .before .before .before .before .before .before .before .args .literals .now)) (c .before .before .before .before .before .before .before .before .before .before .args .line .now) (sym (c .before .before .before .before .before .before .before .before .binds .ensures) ∙ c .before .before .before .before .before .before .before .if1 .left) (sym (c .before .before .before .before .before .before .is-item .ensures) ∙ c .before .before .before .before .before .if2 .taken) (c .clause-line .ensures (c .before .before .before .before .before .before .before .before .before .before .args .kinds .now) (c .before .before .before .before .before .before .before .before .before .before .pre .0))
 
 pub body-line-spec : {M : Type 1} → statement M
 body-line-spec =
@@ -42,7 +49,9 @@ body-line-spec =
     binds-requires
     prefix-line-requires
     returns
-    is-clause-requires
-    clause-line-requires
+    is-item-requires
     returns-2
-    returns-3)
+    gate-line-requires
+    returns-3
+    clause-line-requires
+    returns-4)

@@ -29,13 +29,14 @@ bind-all-requires c κs = search needs
 
 returns : tie.Need-returns
 unfolding prefix-line held
-returns c = λ M z.
-    let start : State = record { variables = c .before .before .before .before .before .before .before .before .args .c .variables; clauses = c .before .before .before .before .before .before .before .before .args .c .clauses; kinds = take (c .before .before .before .before .before .before .before .before .args .c .bound) (c .before .before .before .before .before .before .before .before .args .kinds .now); names = take (c .before .before .before .before .before .before .before .before .args .c .bound) (c .before .before .before .before .before .before .before .before .args .names .now); free = []; entries = take (c .before .before .before .before .before .before .before .before .args .c .entries) M; clauses-read = c .before .before .before .before .before .before .before .before .args .c .«clauses_read» } in
+returns c = λ gates M z.
+    let start : State = record { variables = c .before .before .before .before .before .before .before .before .args .c .variables; clauses = c .before .before .before .before .before .before .before .before .args .c .clauses; kinds = take (c .before .before .before .before .before .before .before .before .args .c .bound) (c .before .before .before .before .before .before .before .before .args .kinds .now); names = take (c .before .before .before .before .before .before .before .before .args .c .bound) (c .before .before .before .before .before .before .before .before .args .names .now); free = []; entries = take (c .before .before .before .before .before .before .before .before .args .c .entries) M; clauses-read = c .before .before .before .before .before .before .before .before .args .c .«clauses_read»; made = c .before .before .before .before .before .before .before .before .args .c .made } in
     let bound = c .bind-all .ensures .right start refl in
     record {
-      sized = record { kinds = c .bind-all .ensures .kinds; names = c .bind-all .ensures .names; literals = z .literals; unknowns = omega (arith, c .bind-all .ensures .room, c .before .before .before .before .before .before .before .before .pre .3); entries = z .entries; variables = z .variables; unread = λ _. c .before .before .before .before .before .before .before .before .pre .3 };
+      sized = record { kinds = c .bind-all .ensures .kinds; names = c .bind-all .ensures .names; literals = z .literals; unknowns = omega (arith, c .bind-all .ensures .room, c .before .before .before .before .before .before .before .before .pre .3); entries = z .entries; variables = z .variables; unread = λ _. c .before .before .before .before .before .before .before .before .pre .3; made = z .made };
       marked = rw (c .before .before .before .before .before .before .before .before .pre .3) (c .bind-all .ensures .marked);
       line = refl;
+      free = λ _. refl;
       right = rw (c .before .before .before .before .before .before .before .before .pre .3) (bound ∙ ap₂ (λ k ws. bind-all k start ws) (c .before .before .before .before .kind-of .ensures ∙ ap kind-of-word (c .before .before .before .before .before .before .next .ensures .word)) (c .before .before .before .before .before .before .next .ensures .others));
     }
 

@@ -26,6 +26,7 @@ returns c =
       within = λ e. absurd (omega arith);
       line = λ e. absurd (omega arith);
       small = λ e. absurd (omega arith);
+      named = λ e. absurd (omega arith);
     }
 
 comments-requires : tie.Need-comments-requires
@@ -37,12 +38,13 @@ find-requires c κs = search needs
 returns-2 : tie.Need-returns-2
 returns-2 c =
     record {
-      refusal = λ h. (scan-lent (c .before .before .before .before .before .before .args .text .now) (c .before .before .before .before .before .before .args .kinds) (c .before .before .before .before .before .before .args .literals) (c .before .before .before .before .before .before .args .names) (sym (c .before .before .before .before .lent-well .ensures) ∙ c .before .before .before .if1 .taken)) ∙ sym (c .before .before .comments .ensures .right) ∙ problem-none (c .before .before .before .before .before .before .args .text .now) (c .before .before .comments .result .at) (c .before .find .result) (c .before .before .comments .result .line) (c .before .find .ensures) (c .before .before .comments .ensures .within) (c .if2 .taken);
+      refusal = λ h. (scan-lent (c .before .before .before .before .before .before .args .text .now) (c .before .before .before .before .before .before .args .kinds) (c .before .before .before .before .before .before .args .literals) (c .before .before .before .before .before .before .args .names) (sym (c .before .before .before .before .lent-well .ensures) ∙ c .before .before .before .if1 .taken) (c .before .before .before .before .before .before .args .gates)) ∙ sym (c .before .before .comments .ensures .right (c .before .before .before .before .before .before .args .gates)) ∙ problem-none (c .before .before .before .before .before .before .args .gates) (c .before .before .before .before .before .before .args .text .now) (c .before .before .comments .result .at) (c .before .find .result) (c .before .before .comments .result .line) (c .before .find .ensures) (c .before .before .comments .ensures .within) (c .if2 .taken);
       right = λ e. absurd (omega arith);
       sizes = λ e. absurd (omega arith);
       within = λ e. absurd (omega arith);
       line = λ e. absurd (omega arith);
       small = λ e. absurd (omega arith);
+      named = λ e. absurd (omega arith);
     }
 
 sub-read-problem : tie.Need-sub-read-problem
@@ -65,12 +67,13 @@ unfolding fresh
 returns-3 c =
     let inside : c .before .before .before .find .result < length (c .before .before .before .before .before .before .before .before .args .text .now) = omega (arith, c .before .before .before .before .comments .ensures .within, before-le 10 (drop (c .before .before .before .before .comments .result .at) (c .before .before .before .before .before .before .before .before .args .text .now)), length-drop (c .before .before .before .before .comments .result .at) (c .before .before .before .before .before .before .before .before .args .text .now)) in
     record {
-      refusal = λ h. (scan-lent (c .before .before .before .before .before .before .before .before .args .text .now) (c .before .before .before .before .before .before .before .before .args .kinds) (c .before .before .before .before .before .before .before .before .args .literals) (c .before .before .before .before .before .before .before .before .args .names) (sym (c .before .before .before .before .before .before .lent-well .ensures) ∙ c .before .before .before .before .before .if1 .taken)) ∙ sym (c .before .before .before .before .comments .ensures .right) ∙ problem-refused (c .before .before .before .before .before .before .before .before .args .text .now) (c .before .before .before .before .comments .result .at) (c .before .before .before .find .result) (c .before .before .before .before .comments .result .line) (c .before .before .before .find .ensures) inside (c .read-problem .ensures) h;
-      right = λ e. (scan-lent (c .before .before .before .before .before .before .before .before .args .text .now) (c .before .before .before .before .before .before .before .before .args .kinds) (c .before .before .before .before .before .before .before .before .args .literals) (c .before .before .before .before .before .before .before .before .args .names) (sym (c .before .before .before .before .before .before .lent-well .ensures) ∙ c .before .before .before .before .before .if1 .taken)) ∙ sym (c .before .before .before .before .comments .ensures .right) ∙ problem-taken (c .before .before .before .before .before .before .before .before .args .text .now) (c .before .before .before .before .comments .result .at) (c .before .before .before .find .result) (c .before .before .before .before .comments .result .line) (c .before .before .before .find .ensures) inside (c .read-problem .ensures) e;
+      refusal = λ h. (scan-lent (c .before .before .before .before .before .before .before .before .args .text .now) (c .before .before .before .before .before .before .before .before .args .kinds) (c .before .before .before .before .before .before .before .before .args .literals) (c .before .before .before .before .before .before .before .before .args .names) (sym (c .before .before .before .before .before .before .lent-well .ensures) ∙ c .before .before .before .before .before .if1 .taken) (c .before .before .before .before .before .before .before .before .args .gates)) ∙ sym (c .before .before .before .before .comments .ensures .right (c .before .before .before .before .before .before .before .before .args .gates)) ∙ problem-refused (c .before .before .before .before .before .before .before .before .args .gates) (c .before .before .before .before .before .before .before .before .args .text .now) (c .before .before .before .before .comments .result .at) (c .before .before .before .find .result) (c .before .before .before .before .comments .result .line) (c .before .before .before .find .ensures) inside (c .read-problem .ensures) h;
+      right = λ e. (scan-lent (c .before .before .before .before .before .before .before .before .args .text .now) (c .before .before .before .before .before .before .before .before .args .kinds) (c .before .before .before .before .before .before .before .before .args .literals) (c .before .before .before .before .before .before .before .before .args .names) (sym (c .before .before .before .before .before .before .lent-well .ensures) ∙ c .before .before .before .before .before .if1 .taken) (c .before .before .before .before .before .before .before .before .args .gates)) ∙ sym (c .before .before .before .before .comments .ensures .right (c .before .before .before .before .before .before .before .before .args .gates)) ∙ problem-taken (c .before .before .before .before .before .before .before .before .args .gates) (c .before .before .before .before .before .before .before .before .args .text .now) (c .before .before .before .before .comments .result .at) (c .before .before .before .find .result) (c .before .before .before .before .comments .result .line) (c .before .before .before .find .ensures) inside (c .read-problem .ensures) e;
       sizes = λ e. lent-sizes (c .before .before .before .before .before .before .before .before .args .text .now) (c .before .before .before .before .before .before .before .before .args .kinds) (c .before .before .before .before .before .before .before .before .args .literals) (c .before .before .before .before .before .before .before .before .args .names) (sym (c .before .before .before .before .before .before .lent-well .ensures) ∙ c .before .before .before .before .before .if1 .taken);
       within = λ e. omega arith;
       line = λ e. omega (arith, c .before .before .before .before .comments .ensures .small);
       small = c .read-problem .ensures .small;
+      named = c .read-problem .ensures .named;
     }
 
 pub read-opening-spec : {M : Type 1} → statement M
