@@ -17,8 +17,8 @@ const WORKED: [Worked; 6] = [
     ("K12", K12.0, K12.1, (256, 256), 0, &[0, 1, 1], &[1, 2, 2, 1]),
     ("K12, cleared in every round", K12.0, K12.1, (256, 256), 1, &[1, 1], &[2, 1, 1]),
     ("no room existential", &[1, 0], &[2, -1, 0], (2, 1), 0, &[0, 1], &[2]),
-    ("no room universal", &[0, 1, 1], &[3, -2, 0, 1, 3, 0], (2, 2), 0, &[0, 2], &[2, 1]),
-    ("a clearing without room", &[0, 1], &[1, -2, 0, -1, 2, 0], (1, 2), 1, &[2], &[2, 1]),
+    ("no room universal", &[0, 1, 1], &[3, -2, 0, 1, 3, 0], (2, 2), 0, &[0, 2], &[1, 1]),
+    ("a clearing without room", &[0, 1], &[1, -2, 0, -1, 2, 0], (1, 2), 1, &[2], &[1, 1]),
 ];
 
 /// What a lent entry holds before the run.
