@@ -15,14 +15,14 @@ use Rattle.expansion.specs.Play.{Row, Strategy, part, later-values}
 use Rattle.expansion.specs.Copies.{fresh}
 use Rattle.expansion.specs.Model.{search}
 use Rattle.expansion.proofs.Booleans.{never-both}
-use Rattle.expansion.proofs.Membership.{In, Distinct, in-append-cases, in-append-left, in-append-right, in-map-cases, in-or-not, in-fresh, fresh-in, distinct-append-fresh}
+use Rattle.expansion.proofs.Membership.{In, Distinct, in-append-cases, in-append-left, in-append-right, in-map-cases, in-or-not, in-fresh, fresh-in}
 use Rattle.expansion.proofs.Progress.{Answers, search-answers, yields-fresh}
 use Rattle.expansion.proofs.Counting.{Sized, at-most-all-rows}
-use Rattle.rounds.specs.Run.{Entry, Table, rows, grown, if-fits, Lent}
+use Rattle.rounds.specs.Run.{Entry, Table, rows, under-mark, grown, if-fits, Lent}
 use Rattle.rounds.specs.Claim.{Stands, NewRow}
 use Rattle.rounds.specs.Opening.{block, last-row, first-values}
 use Rattle.rounds.proofs.Blocks.{begins, begins-take, same-start, last-behind}
-use Rattle.rounds.proofs.TableLaws.{rows-grown, marks-grown, Extends, extends-grown, grown-new, adds-to-part, length-grown}
+use Rattle.rounds.proofs.TableLaws.{distinct-grown, rows-grown, marks-grown, Extends, extends-grown, grown-new, adds-to-part, length-grown}
 
 -- The rows that a side's table has room for.
 abbrev pub room : Kind → Lent → ℕ
@@ -75,7 +75,7 @@ pub record Growth (l : Lent) (side : Kind) (r : ℕ) (from : List Row) (t q u : 
   pub more : suc (length q) ≤ length u
   pub extends : Extends q u
   pub new-row : (end : Table) → Extends u end → NewRow r t u end
-  pub marks : (i : ℕ) (x : Entry) → Stands u i x → Stands q i x ⊎ (x .mark ≡ r)
+  pub marks : (i : ℕ) (x : Entry) → Stands u i x → Stands q i x ⊎ (x ≡ under-mark r (x .row))
   pub σ : Strategy
   pub answers : Answers side (l .ks) (l .phi) σ (λ x. In x from) (λ x. In x (rows u))
   pub apart : (x : Row) → In x (rows u) → begins (first-values side (l .ks) (rows u)) x ≡ false → In x (rows q)
@@ -87,9 +87,6 @@ module _ (l : Lent) (side : Kind) (r : ℕ) (from : List Row) (q : Table) (held 
     where
       of-new : In x (fresh (rows q) new) → length x ≡ count side (l .ks)
       of-new f = sized-found (l .prefer) side (l .ks) (l .phi) from new found x (fresh-in x (rows q) new f)
-
-  distinct-grown : Distinct (rows (grown r q new))
-  distinct-grown = rw rows-grown (distinct-append-fresh (rows q) new (held .distinct))
 
   yielded-in-grown : (x : Row) → In x new → In x (rows (grown r q new))
   yielded-in-grown x h = rw rows-grown (⊎-elim old fresh-now (in-or-not x (rows q)))
@@ -103,7 +100,7 @@ module _ (l : Lent) (side : Kind) (r : ℕ) (from : List Row) (q : Table) (held 
   -- A grown table that does not fit has less room than there are rows.
   pub room-below-all-rows : room side l < length (grown r q new) → room side l < 2 ^ count side (l .ks)
   room-below-all-rows full =
-      let most = length-at-most l side (grown r q new) distinct-grown sized-grown in
+      let most = length-at-most l side (grown r q new) (distinct-grown r q new (held .distinct)) sized-grown in
       omega arith
 
   -- All that the search yields begins with the same values.
@@ -136,7 +133,7 @@ module _ (l : Lent) (side : Kind) (r : ℕ) (from : List Row) (q : Table) (held 
       yields-fresh (l .prefer) side (l .ks) (l .phi) from (rows t) new τ x in-from found before in
       let adds : fresh (rows q) new ≡ [] → ⊥ = adds-to-part t q new part yields-new in
       record {
-        held = record { distinct = distinct-grown; sized = sized-grown; fits = λ _. fits };
+        held = record { distinct = distinct-grown r q new (held .distinct); sized = sized-grown; fits = λ _. fits };
         more = length-grown r q new adds;
         extends = extends-grown r q new;
         new-row = λ end. grown-new r t q new end part yields-new;

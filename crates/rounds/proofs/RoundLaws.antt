@@ -19,7 +19,7 @@ use Rattle.expansion.proofs.Membership.{In}
 use Rattle.expansion.proofs.Verdict.{none-is-verdict}
 use Rattle.expansion.proofs.Progress.{Answers}
 use Rattle.expansion.proofs.Counting.{Sized}
-use Rattle.rounds.specs.Run.{Entry, clears, kept, Table, rows, Answer, is-false, is-true, spent, no-room-universal, no-room-existential, number, Outcome, outcome, grown, if-fits, Lent, start, step-1, step-2, step-3, step-4, round-of}
+use Rattle.rounds.specs.Run.{Entry, clears, kept, Table, rows, under-mark, Answer, is-false, is-true, spent, no-room-universal, no-room-existential, number, Outcome, outcome, grown, if-fits, Lent, start, step-1, step-2, step-3, step-4, round-of}
 use Rattle.rounds.specs.Claim.{table, no-room, Stands, NewRow}
 use Rattle.rounds.specs.Opening.{block, last-row, first-values, opening, set-to, Opens}
 use Rattle.rounds.proofs.Blocks.{begins, begins-take, block-before, length-first-values, set-not-reached}
@@ -80,7 +80,7 @@ pub record Made (l : Lent) (r : ℕ) (b o : Outcome) : Type 0 where
   pub extends : (side : Kind) → (o .answer ≡ spent → Keeps side l r) → Extends (table side b) (table side o)
   pub new-row : o .answer ≡ spent → (side : Kind) (end : Table) → Extends (table side o) end → NewRow r (table side b) (table side o) end
   pub none-added : (side : Kind) → o .answer ≡ no-room side → table side o ≡ table side b
-  pub marks : (side : Kind) (i : ℕ) (x : Entry) → Stands (table side o) i x → Stands (table side b) i x ⊎ (x .mark ≡ r)
+  pub marks : (side : Kind) (i : ℕ) (x : Entry) → Stands (table side o) i x → Stands (table side b) i x ⊎ (x ≡ under-mark r (x .row))
   pub all-marked : o .answer ≡ spent → clears (l .clear-every) r ≡ true → (i : ℕ) (x : Entry) → Stands (o .A) i x → x .mark ≡ r
   pub latest : o .answer ≢ is-false → o .answer ≢ no-room-existential → NewRow r (b .S) (o .S) (o .S)
 
@@ -170,7 +170,7 @@ kept-held l r A held = go (clears (l .clear-every) r)
 module _ (l : Lent) (r : ℕ) (b : Outcome) (before : Reached l r b) (ongoing : Ongoing l r b) where
   -- A round that ends the run, with S or what step 2 has made of it.
   over : (a : Answer) (S : Table) → Over a → Right l a → Opens l (outcome a (suc r) (b .A) S) → Held l existential S → Extends (b .S) S → r ≤ length S
-      → (a ≡ no-room-existential → S ≡ b .S) → ((i : ℕ) (x : Entry) → Stands S i x → Stands (b .S) i x ⊎ (x .mark ≡ suc r))
+      → (a ≡ no-room-existential → S ≡ b .S) → ((i : ℕ) (x : Entry) → Stands S i x → Stands (b .S) i x ⊎ (x ≡ under-mark (suc r) (x .row)))
       → (a ≢ is-false → a ≢ no-room-existential → NewRow (suc r) (b .S) S S) → Made l (suc r) b (outcome a (suc r) (b .A) S)
   over a S ends right opened held extends count-S unchanged marks latest =
       let o = outcome a (suc r) (b .A) S in
@@ -191,7 +191,7 @@ module _ (l : Lent) (r : ℕ) (b : Outcome) (before : Reached l r b) (ongoing : 
             each (λ side. (a ≡ spent → Keeps side l (suc r)) → Extends (table side b) (table side o)) (λ _. extends-itself (b .A)) (λ _. extends);
         new-row = λ e. absurd (over-not-spent a ends e);
         none-added = each (λ side. a ≡ no-room side → table side o ≡ table side b) (λ _. refl) unchanged;
-        marks = each (λ side. (i : ℕ) (x : Entry) → Stands (table side o) i x → Stands (table side b) i x ⊎ (x .mark ≡ suc r)) (λ i x s. inl s) marks;
+        marks = each (λ side. (i : ℕ) (x : Entry) → Stands (table side o) i x → Stands (table side b) i x ⊎ (x ≡ under-mark (suc r) (x .row))) (λ i x s. inl s) marks;
         all-marked = λ e. absurd (over-not-spent a ends e);
         latest = latest;
       }
@@ -241,14 +241,14 @@ module _ (l : Lent) (r : ℕ) (b : Outcome) (before : Reached l r b) (ongoing : 
             (λ e. absurd (omega (arith, ap number e)))
             (λ e. absurd (omega (arith, ap number e)));
         marks =
-            each (λ side. (i : ℕ) (x : Entry) → Stands (table side o) i x → Stands (table side b) i x ⊎ (x .mark ≡ suc r))
+            each (λ side. (i : ℕ) (x : Entry) → Stands (table side o) i x → Stands (table side b) i x ⊎ (x ≡ under-mark (suc r) (x .row)))
             (λ i x s. ⊎-elim (λ old. inl (kept-stands l (suc r) (b .A) i x old)) inr (grown-A .marks i x s))
             (grown-S .marks);
         all-marked =
             λ _ clearing i x s.
             ⊎-elim
             (λ old. absurd (Option·none-ne-some x (subst (λ (q : Table). Stands q i x) (kept-none l (suc r) (b .A) clearing) old)))
-            (λ e. e)
+            (λ e. ap (λ (y : Entry). y .mark) e)
             (grown-A .marks i x s);
         latest = λ _ _. grown-S .new-row S (extends-itself S);
       }
@@ -260,13 +260,27 @@ module _ (l : Lent) (r : ℕ) (b : Outcome) (before : Reached l r b) (ongoing : 
       over a S ends right opened (grown-S .held) (grown-S .extends) (omega (arith, ongoing .count-S, grown-S .more)) (λ e. absurd (other-answer e))
       (grown-S .marks) (λ _ _. grown-S .new-row S (extends-itself S))
 
+  -- What steps 3 and 4 answer is right.
+  right-4 : (S : Table) (new : List Row) → search (l .prefer) universal (l .ks) (l .phi) (rows S) ≡ some new
+      → (m : Option Table) → Fitted (l .room-A) (grown (suc r) (kept l (suc r) (b .A)) new) m → Right l (step-4 (suc r) (b .A) S m .answer)
+  right-4 S new found none full =
+      room-below-all-rows l universal (suc r) (rows S) (kept l (suc r) (b .A)) (kept-held l (suc r) (b .A) (before .held universal)) new found full
+  right-4 S new found (some A) fits = tt
+
+  right-3 : (S : Table) (m : Option (List Row)) → search (l .prefer) universal (l .ks) (l .phi) (rows S) ≡ m → Right l (step-3 l (suc r) (b .A) S m .answer)
+  right-3 S none e = sym (Bool·not-not (meaning (l .ks) (l .phi))) ∙ ap not (none-is-verdict (l .prefer) universal (l .ks) (l .phi) (rows S) e)
+  right-3 S (some new) e =
+      right-4 S new e
+      (if-fits (l .room-A) (grown (suc r) (kept l (suc r) (b .A)) new))
+      (fitted (l .room-A) (grown (suc r) (kept l (suc r) (b .A)) new))
+
   -- The steps, each by what it looks at.
   made-4 : (S : Table) (new : List Row) → Growth l existential (suc r) (rows (b .A)) (b .S) (b .S) S → search (l .prefer) universal (l .ks) (l .phi) (rows S) ≡ some new
       → (m : Option Table) → Fitted (l .room-A) (grown (suc r) (kept l (suc r) (b .A)) new) m → Made l (suc r) b (step-4 (suc r) (b .A) S m)
   unfolding opening
   made-4 S new grown-S found none full =
       over-later no-room-universal S tt (λ e. omega (arith, ap number e))
-      (room-below-all-rows l universal (suc r) (rows S) (kept l (suc r) (b .A)) (kept-held l (suc r) (b .A) (before .held universal)) new found full)
+      (right-4 S new found none full)
       (record { whole = refl; same-verdict = refl })
       grown-S
   made-4 S new grown-S found (some A) fits =
@@ -314,8 +328,7 @@ module _ (l : Lent) (r : ℕ) (b : Outcome) (before : Reached l r b) (ongoing : 
   made-3 : (S : Table) → Growth l existential (suc r) (rows (b .A)) (b .S) (b .S) S
       → (m : Option (List Row)) → search (l .prefer) universal (l .ks) (l .phi) (rows S) ≡ m → Made l (suc r) b (step-3 l (suc r) (b .A) S m)
   made-3 S grown-S none e =
-      let verdict = none-is-verdict (l .prefer) universal (l .ks) (l .phi) (rows S) e in
-      let right : meaning (l .ks) (l .phi) ≡ true = sym (Bool·not-not (meaning (l .ks) (l .phi))) ∙ ap not verdict in
+      let right = right-3 S none e in
       over-later is-true S tt (λ q. omega (arith, ap number q)) right (opened-true S grown-S right e) grown-S
   made-3 S grown-S (some new) e = made-4 S new grown-S e (if-fits (l .room-A) (grown (suc r) (kept l (suc r) (b .A)) new)) (fitted (l .room-A) (grown (suc r) (kept l (suc r) (b .A)) new))
 

@@ -126,7 +126,7 @@ run-marks l (suc r) side i x s =
     (λ e.
     ⊎-elim
     (λ old. let before = run-marks l r side i x old in omega arith)
-    (λ new. omega arith)
+    (λ new. let marked = ap (λ (y : Entry). y .mark) new in omega arith)
     (run-made l r e .marks side i x s))
     (λ over.
     let before = run-marks l r side i x (subst (λ (o : Outcome). Stands (table side o) i x) (run-over l r over) s) in

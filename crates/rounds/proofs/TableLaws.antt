@@ -8,7 +8,7 @@ use mathlib.Core.Option.{some, Option·none-ne-some}
 use lib.ListN.{length, length-append}
 use Rattle.expansion.specs.Play.{Row}
 use Rattle.expansion.specs.Copies.{fresh}
-use Rattle.expansion.proofs.Membership.{In, Distinct, in-fresh, fresh-in, fresh-unseen}
+use Rattle.expansion.proofs.Membership.{In, Distinct, in-fresh, fresh-in, fresh-unseen, distinct-append-fresh}
 use Rattle.rounds.specs.Run.{Entry, Table, rows, under-mark, grown}
 use Rattle.rounds.specs.Claim.{Stands, AllDifferent, NewRow}
 
@@ -19,6 +19,12 @@ rows-append (x ∷ t) u = ap (λ (l : List Row). x .row ∷ l) (rows-append t u)
 pub rows-under-mark : (r : ℕ) (new : List Row) → rows (map (under-mark r) new) ≡ new
 rows-under-mark r [] = refl
 rows-under-mark r (x ∷ new) = ap (λ (l : List Row). x ∷ l) (rows-under-mark r new)
+
+-- In a grown table no row stands twice.
+pub distinct-grown : (r : ℕ) (t : Table) (new : List Row) → Distinct (rows t) → Distinct (rows (grown r t new))
+distinct-grown r t new distinct =
+    let rows-are = rows-append t (map (under-mark r) (fresh (rows t) new)) ∙ ap (λ (l : List Row). rows t ++ l) (rows-under-mark r (fresh (rows t) new)) in
+    subst Distinct (sym rows-are) (distinct-append-fresh (rows t) new distinct)
 
 pub rows-grown : (r : ℕ) (t : Table) (new : List Row) → rows (grown r t new) ≡ rows t ++ fresh (rows t) new
 rows-grown r t new = rows-append t _ ∙ ap (λ (l : List Row). rows t ++ l) (rows-under-mark r _)
@@ -45,10 +51,10 @@ stands-append (y ∷ t) more (suc i) x s = stands-append t more i x s
 pub stands-extends : (t u : Table) (i : ℕ) (x : Entry) → Extends t u → Stands t i x → Stands u i x
 stands-extends t u i x p s = rw (p .1) (stands-append t (p .0) i x s)
 
--- What stands in a grown table stood there, or has the round's mark.
-pub marks-grown : (r : ℕ) (t : Table) (l : List Row) (i : ℕ) (x : Entry) → Stands (t ++ map (under-mark r) l) i x → Stands t i x ⊎ (x .mark ≡ r)
+-- What stands in a grown table stood there, or came under the round's mark.
+pub marks-grown : (r : ℕ) (t : Table) (l : List Row) (i : ℕ) (x : Entry) → Stands (t ++ map (under-mark r) l) i x → Stands t i x ⊎ (x ≡ under-mark r (x .row))
 marks-grown r [] [] i x s = absurd (Option·none-ne-some x s)
-marks-grown r [] (y ∷ l) zero x s = inr (let e : under-mark r y ≡ x = cc in rw (← e))
+marks-grown r [] (y ∷ l) zero x s = inr (let e : under-mark r y ≡ x = cc in sym e ∙ ap (λ (z : Entry). under-mark r (z .row)) e)
 marks-grown r [] (y ∷ l) (suc i) x s = marks-grown r [] l i x s
 marks-grown r (y ∷ t) l zero x s = inl s
 marks-grown r (y ∷ t) l (suc i) x s = marks-grown r t l i x s
