@@ -1,5 +1,6 @@
 -- The theorems on the run: the runs worked by hand, cleared ones too, and their counts; the verdict, the opening, how often a row came back, and the claim
 -- about the whole run.
+pub mod AllWorked
 pub mod Worked
 pub mod Cleared
 pub mod Counted

@@ -15,6 +15,7 @@ worked =
       runs = refl;
       K1-A = refl;
       K1-S = refl;
+      K1-marks = refl;
       K11-both = refl;
       K11-one = refl;
       last-opens = refl;

@@ -3,7 +3,7 @@
 use Prim.Native.Nat.{ℕ}
 use mathlib.Core.Path.{_≡_}
 use mathlib.Core.Bool.{Bool, true, false}
-use mathlib.Core.List.{List, [], _∷_, map}
+use mathlib.Core.List.{List, [], _∷_, _++_, map}
 use lib.IntN.{ℤ, pos, negsuc}
 use lib.ListN.{length, drop}
 use Rattle.formula.specs.Formula.{max-rows, prefix, clauses}
@@ -163,6 +163,7 @@ pub record Worked : Type 0 where
   -- K1: 'A 0 then 1, S 1 then 0', each row with the round it came in.
   pub K1-A : played K1 .A ≡ under-mark 0 (false ∷ []) ∷ under-mark 1 (true ∷ []) ∷ []
   pub K1-S : played K1 .S ≡ under-mark 1 (true ∷ []) ∷ under-mark 2 (false ∷ []) ∷ []
+  pub K1-marks : map (λ x. x .mark) (played K1 .A ++ played K1 .S) ≡ 0 ∷ 1 ∷ 1 ∷ 2 ∷ []
   -- K11: 'rows 0 and 1 accepted; row 1 alone not'.
   pub K11-both : K11 ((false ∷ []) ∷ (true ∷ []) ∷ []) ≡ true
   pub K11-one : K11 ((true ∷ []) ∷ []) ≡ false
