@@ -48,6 +48,13 @@ fn cases() -> Vec<Case> {
     let halves = [vec![0; 64], vec![1; 64]].concat();
     let reduced = (0..CLAUSES as i32).flat_map(|i| [if i % 3 == 0 { i % 64 + 1 } else { -(i % 64 + 1) }, 65 + i % 64, -(65 + (i + 1) % 64), 0]);
     let universal = (0..8188).map(|i| i % 128 + 1).chain([0]);
+    let in_turn_kinds = (0..128).map(|i| i % 2).collect();
+    let mut in_turn: Vec<i32> = [1, 0].into_iter().chain((0..63).flat_map(|i| [-(2 * i + 1), 2 * i + 3, if i % 2 == 0 { 2 * i + 2 } else { -(2 * i + 2) }, 2 * i + 4, 0])).collect();
+    let mut i = 0;
+    while in_turn.len() + 4 <= ENTRIES {
+        in_turn.extend([-(2 * (i % 64) + 1), -(2 * ((i + 20) % 64) + 1), 2 * ((i + 7) % 64) + 2, 0]);
+        i += 1;
+    }
     let always_true = (0..CLAUSES as i32).flat_map(|i| [i % 128 + 1, (i + 5) % 128 + 1, -(i % 128 + 1), 0]);
     vec![
         Case { name: "nothing to trim", kinds: existential(), literals: that_stay(Vec::new(), 1, 127) },
@@ -56,6 +63,7 @@ fn cases() -> Vec<Case> {
         Case { name: "a chain of 99 unknowns in one sign", kinds: existential(), literals: that_stay(one_sign, 101, 127) },
         Case { name: "8,188 universal literals in one clause", kinds: vec![1; 128], literals: universal.collect() },
         Case { name: "two literals of three reduced", kinds: halves, literals: reduced.collect() },
+        Case { name: "units and reductions in turn", kinds: in_turn_kinds, literals: in_turn },
         Case { name: "2,048 always-true clauses", kinds: existential(), literals: always_true.collect() },
     ]
 }

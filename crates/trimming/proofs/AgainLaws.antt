@@ -112,15 +112,16 @@ module _ (kinds : List ℕ) where
     pub reducing-more : (names : List ℕ) {table₀ : List ℕ} (index′ : List ℕ) → Indexed table′ index′ → Toward (reduced ks) table₀ table → Pending kinds (start ∷ names) table index → Toward (reduced ks) table₀ table′ × Pending kinds names table′ index′
     unfolding reduces low
     reducing-more names {table₀} index′ indexed′ toward p =
-        let t = toward-more reduces (reduced ks) (reduced-local kinds) (ap (reduced ks) (ap (λ (c : Clause). c ∷ []) (reduced-codes kinds (s .es) (s .fine))) ∙ ap (λ (c : Clause). c ∷ []) (reduced-twice ks (map literal-of (keep is-left (s .es))))) toward in
-        (t,
-        record {
-          laid-out = t .laid-out;
-          few = let a = after-length reduces in let f = p .few in omega arith;
-          indexed = indexed′;
-          standing = every-same (λ x. In x (listed 1 table)) (λ x. In x (listed 1 table′)) (λ x i. subst (In x) (sym list-kept) i) names (p .standing .1);
-          others = except-changed (Irreducible kinds) (start ∷ names) names start (λ o other i. behind o other i) low 511 (p .others) (h .stands .inside) (h .stands .first) table′ (e ∙ ap (λ (n : ℕ). marked-at n 511 start table) low-is) (λ xs ys b fx fy fb is here. becomes xs ys b fb is here);
-        })
+        let t = toward-more reduces (reduced ks) (reduced-local kinds) (ap (reduced ks) (ap (λ (c : Clause). c ∷ []) (reduced-codes kinds (s .es) (s .fine))) ∙ ap (λ (c : Clause). c ∷ []) (reduced-twice ks (map literal-of (keep is-left (s .es))))) toward in (
+          t,
+          record {
+            laid-out = t .laid-out;
+            few = let a = after-length reduces in let f = p .few in omega arith;
+            indexed = indexed′;
+            standing = every-same (λ x. In x (listed 1 table)) (λ x. In x (listed 1 table′)) (λ x i. subst (In x) (sym list-kept) i) names (p .standing .1);
+            others = except-changed (Irreducible kinds) (start ∷ names) names start (λ o other i. behind o other i) low 511 (p .others) (h .stands .inside) (h .stands .first) table′ (e ∙ ap (λ (n : ℕ). marked-at n 511 start table) low-is) (λ xs ys b fx fy fb is here. becomes xs ys b fb is here);
+          },
+        )
       where
         every-same : (P Q : ℕ → Type 0) → ((x : ℕ) → P x → Q x) → (l : List ℕ) → Every P l → Every Q l
         every-same P Q f [] all = tt

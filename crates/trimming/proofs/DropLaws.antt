@@ -333,7 +333,7 @@ ends-here {low} {start} {at} {table} p off =
     let e = ap length (ap (λ (l : List ℕ). p .pre ++ l) (none p off) ∙ append-nil (p .pre)) in
     let f = p .place in
     let g : first-length (drop start table) ≡ length ((p .pre ++ p .post) ++ (0 ∷ [])) =
-        ap (λ (t : List ℕ). first-length (drop start t)) (p .is)
-        ∙ ap first-length (drop-at (laid (p .xs)) (((p .pre ++ p .post) ++ (0 ∷ [])) ++ laid (p .ys)) start (sym (p .here)))
-        ∙ block-length (laid (p .ys)) (standing (p .pre ++ p .post)) (every-append Entry (p .pre) (p .post) (p .fine-pre) (p .fine-post)) in
+    ap (λ (t : List ℕ). first-length (drop start t)) (p .is)
+    ∙ ap first-length (drop-at (laid (p .xs)) (((p .pre ++ p .post) ++ (0 ∷ [])) ++ laid (p .ys)) start (sym (p .here)))
+    ∙ block-length (laid (p .ys)) (standing (p .pre ++ p .post)) (every-append Entry (p .pre) (p .post) (p .fine-pre) (p .fine-post)) in
     omega arith

@@ -156,9 +156,9 @@ module _ {table index : List ℕ} {start : ℕ} (h : Here table index start) (ta
   at-end : at ≡ length (laid (s .xs) ++ es)
   at-end =
       let a : first-length (drop start table₁) ≡ length (es ++ (0 ∷ [])) =
-          ap (λ (t : List ℕ). first-length (drop start t)) emptied
-          ∙ ap first-length (drop-at (laid (s .xs)) (whole (standing es) ++ laid (s .ys)) start (sym (s .here)))
-          ∙ block-length (laid (s .ys)) (standing es) entries in
+      ap (λ (t : List ℕ). first-length (drop start t)) emptied
+      ∙ ap first-length (drop-at (laid (s .xs)) (whole (standing es) ++ laid (s .ys)) start (sym (s .here)))
+      ∙ block-length (laid (s .ys)) (standing es) entries in
       let b = length-append es (0 ∷ []) in
       let c = length-append (laid (s .xs)) es in
       let d = s .here in

@@ -226,9 +226,10 @@ module _ (kinds firsts : List ℕ) (start : ℕ) (table : List ℕ) where
 
       walk : (xs bs : List Block) → table ≡ laid xs ++ laid bs → Every Fine bs → (o : ℕ) → o ≡ length (laid xs) → AllBut (UnitKnown kinds firsts) (start ∷ rest) o bs → AllBut (UnitKnown kinds (noted-unit x start firsts)) rest o bs
       walk xs [] is f o here all = tt
-      walk xs (b ∷ bs) is f o here all =
-          (one-block (all .0),
-          walk (xs ++ (b ∷ [])) bs further (f .1) (o + length (whole b)) place (all .1))
+      walk xs (b ∷ bs) is f o here all = (
+        one-block (all .0),
+        walk (xs ++ (b ∷ [])) bs further (f .1) (o + length (whole b)) place (all .1),
+      )
         where
           joined : laid (xs ++ (b ∷ [])) ≡ laid xs ++ whole b
           joined = laid-append xs (b ∷ []) ∙ ap (λ (l : List ℕ). laid xs ++ l) (append-nil (whole b))
@@ -442,9 +443,10 @@ units-begin kinds firsts all-none {table} l names e =
   where
     every-block : (names : List ℕ) (o : ℕ) (bs : List Block) → Every Fine bs → ((x : ℕ) → In x (names-from 1 o bs) → In x names) → AllBut (UnitKnown kinds firsts) names o bs
     every-block names o [] f known = tt
-    every-block names o (standing es ∷ bs) f known =
-        (inl (known o (subst (λ (t : Bool). In o (cond t (o ∷ names-from 1 (o + length (whole (standing es))) bs) (names-from 1 (o + length (whole (standing es))) bs))) (sym (standing-listed es)) (inl refl))),
-        every-block names (o + length (whole (standing es))) bs (f .1) (λ x i. known x (subst (λ (t : Bool). In x (cond t (o ∷ names-from 1 (o + length (whole (standing es))) bs) (names-from 1 (o + length (whole (standing es))) bs))) (sym (standing-listed es)) (inr i))))
+    every-block names o (standing es ∷ bs) f known = (
+      inl (known o (subst (λ (t : Bool). In o (cond t (o ∷ names-from 1 (o + length (whole (standing es))) bs) (names-from 1 (o + length (whole (standing es))) bs))) (sym (standing-listed es)) (inl refl))),
+      every-block names (o + length (whole (standing es))) bs (f .1) (λ x i. known x (subst (λ (t : Bool). In x (cond t (o ∷ names-from 1 (o + length (whole (standing es))) bs) (names-from 1 (o + length (whole (standing es))) bs))) (sym (standing-listed es)) (inr i))),
+    )
     every-block names o (gone es ∷ bs) f known = (inr (λ some-unit. absurd (some-unit (gone-unit kinds es (f .0)))), every-block names (o + length (whole (gone es))) bs (f .1) (λ x i. known x (later (block-has 1 (gone es)) x i)))
       where
         later : (t : Bool) (x : ℕ) → In x (names-from 1 (o + length (whole (gone es))) bs) → In x (cond t (o ∷ names-from 1 (o + length (whole (gone es))) bs) (names-from 1 (o + length (whole (gone es))) bs))
@@ -469,9 +471,9 @@ code-small kinds {table} l {start} n =
     let t = splits (l .blocks) (l .fine) start (let z = ap length (l .is) in let i = n .inside in omega arith) (ap (λ (k : List ℕ). begins k start) (sym (l .is)) ∙ n .first) in
     let parts = every-front Fine (t .before) (t .block ∷ t .behind) (subst (Every Fine) (t .is) (l .fine)) in
     let e : first-clause (drop start table) ≡ inner (t .block) =
-        ap (λ (k : List ℕ). first-clause (drop start k)) (l .is ∙ ap laid (t .is) ∙ laid-around (t .before) (t .block) (t .behind))
-        ∙ ap first-clause (drop-at (laid (t .before)) (whole (t .block) ++ laid (t .behind)) start (sym (t .here)))
-        ∙ block-clause (laid (t .behind)) (t .block) (parts .1 .0) in
+    ap (λ (k : List ℕ). first-clause (drop start k)) (l .is ∙ ap laid (t .is) ∙ laid-around (t .before) (t .block) (t .behind))
+    ∙ ap first-clause (drop-at (laid (t .before)) (whole (t .block) ++ laid (t .behind)) start (sym (t .here)))
+    ∙ block-clause (laid (t .behind)) (t .block) (parts .1 .0) in
     subst (λ (k : List ℕ). unit kinds k < 258) (sym e) (unit-block kinds (t .block) (parts .1 .0) .chosen .small)
 
 pub none-before : (firsts : List ℕ) (name : ℕ) → ((w : ℕ) → 0 < w → w < name → getD firsts w 0 ≡ 65535) → getD firsts name 0 ≡ 65535 → (w : ℕ) → 0 < w → w < name + 1 → getD firsts w 0 ≡ 65535

@@ -101,9 +101,10 @@ pending-begins kinds {table} {index} l few indexed names e =
   where
     every-block : (names : List ℕ) (o : ℕ) (bs : List Block) → ((x : ℕ) → In x (names-from 1 o bs) → In x names) → AllBut (Irreducible kinds) names o bs
     every-block names o [] known = tt
-    every-block names o (standing es ∷ bs) known =
-        (inl (known o (subst (λ (t : Bool). In o (cond t (o ∷ names-from 1 (o + length (whole (standing es))) bs) (names-from 1 (o + length (whole (standing es))) bs))) (sym (standing-listed es)) (inl refl))),
-        every-block names (o + length (whole (standing es))) bs (λ x i. known x (subst (λ (t : Bool). In x (cond t (o ∷ names-from 1 (o + length (whole (standing es))) bs) (names-from 1 (o + length (whole (standing es))) bs))) (sym (standing-listed es)) (inr i))))
+    every-block names o (standing es ∷ bs) known = (
+      inl (known o (subst (λ (t : Bool). In o (cond t (o ∷ names-from 1 (o + length (whole (standing es))) bs) (names-from 1 (o + length (whole (standing es))) bs))) (sym (standing-listed es)) (inl refl))),
+      every-block names (o + length (whole (standing es))) bs (λ x i. known x (subst (λ (t : Bool). In x (cond t (o ∷ names-from 1 (o + length (whole (standing es))) bs) (names-from 1 (o + length (whole (standing es))) bs))) (sym (standing-listed es)) (inr i))),
+    )
     every-block names o (gone es ∷ bs) known = (inr refl, every-block names (o + length (whole (gone es))) bs (λ x i. known x (later (block-has 1 (gone es)) x i)))
       where
         later : (t : Bool) (x : ℕ) → In x (names-from 1 (o + length (whole (gone es))) bs) → In x (cond t (o ∷ names-from 1 (o + length (whole (gone es))) bs) (names-from 1 (o + length (whole (gone es))) bs))

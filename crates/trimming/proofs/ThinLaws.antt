@@ -228,15 +228,16 @@ module _ (code : ℕ) (two : 2 ≤ code) (small : code < 258) where
       thinning-less = let a = ap length (goes-from-list p table′ e (omega arith)) in let b = without-in start (listed code table) in-list in omega arith
 
     pub thinning-ends : ltb (begin-of index code) (end-of index code) ≡ false → Dropped (without-clauses (literal-of code)) (code / 2) [] table₀ table index × (listed code table ≡ [])
-    thinning-ends over =
-        (record {
-          passed = toward-ends (without-clauses (literal-of code)) (t .toward) (without-clauses-none (literal-of code) (clauses-left table) (none-listed (t .toward .laid-out) code two small (list-empty (t .toward .laid-out) (t .few) (t .indexed) code (omega arith) over)));
-          indexed = t .indexed;
-          standing = tt;
-          irreducible = t .irreducible;
-          units = t .units;
-        },
-        list-empty (t .toward .laid-out) (t .few) (t .indexed) code (omega arith) over)
+    thinning-ends over = (
+      record {
+        passed = toward-ends (without-clauses (literal-of code)) (t .toward) (without-clauses-none (literal-of code) (clauses-left table) (none-listed (t .toward .laid-out) code two small (list-empty (t .toward .laid-out) (t .few) (t .indexed) code (omega arith) over)));
+        indexed = t .indexed;
+        standing = tt;
+        irreducible = t .irreducible;
+        units = t .units;
+      },
+      list-empty (t .toward .laid-out) (t .few) (t .indexed) code (omega arith) over,
+    )
 
 -- ---- the places of a literal
 

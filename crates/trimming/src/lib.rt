@@ -127,7 +127,13 @@ fn count(table: &[u16], start: usize, counts: &mut [u16; 258])
     }
 }
 
-fn drop_each(table: &mut [u16], index: &mut [u16], counts: &mut [u16; 258], start: usize, low: u16) -> usize
+fn drop_each(
+    table: &mut [u16],
+    index: &mut [u16],
+    counts: &mut [u16; 258],
+    start: usize,
+    low: u16,
+) -> usize
     requires { ⌜ Dropping low start (now table) (now index) (now counts) start × (2 ≤ low) ⌝ }
     ensures { λ _. ⌜ (now (table .exit) ≡ marked-at low 511 start (now (table .entry))) × Indexed (now (table .exit)) (now (index .exit)) ⌝ }
     ensures { λ r. ⌜ r + 1 ≡ start + first-length (drop start (now (table .exit))) ⌝ }
@@ -141,7 +147,14 @@ fn drop_each(table: &mut [u16], index: &mut [u16], counts: &mut [u16; 258], star
 }
 
 // Drops an entry, if it is from `low` on.
-fn drop_entry(table: &mut [u16], index: &mut [u16], counts: &mut [u16; 258], start: usize, at: usize, low: u16)
+fn drop_entry(
+    table: &mut [u16],
+    index: &mut [u16],
+    counts: &mut [u16; 258],
+    start: usize,
+    at: usize,
+    low: u16,
+)
     requires { ⌜ Dropping low start (now table) (now index) (now counts) at × (ends (getD (now table) at 0) ≡ false) ⌝ }
     ensures { λ _. ⌜ Dropping low start (now (table .exit)) (now (index .exit)) (now (counts .exit)) (at + 1) ⌝ }
     ensures { λ _. ⌜ marked-at low 511 start (now (table .exit)) ≡ marked-at low 511 start (now (table .entry)) ⌝ }
@@ -218,7 +231,13 @@ fn drop_if_true(table: &mut [u16], index: &mut [u16], start: usize)
 
 // Rules 2 to 4. Each change takes an entry away, so there are no more rounds than entries. Only clauses that are shortened can be reduced again,
 // or come to have one entry; of each unknown the first clause is noted whose only entry it is.
-fn settle(kinds: &[u8], table: &mut [u16], index: &mut [u16], names: &mut [u16], firsts: &mut [u16; 129])
+fn settle(
+    kinds: &[u8],
+    table: &mut [u16],
+    index: &mut [u16],
+    names: &mut [u16],
+    firsts: &mut [u16; 129],
+)
     requires { ⌜ Laid (now table) × Indexed (now table) (now index) × (length (now kinds) ≤ max-unknowns) × (length (now table) ≤ max-entries) × (length (now names) ≡ max-entries) × (now firsts ≡ replicate 129 65535) ⌝ }
     ensures { λ _. ⌜ Passed (rounds (length (now (table .entry)) + 1) (prefix (now (kinds .entry)))) (now (table .entry)) (now (table .exit)) × Indexed (now (table .exit)) (now (index .exit)) ⌝ }
 {

@@ -25,10 +25,11 @@ loop-less : tie.Need-loop-less Inv-loop μ-loop
 loop-less c = thinning-less ((c .before .before .before .before .before .before .before .before .before .before .before .before .before .before .before .args .code)) ((c .before .before .before .before .before .before .before .before .before .before .before .before .before .before .before .pre .3)) ((c .before .before .before .before .before .before .before .before .before .before .before .before .before .before .before .pre .4)) ((c .before .before .before .before .before .before .before .before .before .before .before .before .loop .inv .0) ((c .before .before .before .before .before .before .before .before .before .before .before .before .before .before .before .pre .3)) ((c .before .before .before .before .before .before .before .before .before .before .before .before .before .before .before .pre .4))) ((c .before .before .before .before .before .before .before .first-name .result)) (sym ((c .before .before .before .before .before .before .before .before .before .before .has-names .ensures)) ∙ (c .before .before .before .before .before .before .before .before .before .if1 .taken)) ((c .before .before .before .before .before .before .before .first-name .ensures)) ((c .before .before .before .before .drop-clause .last .0)) ((c .before .before .before .before .drop-clause .last .1 .0)) ((c .before .before .before .before .drop-clause .ensures .0)) ((c .before .before .before .before .drop-clause .ensures .1))
 
 loop-again : tie.Need-loop-again Inv-loop μ-loop
-loop-again c =
-    ((λ two small. thinning-more ((c .before .before .before .before .before .before .before .before .before .before .before .before .before .before .before .args .code)) two small ((c .before .before .before .before .before .before .before .before .before .before .before .before .loop .inv .0) two small) ((c .before .before .before .before .before .before .before .first-name .result)) (sym ((c .before .before .before .before .before .before .before .before .before .before .has-names .ensures)) ∙ (c .before .before .before .before .before .before .before .before .before .if1 .taken)) ((c .before .before .before .before .before .before .before .first-name .ensures)) ((c .before .before .before .before .drop-clause .last .0)) ((c .before .before .before .before .drop-clause .last .1 .0)) ((c .before .before .before .before .drop-clause .ensures .0)) ((c .before .before .before .before .drop-clause .ensures .1))),
-    (c .before .before .before .before .drop-clause .kept .0) ∙ (c .before .before .before .before .before .before .before .before .before .before .before .before .loop .inv .1),
-    (c .before .before .before .before .drop-clause .kept .1 .0) ∙ (c .before .before .before .before .before .before .before .before .before .before .before .before .loop .inv .2))
+loop-again c = (
+  (λ two small. thinning-more ((c .before .before .before .before .before .before .before .before .before .before .before .before .before .before .before .args .code)) two small ((c .before .before .before .before .before .before .before .before .before .before .before .before .loop .inv .0) two small) ((c .before .before .before .before .before .before .before .first-name .result)) (sym ((c .before .before .before .before .before .before .before .before .before .before .has-names .ensures)) ∙ (c .before .before .before .before .before .before .before .before .before .if1 .taken)) ((c .before .before .before .before .before .before .before .first-name .ensures)) ((c .before .before .before .before .drop-clause .last .0)) ((c .before .before .before .before .drop-clause .last .1 .0)) ((c .before .before .before .before .drop-clause .ensures .0)) ((c .before .before .before .before .drop-clause .ensures .1))),
+  (c .before .before .before .before .drop-clause .kept .0) ∙ (c .before .before .before .before .before .before .before .before .before .before .before .before .loop .inv .1),
+  (c .before .before .before .before .drop-clause .kept .1 .0) ∙ (c .before .before .before .before .before .before .before .before .before .before .before .before .loop .inv .2),
+)
 
 same-length : tie.Need-same-length Inv-loop μ-loop
 same-length c = (c .before .before .before .loop .inv .1)

@@ -41,9 +41,10 @@ same-length-2 : tie.Need-same-length-2 Inv-loop μ-loop
 same-length-2 c = (c .before .before .before .loop .inv .3)
 
 returns : tie.Need-returns Inv-loop μ-loop
-returns c =
-    ((sym (all-dropped ((c .before .before .before .loop .inv .0)) ((c .before .before .before .before .before .before .pre .1)) (turned _ (sym ((c .before .goes-on .ensures)) ∙ (c .if1 .left)))) ∙ (c .before .before .before .loop .inv .1), (c .before .before .before .loop .inv .0 .indexed)),
-    ends-here ((c .before .before .before .loop .inv .0)) (turned _ (sym ((c .before .goes-on .ensures)) ∙ (c .if1 .left))))
+returns c = (
+  (sym (all-dropped ((c .before .before .before .loop .inv .0)) ((c .before .before .before .before .before .before .pre .1)) (turned _ (sym ((c .before .goes-on .ensures)) ∙ (c .if1 .left)))) ∙ (c .before .before .before .loop .inv .1), (c .before .before .before .loop .inv .0 .indexed)),
+  ends-here ((c .before .before .before .loop .inv .0)) (turned _ (sym ((c .before .goes-on .ensures)) ∙ (c .if1 .left))),
+)
 
 pub drop-each-spec : {M : Type 1} → statement M
 drop-each-spec =

@@ -29,10 +29,11 @@ loop-less : tie.Need-loop-less Inv-loop μ-loop
 loop-less c = let w = goes-on ((c .before .before .before .before .before .before .before .before .before .before .loop .inv .0 .at)) ((c .before .before .before .before .before .before .before .before .before .loop-test .taken)) in omega (arith, (c .before .before .before .before .before .before .before .past .ensures), (c .before .before .before .before .drop-if-true .kept .0))
 
 loop-again : tie.Need-loop-again Inv-loop μ-loop
-loop-again c =
-    (passing-more untrue untrue-local true-from (λ l. 511) true-dropped ((c .before .before .before .before .before .before .before .before .before .before .loop .inv .0)) ((c .before .before .before .before .before .before .before .before .before .loop-test .taken)) (true-from (first-clause (drop ((c .before .before .before .before .before .before .before .before .before .before .loop .start)) ((c .before .before .before .before .before .before .before .before .before .before .loop .table))))) 511 ((c .before .before .before .before .before .before .before .past .result)) ((c .before .before .before .before .drop-if-true .last .0)) refl refl ((c .before .before .before .before .before .before .before .past .ensures)) ((c .before .before .before .before .drop-if-true .ensures .0)),
-    (c .before .before .before .before .drop-if-true .ensures .1),
-    (c .before .before .before .before .drop-if-true .kept .1 .0) ∙ (c .before .before .before .before .before .before .before .before .before .before .loop .inv .2))
+loop-again c = (
+  passing-more untrue untrue-local true-from (λ l. 511) true-dropped ((c .before .before .before .before .before .before .before .before .before .before .loop .inv .0)) ((c .before .before .before .before .before .before .before .before .before .loop-test .taken)) (true-from (first-clause (drop ((c .before .before .before .before .before .before .before .before .before .before .loop .start)) ((c .before .before .before .before .before .before .before .before .before .before .loop .table))))) 511 ((c .before .before .before .before .before .before .before .past .result)) ((c .before .before .before .before .drop-if-true .last .0)) refl refl ((c .before .before .before .before .before .before .before .past .ensures)) ((c .before .before .before .before .drop-if-true .ensures .0)),
+  (c .before .before .before .before .drop-if-true .ensures .1),
+  (c .before .before .before .before .drop-if-true .kept .1 .0) ∙ (c .before .before .before .before .before .before .before .before .before .before .loop .inv .2),
+)
 
 same-length : tie.Need-same-length Inv-loop μ-loop
 same-length c = (c .before .loop .inv .0 .sized)

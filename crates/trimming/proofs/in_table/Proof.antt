@@ -16,9 +16,10 @@ copy-left-requires : tie.Need-copy-left-requires
 copy-left-requires c κs = (same-codes-left ((c .before .before .before .before .before .before .before .before .before .before .before .before .before .before .args .kinds .now)) ((c .before .before .before .before .before .before .before .before .before .before .before .before .before .before .args .literals .now)) ((c .before .before .before .before .before .before .before .before .before .before .before .before .before .before .pre .0)) ((c .before .before .before .before .before .before .before .before .before .before .encode-entries .last .1 .0)) ((c .before .before .before .before .before .with-index .last .1 .0)) ((c .before .before .before .before .before .before .before .before .before .before .encode-entries .ensures) ∙ filled-codes ((c .before .before .before .before .before .before .before .before .before .before .before .before .before .before .args .kinds .now)) ((c .before .before .before .before .before .before .before .before .before .before .before .before .before .before .args .literals .now)) ((c .before .before .before .before .before .before .before .before .before .before .before .before .before .before .pre .0)) ((c .before .before .before .before .before .before .before .before .before .before .before .before .before .before .args .table .now)) ((c .before .before .before .before .before .before .before .before .before .before .before .before .before .before .pre .2))) ((c .before .before .before .before .before .with-index .ensures)), (c .before .before .before .before .before .before .before .before .before .before .before .before .before .before .pre .1))
 
 returns : tie.Need-returns
-returns c =
-    ((c .before .copy-left .ensures .0) ∙ ap length (left-trimmed ((c .before .before .before .before .before .before .before .before .before .before .before .before .before .before .before .before .args .kinds .now)) ((c .before .before .before .before .before .before .before .before .before .before .before .before .before .before .before .before .args .literals .now)) ((c .before .before .before .before .before .before .before .before .before .before .before .before .before .before .before .before .pre .0)) ((c .before .before .before .before .before .before .before .before .before .before .before .before .encode-entries .last .1 .0)) ((c .before .before .before .before .before .before .before .with-index .last .1 .0)) ((c .before .before .before .before .before .before .before .before .before .before .before .before .encode-entries .ensures) ∙ filled-codes ((c .before .before .before .before .before .before .before .before .before .before .before .before .before .before .before .before .args .kinds .now)) ((c .before .before .before .before .before .before .before .before .before .before .before .before .before .before .before .before .args .literals .now)) ((c .before .before .before .before .before .before .before .before .before .before .before .before .before .before .before .before .pre .0)) ((c .before .before .before .before .before .before .before .before .before .before .before .before .before .before .before .before .args .table .now)) ((c .before .before .before .before .before .before .before .before .before .before .before .before .before .before .before .before .pre .2))) ((c .before .before .before .before .before .before .before .with-index .ensures))),
-    (c .before .copy-left .ensures .1) ∙ ap (λ l. l ++ drop ((c .before .copy-left .result)) ((c .before .before .before .before .before .before .before .before .before .before .before .before .before .before .before .before .args .output .now))) (left-trimmed ((c .before .before .before .before .before .before .before .before .before .before .before .before .before .before .before .before .args .kinds .now)) ((c .before .before .before .before .before .before .before .before .before .before .before .before .before .before .before .before .args .literals .now)) ((c .before .before .before .before .before .before .before .before .before .before .before .before .before .before .before .before .pre .0)) ((c .before .before .before .before .before .before .before .before .before .before .before .before .encode-entries .last .1 .0)) ((c .before .before .before .before .before .before .before .with-index .last .1 .0)) ((c .before .before .before .before .before .before .before .before .before .before .before .before .encode-entries .ensures) ∙ filled-codes ((c .before .before .before .before .before .before .before .before .before .before .before .before .before .before .before .before .args .kinds .now)) ((c .before .before .before .before .before .before .before .before .before .before .before .before .before .before .before .before .args .literals .now)) ((c .before .before .before .before .before .before .before .before .before .before .before .before .before .before .before .before .pre .0)) ((c .before .before .before .before .before .before .before .before .before .before .before .before .before .before .before .before .args .table .now)) ((c .before .before .before .before .before .before .before .before .before .before .before .before .before .before .before .before .pre .2))) ((c .before .before .before .before .before .before .before .with-index .ensures))))
+returns c = (
+  (c .before .copy-left .ensures .0) ∙ ap length (left-trimmed ((c .before .before .before .before .before .before .before .before .before .before .before .before .before .before .before .before .args .kinds .now)) ((c .before .before .before .before .before .before .before .before .before .before .before .before .before .before .before .before .args .literals .now)) ((c .before .before .before .before .before .before .before .before .before .before .before .before .before .before .before .before .pre .0)) ((c .before .before .before .before .before .before .before .before .before .before .before .before .encode-entries .last .1 .0)) ((c .before .before .before .before .before .before .before .with-index .last .1 .0)) ((c .before .before .before .before .before .before .before .before .before .before .before .before .encode-entries .ensures) ∙ filled-codes ((c .before .before .before .before .before .before .before .before .before .before .before .before .before .before .before .before .args .kinds .now)) ((c .before .before .before .before .before .before .before .before .before .before .before .before .before .before .before .before .args .literals .now)) ((c .before .before .before .before .before .before .before .before .before .before .before .before .before .before .before .before .pre .0)) ((c .before .before .before .before .before .before .before .before .before .before .before .before .before .before .before .before .args .table .now)) ((c .before .before .before .before .before .before .before .before .before .before .before .before .before .before .before .before .pre .2))) ((c .before .before .before .before .before .before .before .with-index .ensures))),
+  (c .before .copy-left .ensures .1) ∙ ap (λ l. l ++ drop ((c .before .copy-left .result)) ((c .before .before .before .before .before .before .before .before .before .before .before .before .before .before .before .before .args .output .now))) (left-trimmed ((c .before .before .before .before .before .before .before .before .before .before .before .before .before .before .before .before .args .kinds .now)) ((c .before .before .before .before .before .before .before .before .before .before .before .before .before .before .before .before .args .literals .now)) ((c .before .before .before .before .before .before .before .before .before .before .before .before .before .before .before .before .pre .0)) ((c .before .before .before .before .before .before .before .before .before .before .before .before .encode-entries .last .1 .0)) ((c .before .before .before .before .before .before .before .with-index .last .1 .0)) ((c .before .before .before .before .before .before .before .before .before .before .before .before .encode-entries .ensures) ∙ filled-codes ((c .before .before .before .before .before .before .before .before .before .before .before .before .before .before .before .before .args .kinds .now)) ((c .before .before .before .before .before .before .before .before .before .before .before .before .before .before .before .before .args .literals .now)) ((c .before .before .before .before .before .before .before .before .before .before .before .before .before .before .before .before .pre .0)) ((c .before .before .before .before .before .before .before .before .before .before .before .before .before .before .before .before .args .table .now)) ((c .before .before .before .before .before .before .before .before .before .before .before .before .before .before .before .before .pre .2))) ((c .before .before .before .before .before .before .before .with-index .ensures))),
+)
 
 encode-entries-requires : tie.Need-encode-entries-requires
 encode-entries-requires c κs = search needs

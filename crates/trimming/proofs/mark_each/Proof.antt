@@ -33,12 +33,13 @@ loop-less : tie.Need-loop-less Inv-loop μ-loop
 loop-less c = omega arith
 
 loop-again : tie.Need-loop-again Inv-loop μ-loop
-loop-again c =
-    (clearing-more ((c .before .before .before .before .before .before .before .before .before .before .args .code)) ((c .before .before .before .before .before .before .before .before .before .before .pre .4)) ((c .before .before .before .before .before .before .before .before .before .before .pre .5))
-    (subst (Cleared ((c .before .before .before .before .before .before .before .before .before .before .args .code)) ((c .before .before .before .before .before .before .before .before .before .before .args .table .now)) ((c .before .before .before .before .before .before .before .loop .table))) (next-name ((c .before .before .before .before .before .before .before .before .before .before .args .names .now)) ((c .before .before .before .before .before .before .before .before .before .before .args .count)) ((c .before .before .before .before .before .before .before .loop .i)) ((c .before .before .before .before .before .before .loop-test .taken)) ((c .before .before .before .before .before .before .before .before .before .before .pre .2))) ((c .before .before .before .before .before .before .before .loop .inv .0)))
-    ((c .before .before .mark .last .0)) ((c .before .before .mark .ensures .1) ∙ ap (λ (s : ℕ). marked-at ((c .before .before .before .before .before .before .before .before .before .before .args .code)) ((c .before .before .before .before .before .before .before .before .before .before .args .code)) s ((c .before .before .before .before .before .before .before .loop .table))) ((c .before .before .before .before .wide .ensures))),
-    omega arith,
-    (c .before .before .mark .kept .0) ∙ (c .before .before .before .before .before .before .before .loop .inv .2))
+loop-again c = (
+  clearing-more ((c .before .before .before .before .before .before .before .before .before .before .args .code)) ((c .before .before .before .before .before .before .before .before .before .before .pre .4)) ((c .before .before .before .before .before .before .before .before .before .before .pre .5))
+      (subst (Cleared ((c .before .before .before .before .before .before .before .before .before .before .args .code)) ((c .before .before .before .before .before .before .before .before .before .before .args .table .now)) ((c .before .before .before .before .before .before .before .loop .table))) (next-name ((c .before .before .before .before .before .before .before .before .before .before .args .names .now)) ((c .before .before .before .before .before .before .before .before .before .before .args .count)) ((c .before .before .before .before .before .before .before .loop .i)) ((c .before .before .before .before .before .before .loop-test .taken)) ((c .before .before .before .before .before .before .before .before .before .before .pre .2))) ((c .before .before .before .before .before .before .before .loop .inv .0)))
+      ((c .before .before .mark .last .0)) ((c .before .before .mark .ensures .1) ∙ ap (λ (s : ℕ). marked-at ((c .before .before .before .before .before .before .before .before .before .before .args .code)) ((c .before .before .before .before .before .before .before .before .before .before .args .code)) s ((c .before .before .before .before .before .before .before .loop .table))) ((c .before .before .before .before .wide .ensures))),
+  omega arith,
+  (c .before .before .mark .kept .0) ∙ (c .before .before .before .before .before .before .before .loop .inv .2),
+)
 
 same-length : tie.Need-same-length Inv-loop μ-loop
 same-length c = (c .before .loop .inv .2)

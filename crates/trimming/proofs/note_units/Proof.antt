@@ -43,12 +43,13 @@ loop-again : tie.Need-loop-again Inv-loop μ-loop
 loop-again c =
     let s = named-stands ((c .before .before .before .before .before .before .before .before .before .before .pre .0)) ((c .before .before .before .before .before .before .before .before .before .before .pre .1)) ((c .before .before .before .before .before .before .before .before .before .before .args .names .now)) ((c .before .before .before .before .before .before .before .before .before .before .args .count)) ((c .before .before .before .before .before .before .loop .i)) ((c .before .before .before .before .before .loop-test .taken)) (omega (arith, (c .before .before .before .before .before .before .before .before .before .before .pre .5), (c .before .before .before .before .before .before .before .before .before .before .pre .6))) ((c .before .before .before .before .before .before .before .before .before .before .pre .2)) in
     let e = (c .before .before .unit .ensures) ∙ ap (λ (n : ℕ). unit ((c .before .before .before .before .before .before .before .before .before .before .args .kinds .now)) (first-clause (drop n ((c .before .before .before .before .before .before .before .before .before .before .args .table .now))))) ((c .before .before .before .wide .ensures)) in
-    let f = (c .note-unit .ensures) ∙ ap₂ (λ (x n : ℕ). noted-unit x n ((c .before .before .before .before .before .before .loop .firsts))) e ((c .before .before .before .wide .ensures)) in
-    (subst (λ (l : List ℕ). Units ((c .before .before .before .before .before .before .before .before .before .before .args .kinds .now)) l (drop ((c .before .before .before .before .before .before .loop .i) + 1) (take ((c .before .before .before .before .before .before .before .before .before .before .args .count)) ((c .before .before .before .before .before .before .before .before .before .before .args .names .now)))) [] 0 ((c .before .before .before .before .before .before .before .before .before .before .args .table .now))) (sym f)
-    (units-noted ((c .before .before .before .before .before .before .before .before .before .before .args .kinds .now)) ((c .before .before .before .before .before .before .loop .firsts)) (getD ((c .before .before .before .before .before .before .before .before .before .before .args .names .now)) ((c .before .before .before .before .before .before .loop .i)) 0) ((c .before .before .before .before .before .before .before .before .before .before .args .table .now)) (drop ((c .before .before .before .before .before .before .loop .i) + 1) (take ((c .before .before .before .before .before .before .before .before .before .before .args .count)) ((c .before .before .before .before .before .before .before .before .before .before .args .names .now)))) ((c .before .before .before .before .before .before .loop .inv .1)) (code-small ((c .before .before .before .before .before .before .before .before .before .before .args .kinds .now)) ((c .before .before .before .before .before .before .before .before .before .before .pre .0)) s) (s .inside) (s .first)
-    (subst (λ (l : List ℕ). Units ((c .before .before .before .before .before .before .before .before .before .before .args .kinds .now)) ((c .before .before .before .before .before .before .loop .firsts)) l [] 0 ((c .before .before .before .before .before .before .before .before .before .before .args .table .now))) (next-name ((c .before .before .before .before .before .before .before .before .before .before .args .names .now)) ((c .before .before .before .before .before .before .before .before .before .before .args .count)) ((c .before .before .before .before .before .before .loop .i)) ((c .before .before .before .before .before .loop-test .taken)) (omega (arith, (c .before .before .before .before .before .before .before .before .before .before .pre .5), (c .before .before .before .before .before .before .before .before .before .before .pre .6)))) ((c .before .before .before .before .before .before .loop .inv .0)))),
-    ap length f ∙ noted-length ((c .before .before .before .before .before .before .before .before .before .before .args .kinds .now)) ((c .before .before .before .before .before .before .loop .firsts)) (getD ((c .before .before .before .before .before .before .before .before .before .before .args .names .now)) ((c .before .before .before .before .before .before .loop .i)) 0) ((c .before .before .before .before .before .before .before .before .before .before .args .table .now)) ∙ (c .before .before .before .before .before .before .loop .inv .1),
-    omega arith)
+    let f = (c .note-unit .ensures) ∙ ap₂ (λ (x n : ℕ). noted-unit x n ((c .before .before .before .before .before .before .loop .firsts))) e ((c .before .before .before .wide .ensures)) in (
+      subst (λ (l : List ℕ). Units ((c .before .before .before .before .before .before .before .before .before .before .args .kinds .now)) l (drop ((c .before .before .before .before .before .before .loop .i) + 1) (take ((c .before .before .before .before .before .before .before .before .before .before .args .count)) ((c .before .before .before .before .before .before .before .before .before .before .args .names .now)))) [] 0 ((c .before .before .before .before .before .before .before .before .before .before .args .table .now))) (sym f)
+          (units-noted ((c .before .before .before .before .before .before .before .before .before .before .args .kinds .now)) ((c .before .before .before .before .before .before .loop .firsts)) (getD ((c .before .before .before .before .before .before .before .before .before .before .args .names .now)) ((c .before .before .before .before .before .before .loop .i)) 0) ((c .before .before .before .before .before .before .before .before .before .before .args .table .now)) (drop ((c .before .before .before .before .before .before .loop .i) + 1) (take ((c .before .before .before .before .before .before .before .before .before .before .args .count)) ((c .before .before .before .before .before .before .before .before .before .before .args .names .now)))) ((c .before .before .before .before .before .before .loop .inv .1)) (code-small ((c .before .before .before .before .before .before .before .before .before .before .args .kinds .now)) ((c .before .before .before .before .before .before .before .before .before .before .pre .0)) s) (s .inside) (s .first)
+          (subst (λ (l : List ℕ). Units ((c .before .before .before .before .before .before .before .before .before .before .args .kinds .now)) ((c .before .before .before .before .before .before .loop .firsts)) l [] 0 ((c .before .before .before .before .before .before .before .before .before .before .args .table .now))) (next-name ((c .before .before .before .before .before .before .before .before .before .before .args .names .now)) ((c .before .before .before .before .before .before .before .before .before .before .args .count)) ((c .before .before .before .before .before .before .loop .i)) ((c .before .before .before .before .before .loop-test .taken)) (omega (arith, (c .before .before .before .before .before .before .before .before .before .before .pre .5), (c .before .before .before .before .before .before .before .before .before .before .pre .6)))) ((c .before .before .before .before .before .before .loop .inv .0)))),
+      ap length f ∙ noted-length ((c .before .before .before .before .before .before .before .before .before .before .args .kinds .now)) ((c .before .before .before .before .before .before .loop .firsts)) (getD ((c .before .before .before .before .before .before .before .before .before .before .args .names .now)) ((c .before .before .before .before .before .before .loop .i)) 0) ((c .before .before .before .before .before .before .before .before .before .before .args .table .now)) ∙ (c .before .before .before .before .before .before .loop .inv .1),
+      omega arith,
+    )
 
 returns : tie.Need-returns Inv-loop μ-loop
 returns c = (subst (λ (l : List ℕ). Units ((c .before .before .before .before .before .args .kinds .now)) ((c .before .loop .firsts)) l [] 0 ((c .before .before .before .before .before .args .table .now))) (no-names ((c .before .before .before .before .before .args .names .now)) ((c .before .before .before .before .before .args .count)) ((c .before .loop .i)) ((c .loop-test .left)) (omega (arith, (c .before .before .before .before .before .pre .5), (c .before .before .before .before .before .pre .6)))) ((c .before .loop .inv .0)), (c .before .loop .inv .1))

@@ -50,11 +50,16 @@ loop-again c =
     let p = subst (λ (l : List ℕ). Pending ((c .before .before .before .before .before .before .before .before .before .before .before .before .before .before .before .args .kinds .now)) l ((c .before .before .before .before .before .before .before .before .before .before .loop .table)) ((c .before .before .before .before .before .before .before .before .before .before .loop .index))) (next-name ((c .before .before .before .before .before .before .before .before .before .before .before .before .before .before .before .args .names .now)) ((c .before .before .before .before .before .before .before .before .before .before .before .before .before .before .before .args .count)) ((c .before .before .before .before .before .before .before .before .before .before .loop .i)) ((c .before .before .before .before .before .before .before .before .before .loop-test .taken)) (omega (arith, (c .before .before .before .before .before .before .before .before .before .before .before .before .before .before .before .pre .1), (c .before .before .before .before .before .before .before .before .before .before .before .before .before .before .before .pre .2)))) ((c .before .before .before .before .before .before .before .before .before .before .loop .inv .1)) in
     let table-is = (c .before .before .before .before .reduce-clause .ensures .0) ∙ ap (λ (s : ℕ). marked-at (reducible-from ((c .before .before .before .before .before .before .before .before .before .before .before .before .before .before .before .args .kinds .now)) 2 (first-clause (drop s ((c .before .before .before .before .before .before .before .before .before .before .loop .table))))) 511 s ((c .before .before .before .before .before .before .before .before .before .before .loop .table))) ((c .before .before .before .before .before .before .before .wide .ensures)) in
     let r = reducing-more ((c .before .before .before .before .before .before .before .before .before .before .before .before .before .before .before .args .kinds .now)) (pending-here ((c .before .before .before .before .before .before .before .before .before .before .before .before .before .before .before .args .kinds .now)) p) ((c .before .before .before .before .reduce-clause .last .1 .0))
-        table-is
-        (drop ((c .before .before .before .before .before .before .before .before .before .before .loop .i) + 1) (take ((c .before .before .before .before .before .before .before .before .before .before .before .before .before .before .before .args .count)) ((c .before .before .before .before .before .before .before .before .before .before .before .before .before .before .before .args .names .now)))) ((c .before .before .before .before .reduce-clause .last .1 .1 .0)) ((c .before .before .before .before .reduce-clause .ensures .1)) ((c .before .before .before .before .before .before .before .before .before .before .loop .inv .0)) p in
-    (r .0, r .1, omega arith, (c .before .before .before .before .reduce-clause .kept .1 .0) ∙ (c .before .before .before .before .before .before .before .before .before .before .loop .inv .3), (c .before .before .before .before .reduce-clause .kept .1 .1 .0) ∙ (c .before .before .before .before .before .before .before .before .before .before .loop .inv .4),
-    λ firsts u. units-reduced ((c .before .before .before .before .before .before .before .before .before .before .before .before .before .before .before .args .kinds .now)) (pending-here ((c .before .before .before .before .before .before .before .before .before .before .before .before .before .before .before .args .kinds .now)) p) ((c .before .before .before .before .reduce-clause .last .1 .0)) table-is firsts (take ((c .before .before .before .before .before .before .before .before .before .before .before .before .before .before .before .args .count)) ((c .before .before .before .before .before .before .before .before .before .before .before .before .before .before .before .args .names .now))) (name-in ((c .before .before .before .before .before .before .before .before .before .before .before .before .before .before .before .args .names .now)) ((c .before .before .before .before .before .before .before .before .before .before .before .before .before .before .before .args .count)) ((c .before .before .before .before .before .before .before .before .before .before .loop .i)) ((c .before .before .before .before .before .before .before .before .before .loop-test .taken)) (omega (arith, (c .before .before .before .before .before .before .before .before .before .before .before .before .before .before .before .pre .1), (c .before .before .before .before .before .before .before .before .before .before .before .before .before .before .before .pre .2)))) ((c .before .before .before .before .before .before .before .before .before .before .loop .inv .5) firsts u),
-    list-kept ((c .before .before .before .before .before .before .before .before .before .before .before .before .before .before .before .args .kinds .now)) (pending-here ((c .before .before .before .before .before .before .before .before .before .before .before .before .before .before .before .args .kinds .now)) p) ((c .before .before .before .before .reduce-clause .last .1 .0)) table-is ∙ (c .before .before .before .before .before .before .before .before .before .before .loop .inv .6))
+    table-is
+    (drop ((c .before .before .before .before .before .before .before .before .before .before .loop .i) + 1) (take ((c .before .before .before .before .before .before .before .before .before .before .before .before .before .before .before .args .count)) ((c .before .before .before .before .before .before .before .before .before .before .before .before .before .before .before .args .names .now)))) ((c .before .before .before .before .reduce-clause .last .1 .1 .0)) ((c .before .before .before .before .reduce-clause .ensures .1)) ((c .before .before .before .before .before .before .before .before .before .before .loop .inv .0)) p in (
+      r .0,
+      r .1,
+      omega arith,
+      (c .before .before .before .before .reduce-clause .kept .1 .0) ∙ (c .before .before .before .before .before .before .before .before .before .before .loop .inv .3),
+      (c .before .before .before .before .reduce-clause .kept .1 .1 .0) ∙ (c .before .before .before .before .before .before .before .before .before .before .loop .inv .4),
+      λ firsts u. units-reduced ((c .before .before .before .before .before .before .before .before .before .before .before .before .before .before .before .args .kinds .now)) (pending-here ((c .before .before .before .before .before .before .before .before .before .before .before .before .before .before .before .args .kinds .now)) p) ((c .before .before .before .before .reduce-clause .last .1 .0)) table-is firsts (take ((c .before .before .before .before .before .before .before .before .before .before .before .before .before .before .before .args .count)) ((c .before .before .before .before .before .before .before .before .before .before .before .before .before .before .before .args .names .now))) (name-in ((c .before .before .before .before .before .before .before .before .before .before .before .before .before .before .before .args .names .now)) ((c .before .before .before .before .before .before .before .before .before .before .before .before .before .before .before .args .count)) ((c .before .before .before .before .before .before .before .before .before .before .loop .i)) ((c .before .before .before .before .before .before .before .before .before .loop-test .taken)) (omega (arith, (c .before .before .before .before .before .before .before .before .before .before .before .before .before .before .before .pre .1), (c .before .before .before .before .before .before .before .before .before .before .before .before .before .before .before .pre .2)))) ((c .before .before .before .before .before .before .before .before .before .before .loop .inv .5) firsts u),
+      list-kept ((c .before .before .before .before .before .before .before .before .before .before .before .before .before .before .before .args .kinds .now)) (pending-here ((c .before .before .before .before .before .before .before .before .before .before .before .before .before .before .before .args .kinds .now)) p) ((c .before .before .before .before .reduce-clause .last .1 .0)) table-is ∙ (c .before .before .before .before .before .before .before .before .before .before .loop .inv .6),
+    )
 
 same-length : tie.Need-same-length Inv-loop μ-loop
 same-length c = (c .before .loop .inv .3)

@@ -19,10 +19,11 @@ returns : tie.Need-returns
 returns c = ((c .before .before .before .before .drop-entries .ensures .0 .0) ∙ ap (λ (n : ℕ). marked-at n 511 ((c .before .before .before .before .before .before .before .before .before .before .before .before .before .before .before .args .start)) ((c .before .before .before .before .before .before .before .before .before .before .before .before .before .before .before .args .table .now))) ((c .before .before .before .before .before .before .before .before .before .before .reducible .ensures)), (c .before .before .before .before .drop-entries .ensures .0 .1))
 
 returns-2 : tie.Need-returns-2
-returns-2 c =
-    (nothing-from ((c .before .before .before .before .before .before .before .before .pre)) ((c .before .before .before .reducible .result)) (subst (λ (n : ℕ). 2 ≤ n) (sym ((c .before .before .before .reducible .ensures))) (two-from ((c .before .before .before .before .before .before .before .before .args .kinds .now)) (first-clause (drop ((c .before .before .before .before .before .before .before .before .args .start)) ((c .before .before .before .before .before .before .before .before .args .table .now)))) 2 (omega arith))) (sym ((c .before .has-from .ensures)) ∙ (c .if1 .left))
-    ∙ ap (λ (n : ℕ). marked-at n 511 ((c .before .before .before .before .before .before .before .before .args .start)) ((c .before .before .before .before .before .before .before .before .args .table .now))) ((c .before .before .before .reducible .ensures)),
-    (c .before .before .before .before .before .before .before .before .pre .indexed))
+returns-2 c = (
+  nothing-from ((c .before .before .before .before .before .before .before .before .pre)) ((c .before .before .before .reducible .result)) (subst (λ (n : ℕ). 2 ≤ n) (sym ((c .before .before .before .reducible .ensures))) (two-from ((c .before .before .before .before .before .before .before .before .args .kinds .now)) (first-clause (drop ((c .before .before .before .before .before .before .before .before .args .start)) ((c .before .before .before .before .before .before .before .before .args .table .now)))) 2 (omega arith))) (sym ((c .before .has-from .ensures)) ∙ (c .if1 .left))
+      ∙ ap (λ (n : ℕ). marked-at n 511 ((c .before .before .before .before .before .before .before .before .args .start)) ((c .before .before .before .before .before .before .before .before .args .table .now))) ((c .before .before .before .reducible .ensures)),
+  (c .before .before .before .before .before .before .before .before .pre .indexed),
+)
 
 reducible-requires : tie.Need-reducible-requires
 reducible-requires c κs = search needs

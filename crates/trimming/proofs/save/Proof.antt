@@ -43,18 +43,20 @@ loop-less : tie.Need-loop-less Inv-loop μ-loop
 loop-less c = omega arith
 
 loop-again : tie.Need-loop-again Inv-loop μ-loop
-loop-again c =
-    (saved-more ((c .before .before .before .before .before .before .before .args .index .now)) ((c .before .before .loop .names)) ((c .before .before .before .before .begin .result)) ((c .before .before .loop .i)) (getD ((c .before .before .before .before .before .before .before .args .index .now)) ((c .before .before .before .before .begin .result) + (c .before .before .loop .i)) 0) (let p = (c .before .before .before .before .before .before .before .pre) in let l = (c .before .loop-test .taken) in omega (arith, p .0, p .1, p .2, (c .before .before .before .before .begin .ensures), (c .before .before .before .end .ensures), (c .before .before .loop .inv .2))) ((c .before .before .loop .inv .0)) refl,
-    omega arith,
-    length-set ((c .before .before .loop .names)) ((c .before .before .loop .i)) (getD ((c .before .before .before .before .before .before .before .args .index .now)) ((c .before .before .before .before .begin .result) + (c .before .before .loop .i)) 0) ∙ (c .before .before .loop .inv .2))
+loop-again c = (
+  saved-more ((c .before .before .before .before .before .before .before .args .index .now)) ((c .before .before .loop .names)) ((c .before .before .before .before .begin .result)) ((c .before .before .loop .i)) (getD ((c .before .before .before .before .before .before .before .args .index .now)) ((c .before .before .before .before .begin .result) + (c .before .before .loop .i)) 0) (let p = (c .before .before .before .before .before .before .before .pre) in let l = (c .before .loop-test .taken) in omega (arith, p .0, p .1, p .2, (c .before .before .before .before .begin .ensures), (c .before .before .before .end .ensures), (c .before .before .loop .inv .2))) ((c .before .before .loop .inv .0)) refl,
+  omega arith,
+  length-set ((c .before .before .loop .names)) ((c .before .before .loop .i)) (getD ((c .before .before .before .before .before .before .before .args .index .now)) ((c .before .before .before .before .begin .result) + (c .before .before .loop .i)) 0) ∙ (c .before .before .loop .inv .2),
+)
 
 same-length : tie.Need-same-length Inv-loop μ-loop
 same-length c = (c .before .loop .inv .2)
 
 returns : tie.Need-returns Inv-loop μ-loop
-returns c =
-    (let p = (c .before .before .before .before .before .before .pre .0) in omega (arith, (c .before .before .before .begin .ensures), (c .before .before .end .ensures)),
-    λ k h. (c .before .loop .inv .0) k (let l = (c .loop-test .left) in omega arith) ∙ ap (λ (n : ℕ). getD ((c .before .before .before .before .before .before .args .index .now)) (n + k) 0) ((c .before .before .before .begin .ensures)))
+returns c = (
+  let p = (c .before .before .before .before .before .before .pre .0) in omega (arith, (c .before .before .before .begin .ensures), (c .before .before .end .ensures)),
+  λ k h. (c .before .loop .inv .0) k (let l = (c .loop-test .left) in omega arith) ∙ ap (λ (n : ℕ). getD ((c .before .before .before .before .before .before .args .index .now)) (n + k) 0) ((c .before .before .before .begin .ensures)),
+)
 
 begin-requires : tie.Need-begin-requires Inv-loop μ-loop
 begin-requires c κs = search needs

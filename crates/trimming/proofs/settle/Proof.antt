@@ -70,15 +70,16 @@ loop-less c = omega arith
 loop-again : tie.Need-loop-again Inv-loop μ-loop
 loop-again c =
     let b = code-bounds (prefix ((c .before .before .before .before .before .before .before .before .before .before .before .before .before .before .before .before .before .before .before .before .before .before .before .before .before .before .before .before .before .before .before .before .before .before .before .before .before .before .before .before .args .kinds .now))) (length ((c .before .before .before .before .before .before .before .before .before .before .before .before .before .before .before .before .before .before .before .before .before .before .before .before .before .before .before .before .before .before .before .before .before .before .before .before .before .before .before .before .args .table .now)) + 1) ((c .before .before .before .before .before .before .before .before .before .before .before .before .before .before .before .before .before .before .before .before .before .before .before .before .before .before .before .before .before .before .before .before .before .before .before .before .before .before .before .before .args .table .now)) ((c .before .before .before .before .before .before .before .before .before .before .before .before .before .before .before .before .before .before .before .before .before .before .before .before .before .before .before .before .before .before .loop .inv .0)) ((c .before .before .before .before .before .before .before .before .before .before .before .before .before .before .before .before .before .before .before .before .before .before .before .before .before .before .before .before .before .loop-test .taken)) ((c .before .before .before .before .before .before .before .before .before .before .before .before .before .before .before .before .before .before .before .before .before .before .before .before .before .reduce .last .1 .0)) ((c .before .before .before .before .before .before .before .before .before .before .before .before .before .before .before .before .before .before .before .before .before .before .before .before .before .reduce .ensures .0 .0)) ((c .before .before .before .before .before .before .before .before .before .before .before .before .before .next .result)) ((c .before .before .before .before .before .before .before .before .before .before .before .before .before .next .ensures)) ((c .before .before .before .before .before .before .before .before .before .before .before .before .if1 .left)) in
-    let o = opposite-bounds ((c .before .before .before .before .before .before .before .before .before .before .before .before .before .next .result)) (b .0) (b .1) in
-    (settling-more (prefix ((c .before .before .before .before .before .before .before .before .before .before .before .before .before .before .before .before .before .before .before .before .before .before .before .before .before .before .before .before .before .before .before .before .before .before .before .before .before .before .before .before .args .kinds .now))) (length ((c .before .before .before .before .before .before .before .before .before .before .before .before .before .before .before .before .before .before .before .before .before .before .before .before .before .before .before .before .before .before .before .before .before .before .before .before .before .before .before .before .args .table .now)) + 1) ((c .before .before .before .before .before .before .before .before .before .before .before .before .before .before .before .before .before .before .before .before .before .before .before .before .before .before .before .before .before .before .before .before .before .before .before .before .before .before .before .before .args .table .now)) ((c .before .before .before .before .before .before .before .before .before .before .before .before .before .before .before .before .before .before .before .before .before .before .before .before .before .before .before .before .before .before .loop .inv .0)) ((c .before .before .before .before .before .before .before .before .before .before .before .before .before .before .before .before .before .before .before .before .before .before .before .before .before .before .before .before .before .loop-test .taken)) ((c .before .before .before .before .before .before .before .before .before .before .before .before .before .before .before .before .before .before .before .before .before .before .before .before .before .reduce .last .1 .0)) ((c .before .before .before .before .before .before .before .before .before .before .before .before .before .before .before .before .before .before .before .before .before .before .before .before .before .reduce .ensures .0 .0)) ((c .before .before .before .before .before .before .before .before .before .before .before .before .before .next .result)) ((c .before .before .before .before .before .before .before .before .before .before .before .before .before .next .ensures)) ((c .before .before .before .before .before .before .before .before .before .before .before .before .if1 .left)) ((c .before .before .before .before .before .before .before .before .set-true .last .0)) ((c .before .before .before .before .before .before .before .before .set-true .ensures .0 .passed)),
-    pending-again ((c .before .before .before .before .before .before .before .before .before .before .before .before .before .before .before .before .before .before .before .before .before .before .before .before .before .before .before .before .before .before .before .before .before .before .before .before .before .before .before .before .args .kinds .now)) (omega (arith, (c .before .before .before .before .before .before .before .before .before .before .before .before .before .before .before .before .before .before .before .before .before .before .before .before .before .reduce .ensures .0 .0 .sized), (c .before .before .before .before .before .before .before .before .before .before .before .before .before .before .before .before .before .before .before .before .before .before .before .before .before .before .before .before .before .before .loop .inv .1 .few))) ((c .before .before .before .before .before .before .before .before .before .before .before .before .before .before .before .before .before .before .before .before .before .before .before .before .before .reduce .ensures .0 .2)) ((c .before .before .before .before .before .before .before .before .set-true .ensures .0)),
-    (c .before .before .before .before .before .before .before .before .set-true .ensures .1),
-    (c .before .before .before .before .before .before .before .before .set-true .kept .1 .1 .1 .0) ∙ (c .before .before .before .before .before .before .before .before .before .before .before .before .before .before .before .before .before .before .before .before .before .before .before .before .before .before .before .before .before .before .loop .inv .3),
-    (c .before .before .before .before .before .before .before .before .set-true .kept .1 .0) ∙ (c .before .before .before .before .before .before .before .before .before .before .before .before .before .before .before .before .before .before .before .before .before .before .before .before .before .reduce .kept .1 .1 .0) ∙ (c .before .before .before .before .before .before .before .before .before .before .before .before .before .before .before .before .before .before .before .before .before .before .before .before .before .before .before .before .before .before .loop .inv .4),
-    subst (λ (l : List ℕ). Units ((c .before .before .before .before .before .before .before .before .before .before .before .before .before .before .before .before .before .before .before .before .before .before .before .before .before .before .before .before .before .before .before .before .before .before .before .before .before .before .before .before .args .kinds .now)) l (take ((c .before .before .before .before .before .before .before .before .set-true .result)) ((c .before .before .before .before .before .before .before .before .set-true .last .1 .1 .1 .0))) (take ((c .before .before .before .before .before .before .before .before .set-true .result)) ((c .before .before .before .before .before .before .before .before .set-true .last .1 .1 .1 .0))) 0 ((c .before .before .before .before .before .before .before .before .set-true .last .0))) (sym ((c .forget-unit .ensures)))
-    (units-off ((c .before .before .before .before .before .before .before .before .before .before .before .before .before .before .before .before .before .before .before .before .before .before .before .before .before .before .before .before .before .before .before .before .before .before .before .before .before .before .before .before .args .kinds .now)) ((c .before .before .before .before .before .before .before .before .before .before .before .before .before .before .before .before .before .note-units .last .1 .1 .1 .1 .0)) (take ((c .before .before .before .before .before .before .before .before .set-true .result)) ((c .before .before .before .before .before .before .before .before .set-true .last .1 .1 .1 .0))) ((c .before .before .before .before .before .before .before .before .before .before .before .before .before .next .result)) (b .0) (b .1) ((c .before .before .before .before .before .before .before .before .before .before .before .before .before .before .before .before .before .note-units .ensures .1)) ((c .before .before .before .before .before .before .before .before .set-true .ensures .0 .units) ((c .before .before .before .before .before .before .before .before .before .before .before .before .before .before .before .before .before .before .before .before .before .before .before .before .before .before .before .before .before .before .before .before .before .before .before .before .before .before .before .before .args .kinds .now)) ((c .before .before .before .before .before .before .before .before .before .before .before .before .before .before .before .before .before .note-units .last .1 .1 .1 .1 .0)) (units-all ((c .before .before .before .before .before .before .before .before .before .before .before .before .before .before .before .before .before .before .before .before .before .before .before .before .before .before .before .before .before .before .before .before .before .before .before .before .before .before .before .before .args .kinds .now)) ((c .before .before .before .before .before .before .before .before .before .before .before .before .before .next .result)) ((c .before .before .before .before .before .before .before .before .before .before .before .before .before .before .before .before .before .note-units .ensures .0)))) ((c .before .before .before .before .before .before .before .before .set-true .ensures .2)) ((c .before .before .before .before .before .before .before .before .set-true .ensures .3)) (o .1) (o .0)),
-    ap length ((c .forget-unit .ensures)) ∙ length-set ((c .before .before .before .before .before .before .before .before .before .before .before .before .before .before .before .before .before .note-units .last .1 .1 .1 .1 .0)) ((c .before .before .before .before .before .before .before .before .before .before .before .before .before .next .result) / 2) 65535 ∙ (c .before .before .before .before .before .before .before .before .before .before .before .before .before .before .before .before .before .note-units .ensures .1))
+    let o = opposite-bounds ((c .before .before .before .before .before .before .before .before .before .before .before .before .before .next .result)) (b .0) (b .1) in (
+      settling-more (prefix ((c .before .before .before .before .before .before .before .before .before .before .before .before .before .before .before .before .before .before .before .before .before .before .before .before .before .before .before .before .before .before .before .before .before .before .before .before .before .before .before .before .args .kinds .now))) (length ((c .before .before .before .before .before .before .before .before .before .before .before .before .before .before .before .before .before .before .before .before .before .before .before .before .before .before .before .before .before .before .before .before .before .before .before .before .before .before .before .before .args .table .now)) + 1) ((c .before .before .before .before .before .before .before .before .before .before .before .before .before .before .before .before .before .before .before .before .before .before .before .before .before .before .before .before .before .before .before .before .before .before .before .before .before .before .before .before .args .table .now)) ((c .before .before .before .before .before .before .before .before .before .before .before .before .before .before .before .before .before .before .before .before .before .before .before .before .before .before .before .before .before .before .loop .inv .0)) ((c .before .before .before .before .before .before .before .before .before .before .before .before .before .before .before .before .before .before .before .before .before .before .before .before .before .before .before .before .before .loop-test .taken)) ((c .before .before .before .before .before .before .before .before .before .before .before .before .before .before .before .before .before .before .before .before .before .before .before .before .before .reduce .last .1 .0)) ((c .before .before .before .before .before .before .before .before .before .before .before .before .before .before .before .before .before .before .before .before .before .before .before .before .before .reduce .ensures .0 .0)) ((c .before .before .before .before .before .before .before .before .before .before .before .before .before .next .result)) ((c .before .before .before .before .before .before .before .before .before .before .before .before .before .next .ensures)) ((c .before .before .before .before .before .before .before .before .before .before .before .before .if1 .left)) ((c .before .before .before .before .before .before .before .before .set-true .last .0)) ((c .before .before .before .before .before .before .before .before .set-true .ensures .0 .passed)),
+      pending-again ((c .before .before .before .before .before .before .before .before .before .before .before .before .before .before .before .before .before .before .before .before .before .before .before .before .before .before .before .before .before .before .before .before .before .before .before .before .before .before .before .before .args .kinds .now)) (omega (arith, (c .before .before .before .before .before .before .before .before .before .before .before .before .before .before .before .before .before .before .before .before .before .before .before .before .before .reduce .ensures .0 .0 .sized), (c .before .before .before .before .before .before .before .before .before .before .before .before .before .before .before .before .before .before .before .before .before .before .before .before .before .before .before .before .before .before .loop .inv .1 .few))) ((c .before .before .before .before .before .before .before .before .before .before .before .before .before .before .before .before .before .before .before .before .before .before .before .before .before .reduce .ensures .0 .2)) ((c .before .before .before .before .before .before .before .before .set-true .ensures .0)),
+      (c .before .before .before .before .before .before .before .before .set-true .ensures .1),
+      (c .before .before .before .before .before .before .before .before .set-true .kept .1 .1 .1 .0) ∙ (c .before .before .before .before .before .before .before .before .before .before .before .before .before .before .before .before .before .before .before .before .before .before .before .before .before .before .before .before .before .before .loop .inv .3),
+      (c .before .before .before .before .before .before .before .before .set-true .kept .1 .0) ∙ (c .before .before .before .before .before .before .before .before .before .before .before .before .before .before .before .before .before .before .before .before .before .before .before .before .before .reduce .kept .1 .1 .0) ∙ (c .before .before .before .before .before .before .before .before .before .before .before .before .before .before .before .before .before .before .before .before .before .before .before .before .before .before .before .before .before .before .loop .inv .4),
+      subst (λ (l : List ℕ). Units ((c .before .before .before .before .before .before .before .before .before .before .before .before .before .before .before .before .before .before .before .before .before .before .before .before .before .before .before .before .before .before .before .before .before .before .before .before .before .before .before .before .args .kinds .now)) l (take ((c .before .before .before .before .before .before .before .before .set-true .result)) ((c .before .before .before .before .before .before .before .before .set-true .last .1 .1 .1 .0))) (take ((c .before .before .before .before .before .before .before .before .set-true .result)) ((c .before .before .before .before .before .before .before .before .set-true .last .1 .1 .1 .0))) 0 ((c .before .before .before .before .before .before .before .before .set-true .last .0))) (sym ((c .forget-unit .ensures)))
+          (units-off ((c .before .before .before .before .before .before .before .before .before .before .before .before .before .before .before .before .before .before .before .before .before .before .before .before .before .before .before .before .before .before .before .before .before .before .before .before .before .before .before .before .args .kinds .now)) ((c .before .before .before .before .before .before .before .before .before .before .before .before .before .before .before .before .before .note-units .last .1 .1 .1 .1 .0)) (take ((c .before .before .before .before .before .before .before .before .set-true .result)) ((c .before .before .before .before .before .before .before .before .set-true .last .1 .1 .1 .0))) ((c .before .before .before .before .before .before .before .before .before .before .before .before .before .next .result)) (b .0) (b .1) ((c .before .before .before .before .before .before .before .before .before .before .before .before .before .before .before .before .before .note-units .ensures .1)) ((c .before .before .before .before .before .before .before .before .set-true .ensures .0 .units) ((c .before .before .before .before .before .before .before .before .before .before .before .before .before .before .before .before .before .before .before .before .before .before .before .before .before .before .before .before .before .before .before .before .before .before .before .before .before .before .before .before .args .kinds .now)) ((c .before .before .before .before .before .before .before .before .before .before .before .before .before .before .before .before .before .note-units .last .1 .1 .1 .1 .0)) (units-all ((c .before .before .before .before .before .before .before .before .before .before .before .before .before .before .before .before .before .before .before .before .before .before .before .before .before .before .before .before .before .before .before .before .before .before .before .before .before .before .before .before .args .kinds .now)) ((c .before .before .before .before .before .before .before .before .before .before .before .before .before .next .result)) ((c .before .before .before .before .before .before .before .before .before .before .before .before .before .before .before .before .before .note-units .ensures .0)))) ((c .before .before .before .before .before .before .before .before .set-true .ensures .2)) ((c .before .before .before .before .before .before .before .before .set-true .ensures .3)) (o .1) (o .0)),
+      ap length ((c .forget-unit .ensures)) ∙ length-set ((c .before .before .before .before .before .before .before .before .before .before .before .before .before .before .before .before .before .note-units .last .1 .1 .1 .1 .0)) ((c .before .before .before .before .before .before .before .before .before .before .before .before .before .next .result) / 2) 65535 ∙ (c .before .before .before .before .before .before .before .before .before .before .before .before .before .before .before .before .before .note-units .ensures .1),
+    )
 
 same-length-4 : tie.Need-same-length-4 Inv-loop μ-loop
 same-length-4 c = (c .before .loop .inv .0 .sized)
