@@ -167,6 +167,9 @@ module _ (text f work : List ℕ) where
       rw (t .kinds-front, t .literals-front, t .clauses-so) at found in
       (here .found ∙ ap (λ (r : Result). on-text r f work .finding) (sym (t .whole)), here .area ∙ ap (λ (r : Result). on-text r f work .work) (sym (t .whole)))
 
+pub with-finding : {A B C : Type 0} → C → A × B → A × (B × C)
+with-finding right p = (p .0, (p .1, right))
+
 pub line-small : (text : List ℕ) {n line : ℕ} → text-read text ≡ refused n line → line ≤ 65538
 line-small text {n} {line} e = refused-line text 128 8192 128 n line e
 

@@ -28,7 +28,7 @@ use Rattle.report.proofs.Lengths.{refusal-most}
 use Rattle.judgement.specs.declared.Finding.{Finding}
 use Rattle.judgement.specs.declared.Finding.the-variants.{NotBorneOut, Accepted, OtherFormula, Refused}
 use Rattle.judgement.specs.Finding.{unjudged, judged, claimed-rows, on-claim, of-another, on-record, on-formula, on-text, finding, accepted-line, line-of, printed}
-use Rattle.judgement.specs.JudgementRight.{Has, Prints, Differs, Other, Refusal, JudgementRight}
+use Rattle.judgement.specs.JudgementRight.{Has, IsVerdict, FindingRight, Prints, Differs, Other, Refusal, JudgementRight}
 
 -- The numbers of causes.
 formula-cause-small : (a b c : Bool) (f : Formula) → Causes.number (Causes.refused-if a 1 (Causes.refused-if b 2 (Causes.refused-if c 3 (Check.Accepted f)))) ≤ 18
@@ -80,18 +80,22 @@ record OtherSays (unknowns clauses : ℕ) (f : List ℕ) : Type 0 where
   has-sizes : stands 1 (record-of f .map) ≡ true
   differs : (record-of f .unknowns ≡ unknowns) × (record-of f .clauses ≡ clauses) → ⊥
 
+record AcceptedSays (kinds : List ℕ) (literals : List ℤ) (f : List ℕ) (claim : ℕ) : Type 0 where
+  is-verdict : bit (verdict kinds literals) ≡ claim
+  its-own : claim ≡ record-of f .claim
+
 abbrev Says : List ℕ → List ℤ → ℕ → List ℕ → Finding → Type 0
 Says kinds literals clauses f NotBorneOut = Unit {0}
-Says kinds literals clauses f (Accepted claim) = bit (verdict kinds literals) ≡ claim
+Says kinds literals clauses f (Accepted claim) = AcceptedSays kinds literals f claim
 Says kinds literals clauses f OtherFormula = OtherSays (length kinds) clauses f
 Says kinds literals clauses f (Refused n line) = (n ≤ 18) × (line ≡ 0)
 
 module _ (kinds : List ℕ) (literals : List ℤ) (clauses : ℕ) (f work : List ℕ) where
-  judged-says : (claim : ℕ) (j : Judgement) → (j ≡ Judgement.Accepted → bit (verdict kinds literals) ≡ claim) → ((n : ℕ) → j ≡ Judgement.Refused n → n ≤ 18)
-      → Says kinds literals clauses f (judged claim j)
-  judged-says claim Judgement.NotBorneOut right few = tt
-  judged-says claim Judgement.Accepted right few = right refl
-  judged-says claim (Judgement.Refused n) right few = (few n refl, refl)
+  judged-says : (claim : ℕ) (j : Judgement) → claim ≡ record-of f .claim → (j ≡ Judgement.Accepted → bit (verdict kinds literals) ≡ claim)
+      → ((n : ℕ) → j ≡ Judgement.Refused n → n ≤ 18) → Says kinds literals clauses f (judged claim j)
+  judged-says claim Judgement.NotBorneOut own right few = tt
+  judged-says claim Judgement.Accepted own right few = record { is-verdict = right refl; its-own = own }
+  judged-says claim (Judgement.Refused n) own right few = (few n refl, refl)
 
   outcome-few : (claim : ℕ) (rows : List ℕ) (n : ℕ) → outcome kinds literals claim rows (room rows) work ≡ Judgement.Refused n → n ≤ 18
   unfolding outcome
@@ -104,11 +108,11 @@ module _ (kinds : List ℕ) (literals : List ℤ) (clauses : ℕ) (f work : List
           let same : cause kinds literals claim rows (room rows) work ≡ n = cc in
           subst (λ (m : ℕ). m ≤ 18) same (judge-cause-small kinds literals claim rows (room rows) work)
 
-  claim-says : (claim : ℕ) → Says kinds literals clauses f (on-claim kinds literals f claim work .finding)
+  claim-says : (claim : ℕ) → claim ≡ record-of f .claim → Says kinds literals clauses f (on-claim kinds literals f claim work .finding)
   unfolding on-claim
-  claim-says claim =
+  claim-says claim own =
       let rows = claimed-rows f claim in
-      judged-says claim (outcome kinds literals claim rows (room rows) work) (accepted-is-verdict kinds literals claim rows (room rows) work) (outcome-few claim rows)
+      judged-says claim (outcome kinds literals claim rows (room rows) work) own (accepted-is-verdict kinds literals claim rows (room rows) work) (outcome-few claim rows)
 
   other-says : file-cause f ≡ 0 → of-another (record-of f) (length kinds) clauses ≡ true → OtherSays (length kinds) clauses f
   unfolding of-another
@@ -128,7 +132,7 @@ module _ (kinds : List ℕ) (literals : List ℤ) (clauses : ℕ) (f work : List
       go : (other : Bool) → of-another (record-of f) (length kinds) clauses ≡ other → (claims : Bool)
           → Says kinds literals clauses f (cond other (unjudged OtherFormula work) (cond claims (on-claim kinds literals f (record-of f .claim) work) (unjudged (Refused 7 0) work)) .finding)
       go true e claims = other-says none e
-      go false e true = claim-says (record-of f .claim)
+      go false e true = claim-says (record-of f .claim) refl
       go false e false = (omega arith, refl)
 
   formula-says : Says kinds literals clauses f (on-formula kinds literals clauses f work .finding)
@@ -148,6 +152,30 @@ Told (refused n line) f x = x ≡ Refused n line
 told : (r : Result) (f work : List ℕ) → Told r f (on-text r f work .finding)
 told (taken s) f work = formula-says (s .kinds) (s .literals) (s .clauses) f work
 told (refused n line) f work = refl
+
+-- So with any work area.
+module _ (text f work : List ℕ) where
+  refused-few : (r : Result) → text-read text ≡ r → (n line : ℕ) → Told r f (Refused n line) → n ≤ 18
+  refused-few (taken s) e n line t = t .0
+  refused-few (refused m at) e n line t =
+      let same : n ≡ m = cc in
+      omega (arith, same, subst (Results Passes) e (read-passes text 128 8192 128) .to-14)
+
+  accepted-told : (r : Result) (claim : ℕ) → Told r f (Accepted claim) → (claim ≡ record-of f .claim) × IsVerdict claim r
+  accepted-told (taken s) claim t = (t .its-own, t .is-verdict)
+  accepted-told (refused n line) claim t = let z : _≡_ {A = ℕ} 0 1 = cc in absurd (omega arith)
+
+  told-of : (x : Finding) → finding text f work ≡ x → Told (text-read text) f x
+  unfolding finding
+  told-of x e = subst (Told (text-read text) f) e (told (text-read text) f work)
+
+  pub finding-right : FindingRight text f work
+  finding-right =
+      record {
+        its-own = λ claim e. accepted-told (text-read text) claim (told-of (Accepted claim) e) .0;
+        only-verdict = λ claim e. accepted-told (text-read text) claim (told-of (Accepted claim) e) .1;
+        few = λ n line e. refused-few (text-read text) refl n line (told-of (Refused n line) e);
+      }
 
 bit-1 : (v : Bool) (n : ℕ) → bit v ≡ suc n → v ≡ true
 bit-1 true n e = refl
@@ -206,9 +234,9 @@ module _ (text f : List ℕ) where
 
   accepted-as : (r : Result) → text-read text ≡ r → (claim : ℕ) → printed text f ≡ accepted-line claim → Told r f (Accepted claim) → JudgementRight text f
   unfolding accepted-line
-  accepted-as (taken s) e zero so t = accepted-false so (subst (Has false) (sym e) (bit-0 (verdict (s .kinds) (s .literals)) t))
-  accepted-as (taken s) e (suc zero) so t = accepted-true so (subst (Has true) (sym e) (bit-1 (verdict (s .kinds) (s .literals)) 0 t))
-  accepted-as (taken s) e (suc (suc n)) so t = absurd (not-2 (verdict (s .kinds) (s .literals)) n t)
+  accepted-as (taken s) e zero so t = accepted-false so (subst (Has false) (sym e) (bit-0 (verdict (s .kinds) (s .literals)) (t .is-verdict)))
+  accepted-as (taken s) e (suc zero) so t = accepted-true so (subst (Has true) (sym e) (bit-1 (verdict (s .kinds) (s .literals)) 0 (t .is-verdict)))
+  accepted-as (taken s) e (suc (suc n)) so t = absurd (not-2 (verdict (s .kinds) (s .literals)) n (t .is-verdict))
   accepted-as (refused n line) e claim so t = let z : _≡_ {A = ℕ} 0 1 = cc in absurd (omega arith)
 
   refused-as : (r : Result) → text-read text ≡ r → (n line : ℕ) → printed text f ≡ refusal-line n line → Told r f (Refused n line) → JudgementRight text f

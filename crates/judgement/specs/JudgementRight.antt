@@ -5,12 +5,13 @@ use mathlib.Core.Path.{_≡_}
 use mathlib.Core.Bool.{Bool, true, false}
 use mathlib.Core.List.{List}
 use mathlib.Core.Logic.{_⊎_}
-use lib.ListN.{length, take}
-use Rattle.formula.specs.Meaning.{verdict}
+use lib.ListN.{length}
+use Rattle.formula.specs.Meaning.{verdict, bit}
 use Rattle.text.specs.Reading.{Result, taken, refused, text-read}
 use Rattle.witness.specs.File.{stands, file-cause, record-of}
 use Rattle.report.specs.Report.{ascii, refusal-line}
-use Rattle.judgement.specs.Finding.{printed}
+use Rattle.judgement.specs.declared.Finding.the-variants.{Accepted, Refused}
+use Rattle.judgement.specs.Finding.{finding, printed}
 
 -- The text is taken, and its formula has this value.
 abbrev pub Has : Bool → Result → Type 0
@@ -19,6 +20,17 @@ Has value (refused number line) = ⊥
 
 abbrev pub Verdict : List ℕ → Bool → Type 0
 Verdict text value = Has value (text-read text)
+
+-- The text is taken, and its formula's value has this number, 1 for true and 0 for false.
+abbrev pub IsVerdict : ℕ → Result → Type 0
+IsVerdict claim (taken s) = bit (verdict (s .kinds) (s .literals)) ≡ claim
+IsVerdict claim (refused number line) = ⊥
+
+-- What a finding says, with any work area: an accepted claim is the file's and the verdict; a cause has a number up to 18.
+pub record FindingRight (text f work : List ℕ) : Type 0 where
+  pub its-own : (claim : ℕ) → finding text f work ≡ Accepted claim → claim ≡ record-of f .claim
+  pub only-verdict : (claim : ℕ) → finding text f work ≡ Accepted claim → IsVerdict claim (text-read text)
+  pub few : (number line : ℕ) → finding text f work ≡ Refused number line → number ≤ 18
 
 -- What is printed is this line.
 abbrev pub Prints : List ℕ → List ℕ → String → Type 0

@@ -12,7 +12,7 @@ ghost use Rattle.formula.specs.Formula.{work-size};
 ghost use Rattle.report.specs.Report.{put, put-count};
 ghost use Rattle.witness.specs.File.{file-cause, record-of};
 ghost use Rattle.judgement.specs.Finding.{of-another, Finds, on-formula, on-record, on-claim, finding, left, accepted-line, printed};
-ghost use Rattle.judgement.specs.JudgementRight.{JudgementRight};
+ghost use Rattle.judgement.specs.JudgementRight.{FindingRight, JudgementRight};
 
 // An accepted claim is 0 or 1. A refusal has its number and the text's line, 0 for the file's causes.
 pub enum Finding {
@@ -58,6 +58,7 @@ fn accepted(claim: u8, out: &mut [u8]) -> usize
 pub fn find(text: &[u8], file: &[u8], work: &mut [u8]) -> Finding
     ensures found { λ r. ⌜ r ≡ finding (now (text .entry)) (now (file .entry)) (now (work .entry)) ⌝ }
     ensures left { λ _. ⌜ now (work .exit) ≡ left (now (text .entry)) (now (file .entry)) (now (work .entry)) ⌝ }
+    ensures proved { λ _. ⌜ FindingRight (now (text .entry)) (now (file .entry)) (now (work .entry)) ⌝ }
 {
     let mut kinds = [0u8; Formula::UNKNOWNS];
     let mut literals = [0i32; Formula::ENTRIES];

@@ -4,7 +4,8 @@ use mathlib.Core.Path.{sym}
 use mir.Syntax.{w32}
 use lib.Seq.{length-take-le}
 use Rattle.text.proofs.FrontLaws.{read-refused, read-taken}
-use Rattle.judgement.proofs.FindingLaws.{text-refused, text-taken, line-small}
+use Rattle.judgement.proofs.FindingLaws.{text-refused, text-taken, line-small, with-finding}
+use Rattle.judgement.proofs.JudgementRight.{finding-right}
 use borrow.Author.Needs.{needs, fits-under}
 use Rattle.judgement.proofs.find.Statement.{statement}
 use Rattle.judgement.proofs.find.Tie as tie
@@ -46,13 +47,13 @@ on-formula-requires : tie.Need-on-formula-requires
 on-formula-requires c κs = search needs
 
 returns : tie.Need-returns
-returns c = text-refused (c .before .before .before .before .before .before .before .before .before .before .before .before .before .args .text .now) (c .before .before .before .before .before .before .before .before .before .before .before .before .before .args .file .now) (c .before .before .before .before .before .before .before .before .before .before .before .before .before .args .work .now) (read-refused (c .before .before .before .before .before .before .read .ensures) (c .before .number .given .1))
+returns c = with-finding (finding-right (c .before .before .before .before .before .before .before .before .before .before .before .before .before .args .text .now) (c .before .before .before .before .before .before .before .before .before .before .before .before .before .args .file .now) (c .before .before .before .before .before .before .before .before .before .before .before .before .before .args .work .now)) (text-refused (c .before .before .before .before .before .before .before .before .before .before .before .before .before .args .text .now) (c .before .before .before .before .before .before .before .before .before .before .before .before .before .args .file .now) (c .before .before .before .before .before .before .before .before .before .before .before .before .before .args .work .now) (read-refused (c .before .before .before .before .before .before .read .ensures) (c .before .number .given .1)))
 
 same-length : tie.Need-same-length
 same-length c = search needs
 
 returns-2 : tie.Need-returns-2
-returns-2 c = text-taken (c .before .before .before .before .before .before .before .before .before .before .before .before .before .before .before .before .before .before .before .args .text .now) (c .before .before .before .before .before .before .before .before .before .before .before .before .before .before .before .before .before .before .before .args .file .now) (c .before .before .before .before .before .before .before .before .before .before .before .before .before .before .before .before .before .before .before .args .work .now) (read-taken (c .before .before .before .before .before .before .before .before .before .before .before .before .read .ensures) (c .before .before .before .before .before .before .before .unknowns .given .1)) (c .before .before .on-formula .ensures)
+returns-2 c = with-finding (finding-right (c .before .before .before .before .before .before .before .before .before .before .before .before .before .before .before .before .before .before .before .args .text .now) (c .before .before .before .before .before .before .before .before .before .before .before .before .before .before .before .before .before .before .before .args .file .now) (c .before .before .before .before .before .before .before .before .before .before .before .before .before .before .before .before .before .before .before .args .work .now)) (text-taken (c .before .before .before .before .before .before .before .before .before .before .before .before .before .before .before .before .before .before .before .args .text .now) (c .before .before .before .before .before .before .before .before .before .before .before .before .before .before .before .before .before .before .before .args .file .now) (c .before .before .before .before .before .before .before .before .before .before .before .before .before .before .before .before .before .before .before .args .work .now) (read-taken (c .before .before .before .before .before .before .before .before .before .before .before .before .read .ensures) (c .before .before .before .before .before .before .before .unknowns .given .1)) (c .before .before .on-formula .ensures))
 
 pub find-spec : {M : Type 1} → statement M
 find-spec =
