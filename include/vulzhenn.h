@@ -50,8 +50,8 @@ extern "C" {
 #define VULZHENN_LINE_SHAPE 110     /* a line of no shape allowed at its place, no p line, or the last line end is missing */
 #define VULZHENN_OUT_OF_RANGE 111   /* V, C or a name is out of range */
 #define VULZHENN_BOUND_TWICE 112    /* a name is bound twice */
-#define VULZHENN_NOT_BOUND 113      /* a name in a clause is not bound */
-#define VULZHENN_COUNTS 114         /* over 128 names bound, over 8,192 entries, or not as many clauses as C says */
+#define VULZHENN_NOT_BOUND 113      /* not returned: a name in a clause that no block binds is existential in front of everything */
+#define VULZHENN_COUNTS 114         /* over 128 names, over 8,192 entries, or not as many clauses as C says */
 
 /* Decides the formula of a text within a limit of rounds, with no preferences and 256 rows a side of its own.
  *
@@ -63,7 +63,7 @@ extern "C" {
  * one block take from a second upwards, and a dozen unknowns more ten times as long or longer. A call cannot be broken off, so a caller that needs a
  * timeout gives the call a process of its own and ends that.
  *
- * Returns one of the answers 0 to 4, and the work area is zero; or one of the refusals 105, 106 and 109 to 114, and the work area is as it
+ * Returns one of the answers 0 to 4, and the work area is zero; or one of the refusals 105, 106, 109 to 112 and 114, and the work area is as it
  * was found. No other number is returned, and no other byte is written.
  *
  * Neither pointer is null, also where its length is 0; each points to as many bytes as its length says, and the work area shares no byte with the

@@ -57,7 +57,17 @@ static void entries(int number, const char *literal)
 static void one_clause(void) { head(1); entries(ENTRIES - 1, "32767 "); put("0\n"); }
 static void one_clause_of_negations(void) { head(1); entries(ENTRIES - 1, "-32767 "); put("0\n"); }
 static void clauses_of_three(void) { head(2048); entries(2048, "32767 32767 32767 0\n"); }
-static void not_bound_at_the_end(void) { head(1); entries(ENTRIES - 2, "32767 "); put("1 0\n"); }
+static void too_many_at_the_end(void) { head(1); entries(ENTRIES - 2, "32767 "); put("1 0\n"); }
+
+/* No block: 128 names that fall, so that each is inserted in front of all before it, over and over. */
+static void bound_nowhere(void)
+{
+    put("p cnf 32767 1\n");
+    for (int i = 0; i < ENTRIES - 1; i++)
+        put_number(-(LARGEST_NAME - i % NAMES));
+    put("0\n");
+}
+
 static void line_end_missing(void) { clauses_of_three(); length -= 1; }
 static void spaces(void) { put("p cnf 1 1\ne 1 0\n1"); fill(" ", 2); put("0\n"); }
 static void digits(void) { put("p cnf 1 1\ne 1 0\n"); fill("1", 3); put(" 0\n"); }
@@ -71,7 +81,8 @@ static const struct { const char *name; void (*make)(void); } texts[] = {
     {"one clause, 8,191 times the name bound last", one_clause},
     {"the same, negated", one_clause_of_negations},
     {"2,048 clauses of three", clauses_of_three},
-    {"a name not bound at the end", not_bound_at_the_end},
+    {"129 names at the end", too_many_at_the_end},
+    {"one clause of 128 names bound nowhere", bound_nowhere},
     {"the last line end missing", line_end_missing},
     {"65,000 spaces in a clause", spaces},
     {"65,000 digits in a clause", digits},

@@ -18,7 +18,7 @@ def read(text):
     if not ended:
         lines = text.split(b"\n")
     v = c = None
-    bound, clauses, entries = set(), 0, 0
+    bound, free, clauses, entries = set(), set(), 0, 0
     for at, line in enumerate(lines, 1):
         whole = ended or at < len(lines)
         if v is None:
@@ -48,8 +48,10 @@ def read(text):
             for literal in map(int, line.split()):
                 if abs(literal) > v:
                     return 11, at
-                if literal and abs(literal) not in bound:
-                    return 13, at
+                if literal and abs(literal) not in bound | free:
+                    if len(bound | free) == 128:
+                        return 14, at
+                    free.add(abs(literal))
                 if entries == 8192:
                     return 14, at
                 entries += 1
@@ -67,7 +69,8 @@ def text(rng):
     names = rng.sample(range(1, 12), n)
     clauses = rng.randint(0, 4)
     lines = ["c " + rng.choice(("", "p cnf 1 1", "\0\r"))] * rng.randint(0, 2) + [f"p cnf {rng.randint(9, 12)} {clauses}"]
-    for name in names:
+    bound = names[rng.choice((0, 0, 0, rng.randint(1, n))):]
+    for name in bound:
         lines.append(f"{rng.choice('ae')} {name} 0")
     for _ in range(clauses):
         lines.append(" ".join([str(rng.choice(names) * rng.choice((1, -1))) for _ in range(rng.randint(0, 3))] + ["0"]))

@@ -1,19 +1,21 @@
-//! The text reader: a line is first held against the shapes that are allowed at its place, then its tokens are gone through.
+//! The text reader: a line is first held against the shapes that are allowed at its place, then its tokens are gone through. Positions are given
+//! after the last line: names that no block binds come first, by rising number.
 
-use std::collections::HashMap;
+use std::collections::BTreeSet;
 
 pub const LONGEST: usize = 65_536;
-const MOST_BOUND: usize = 128;
+const MOST_NAMES: usize = 128;
 const MOST_ENTRIES: usize = 8_192;
 const LARGEST_V: u32 = 32_767;
 const LARGEST_C: u32 = 2_048;
 
-/// What a text holds: the formula, the text's name of each position, and the numbers of the p line.
+/// What a text holds: the formula, the text's name of each position, how many of them no block binds, and the numbers of the p line.
 #[derive(Clone, Debug, Default, PartialEq, Eq)]
 pub struct Read {
     pub kinds: Vec<u8>,
     pub literals: Vec<i32>,
     pub names: Vec<u32>,
+    pub free: usize,
     pub v: u32,
     pub c: u32,
 }
@@ -42,8 +44,14 @@ enum Place {
 
 struct Reading {
     place: Place,
-    read: Read,
-    positions: HashMap<u32, i32>,
+    v: u32,
+    c: u32,
+    /// Kind and name of each unknown that a block binds.
+    bound: Vec<(u8, u32)>,
+    /// Names that stand in a clause and in no block.
+    free: BTreeSet<u32>,
+    /// Literals by the text's names.
+    entries: Vec<i32>,
     clauses: u32,
 }
 
@@ -51,7 +59,7 @@ pub fn read(text: &[u8]) -> Result<Read, Refusal> {
     if text.len() > LONGEST {
         return Err(Refusal { number: 9, line: 0 });
     }
-    let mut reading = Reading { place: Place::Comments, read: Read::default(), positions: HashMap::new(), clauses: 0 };
+    let mut reading = Reading { place: Place::Comments, v: 0, c: 0, bound: Vec::new(), free: BTreeSet::new(), entries: Vec::new(), clauses: 0 };
     let mut line = 0;
     let mut rest = text;
     while !rest.is_empty() {
@@ -80,49 +88,56 @@ impl Reading {
             return Err(11);
         }
         self.place = Place::Prefix;
-        self.read.v = v;
-        self.read.c = c;
+        self.v = v;
+        self.c = c;
         Ok(())
     }
 
     fn bind(&mut self, kind: u8, name: u32) -> Result<(), u32> {
-        if name > self.read.v {
+        if name > self.v {
             return Err(11);
         }
-        if self.positions.contains_key(&name) {
+        if self.is_bound(name) {
             return Err(12);
         }
-        if self.read.kinds.len() == MOST_BOUND {
+        if self.bound.len() == MOST_NAMES {
             return Err(14);
         }
-        self.read.kinds.push(kind);
-        self.read.names.push(name);
-        self.positions.insert(name, self.read.kinds.len() as i32);
+        self.bound.push((kind, name));
         Ok(())
+    }
+
+    fn is_bound(&self, name: u32) -> bool {
+        self.bound.iter().any(|&(_, other)| other == name)
     }
 
     fn clause(&mut self, literals: &[i32]) -> Result<(), u32> {
         self.place = Place::Clauses;
-        if self.clauses == self.read.c {
+        if self.clauses == self.c {
             return Err(14);
         }
         self.clauses += 1;
         for literal in literals {
             let name = literal.unsigned_abs();
-            if name > self.read.v {
+            if name > self.v {
                 return Err(11);
             }
-            let position = *self.positions.get(&name).ok_or(13u32)?;
-            self.enter(position * literal.signum())?;
+            if !self.is_bound(name) && !self.free.contains(&name) {
+                if self.bound.len() + self.free.len() == MOST_NAMES {
+                    return Err(14);
+                }
+                self.free.insert(name);
+            }
+            self.enter(*literal)?;
         }
         self.enter(0)
     }
 
     fn enter(&mut self, entry: i32) -> Result<(), u32> {
-        if self.read.literals.len() == MOST_ENTRIES {
+        if self.entries.len() == MOST_ENTRIES {
             return Err(14);
         }
-        self.read.literals.push(entry);
+        self.entries.push(entry);
         Ok(())
     }
 
@@ -130,9 +145,20 @@ impl Reading {
     fn end(self) -> Result<Read, u32> {
         match self.place {
             Place::Comments => Err(10),
-            _ if self.clauses < self.read.c => Err(14),
-            _ => Ok(self.read),
+            _ if self.clauses < self.c => Err(14),
+            _ => Ok(self.placed()),
         }
+    }
+
+    /// Every name has its position: the free ones are existential, in front of all blocks.
+    fn placed(self) -> Read {
+        let mut kinds = vec![0; self.free.len()];
+        let mut names: Vec<u32> = self.free.iter().copied().collect();
+        kinds.extend(self.bound.iter().map(|&(kind, _)| kind));
+        names.extend(self.bound.iter().map(|&(_, name)| name));
+        let position = |name: u32| names.iter().position(|&other| other == name).map_or(0, |i| i as i32 + 1);
+        let literals = self.entries.iter().map(|entry| entry.signum() * position(entry.unsigned_abs())).collect();
+        Read { kinds, literals, names, free: self.free.len(), v: self.v, c: self.c }
     }
 }
 

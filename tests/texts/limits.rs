@@ -43,12 +43,32 @@ fn names(all: &mut Vec<Vec<u8>>) {
     }
 }
 
+/// Names bound nowhere: alone or behind bound ones 126 to 130 of them, in one clause or a clause each, and each of them once more; with a fault
+/// at the last.
+fn free_names(all: &mut Vec<Vec<u8>>) {
+    for count in 126..=130 {
+        for bound in [0, 1, 64, 127, 128] {
+            for v in [count - 1, count, 32_767] {
+                let block = if bound == 0 { String::new() } else { format!("a {}0\n", numbers(bound)) };
+                let free: Vec<String> = (bound + 1..=count).rev().map(|name| format!("-{} ", name)).collect();
+                for last in ["", "1 ", "200 ", "32767 ", "32768 ", "-0 ", "x "] {
+                    all.push(format!("p cnf {} 1\n{}{}{}0\n", v, block, free.concat(), last).into());
+                    all.push(format!("p cnf {} 2\n{}{}0\n{}{}0\n", v, block, free.concat(), numbers(count), last).into());
+                }
+                let each: String = free.iter().map(|name| format!("1 {}0\n", name)).collect();
+                all.push(format!("p cnf {} {}\n{}{}", v, free.len(), block, each).into());
+            }
+        }
+    }
+}
+
 /// Entries: 8,190 to 8,194 of them, in one clause or in 2,048, with a fault at the last.
 fn entries(all: &mut Vec<Vec<u8>>) {
     for count in 8_190..=8_194 {
         for last in ["1", "-1", "2", "3", "32768", "0", "-0", "123456"] {
             all.push(format!("p cnf 2 1\ne 1 0\n{}{} 0\n", "1 ".repeat(count - 2), last).into());
             all.push(format!("p cnf 2 2\na 1 0\n{}0\n{} 0\n", "-1 ".repeat(count - 3), last).into());
+            all.push(format!("p cnf 200 1\na 1 0\n{}{}{} 0\n", "1 -9 7 ".repeat((count - 2) / 3), "7 ".repeat((count - 2) % 3), last).into());
             let clauses = "1 -2 3 0\n".repeat(2_047);
             all.push(format!("p cnf 3 2048\na 1 0\ne 2 3 0\n{}{}{} 0\n", clauses, "2 ".repeat(count - 8_190), last).into());
         }
@@ -98,6 +118,7 @@ pub fn texts() -> Vec<Vec<u8>> {
     numbers_at_their_ends(&mut all);
     lengths(&mut all);
     names(&mut all);
+    free_names(&mut all);
     entries(&mut all);
     clauses(&mut all);
     all

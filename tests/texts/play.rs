@@ -4,11 +4,15 @@ use crate::model::TooLong;
 use crate::random::Random;
 use crate::reader::{self, Read, Refusal};
 use crate::tally::Tally;
-use crate::{door, program};
+use crate::write::Written;
+use crate::{door, formula, meaning, program, tables};
 use std::collections::BTreeMap;
 
 /// So many looks at a row the reference may take in one search; a text that takes more is left out.
 const LOOKS: usize = 20_000;
+
+/// Up to so many unknowns the meaning is taken by brute force.
+const FEW: usize = 10;
 
 /// A text that fails and is longer than this is stored, and not shown.
 const SHOWN: usize = 400;
@@ -45,19 +49,50 @@ impl Player {
         self.play_read(text, &reader::read(text));
     }
 
-    /// A text that must be read so, unless it is too long.
-    pub fn play_written(&mut self, text: &[u8], wanted: Read) {
+    /// A text that must be read so, unless it is too long. Where no block binds some of its names, it must be what the closed text is.
+    pub fn play_written(&mut self, written: &Written) {
+        let (text, wanted) = (&written.text, &written.read);
         let read = reader::read(text);
-        if text.len() <= reader::LONGEST && read.as_ref() != Ok(&wanted) {
+        if text.len() <= reader::LONGEST && read.as_ref() != Ok(wanted) {
             let words = format!("the test's own reader took a text wrongly: {:?}", read);
             self.tally.case(Some(self.described(text, &words)));
         }
         self.play_read(text, &read);
+        if wanted.free > 0 && written.closed.len() <= reader::LONGEST {
+            *self.seen.entry("names bound nowhere".to_string()).or_insert(0) += 1;
+            let wrong = self.closed_otherwise(written).map(|words| self.described(text, &words));
+            self.tally.case(wrong);
+        }
+    }
+
+    /// What is other with the closed text: its tables, its lines; or the answer's verdict is not the meaning of the closed formula.
+    fn closed_otherwise(&mut self, written: &Written) -> Option<String> {
+        if self.way == Way::Door {
+            return tables::compare(&mut self.random, &written.closed, &Ok(written.read.clone()));
+        }
+        let printed = program::printed(&mut self.random, &written.text);
+        let closed = program::printed(&mut self.random, &written.closed);
+        if printed != closed {
+            return Some(format!("printed {:?}, for the closed text {:?}", printed, closed));
+        }
+        let verdict = match printed.as_deref() {
+            Ok(lines) if lines.starts_with("s cnf 1 ") => true,
+            Ok(lines) if lines.starts_with("s cnf 0 ") => false,
+            _ => return None,
+        };
+        let read = &written.read;
+        let is_wrong = read.kinds.len() <= FEW && meaning::meaning(&read.kinds, &formula::clauses(&read.literals)) != verdict;
+        if is_wrong {
+            return Some(format!("printed {:?}, which is not the meaning of the closed formula", printed));
+        }
+        None
     }
 
     fn play_read(&mut self, text: &[u8], read: &Result<Read, Refusal>) {
         match self.way {
             Way::Door => {
+                let wrong = tables::compare(&mut self.random, text, read).map(|words| self.described(text, &words));
+                self.tally.case(wrong);
                 let (work, limit) = (door::work(&mut self.random), door::limit(&mut self.random));
                 self.play_door(text, read, work, limit);
             }

@@ -27,6 +27,11 @@ pub fn compare(random: &mut Random, text: &[u8], read: &Result<Read, Refusal>, l
     Ok((wanted, wrong))
 }
 
+/// What the program prints for a text.
+pub fn printed(random: &mut Random, text: &[u8]) -> Result<String, String> {
+    run(&VULZHENN, random, text)
+}
+
 /// What a program prints. The text comes from a pipe; once in a hundred times from a file that is named to the script of the repository, whose exit
 /// status says what the first line does.
 pub fn run(program: &Program, random: &mut Random, text: &[u8]) -> Result<String, String> {

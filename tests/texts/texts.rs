@@ -12,11 +12,12 @@ mod limits;
 mod play;
 mod program;
 mod sheets;
+mod tables;
 mod write;
 
 use formulas::Formula;
 use independent::jobs::{self, Job};
-use independent::{answers, draw, formula, lent, model, random, reader, season, seasons, tally};
+use independent::{answers, draw, formula, lent, meaning, model, random, reader, season, seasons, tally};
 use play::{Player, Seen, Way};
 use random::Random;
 use std::collections::BTreeMap;
@@ -54,7 +55,7 @@ fn play_formulas(player: &mut Player, times: usize, draw: fn(&mut Random) -> For
             *features.entry(feature).or_insert(0) += 1;
         }
         let written = write(&mut player.random, &formula);
-        player.play_written(&written.text, written.read);
+        player.play_written(&written);
     }
     println!("{:?}, drawn with: {:?}", player.way, features);
 }
@@ -79,7 +80,7 @@ fn many_rows(player: &mut Player, times: usize) {
         let written = write(random, &formula);
         match player.way {
             Way::Door => player.play_door(&written.text, &Ok(written.read), formula::WORK, 1_000),
-            Way::Program => player.play_written(&written.text, written.read),
+            Way::Program => player.play_written(&written),
         }
     }
 }
@@ -146,11 +147,17 @@ fn job(way: Way, number: usize, times: usize, seed: u64) -> Job<Player> {
 }
 
 /// What can come of a text, each way.
-const OF_THE_DOOR: [&str; 13] = ["0", "1", "2", "3", "4", "105", "106", "109", "110", "111", "112", "113", "114"];
+const OF_THE_DOOR: [&str; 13] = ["0", "1", "2", "3", "4", "105", "106", "109", "110", "111", "112", "114", OPEN];
 const OF_THE_PROGRAM: [&str; 9] =
-    ["s cnf 0", "s cnf 1", "s cnf -1", "c refused 9", "c refused 10", "c refused 11", "c refused 12", "c refused 13", "c refused 14"];
+    ["s cnf 0", "s cnf 1", "s cnf -1", "c refused 9", "c refused 10", "c refused 11", "c refused 12", "c refused 14", OPEN];
 
-/// Whatever can come of a text must have come.
+/// Counts the texts that were held against the closed text.
+const OPEN: &str = "names bound nowhere";
+
+/// What must come of no text.
+const OF_NONE: [&str; 2] = ["113", "c refused 13"];
+
+/// Whatever can come of a text must have come, and nothing that may not.
 fn look_for_all(way: Way, players: &[Player], tally: &mut Tally) {
     let mut seen = Seen::new();
     for (came, count) in players.iter().filter(|player| player.way == way).flat_map(|player| &player.seen) {
@@ -161,6 +168,9 @@ fn look_for_all(way: Way, players: &[Player], tally: &mut Tally) {
     for name in wanted {
         let missing = format!("{:?}: no text came to '{}'", way, name);
         tally.case(if seen.contains_key(*name) { None } else { Some(missing) });
+    }
+    for name in OF_NONE {
+        tally.case(seen.get(name).map(|count| format!("{:?}: {} texts came to '{}'", way, count, name)));
     }
 }
 

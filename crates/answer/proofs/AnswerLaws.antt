@@ -14,7 +14,7 @@ use Rattle.rounds.proofs.Bounds.{count-in-room}
 use Rattle.run.specs.declared.Outcome.{Outcome}
 use Rattle.run.specs.Outcome.{number-of, reported, returned}
 use Rattle.run.proofs.OutcomeLaws.{number-named}
-use Rattle.text.specs.Reading.{max-variables, max-bytes, State, Result, taken, refused, text-read}
+use Rattle.text.specs.Reading.{max-variables, max-bytes, Result, taken, refused, text-read}
 use Rattle.text.proofs.TextLaws.{Results, Passes, read-passes, refused-line}
 use Rattle.text.proofs.FrontLaws.{Front}
 use Rattle.report.specs.Report.{result-lines, refusal-line}
@@ -57,7 +57,7 @@ module _ (text : List ℕ) where
 
   -- A text that is taken: its formula stands at the front of the tables.
   module _ {u e v c : ℕ} {kinds : List ℕ} {literals : List ℤ} (f : Front (text-read text) u e v c kinds literals) where
-    passes-so : Passes (f .state)
+    passes-so : Passes (f .formula)
     passes-so = subst (Results Passes) (f .whole) (read-passes text 128 8192 128)
 
     pub front-passes : checked (take u kinds) (take e literals) ≡ Accepted (sizes (take u kinds) (take e literals))

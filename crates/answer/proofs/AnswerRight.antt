@@ -13,7 +13,7 @@ use Rattle.rounds.specs.Run.{Answer, is-false, is-true, spent, no-room-universa
 use Rattle.rounds.proofs.Verdict.{verdict-right}
 use Rattle.rounds.proofs.RunLaws.{run-reached}
 use Rattle.rounds.proofs.Bounds.{count-in-room, next-round-in-room}
-use Rattle.text.specs.Reading.{State, Result as Reading, taken, refused, text-read}
+use Rattle.text.specs.Reading.{Read, Result as Reading, taken, refused, text-read}
 use Rattle.text.proofs.TextLaws.{Results, Passes, read-passes, refused-line}
 use Rattle.report.specs.Report.{refusal-line}
 use Rattle.decision.specs.Decision.{own-lent}
@@ -38,14 +38,14 @@ module _ (text : List ℕ) where
           one-form = inl (subst (λ (bytes : List ℕ). Begins bytes "c refused ") (sym refused-printed) (refusal-begins n line));
           short = subst (λ (bytes : List ℕ). length bytes ≤ 128) (sym refused-printed) (refusal-short n line (omega (arith, of-text .to-14)) (omega (arith, refused-line text 128 8192 128 n line e)));
           refusal =
-              λ _. record { n = n; line = line; read-so = e; from-9 = of-text .from-9; to-14 = of-text .to-14; printed-so = refused-printed };
+              λ _. record { n = n; line = line; read-so = e; from-9 = of-text .from-9; to-14 = of-text .to-14; not-13 = of-text .not-13; printed-so = refused-printed };
           only-true = λ b. absurd (refusal-not-true n line (begins-so "s cnf 1 " b));
           only-false = λ b. absurd (refusal-not-false n line (begins-so "s cnf 0 " b));
           undecided = λ b. absurd (refusal-not-undecided n line (begins-so "s cnf -1 " b));
         }
 
   -- The text is taken.
-  module _ (s : State) (e : text-read text ≡ taken s) where
+  module _ (s : Read) (e : text-read text ≡ taken s) where
     abbrev o : Outcome
     o = settled (s .kinds) (s .literals)
 
@@ -57,7 +57,7 @@ module _ (text : List ℕ) where
     taken-printed = ap shown e
 
     result : Result text
-    result = record { state = s; read-so = e; printed-so = taken-printed }
+    result = record { formula = s; read-so = e; printed-so = taken-printed }
 
     -- With 256 rows a side no run makes 1,000 rounds.
     not-spent : o .answer ≡ spent → ⊥

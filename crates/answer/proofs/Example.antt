@@ -14,7 +14,8 @@ use Rattle.rounds.proofs.RunLaws.{run-stays}
 use Rattle.lines.specs.Lines.{lines, words}
 use Rattle.lines.specs.Numbers as Numbers
 use Rattle.lines.specs.Shapes.{is-comment, is-trimmed, is-problem, is-prefix, is-clause}
-use Rattle.text.specs.Reading.{State, taken, position, name-cause, prefix-line, literal-cause, entry, clause-line, body-line, problem-cause, opened, read, text-read}
+use Rattle.named.specs.Named.{position}
+use Rattle.text.specs.Reading.{Read, taken, name-cause, prefix-line, literal-cause, entry, free-with, clause-line, body-line, problem-cause, opened, scan, closed, read, text-read}
 use Rattle.report.specs.Report.{ascii, decimal, line-one, line-two, result-lines}
 use Rattle.decision.specs.Decision.{own-lent}
 use Rattle.answer.specs.Printed.{round-limit, settled, result-of, shown, printed}
@@ -28,11 +29,11 @@ kinds = 1 ∷ 0 ∷ []
 abbrev literals : List ℤ
 literals = pos 1 ∷ pos 2 ∷ pos 0 ∷ negsuc 0 ∷ negsuc 1 ∷ pos 0 ∷ []
 
-abbrev state : State
-state = record { variables = 2; clauses = 2; kinds = kinds; names = 1 ∷ 2 ∷ []; literals = literals; clauses-read = 2 }
+abbrev formula : Read
+formula = record { kinds = kinds; names = 1 ∷ 2 ∷ []; literals = literals; variables = 2; clauses = 2 }
 
-read-so : text-read text ≡ taken state
-unfolding read lines words Numbers.number-within Numbers.number-shape Numbers.unsigned is-comment is-trimmed is-problem is-prefix is-clause problem-cause opened body-line prefix-line clause-line name-cause literal-cause entry position
+read-so : text-read text ≡ taken formula
+unfolding read scan closed lines words Numbers.number-within Numbers.number-shape Numbers.unsigned is-comment is-trimmed is-problem is-prefix is-clause problem-cause opened body-line prefix-line clause-line name-cause literal-cause entry free-with position
 read-so = refl
 
 -- The run has ended in round 2.

@@ -8,7 +8,7 @@ use mathlib.Core.Logic.{_⊎_}
 use lib.ListN.{length, take}
 use Rattle.formula.specs.Meaning.{verdict}
 use Rattle.rounds.specs.Run.{Answer, no-room-universal, no-room-existential, number}
-use Rattle.text.specs.Reading.{State, taken, refused, text-read}
+use Rattle.text.specs.Reading.{Read, taken, refused, text-read}
 use Rattle.report.specs.Report.{ascii, result-lines, refusal-line}
 use Rattle.answer.specs.Printed.{settled, printed}
 
@@ -23,26 +23,27 @@ pub record Refusal (text : List ℕ) : Type 0 where
   pub read-so : text-read text ≡ refused n line
   pub from-9 : 9 ≤ n
   pub to-14 : n ≤ 14
+  pub not-13 : n ≡ 13 → ⊥
   pub printed-so : printed text ≡ refusal-line n line
 
 -- The text was taken, and the run of its formula is what is printed, with V and C of the p line.
 pub record Result (text : List ℕ) : Type 0 where
-  pub state : State
-  pub read-so : text-read text ≡ taken state
-  pub printed-so : let o = settled (state .kinds) (state .literals) in
-      printed text ≡ result-lines (number (o .answer)) (state .variables) (state .clauses) (o .round) (length (o .A)) (length (o .S))
+  pub formula : Read
+  pub read-so : text-read text ≡ taken formula
+  pub printed-so : let o = settled (formula .kinds) (formula .literals) in
+      printed text ≡ result-lines (number (o .answer)) (formula .variables) (formula .clauses) (o .round) (length (o .A)) (length (o .S))
 
 abbrev pub value : {text : List ℕ} → Result text → Bool
-value r = verdict (r .state .kinds) (r .state .literals)
+value r = verdict (r .formula .kinds) (r .formula .literals)
 
 abbrev pub ended : {text : List ℕ} → Result text → Answer
-ended r = settled (r .state .kinds) (r .state .literals) .answer
+ended r = settled (r .formula .kinds) (r .formula .literals) .answer
 
 pub record AnswerRight (text : List ℕ) : Type 0 where
   -- What is printed has one of these beginnings, no two of which agree, and fits 128 bytes.
   pub one-form : Begins (printed text) "c refused " ⊎ Begins (printed text) "s cnf 1 " ⊎ Begins (printed text) "s cnf 0 " ⊎ Begins (printed text) "s cnf -1 "
   pub short : length (printed text) ≤ 128
-  -- `c refused N L` exactly for the reader's refusal, N from 9 to 14.
+  -- `c refused N L` exactly for the reader's refusal, N one of 9 to 12 and 14.
   pub refusal : Begins (printed text) "c refused " → Refusal text
   -- `s cnf 1 V C` only if the formula's meaning is true, `s cnf 0 V C` only if it is false.
   pub only-true : Begins (printed text) "s cnf 1 " → (r : Result text) × (value r ≡ true)

@@ -5,7 +5,7 @@ use mathlib.Core.List.{List}
 use lib.IntN.{ℤ}
 use lib.ListN.{length}
 use Rattle.rounds.specs.Run.{Outcome, run, number}
-use Rattle.text.specs.Reading.{State, Result, taken, refused, text-read}
+use Rattle.text.specs.Reading.{Result, taken, refused, text-read}
 use Rattle.report.specs.Report.{result-lines, refusal-line}
 use Rattle.decision.specs.Decision.{own-lent}
 
@@ -26,7 +26,7 @@ result-of kinds literals variables clauses =
 -- 'A refusal prints only `c refused N L`, number and line.'
 abbrev pub shown : Result → List ℕ
 shown (refused number line) = refusal-line number line
-shown (taken s) = result-of (s .kinds) (s .literals) (s .variables) (s .clauses)
+shown (taken r) = result-of (r .kinds) (r .literals) (r .variables) (r .clauses)
 
 unfoldable pub printed : List ℕ → List ℕ
 printed text = shown (text-read text)

@@ -35,8 +35,8 @@ pub decided-back : (text work : List ℕ) (limit : ℕ) {u e v c : ℕ} {kinds :
     → (r ≡ answer text work limit) × (work′ ≡ work-after text work limit)
 unfolding answer work-after
 decided-back text work limit {u} {e} {kinds = kinds} {literals = literals} {r = r} {work′ = work′} f d =
-    let d′ : (r ≡ run-number (handed-on (f .state .kinds) (f .state .literals) work limit))
-    × (work′ ≡ left (handed-on (f .state .kinds) (f .state .literals) work limit) .work) = rw (f .kinds-front, f .literals-front) at d in (
+    let d′ : (r ≡ run-number (handed-on (f .formula .kinds) (f .formula .literals) work limit))
+    × (work′ ≡ left (handed-on (f .formula .kinds) (f .formula .literals) work limit) .work) = rw (f .kinds-front, f .literals-front) at d in (
       d′ .0 ∙ ap (λ (r : Result). number-back r work limit) (sym (f .whole)),
       d′ .1 ∙ ap (λ (r : Result). work-back r work limit) (sym (f .whole)),
     )

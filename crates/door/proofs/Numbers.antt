@@ -11,7 +11,7 @@ use Rattle.formula.specs.Meaning.{verdict}
 use Rattle.rounds.specs.Run.{number}
 use Rattle.run.specs.Outcome.{Given, lent, cause, accepted, reached, answered, left}
 use Rattle.rounds.proofs.Verdict.{verdict-right}
-use Rattle.text.specs.Reading.{State, Result, taken, refused, text-read}
+use Rattle.text.specs.Reading.{Read, Result, taken, refused, text-read}
 use Rattle.text.proofs.TextLaws.{Results, Passes, read-passes}
 use Rattle.decision.specs.Decision.{handed-on}
 use Rattle.decision.proofs.DecisionLaws.{cause-so}
@@ -51,10 +51,10 @@ module _ (g : Given) where
   run-refused-or-answered false false e = run-numbered g true (ap (λ (n : ℕ). eqb n 0) e)
 
 module _ (text work : List ℕ) (limit : ℕ) where
-  abbrev handed : State → Given
+  abbrev handed : Read → Given
   handed s = handed-on (s .kinds) (s .literals) work limit
 
-  module _ (s : State) (e : text-read text ≡ taken s) where
+  module _ (s : Read) (e : text-read text ≡ taken s) where
     answer-taken : answer text work limit ≡ run-number (handed s)
     unfolding answer
     answer-taken = ap (λ (r : Result). number-back r work limit) e
@@ -74,7 +74,7 @@ module _ (text work : List ℕ) (limit : ℕ) where
     taken-true one =
         let back : run-number (handed s) ≡ 1 = sym answer-taken ∙ one in
         record {
-          state = s;
+          formula = s;
           read-so = e;
           right =
               verdict-right (lent (handed s)) limit .only-true
@@ -86,7 +86,7 @@ module _ (text work : List ℕ) (limit : ℕ) where
     taken-false none =
         let back : run-number (handed s) ≡ 0 = sym answer-taken ∙ none in
         record {
-          state = s;
+          formula = s;
           read-so = e;
           right =
               verdict-right (lent (handed s)) limit .only-false
@@ -97,7 +97,7 @@ module _ (text work : List ℕ) (limit : ℕ) where
   refused-large : (n line : ℕ) → text-read text ≡ refused n line → 100 ≤ answer text work limit
   refused-large n line e = omega (arith, refused-back text work limit n line e .0)
 
-  by-reading : {P : Type 0} → ((s : State) → text-read text ≡ taken s → P) → ((n line : ℕ) → text-read text ≡ refused n line → P) → P
+  by-reading : {P : Type 0} → ((s : Read) → text-read text ≡ taken s → P) → ((n line : ℕ) → text-read text ≡ refused n line → P) → P
   by-reading {P} when-taken when-refused = go (text-read text) refl
     where
       go : (r : Result) → text-read text ≡ r → P
@@ -107,7 +107,7 @@ module _ (text work : List ℕ) (limit : ℕ) where
   pub numbers-right : NumbersRight text work limit
   numbers-right =
       record {
-        of-text = λ n line e. (sym (refused-back text work limit n line e .0), refused-of-text text n line e .from-9, refused-of-text text n line e .to-14);
+        of-text = λ n line e. (sym (refused-back text work limit n line e .0), refused-of-text text n line e .from-9, refused-of-text text n line e .to-14, refused-of-text text n line e .not-13);
         of-run = taken-number;
         zero-after =
             λ small.

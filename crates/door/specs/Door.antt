@@ -15,11 +15,11 @@ run-number g = one-number (returned g .answer)
 -- 'The text's faults come before 5 and 6': a text that is refused is not handed on, and leaves the work area as found.
 abbrev pub number-back : Result → List ℕ → ℕ → ℕ
 number-back (refused number line) work limit = 100 + number
-number-back (taken s) work limit = run-number (handed-on (s .kinds) (s .literals) work limit)
+number-back (taken r) work limit = run-number (handed-on (r .kinds) (r .literals) work limit)
 
 abbrev pub work-back : Result → List ℕ → ℕ → List ℕ
 work-back (refused number line) work limit = work
-work-back (taken s) work limit = left (handed-on (s .kinds) (s .literals) work limit) .work
+work-back (taken r) work limit = left (handed-on (r .kinds) (r .literals) work limit) .work
 
 -- What the door returns, and what the work area holds afterwards.
 unfoldable pub answer : List ℕ → List ℕ → ℕ → ℕ

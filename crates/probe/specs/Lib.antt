@@ -1,3 +1,4 @@
 -- What the exported functions return, as numbers.
 pub mod Numbers
+pub mod TextReader
 pub mod WitnessFile

@@ -1,33 +1,49 @@
 -- Lines after the p line, as the counts and the tables hold what they give. Assumes nothing.
-use Prim.Native.Nat.{ℕ, zero, suc, _≤_}
-use mathlib.Core.Path.{_≡_, refl, subst}
-use mathlib.Core.Bool.{true, false, _&&_}
+use Prim.Native.Nat.{ℕ, zero, suc}
+use native.Mathlib.Omega.{arith}
+use mathlib.Core.Path.{_≡_, refl, sym, subst, _∙_}
+use mathlib.Core.Bool.{Bool, true, false, _&&_, false≢true}
 use mathlib.Core.List.{List}
+use borrow.Author.Tests.{eqb-true}
 use lib.Dec.{eqb}
 use lib.IntN.{ℤ}
+use lib.ListN.{take}
 use Rattle.text.specs.declared.body.Counts.{Counts}
 use Rattle.lines.specs.Lines.{Bytes, words}
 use Rattle.lines.specs.Shapes.{is-prefix, is-clause}
-use Rattle.text.specs.Reading.{State, went, fault, unless, prefix-line, clause-line, clause-read, body-line, Result, go-on}
-use Rattle.text.specs.Steps.{Sized, settled}
+use Rattle.text.specs.Reading.{State, went, fault, unless, prefix-line, clause-line, clause-read, body-line, Scan, go-on}
+use Rattle.text.specs.Steps.{Marked, placed-in, Sized, settled}
 
--- The sizes do not hang on the cause, the line and the clauses.
-pub resized : {c d : Counts} {K N : List ℕ} {L : List ℤ} → c .unknowns ≡ d .unknowns → c .entries ≡ d .entries → c .variables ≡ d .variables → Sized c K N L → Sized d K N L
-resized u e v z =
+-- The sizes do not hang on the cause, the line and C.
+pub resized : {c d : Counts} {K N : List ℕ} {L : List ℤ}
+    → c .bound ≡ d .bound → c .free ≡ d .free → c .entries ≡ d .entries → c .variables ≡ d .variables → c .«clauses_read» ≡ d .«clauses_read» → Sized c K N L → Sized d K N L
+resized b f e v r z =
     record {
       kinds = z .kinds;
       names = z .names;
       literals = z .literals;
-      unknowns = subst (λ (n : ℕ). n ≤ 128) u (z .unknowns);
-      entries = subst (λ (n : ℕ). n ≤ 8192) e (z .entries);
-      variables = subst (λ (n : ℕ). n ≤ 32767) v (z .variables);
+      unknowns = omega (arith, z .unknowns);
+      entries = omega (arith, z .entries);
+      variables = omega (arith, z .variables);
+      unread = λ none. sym f ∙ z .unread (r ∙ none);
     }
+
+-- Before the first clause line no name is free.
+pub none-read : (n : ℕ) (b : Bool) → (eqb n 0 && b) ≡ true → n ≡ 0
+none-read n b e = go (eqb n 0) refl e
+  where
+    go : (a : Bool) → eqb n 0 ≡ a → (a && b) ≡ true → n ≡ 0
+    go true q e = eqb-true n 0 q
+    go false q e = absurd (false≢true e)
+
+pub marked-bound : (bound free : ℕ) (N : List ℕ) {P : List ℕ} → free ≡ 0 → Marked (placed-in bound free N) P → Marked (take bound N) P
+marked-bound bound free N {P} e m = subst (λ (k : ℕ). Marked (placed-in bound k N) P) e m
 
 pub clause-read-unless : (cause : ℕ) (s : State) → clause-read (unless cause (went s)) ≡ unless cause (clause-read (went s))
 clause-read-unless zero s = refl
 clause-read-unless (suc c) s = refl
 
-pub settled-refused : (cause : ℕ) → (cause ≡ 0 → ⊥) → (s t : State) (k : ℕ) (more : State → Result) → go-on (unless cause (went s)) k more ≡ settled cause k t
+pub settled-refused : (cause : ℕ) → (cause ≡ 0 → ⊥) → (s t : State) (k : ℕ) (more : State → Scan) → go-on (unless cause (went s)) k more ≡ settled cause k t
 settled-refused zero h s t k more = absurd (h refl)
 settled-refused (suc c) h s t k more = refl
 

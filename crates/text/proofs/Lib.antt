@@ -4,7 +4,11 @@ pub mod Places
 pub mod Negation
 pub mod ProblemLaws
 pub mod NameLaws
+pub mod InsertLaws
+pub mod WordLaws
+pub mod KeptLaws
 pub mod BodyLaws
-pub mod ReadingLaws
 pub mod TextLaws
+pub mod ClosedRight
+pub mod ReadingLaws
 pub mod FrontLaws

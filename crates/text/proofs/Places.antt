@@ -1,51 +1,75 @@
--- The table of places as names are bound. Assumes nothing.
+-- The tables by name: as names are placed, and as they get positions. Assumes nothing.
 use Prim.Native.Nat.{ℕ, suc, _+_, _≤_, _<_}
-use mathlib.Core.Path.{_≡_, refl, ap, sym, _∙_}
-use mathlib.Core.Bool.{Bool, true, false, cond}
+use mathlib.Core.Path.{_≡_, refl, sym, subst, _∙_}
+use mathlib.Core.Bool.{Bool, true, false, _||_}
 use mathlib.Core.List.{List, [], _∷_, _++_}
 use native.Mathlib.Numerals.{add-one}
 use native.Mathlib.Omega.{arith}
-use borrow.Author.Tests.{eq-eqb, ne-eqb, eqb-true, eqb-false}
+use borrow.Author.Tests.{eqb-true, eqb-false}
 use lib.Dec.{eqb}
 use lib.ListN.{length, getD, take, set, replicate, length-set, length-replicate, getD-replicate}
-use lib.Seq.{getD-set-same, getD-set-other, take-suc-set, length-take-le}
-use Rattle.text.specs.Reading.{max-variables, place-from, position}
-use Rattle.text.specs.Steps.{max-places, Indexed}
+use lib.Seq.{getD-set-same, getD-set-other, take-suc, take-suc-set, length-take-le}
+use Rattle.formula.specs.Meaning.{bit}
+use Rattle.named.specs.Named.{among, place-from, position}
+use Rattle.named.specs.Names.{Distinct}
+use Rattle.named.proofs.NameLaws.{among-behind, distinct-last}
+use Rattle.named.proofs.PlaceLaws.{place-new, place-other, position-none}
+use Rattle.text.specs.Reading.{max-variables}
+use Rattle.text.specs.Steps.{max-places, Marked, Indexed}
 
--- A name behind others, none of which it is, has the place behind theirs.
-place-new : (k v : ℕ) (names : List ℕ) → place-from (suc k) v names ≡ 0 → place-from (suc k) v (names ++ (v ∷ [])) ≡ suc k + length names
-place-new k v [] h = rw (eq-eqb v v refl) (omega arith)
-place-new k v (x ∷ xs) h = go (eqb x v) (place-new (suc k) v xs) h
+-- Nothing is placed.
+pub marked-none : (n : ℕ) → n ≡ max-places → Marked [] (replicate n 0)
+marked-none n e = record { size = length-replicate n 0 ∙ e; right = λ v h. getD-replicate n v 0 0 (omega arith) }
+
+-- What a mark says.
+pub mark-none : {names P : List ℕ} → Marked names P → (v : ℕ) → v ≤ max-variables → getD P v 0 ≡ 0 → among v names ≡ false
+mark-none {names} {P} m v small none = go (among v names) (m .right v small)
   where
-    go : (t : Bool) → (place-from (suc (suc k)) v xs ≡ 0 → place-from (suc (suc k)) v (xs ++ (v ∷ [])) ≡ suc (suc k) + length xs)
-        → cond t (suc k) (place-from (suc (suc k)) v xs) ≡ 0 → cond t (suc k) (place-from (suc (suc k)) v (xs ++ (v ∷ []))) ≡ suc k + suc (length xs)
-    go true ih h = absurd (omega arith)
-    go false ih h = ih h ∙ omega arith
+    go : (b : Bool) → getD P v 0 ≡ bit b → b ≡ false
+    go true e = absurd (omega arith)
+    go false e = refl
 
--- The places of other names stay.
-place-other : (k v w : ℕ) (names : List ℕ) → (v ≡ w → ⊥) → place-from k w (names ++ (v ∷ [])) ≡ place-from k w names
-place-other k v w [] h = rw (ne-eqb v w h) refl
-place-other k v w (x ∷ xs) h = ap (cond (eqb x w) k) (place-other (suc k) v w xs h)
+pub mark-some : {names P : List ℕ} → Marked names P → (v : ℕ) → v ≤ max-variables → (getD P v 0 ≡ 0 → ⊥) → among v names ≡ true
+mark-some {names} {P} m v small there = go (among v names) (m .right v small)
+  where
+    go : (b : Bool) → getD P v 0 ≡ bit b → b ≡ true
+    go true e = refl
+    go false e = absurd (there e)
 
--- Nothing is bound.
+-- A name is placed.
+pub marked-with : {names more P : List ℕ} → Marked names P → (v : ℕ) → v ≤ max-variables → ((w : ℕ) → among w more ≡ (eqb v w || among w names)) → Marked more (set P v 1)
+marked-with {names} {more} {P} m v small has = record { size = simp length-set (m .size); right = λ w h. go w h (eqb v w) refl (has w) }
+  where
+    go : (w : ℕ) → w ≤ max-variables → (t : Bool) → eqb v w ≡ t → among w more ≡ (eqb v w || among w names) → getD (set P v 1) w 0 ≡ bit (among w more)
+    go w h true e a = rw (a, e, ← eqb-true v w e) (getD-set-same P v 1 0 (omega (arith, m .size)))
+    go w h false e a = rw (a, e) (getD-set-other P v w 1 0 (λ d. eqb-false v w e (sym d)) ∙ m .right w h)
+
+pub marked-more : (N : List ℕ) {P : List ℕ} (n v : ℕ) → Marked (take n N) P → n < length N → v ≤ max-variables → Marked (take (n + 1) (set N n v)) (set P v 1)
+marked-more N n v m h small =
+    rw (add-one n, take-suc-set N n v h) (marked-with m v small (λ w. among-behind w v (take n N)))
+
+-- No name has a position.
 pub indexed-none : (n : ℕ) → n ≡ max-places → Indexed [] (replicate n 0)
 unfolding position
 indexed-none n e = record { size = length-replicate n 0 ∙ e; right = λ v h. getD-replicate n v 0 0 (omega arith) }
 
--- A name is bound that was not.
-module _ {names P : List ℕ} (indexed : Indexed names P) (v p : ℕ) (small : v ≤ max-variables) (new : position v names ≡ 0) (last : p ≡ length names + 1) where
-  indexed-append : Indexed (names ++ (v ∷ [])) (set P v p)
-  unfolding position
-  indexed-append = record { size = simp length-set (indexed .size); right = λ w h. go w h (eqb v w) refl }
-    where
-      go : (w : ℕ) → w ≤ max-variables → (t : Bool) → eqb v w ≡ t → getD (set P v p) w 0 ≡ place-from 1 w (names ++ (v ∷ []))
-      go w h true e =
-          rw (← eqb-true v w e) (getD-set-same P v p 0 (omega (arith, indexed .size)) ∙ last ∙ sym (place-new 0 v names new ∙ omega arith))
-      go w h false e =
-          getD-set-other P v w p 0 (λ d. eqb-false v w e (sym d)) ∙ indexed .right w h ∙ sym (place-other 1 v w names (eqb-false v w e))
+-- One more name has its position.
+indexed-append : {names P : List ℕ} → Indexed names P → (v p : ℕ) → v ≤ max-variables → position v names ≡ 0 → p ≡ length names + 1 → Indexed (names ++ (v ∷ [])) (set P v p)
+unfolding position
+indexed-append {names} {P} indexed v p small new last = record { size = simp length-set (indexed .size); right = λ w h. go w h (eqb v w) refl }
+  where
+    go : (w : ℕ) → w ≤ max-variables → (t : Bool) → eqb v w ≡ t → getD (set P v p) w 0 ≡ place-from 1 w (names ++ (v ∷ []))
+    go w h true e =
+        rw (← eqb-true v w e) (getD-set-same P v p 0 (omega (arith, indexed .size)) ∙ last ∙ sym (place-new 0 v names new ∙ omega arith))
+    go w h false e =
+        getD-set-other P v w p 0 (λ d. eqb-false v w e (sym d)) ∙ indexed .right w h ∙ sym (place-other 1 v w names (eqb-false v w e))
 
-pub indexed-more : (N : List ℕ) {P : List ℕ} (n v : ℕ) → Indexed (take n N) P → n < length N → v ≤ max-variables → position v (take n N) ≡ 0
-    → Indexed (take (n + 1) (set N n v)) (set P v (n + 1))
-indexed-more N n v i h s e =
-    let l = length-take-le n N (omega arith) in
-    rw (add-one n, take-suc-set N n v h) (rw (← add-one n) (indexed-append i v (n + 1) s e (omega arith)))
+pub indexed-more : (N : List ℕ) {P : List ℕ} (i : ℕ) {v : ℕ} → v ≡ getD N i 0 → Indexed (take i N) P → i < length N → getD N i 0 ≤ max-variables → Distinct (take (i + 1) N)
+    → Indexed (take (i + 1) N) (set P v (i + 1))
+indexed-more N {P} i {v} is x h small different =
+    let l = length-take-le i N (omega arith) in
+    let e : take (i + 1) N ≡ take i N ++ (getD N i 0 ∷ []) = rw (add-one i) (take-suc N i 0 h) in
+    rw (is, e)
+    (indexed-append x (getD N i 0) (i + 1) small
+    (position-none (getD N i 0) (take i N) (distinct-last (take i N) (getD N i 0) (subst Distinct e different)))
+    (omega arith))

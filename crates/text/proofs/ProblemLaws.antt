@@ -13,14 +13,14 @@ use Rattle.formula.specs.Formula.{max-unknowns, max-clauses, max-entries}
 use Rattle.lines.specs.Lines.{Bytes, lines}
 use Rattle.lines.specs.Places.{before}
 use Rattle.lines.proofs.LineLaws.{lines-line, lines-rest, lines-none}
-use Rattle.text.specs.Reading.{max-bytes, max-variables, State, went, unless, Result, refused, go-on, body, opened, problem, after-comments, lent-well, read}
+use Rattle.text.specs.Reading.{max-bytes, max-variables, State, went, unless, Scan, stopped, go-on, body, opened, problem, after-comments, lent-well, scan}
 use Rattle.text.specs.Steps.{range-cause, Problem-read}
 
 -- What is lent with the lengths that it may have.
 module _ (text : Bytes) (kinds literals names : ℕ) (well : lent-well text kinds literals names ≡ true) where
-  pub read-lent : read text kinds literals names ≡ after-comments 1 (lines text)
-  unfolding read
-  read-lent = rw well refl
+  pub scan-lent : scan text kinds literals names ≡ after-comments 1 (lines text)
+  unfolding scan
+  scan-lent = rw well refl
 
   pub lent-sizes : (kinds ≡ max-unknowns) × (literals ≡ max-entries) × (names ≡ max-unknowns)
   lent-sizes = go (leb (length text) max-bytes) (eqb kinds max-unknowns) (eqb literals max-entries) (eqb names max-unknowns) refl refl refl well
@@ -42,25 +42,25 @@ range-small good v c h = go good (ltb max-variables v) (ltb max-clauses c) refl 
     go true false d q h = ltb-false max-variables v q
     go false b d q h = absurd (omega arith)
 
-go-on-refused : (cause : ℕ) → (cause ≡ 0 → ⊥) → (s : State) (k : ℕ) (more : State → Result) → go-on (unless cause (went s)) k more ≡ refused cause k
+go-on-refused : (cause : ℕ) → (cause ≡ 0 → ⊥) → (s : State) (k : ℕ) (more : State → Scan) → go-on (unless cause (went s)) k more ≡ stopped cause k
 go-on-refused zero h s k more = absurd (h refl)
 go-on-refused (suc c) h s k more = refl
 
 module _ (text : Bytes) (at end line : ℕ) (e : end ≡ at + before 10 (drop at text)) where
   -- No line is left, or one that lacks its end.
-  pub problem-none : at ≤ length text → end ≡ length text → problem line (lines (drop at text)) ≡ refused 10 line
+  pub problem-none : at ≤ length text → end ≡ length text → problem line (lines (drop at text)) ≡ stopped 10 line
   problem-none h k = go (decLt at (length text))
     where
-      go : Dec (at < length text) → problem line (lines (drop at text)) ≡ refused 10 line
+      go : Dec (at < length text) → problem line (lines (drop at text)) ≡ stopped 10 line
       go (yes some) = rw (lines-rest text at end e some k) refl
       go (no none) = rw (lines-none text at (omega arith)) refl
 
   module _ (inside : end < length text) {cause v c : ℕ} (p : Problem-read (take (end - at) (drop at text)) cause v c) where
-    pub problem-refused : (cause ≡ 0 → ⊥) → problem line (lines (drop at text)) ≡ refused cause line
+    pub problem-refused : (cause ≡ 0 → ⊥) → problem line (lines (drop at text)) ≡ stopped cause line
     problem-refused h = rw (lines-line text at end e inside, ← p .right) (go-on-refused cause h _ line _)
 
     pub problem-taken : cause ≡ 0
         → problem line (lines (drop at text))
-        ≡ body (record { variables = v; clauses = c; kinds = []; names = []; literals = []; clauses-read = 0 }) (line + 1) (lines (drop (end + 1) text))
+        ≡ body (record { variables = v; clauses = c; kinds = []; names = []; free = []; entries = []; clauses-read = 0 }) (line + 1) (lines (drop (end + 1) text))
     unfolding opened
     problem-taken h = rw (lines-line text at end e inside, ← p .right, h, ← p .v, ← p .c, add-one line) refl

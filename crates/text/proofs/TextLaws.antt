@@ -1,69 +1,49 @@
--- What holds of every text: a cause's number is one of 9 to 14 and its line within the text's lines or right behind them; of a text that is
--- taken causes 1 to 3 don't apply, and V and C are within their limits.
+-- What holds of every text: a cause's number is one of 9 to 12 and 14, and its line is within the text's lines or right behind them; of a text that
+-- is taken causes 1 to 3 don't apply, V and C are within their limits, and its names have positions.
 -- Assumes nothing.
-use Prim.Native.Nat.{ℕ, zero, suc, _+_, _-_, _≤_, _<_}
+use Prim.Native.Nat.{ℕ, zero, suc, _+_, _≤_, _<_}
 use native.Mathlib.Omega.{arith}
 use mathlib.Core.Path.{_≡_, refl, ap, subst, _∙_}
-use mathlib.Core.Bool.{Bool, true, false, cond, not, _&&_, true≢false, false≢true}
-use mathlib.Core.List.{List, [], _∷_, _++_}
-use borrow.Author.Tests.{ltb-true, ltb-false, leb-true, le-ltb, eqb-false}
+use mathlib.Core.Bool.{Bool, true, false, cond, _&&_, false≢true}
+use mathlib.Core.List.{List, [], _∷_}
+use borrow.Author.Tests.{ltb-true, ltb-false, leb-true, eqb-true}
 use lib.Dec.{eqb, leb, ltb}
-use lib.IntN.{ℤ, pos, negsuc, natAbs}
-use lib.ListN.{length, length-append}
-use lib.Seq.{getD-append-seam}
+use lib.IntN.{ℤ}
+use lib.ListN.{length}
 use Rattle.formula.specs.Formula.{max-unknowns, max-clauses, max-entries}
 use Rattle.formula.specs.declared.Check.the-variants.{Accepted}
-use Rattle.formula.specs.Causes.{any, other-kind, zeros, ended, is-zero as is-end, beyond, checked, sizes, cause-3}
-use Rattle.formula.proofs.Any.{or-none}
+use Rattle.formula.specs.Causes.{other-kind, checked, sizes, cause-3}
 use Rattle.formula.proofs.Order.{no-cause-1, no-cause-2}
 use Rattle.lines.specs.Lines.{Bytes, Line, ended as line-ended, unended, in-front, pieces, as-lines, lines, words, fourth, third, first, rest, same}
-use Rattle.lines.specs.Numbers.{number, unsigned, negative, is-zero, is-literal}
+use Rattle.lines.specs.Numbers.{number, unsigned, is-zero, is-literal}
 use Rattle.lines.specs.Shapes.{is-comment, is-problem, is-prefix, is-clause, is-trimmed, is-empty, closed-by-zero, a-word}
-use Rattle.text.specs.Reading.{max-bytes, max-variables, State, Step, went, fault, unless, place-from, position, name-cause, bind, bind-all, kind-of-word, prefix-line, literal-cause, signed, entry, add-entry, add-entries, clause-read, clause-line, body-line, step, Result, taken, refused, go-on, body, problem-cause, opened, problem, after-comments, lent-well, read}
+use Rattle.named.specs.Named.{among, placed}
+use Rattle.named.specs.Closing.{closed-names, closed-kinds, closed-literals}
+use Rattle.named.proofs.CauseLaws.{length-map, kinds-known, as-many-closed, zeros-placed, ended-placed, placed-within}
+use Rattle.text.specs.Reading.{max-bytes, max-variables, State, Step, went, fault, unless, name-cause, bind, bind-all, kind-of-word, prefix-line, has-place, literal-cause, add-entry, add-entries, clause-read, clause-line, body-line, step, Scan, whole, stopped, go-on, finish, body, problem-cause, opened, problem, after-comments, lent-well, scan, Read, closed, Result, taken, refused, result-of, read}
 use Rattle.text.proofs.NameLaws.{name-cause-zero, literal-cause-zero}
+use Rattle.text.proofs.KeptLaws.{Whole, Open, Closed, and-both, bind-whole, add-zero, add-literal}
 
--- A number of the text's causes.
+-- A number of the text's causes. 13, of names bound nowhere, is none of them.
 pub record OfText (n : ℕ) : Type 0 where
   pub from-9 : 9 ≤ n
   pub to-14 : n ≤ 14
+  pub not-13 : n ≡ 13 → ⊥
 
 -- The same, or 0 for no cause.
 abbrev NoneOrOfText : ℕ → Type 0
-NoneOrOfText n = (1 ≤ n → 9 ≤ n) × (n ≤ 14)
-
--- A state with z clauses closed.
-record Kept (s : State) (z : ℕ) : Type 0 where
-  known : any other-kind (s .kinds) ≡ false
-  as-many : length (s .kinds) ≡ length (s .names)
-  few-names : length (s .names) ≤ max-unknowns
-  few-literals : length (s .literals) ≤ max-entries
-  few-variables : s .variables ≤ max-variables
-  few-clauses : s .clauses ≤ max-clauses
-  counted : zeros (s .literals) ≡ z
-  within : any (beyond (length (s .names))) (s .literals) ≡ false
-
--- Between two lines.
-record Whole (s : State) : Type 0 where
-  kept : Kept s (s .clauses-read)
-  in-count : s .clauses-read ≤ s .clauses
-  closed : ended (s .literals) ≡ true
-
--- Within a clause line, before its 0 and after it.
-record Open (s : State) : Type 0 where
-  kept : Kept s (s .clauses-read)
-  in-count : s .clauses-read < s .clauses
-
-record Closed (s : State) : Type 0 where
-  kept : Kept s (suc (s .clauses-read))
-  in-count : s .clauses-read < s .clauses
-  closed : ended (s .literals) ≡ true
+NoneOrOfText n = (1 ≤ n → 9 ≤ n) × (n ≤ 14) × (n ≡ 13 → ⊥)
 
 abbrev Steps : (State → Type 0) → Step → Type 0
 Steps P (went s) = P s
 Steps P (fault n) = OfText n
 
-abbrev pub Results : (State → Type 0) → Result → Type 0
-Results P (taken s) = P s
+abbrev pub Scans : (State → Type 0) → Scan → Type 0
+Scans P (whole s) = P s
+Scans P (stopped n line) = OfText n
+
+abbrev pub Results : (Read → Type 0) → Result → Type 0
+Results P (taken r) = P r
 Results P (refused n line) = OfText n
 
 cond-so : {A : Type 0} (P : A → Type 0) (b : Bool) (x y : A) → (b ≡ true → P x) → (b ≡ false → P y) → P (cond b x y)
@@ -72,230 +52,91 @@ cond-so P false x y t f = f refl
 
 unless-so : (P : State → Type 0) (n : ℕ) (t : Step) → NoneOrOfText n → (n ≡ 0 → Steps P t) → Steps P (unless n t)
 unless-so P zero t small then = then refl
-unless-so P (suc n) t small then = record { from-9 = small .0 (omega arith); to-14 = small .1 }
-
-and-both : (a b : Bool) → (a && b) ≡ true → (a ≡ true) × (b ≡ true)
-and-both true b e = (refl, e)
-and-both false b e = absurd (false≢true e)
-
--- Lists with one more behind.
-any-behind : {A : Type 0} (test : A → Bool) (l : List A) (x : A) → any test l ≡ false → test x ≡ false → any test (l ++ (x ∷ [])) ≡ false
-any-behind test [] x none last = rw last refl
-any-behind test (y ∷ ys) x none last =
-    let both = or-none (test y) (any test ys) none in
-    rw (both .0) (any-behind test ys x (both .1) last)
-
-any-weaker : {A : Type 0} (test other : A → Bool) → ((x : A) → test x ≡ false → other x ≡ false) → (l : List A) → any test l ≡ false → any other l ≡ false
-any-weaker test other weaker [] none = refl
-any-weaker test other weaker (x ∷ xs) none =
-    let both = or-none (test x) (any test xs) none in
-    rw (weaker x (both .0)) (any-weaker test other weaker xs (both .1))
-
-zeros-behind : (l : List ℤ) (z : ℤ) → is-end z ≡ false → zeros (l ++ (z ∷ [])) ≡ zeros l
-zeros-behind [] (pos zero) e = absurd (true≢false e)
-zeros-behind [] (pos (suc v)) e = refl
-zeros-behind [] (negsuc v) e = refl
-zeros-behind (pos zero ∷ l) z e = ap suc (zeros-behind l z e)
-zeros-behind (pos (suc v) ∷ l) z e = zeros-behind l z e
-zeros-behind (negsuc v ∷ l) z e = zeros-behind l z e
-
-zeros-closed : (l : List ℤ) → zeros (l ++ (pos 0 ∷ [])) ≡ suc (zeros l)
-zeros-closed [] = refl
-zeros-closed (pos zero ∷ l) = ap suc (zeros-closed l)
-zeros-closed (pos (suc v) ∷ l) = zeros-closed l
-zeros-closed (negsuc v ∷ l) = zeros-closed l
-
-length-behind : {A : Type 0} (l : List A) (x : A) → length (l ++ (x ∷ [])) ≡ length l + 1
-length-behind l x = length-append l (x ∷ [])
-
-ended-closed : (l : List ℤ) → ended (l ++ (pos 0 ∷ [])) ≡ true
-ended-closed l =
-    let last : length (l ++ (pos 0 ∷ [])) - 1 ≡ length l = omega (arith, length-behind l (pos 0)) in
-    rw (last, getD-append-seam l (pos 0) [] (pos 0)) refl
-
--- A position is one of 1 to n, or 0.
-place-within : (k v : ℕ) (names : List ℕ) → place-from (suc k) v names ≤ k + length names
-place-within k v [] = omega arith
-place-within k v (x ∷ xs) =
-    cond-so (λ (n : ℕ). n ≤ k + suc (length xs)) (eqb x v) (suc k) (place-from (suc (suc k)) v xs) (λ _. omega arith)
-    (λ _. omega (arith, place-within (suc k) v xs))
-
-position-within : (v : ℕ) (names : List ℕ) → position v names ≤ length names
-unfolding position
-position-within v names = omega (arith, place-within 0 v names)
+unless-so P (suc n) t small then = record { from-9 = small .0 (omega arith); to-14 = small .1; not-13 = small .2 }
 
 -- A name in a prefix line.
 name-cause-of-text : (variables : ℕ) (names : List ℕ) (v : ℕ) → NoneOrOfText (name-cause variables names v)
 unfolding name-cause
-name-cause-of-text variables names v = go (ltb variables v) (not (eqb (position v names) 0)) (ltb (length names) max-unknowns)
+name-cause-of-text variables names v = go (ltb variables v) (among v names) (ltb (length names) max-unknowns)
   where
     go : (a b c : Bool) → NoneOrOfText (cond a 11 (cond b 12 (cond c 0 14)))
-    go true b c = (λ some. omega arith, omega arith)
-    go false true c = (λ some. omega arith, omega arith)
-    go false false true = (λ some. omega arith, omega arith)
-    go false false false = (λ some. omega arith, omega arith)
+    go true b c = (λ some. omega arith, omega arith, λ e. omega arith)
+    go false true c = (λ some. omega arith, omega arith, λ e. omega arith)
+    go false false true = (λ some. omega arith, omega arith, λ e. omega arith)
+    go false false false = (λ some. omega arith, omega arith, λ e. omega arith)
 
-beyond-more : (n : ℕ) (z : ℤ) → beyond n z ≡ false → beyond (n + 1) z ≡ false
-beyond-more n z e = le-ltb (n + 1) (natAbs z) (omega (arith, ltb-false n (natAbs z) e))
-
-bind-whole : (kind : ℕ) (s : State) (v : ℕ) → other-kind kind ≡ false → length (s .names) < max-unknowns → Whole s → Whole (bind kind s v)
-bind-whole kind s v known room w =
-    let K = w .kept in
-    record {
-      kept =
-          record {
-            known = any-behind other-kind (s .kinds) kind (K .known) known;
-            as-many = omega (arith, length-behind (s .kinds) kind, length-behind (s .names) v, K .as-many);
-            few-names = omega (arith, length-behind (s .names) v);
-            few-literals = K .few-literals;
-            few-variables = K .few-variables;
-            few-clauses = K .few-clauses;
-            counted = K .counted;
-            within =
-                rw (length-behind (s .names) v)
-                (any-weaker (beyond (length (s .names))) (beyond (length (s .names) + 1)) (beyond-more (length (s .names))) (s .literals) (K .within));
-          };
-      in-count = w .in-count;
-      closed = w .closed;
-    }
-
-bind-all-whole : (kind : ℕ) → other-kind kind ≡ false → (ws : List Bytes) (s : State) → Whole s → Steps Whole (bind-all kind s ws)
-bind-all-whole kind known [] s w = w
-bind-all-whole kind known (word ∷ ws) s w =
+bind-all-whole : (kind : ℕ) → other-kind kind ≡ false → (ws : List Bytes) (s : State) → s .clauses-read ≡ 0 → Whole s → Steps Whole (bind-all kind s ws)
+bind-all-whole kind known [] s start w = w
+bind-all-whole kind known (word ∷ ws) s start w =
     cond-so (Steps Whole) (is-zero word) (went s)
     (unless (name-cause (s .variables) (s .names) (number word)) (bind-all kind (bind kind s (number word)) ws)) (λ _. w)
     (λ _.
     unless-so Whole (name-cause (s .variables) (s .names) (number word)) (bind-all kind (bind kind s (number word)) ws)
     (name-cause-of-text (s .variables) (s .names) (number word))
     (λ none.
-    bind-all-whole kind known ws (bind kind s (number word))
-    (bind-whole kind s (number word) known (name-cause-zero (s .variables) (s .names) (number word) none .1) w)))
+    let facts = name-cause-zero (s .variables) (s .names) (number word) none in
+    bind-all-whole kind known ws (bind kind s (number word)) start
+    (bind-whole kind s (number word) known (facts .0) (facts .1) (facts .2) start w)))
 
 kind-known : (b : Bool) → other-kind (cond b 1 0) ≡ false
 kind-known true = refl
 kind-known false = refl
 
-prefix-whole : (s : State) (ws : List Bytes) → Whole s → Steps Whole (prefix-line s ws)
+prefix-whole : (s : State) (ws : List Bytes) → s .clauses-read ≡ 0 → Whole s → Steps Whole (prefix-line s ws)
 unfolding prefix-line
-prefix-whole s ws w = bind-all-whole (kind-of-word (first ws)) (kind-known (same (first ws) a-word)) (rest ws) s w
+prefix-whole s ws start w = bind-all-whole (kind-of-word (first ws)) (kind-known (same (first ws) a-word)) (rest ws) s start w
 
 -- A word of a clause line.
 literal-cause-of-text : (variables : ℕ) (names : List ℕ) (used : ℕ) (w : Bytes) → NoneOrOfText (literal-cause variables names used w)
 unfolding literal-cause
 literal-cause-of-text variables names used w =
-    go (is-zero w) (ltb variables (number (unsigned w))) (eqb (position (number (unsigned w)) names) 0) (ltb used max-entries)
+    go (is-zero w) (ltb variables (number (unsigned w))) (has-place names (number (unsigned w))) (ltb used max-entries)
   where
-    go : (a b c d : Bool) → NoneOrOfText (cond a (cond d 0 14) (cond b 11 (cond c 13 (cond d 0 14))))
-    go true b c true = (λ some. omega arith, omega arith)
-    go true b c false = (λ some. omega arith, omega arith)
-    go false true c d = (λ some. omega arith, omega arith)
-    go false false true d = (λ some. omega arith, omega arith)
-    go false false false true = (λ some. omega arith, omega arith)
-    go false false false false = (λ some. omega arith, omega arith)
-
-literal-bound : (variables : ℕ) (names : List ℕ) (used : ℕ) (w : Bytes) → is-zero w ≡ false → literal-cause variables names used w ≡ 0
-    → position (number (unsigned w)) names ≡ 0 → ⊥
-unfolding literal-cause
-literal-bound variables names used w some none =
-    go (is-zero w) (ltb variables (number (unsigned w))) (eqb (position (number (unsigned w)) names) 0) (ltb used max-entries) some refl none
-  where
-    go : (a b c d : Bool) → a ≡ false → eqb (position (number (unsigned w)) names) 0 ≡ c
-        → _≡_ {A = ℕ} (cond a (cond d 0 14) (cond b 11 (cond c 13 (cond d 0 14)))) 0 → position (number (unsigned w)) names ≡ 0 → ⊥
-    go true b c d some e none = absurd (true≢false some)
-    go false true c d some e none = absurd (omega arith)
-    go false false true d some e none = absurd (omega arith)
-    go false false false d some e none = eqb-false (position (number (unsigned w)) names) 0 e
-
-signed-some : (b : Bool) (p : ℕ) → (p ≡ 0 → ⊥) → is-end (signed b p) ≡ false
-signed-some b zero some = absurd (some refl)
-signed-some true (suc p) some = refl
-signed-some false (suc p) some = refl
-
-signed-size : (b : Bool) (p : ℕ) → natAbs (signed b p) ≡ p
-signed-size true zero = refl
-signed-size true (suc p) = refl
-signed-size false p = refl
-
-entry-zero : (names : List ℕ) (w : Bytes) → is-zero w ≡ true → entry names w ≡ pos 0
-unfolding entry
-entry-zero names w e = rw e refl
-
-entry-literal : (names : List ℕ) (w : Bytes) → is-zero w ≡ false → entry names w ≡ signed (negative w) (position (number (unsigned w)) names)
-unfolding entry
-entry-literal names w e = rw e refl
-
--- An entry behind the others, with what it does to the number of zeros.
-add-kept : (s : State) (z : ℤ) (n m : ℕ) → length (s .literals) < max-entries → beyond (length (s .names)) z ≡ false → zeros (s .literals ++ (z ∷ [])) ≡ m
-    → Kept s n → Kept (add-entry s z) m
-add-kept s z n m room near count K =
-    record {
-      known = K .known;
-      as-many = K .as-many;
-      few-names = K .few-names;
-      few-literals = omega (arith, length-behind (s .literals) z);
-      few-variables = K .few-variables;
-      few-clauses = K .few-clauses;
-      counted = count;
-      within = any-behind (beyond (length (s .names))) (s .literals) z (K .within) near;
-    }
-
-add-zero : (s : State) → length (s .literals) < max-entries → Open s → Closed (add-entry s (pos 0))
-add-zero s room o =
-    record {
-      kept =
-          add-kept s (pos 0) (s .clauses-read) (suc (s .clauses-read)) room (le-ltb (length (s .names)) 0 (omega arith))
-          (zeros-closed (s .literals) ∙ ap suc (o .kept .counted)) (o .kept);
-      in-count = o .in-count;
-      closed = ended-closed (s .literals);
-    }
-
-add-literal : (s : State) (b : Bool) (p : ℕ) → length (s .literals) < max-entries → (p ≡ 0 → ⊥) → p ≤ length (s .names) → Open s → Open (add-entry s (signed b p))
-add-literal s b p room some near o =
-    record {
-      kept =
-          add-kept s (signed b p) (s .clauses-read) (s .clauses-read) room
-          (rw (signed-size b p) (le-ltb (length (s .names)) p near))
-          (zeros-behind (s .literals) (signed b p) (signed-some b p some) ∙ o .kept .counted) (o .kept);
-      in-count = o .in-count;
-    }
+    go : (a b c d : Bool) → NoneOrOfText (cond a (cond d 0 14) (cond b 11 (cond c (cond d 0 14) 14)))
+    go true b c true = (λ some. omega arith, omega arith, λ e. omega arith)
+    go true b c false = (λ some. omega arith, omega arith, λ e. omega arith)
+    go false true c d = (λ some. omega arith, omega arith, λ e. omega arith)
+    go false false true true = (λ some. omega arith, omega arith, λ e. omega arith)
+    go false false true false = (λ some. omega arith, omega arith, λ e. omega arith)
+    go false false false d = (λ some. omega arith, omega arith, λ e. omega arith)
 
 add-entries-closed : (ws : List Bytes) (s : State) → closed-by-zero is-literal ws ≡ true → Open s → Steps Closed (add-entries s ws)
 add-entries-closed [] s shape o = absurd (false≢true shape)
 add-entries-closed (w ∷ ws) s shape o =
-    unless-so Closed (literal-cause (s .variables) (s .names) (length (s .literals)) w) (add-entries (add-entry s (entry (s .names) w)) ws)
-    (literal-cause-of-text (s .variables) (s .names) (length (s .literals)) w)
-    (λ none. go (is-zero w) ws refl shape (literal-cause-zero (s .variables) (s .names) (length (s .literals)) w none) none (add-entries-closed ws))
+    unless-so Closed (literal-cause (s .variables) (closed-names (s .free) (s .names)) (length (s .entries)) w) (add-entries (add-entry s w) ws)
+    (literal-cause-of-text (s .variables) (closed-names (s .free) (s .names)) (length (s .entries)) w)
+    (λ none. go (is-zero w) ws refl shape none (add-entries-closed ws))
   where
-    go : (b : Bool) (ws : List Bytes) → is-zero w ≡ b → cond b (is-empty ws) (is-literal w && closed-by-zero is-literal ws) ≡ true → length (s .literals) < max-entries
-        → literal-cause (s .variables) (s .names) (length (s .literals)) w ≡ 0
-        → ((t : State) → closed-by-zero is-literal ws ≡ true → Open t → Steps Closed (add-entries t ws))
-        → Steps Closed (add-entries (add-entry s (entry (s .names) w)) ws)
-    go true [] e shape room none more = rw (entry-zero (s .names) w e) (add-zero s room o)
-    go true (x ∷ xs) e shape room none more = absurd (false≢true shape)
-    go false ws e shape room none more =
-        more (add-entry s (entry (s .names) w)) (and-both (is-literal w) (closed-by-zero is-literal ws) shape .1)
-        (rw (entry-literal (s .names) w e)
-        (add-literal s (negative w) (position (number (unsigned w)) (s .names)) room
-        (literal-bound (s .variables) (s .names) (length (s .literals)) w e none)
-        (position-within (number (unsigned w)) (s .names)) o))
+    go : (b : Bool) (ws : List Bytes) → is-zero w ≡ b → cond b (is-empty ws) (is-literal w && closed-by-zero is-literal ws) ≡ true
+        → literal-cause (s .variables) (closed-names (s .free) (s .names)) (length (s .entries)) w ≡ 0
+        → ((t : State) → closed-by-zero is-literal ws ≡ true → Open t → Steps Closed (add-entries t ws)) → Steps Closed (add-entries (add-entry s w) ws)
+    go true [] e shape none more = add-zero s w e (literal-cause-zero (s .variables) (closed-names (s .free) (s .names)) (length (s .entries)) w none) o
+    go true (x ∷ xs) e shape none more = absurd (false≢true shape)
+    go false ws e shape none more =
+        let both = and-both (is-literal w) (closed-by-zero is-literal ws) shape in
+        more (add-entry s w) (both .1) (add-literal s w e (both .0) none o)
 
 clause-counted : (t : Step) → Steps Closed t → Steps Whole (clause-read t)
 clause-counted (fault n) p = p
 clause-counted (went s) c =
+    let K = c .kept in
     record {
       kept =
           record {
-            known = c .kept .known;
-            as-many = c .kept .as-many;
-            few-names = c .kept .few-names;
-            few-literals = c .kept .few-literals;
-            few-variables = c .kept .few-variables;
-            few-clauses = c .kept .few-clauses;
-            counted = c .kept .counted;
-            within = c .kept .within;
+            known = K .known;
+            as-many = K .as-many;
+            few-names = K .few-names;
+            few-entries = K .few-entries;
+            few-variables = K .few-variables;
+            few-clauses = K .few-clauses;
+            counted = K .counted;
+            placeable = K .placeable;
+            rising = K .rising;
+            stands = K .stands;
           };
       in-count = omega (arith, c .in-count);
       closed = c .closed;
+      unread = λ none. absurd (omega arith);
     }
 
 clause-whole : (s : State) (line : Bytes) → is-clause line ≡ true → Whole s → Steps Whole (clause-line s (words line))
@@ -306,29 +147,30 @@ clause-whole s line shape w =
     clause-counted (add-entries s (words line))
     (add-entries-closed (words line) s (and-both (is-trimmed line) (closed-by-zero is-literal (words line)) shape .1)
     (record { kept = w .kept; in-count = ltb-true (s .clauses-read) (s .clauses) below })))
-    (λ _. record { from-9 = omega arith; to-14 = omega arith })
+    (λ _. record { from-9 = omega arith; to-14 = omega arith; not-13 = λ e. omega arith })
 
 body-line-whole : (s : State) (line : Bytes) → Whole s → Steps Whole (body-line s line)
 unfolding body-line
 body-line-whole s line w =
     cond-so (Steps Whole) (eqb (s .clauses-read) 0 && is-prefix line) (prefix-line s (words line))
-    (cond (is-clause line) (clause-line s (words line)) (fault 10)) (λ _. prefix-whole s (words line) w)
+    (cond (is-clause line) (clause-line s (words line)) (fault 10))
+    (λ both. prefix-whole s (words line) (eqb-true (s .clauses-read) 0 (and-both (eqb (s .clauses-read) 0) (is-prefix line) both .0)) w)
     (λ _.
     cond-so (Steps Whole) (is-clause line) (clause-line s (words line)) (fault 10) (λ shape. clause-whole s line shape w)
-    (λ _. record { from-9 = omega arith; to-14 = omega arith }))
+    (λ _. record { from-9 = omega arith; to-14 = omega arith; not-13 = λ e. omega arith }))
 
 step-whole : (s : State) (l : Line) → Whole s → Steps Whole (step s l)
 step-whole s (line-ended line) w = body-line-whole s line w
-step-whole s (unended line) w = record { from-9 = omega arith; to-14 = omega arith }
+step-whole s (unended line) w = record { from-9 = omega arith; to-14 = omega arith; not-13 = λ e. omega arith }
 
-go-on-whole : (t : Step) (k : ℕ) (more : State → Result) → Steps Whole t → ((s : State) → Whole s → Results Whole (more s)) → Results Whole (go-on t k more)
+go-on-whole : (t : Step) (k : ℕ) (more : State → Scan) → Steps Whole t → ((s : State) → Whole s → Scans Whole (more s)) → Scans Whole (go-on t k more)
 go-on-whole (fault n) k more p then = p
 go-on-whole (went s) k more p then = then s p
 
-body-whole : (ls : List Line) (s : State) (k : ℕ) → Whole s → Results Whole (body s k ls)
+body-whole : (ls : List Line) (s : State) (k : ℕ) → Whole s → Scans Whole (body s k ls)
 body-whole [] s k w =
-    cond-so (Results Whole) (eqb (s .clauses-read) (s .clauses)) (taken s) (refused 14 k) (λ _. w)
-    (λ _. record { from-9 = omega arith; to-14 = omega arith })
+    cond-so (Scans Whole) (eqb (s .clauses-read) (s .clauses)) (whole s) (stopped 14 k) (λ _. w)
+    (λ _. record { from-9 = omega arith; to-14 = omega arith; not-13 = λ e. omega arith })
 body-whole (l ∷ ls) s k w =
     go-on-whole (step s l) k (λ t. body t (suc k) ls) (step-whole s l w) (λ t v. body-whole ls t (suc k) v)
 
@@ -338,10 +180,10 @@ unfolding problem-cause
 problem-cause-of-text line = go (is-problem line) (ltb max-variables (number (third (words line)))) (ltb max-clauses (number (fourth (words line))))
   where
     go : (a b c : Bool) → NoneOrOfText (cond a (cond b 11 (cond c 11 0)) 10)
-    go true true c = (λ some. omega arith, omega arith)
-    go true false true = (λ some. omega arith, omega arith)
-    go true false false = (λ some. omega arith, omega arith)
-    go false b c = (λ some. omega arith, omega arith)
+    go true true c = (λ some. omega arith, omega arith, λ e. omega arith)
+    go true false true = (λ some. omega arith, omega arith, λ e. omega arith)
+    go true false false = (λ some. omega arith, omega arith, λ e. omega arith)
+    go false b c = (λ some. omega arith, omega arith, λ e. omega arith)
 
 -- V and C of a p line without a cause.
 abbrev Ranged : List Bytes → Type 0
@@ -369,77 +211,87 @@ opened-whole ws few =
             known = refl;
             as-many = refl;
             few-names = omega arith;
-            few-literals = omega arith;
+            few-entries = omega arith;
             few-variables = few .0;
             few-clauses = few .1;
             counted = refl;
-            within = refl;
+            placeable = record { different = tt; small = tt; known = tt };
+            rising = tt;
+            stands = λ v i. absurd i;
           };
       in-count = omega arith;
       closed = refl;
+      unread = λ _. refl;
     }
 
-problem-whole : (ls : List Line) (k : ℕ) → Results Whole (problem k ls)
-problem-whole [] k = record { from-9 = omega arith; to-14 = omega arith }
-problem-whole (unended line ∷ ls) k = record { from-9 = omega arith; to-14 = omega arith }
+problem-whole : (ls : List Line) (k : ℕ) → Scans Whole (problem k ls)
+problem-whole [] k = record { from-9 = omega arith; to-14 = omega arith; not-13 = λ e. omega arith }
+problem-whole (unended line ∷ ls) k = record { from-9 = omega arith; to-14 = omega arith; not-13 = λ e. omega arith }
 problem-whole (line-ended line ∷ ls) k =
     go-on-whole (unless (problem-cause line) (went (opened (words line)))) k (λ t. body t (suc k) ls)
     (unless-so Whole (problem-cause line) (went (opened (words line))) (problem-cause-of-text line)
     (λ none. opened-whole (words line) (problem-cause-zero line none)))
     (λ t v. body-whole ls t (suc k) v)
 
-comments-whole : (ls : List Line) (k : ℕ) → Results Whole (after-comments k ls)
+comments-whole : (ls : List Line) (k : ℕ) → Scans Whole (after-comments k ls)
 comments-whole [] k = problem-whole [] k
 comments-whole (unended line ∷ ls) k = problem-whole (unended line ∷ ls) k
 comments-whole (line-ended line ∷ ls) k =
-    cond-so (Results Whole) (is-comment line) (after-comments (suc k) ls) (problem k (line-ended line ∷ ls)) (λ _. comments-whole ls (suc k))
+    cond-so (Scans Whole) (is-comment line) (after-comments (suc k) ls) (problem k (line-ended line ∷ ls)) (λ _. comments-whole ls (suc k))
     (λ _. problem-whole (line-ended line ∷ ls) k)
 
-read-whole : (text : Bytes) (kinds literals names : ℕ) → Results Whole (read text kinds literals names)
-unfolding read
-read-whole text kinds literals names =
-    cond-so (Results Whole) (lent-well text kinds literals names) (after-comments 1 (lines text)) (refused 9 0) (λ _. comments-whole (lines text) 1)
-    (λ _. record { from-9 = omega arith; to-14 = omega arith })
+pub scan-whole : (text : Bytes) (kinds literals names : ℕ) → Scans Whole (scan text kinds literals names)
+unfolding scan
+scan-whole text kinds literals names =
+    cond-so (Scans Whole) (lent-well text kinds literals names) (after-comments 1 (lines text)) (stopped 9 0) (λ _. comments-whole (lines text) 1)
+    (λ _. record { from-9 = omega arith; to-14 = omega arith; not-13 = λ e. omega arith })
+
+-- From the state after the last line to what is read.
+pub results-so : (P : State → Type 0) (Q : Read → Type 0) → ((s : State) → P s → Q (closed s)) → (x : Scan) → Scans P x → Results Q (result-of x)
+results-so P Q implies (whole s) p = implies s p
+results-so P Q implies (stopped n line) p = p
 
 -- None of causes 1 to 3 applies to a formula that was read, and V and C are in range.
-pub record Passes (s : State) : Type 0 where
-  pub accepted : checked (s .kinds) (s .literals) ≡ Accepted (sizes (s .kinds) (s .literals))
-  pub few-variables : s .variables ≤ max-variables
-  pub few-clauses : s .clauses ≤ max-clauses
+pub record Passes (r : Read) : Type 0 where
+  pub accepted : checked (r .kinds) (r .literals) ≡ Accepted (sizes (r .kinds) (r .literals))
+  pub few-variables : r .variables ≤ max-variables
+  pub few-clauses : r .clauses ≤ max-clauses
 
-whole-accepted : (s : State) → Whole s → checked (s .kinds) (s .literals) ≡ Accepted (sizes (s .kinds) (s .literals))
-unfolding checked cause-3
-whole-accepted s w =
+whole-passes : (s : State) → Whole s → Passes (closed s)
+unfolding closed checked cause-3
+whole-passes s w =
     let K = w .kept in
-    let few : length (s .kinds) ≤ max-unknowns = omega (arith, K .as-many, K .few-names) in
-    let no-3 : cause-3 (length (s .kinds)) (s .literals) ≡ false = rw (K .as-many) (K .within) in
-    rw (
-      no-cause-1 (s .kinds) few (K .known),
-      no-cause-2 (s .literals) (K .few-literals) (omega (arith, K .counted, w .in-count, K .few-clauses)) (w .closed),
-      no-3,
-    ) refl
-
-results-so : (P Q : State → Type 0) → ((s : State) → P s → Q s) → (r : Result) → Results P r → Results Q r
-results-so P Q implies (taken s) p = implies s p
-results-so P Q implies (refused n line) p = p
+    let names = closed-names (s .free) (s .names) in
+    let known = K .placeable .known in
+    let many = as-many-closed (s .free) (s .kinds) (s .names) (K .as-many) in
+    record {
+      accepted =
+          rw (
+            no-cause-1 (closed-kinds (s .free) (s .kinds)) (omega (arith, many, K .few-names)) (kinds-known (s .free) (s .kinds) (K .known)),
+            no-cause-2 (closed-literals (s .free) (s .names) (s .entries)) (omega (arith, length-map {A = ℤ} {B = ℤ} (placed names) (s .entries), K .few-entries))
+                (omega (arith, zeros-placed names (s .entries) known, K .counted, w .in-count, K .few-clauses)) (ended-placed names (s .entries) known ∙ w .closed),
+            many,
+            placed-within names (s .entries),
+          ) refl;
+      few-variables = K .few-variables;
+      few-clauses = K .few-clauses;
+    }
 
 pub read-passes : (text : Bytes) (kinds literals names : ℕ) → Results Passes (read text kinds literals names)
-read-passes text kinds literals names =
-    results-so Whole Passes
-    (λ s w. record { accepted = whole-accepted s w; few-variables = w .kept .few-variables; few-clauses = w .kept .few-clauses })
-    (read text kinds literals names) (read-whole text kinds literals names)
+unfolding read
+read-passes text kinds literals names = results-so Whole Passes whole-passes (scan text kinds literals names) (scan-whole text kinds literals names)
 
 -- A refusal's line is at most the number of lines and one.
-abbrev To : ℕ → Result → Type 0
-To m (taken s) = Unit {0}
-To m (refused n line) = line ≤ m
+abbrev To : ℕ → Scan → Type 0
+To m (whole s) = Unit {0}
+To m (stopped n line) = line ≤ m
 
-go-on-to : (m : ℕ) (t : Step) (k : ℕ) (more : State → Result) → k ≤ m → ((s : State) → To m (more s)) → To m (go-on t k more)
+go-on-to : (m : ℕ) (t : Step) (k : ℕ) (more : State → Scan) → k ≤ m → ((s : State) → To m (more s)) → To m (go-on t k more)
 go-on-to m (fault n) k more small then = small
 go-on-to m (went s) k more small then = then s
 
 body-to : (ls : List Line) (s : State) (k m : ℕ) → k + length ls ≤ m → To m (body s k ls)
-body-to [] s k m small = cond-so (To m) (eqb (s .clauses-read) (s .clauses)) (taken s) (refused 14 k) (λ _. tt) (λ _. omega arith)
+body-to [] s k m small = cond-so (To m) (eqb (s .clauses-read) (s .clauses)) (whole s) (stopped 14 k) (λ _. tt) (λ _. omega arith)
 body-to (l ∷ ls) s k m small = go-on-to m (step s l) k (λ t. body t (suc k) ls) (omega arith) (λ t. body-to ls t (suc k) m (omega arith))
 
 problem-to : (ls : List Line) (k m : ℕ) → k + length ls ≤ m → To m (problem k ls)
@@ -484,12 +336,18 @@ short-if-lent-well text kinds literals names well = go (leb (length text) max-by
     go true e w = leb-true (length text) max-bytes e
     go false e w = absurd (false≢true w)
 
-read-to : (text : Bytes) (kinds literals names : ℕ) → To (2 + max-bytes) (read text kinds literals names)
-unfolding read
-read-to text kinds literals names =
-    cond-so (To (2 + max-bytes)) (lent-well text kinds literals names) (after-comments 1 (lines text)) (refused 9 0)
+scan-to : (text : Bytes) (kinds literals names : ℕ) → To (2 + max-bytes) (scan text kinds literals names)
+unfolding scan
+scan-to text kinds literals names =
+    cond-so (To (2 + max-bytes)) (lent-well text kinds literals names) (after-comments 1 (lines text)) (stopped 9 0)
     (λ well. comments-to (lines text) 1 (2 + max-bytes) (omega (arith, lines-many text, short-if-lent-well text kinds literals names well)))
     (λ _. omega arith)
 
+stopped-if-refused : (x : Scan) (n line : ℕ) → result-of x ≡ refused n line → x ≡ stopped n line
+stopped-if-refused (whole s) n line e = let z : _≡_ {A = ℕ} 0 1 = cc in absurd (omega arith)
+stopped-if-refused (stopped m k) n line e = cc
+
 pub refused-line : (text : Bytes) (kinds literals names n line : ℕ) → read text kinds literals names ≡ refused n line → line ≤ 2 + max-bytes
-refused-line text kinds literals names n line e = subst (To (2 + max-bytes)) e (read-to text kinds literals names)
+unfolding read
+refused-line text kinds literals names n line e =
+    subst (To (2 + max-bytes)) (stopped-if-refused (scan text kinds literals names) n line e) (scan-to text kinds literals names)

@@ -1,10 +1,11 @@
--- 01's reader: what a text gives, and the first cause, with its line, for which it is refused. Assumes nothing.
+-- 01's reader: what a text gives, and the first cause, with its line, for which it is refused. A text is read by its names, and positions are
+-- given once, after its last line, since a name that no block binds (02) moves all others. Assumes nothing.
 use Prim.Native.Nat.{ℕ, zero, suc, _≤_}
 use mathlib.Core.Path.{_≡_}
-use mathlib.Core.Bool.{Bool, true, false, cond, not, _&&_}
+use mathlib.Core.Bool.{Bool, true, false, cond, _&&_, _||_}
 use mathlib.Core.List.{List, [], _∷_, _++_}
 use lib.Dec.{leb, ltb, eqb}
-use lib.IntN.{ℤ, pos, negℤ}
+use lib.IntN.{ℤ, pos}
 use lib.ListN.{length, drop}
 use Rattle.formula.specs.Formula.{max-unknowns, max-clauses, max-entries}
 use Rattle.text.specs.declared.Reading.{Reading}
@@ -12,6 +13,8 @@ use Rattle.text.specs.declared.Reading.the-variants.{Taken, Refused}
 use Rattle.lines.specs.Lines.{Bytes, Line, ended, unended, lines, words, first, rest, third, fourth, same}
 use Rattle.lines.specs.Numbers.{number, is-zero, negative, unsigned}
 use Rattle.lines.specs.Shapes.{is-comment, is-problem, is-prefix, is-clause, a-word}
+use Rattle.named.specs.Named.{among, signed}
+use Rattle.named.specs.Closing.{insert, closed-names, closed-kinds, closed-literals}
 
 -- 'Text over 65,536 bytes'; 'V is at most 32,767'.
 abbrev pub max-bytes : ℕ
@@ -20,14 +23,16 @@ max-bytes = 65536
 abbrev pub max-variables : ℕ
 max-variables = 32767
 
--- What has been read: V and C of the p line, the kind and the name of each unknown bound so far, in prefix order,
--- the literals by position, and the number of clause lines.
+-- What has been read so far, by name: V and C of the p line; the kind and the name of each unknown that a block binds, in prefix order; the names
+-- that stand in a clause and that no block binds, rising; the entries of the clauses, v or -v for the name v, 0 for the end of a clause; and the
+-- number of clause lines.
 pub record State : Type 0 where
   pub variables : ℕ
   pub clauses : ℕ
   pub kinds : List ℕ
   pub names : List ℕ
-  pub literals : List ℤ
+  pub free : List ℕ
+  pub entries : List ℤ
   pub clauses-read : ℕ
 
 -- A line is taken, or refused for a cause.
@@ -40,28 +45,17 @@ abbrev pub unless : ℕ → Step → Step
 unless zero next = next
 unless (suc cause) next = fault (suc cause)
 
--- The place of a name among those bound, from k on; 0 if it is not there.
-abbrev pub place-from : ℕ → ℕ → List ℕ → ℕ
-place-from k v [] = 0
-place-from k v (x ∷ xs) =
-    let more = place-from (suc k) v xs in
-    cond (eqb x v) k more
-
--- Positions count from 1: 'unknowns are named 1 to n by position'.
-unfoldable pub position : ℕ → List ℕ → ℕ
-position v names = place-from 1 v names
-
--- A name in a prefix line: '11, 12, 13, 14 in that order'.
+-- A name in a prefix line, these being bound: '11, 12, 13, 14 in that order', of which 02 takes one away.
 unfoldable pub name-cause : ℕ → List ℕ → ℕ → ℕ
 name-cause variables names v =
     cond (ltb variables v) 11
-    (cond (not (eqb (position v names) 0)) 12
+    (cond (among v names) 12
     (cond (ltb (length names) max-unknowns) 0 14))
 
 -- A name is bound behind those bound before.
 abbrev pub with-prefix : State → List ℕ → List ℕ → State
 with-prefix s kinds names =
-    record { variables = s .variables; clauses = s .clauses; kinds = kinds; names = names; literals = s .literals; clauses-read = s .clauses-read }
+    record { variables = s .variables; clauses = s .clauses; kinds = kinds; names = names; free = s .free; entries = s .entries; clauses-read = s .clauses-read }
 
 abbrev pub bind : ℕ → State → ℕ → State
 bind kind s v = with-prefix s (s .kinds ++ (kind ∷ [])) (s .names ++ (v ∷ []))
@@ -84,40 +78,45 @@ prefix-line s ws = bind-all (kind-of-word (first ws)) s (rest ws)
 abbrev pub room-cause : ℕ → ℕ
 room-cause used = cond (ltb used max-entries) 0 14
 
+-- 'They count towards the 128, at the token where they first stand': a name has room if it is placed, in front or in a block, or if fewer are.
+abbrev pub has-place : List ℕ → ℕ → Bool
+has-place names v = among v names || ltb (length names) max-unknowns
+
 unfoldable pub literal-cause : ℕ → List ℕ → ℕ → Bytes → ℕ
 literal-cause variables names used w =
     cond (is-zero w) (room-cause used)
     (cond (ltb variables (number (unsigned w))) 11
-    (cond (eqb (position (number (unsigned w)) names) 0) 13 (room-cause used)))
+    (cond (has-place names (number (unsigned w))) (room-cause used) 14))
 
--- 'Literals: v or -v', v being the position; 0 for the closing 0.
-abbrev pub signed : Bool → ℕ → ℤ
-signed true v = negℤ (pos v)
-signed false v = pos v
+-- 'Literals: v or -v', v being the name; 0 for the closing 0.
+unfoldable pub entry : Bytes → ℤ
+entry w = cond (is-zero w) (pos 0) (signed (negative w) (number (unsigned w)))
 
-unfoldable pub entry : List ℕ → Bytes → ℤ
-entry names w = cond (is-zero w) (pos 0) (signed (negative w) (position (number (unsigned w)) names))
+-- The names bound nowhere, with that of a word if it is new.
+unfoldable pub free-with : List ℕ → List ℕ → Bytes → List ℕ
+free-with free names w =
+    cond (is-zero w || among (number (unsigned w)) (closed-names free names)) free (insert (number (unsigned w)) free)
 
--- An entry is added behind those before.
-abbrev pub with-literals : State → List ℤ → State
-with-literals s literals =
-    record { variables = s .variables; clauses = s .clauses; kinds = s .kinds; names = s .names; literals = literals; clauses-read = s .clauses-read }
+-- A word's entry is added behind those before.
+abbrev pub with-entries : State → List ℕ → List ℤ → State
+with-entries s free entries =
+    record { variables = s .variables; clauses = s .clauses; kinds = s .kinds; names = s .names; free = free; entries = entries; clauses-read = s .clauses-read }
 
-abbrev pub add-entry : State → ℤ → State
-add-entry s z = with-literals s (s .literals ++ (z ∷ []))
+abbrev pub add-entry : State → Bytes → State
+add-entry s w = with-entries s (free-with (s .free) (s .names) w) (s .entries ++ (entry w ∷ []))
 
 -- The words of a clause line, from the left.
 abbrev pub add-entries : State → List Bytes → Step
 add-entries s [] = went s
 add-entries s (w ∷ ws) =
-    let more = add-entries (add-entry s (entry (s .names) w)) ws in
-    unless (literal-cause (s .variables) (s .names) (length (s .literals)) w) more
+    let more = add-entries (add-entry s w) ws in
+    unless (literal-cause (s .variables) (closed-names (s .free) (s .names)) (length (s .entries)) w) more
 
 -- A clause line that is taken counts.
 abbrev pub clause-read : Step → Step
 clause-read (fault cause) = fault cause
 clause-read (went s) =
-    went (record { variables = s .variables; clauses = s .clauses; kinds = s .kinds; names = s .names; literals = s .literals; clauses-read = suc (s .clauses-read) })
+    went (record { variables = s .variables; clauses = s .clauses; kinds = s .kinds; names = s .names; free = s .free; entries = s .entries; clauses-read = suc (s .clauses-read) })
 
 -- 'Then 14 for a line too many, then tokens from the left'.
 unfoldable pub clause-line : State → List Bytes → Step
@@ -134,19 +133,23 @@ abbrev pub step : State → Line → Step
 step s (ended line) = body-line s line
 step s (unended line) = fault 10
 
--- What a text gives: the state after its last line, or a cause and its line.
-pub data Result : Type 0 where
-  taken : State → Result
-  refused : ℕ → ℕ → Result
+-- The lines of a text gone through: the state after the last one, or a cause and its line.
+pub data Scan : Type 0 where
+  whole : State → Scan
+  stopped : ℕ → ℕ → Scan
 
 -- The first fault ends the reading, at its line.
-abbrev pub go-on : Step → ℕ → (State → Result) → Result
-go-on (fault cause) k more = refused cause k
+abbrev pub go-on : Step → ℕ → (State → Scan) → Scan
+go-on (fault cause) k more = stopped cause k
 go-on (went s) k more = more s
 
--- 'Clauses other than C .. too few: last + 1'. The lines after the p line; k is the number of the first of them.
-abbrev pub body : State → ℕ → List Line → Result
-body s k [] = cond (eqb (s .clauses-read) (s .clauses)) (taken s) (refused 14 k)
+-- Behind the last line, which line k would follow: 'Clauses other than C .. too few: last + 1'.
+abbrev pub finish : State → ℕ → Scan
+finish s k = cond (eqb (s .clauses-read) (s .clauses)) (whole s) (stopped 14 k)
+
+-- The lines after the p line; k is the number of the first of them.
+abbrev pub body : State → ℕ → List Line → Scan
+body s k [] = finish s k
 body s k (l ∷ ls) = go-on (step s l) k (λ t. body t (suc k) ls)
 
 -- The p line's causes: '10 for the whole line', then V, then C.
@@ -158,16 +161,16 @@ problem-cause line =
 
 -- The state after the p line.
 unfoldable pub opened : List Bytes → State
-opened ws = record { variables = number (third ws); clauses = number (fourth ws); kinds = []; names = []; literals = []; clauses-read = 0 }
+opened ws = record { variables = number (third ws); clauses = number (fourth ws); kinds = []; names = []; free = []; entries = []; clauses-read = 0 }
 
 -- 'A p line that never comes is reported at last line + 1.' Line k is the first that is no c line.
-abbrev pub problem : ℕ → List Line → Result
-problem k [] = refused 10 k
-problem k (unended line ∷ ls) = refused 10 k
+abbrev pub problem : ℕ → List Line → Scan
+problem k [] = stopped 10 k
+problem k (unended line ∷ ls) = stopped 10 k
 problem k (ended line ∷ ls) = go-on (unless (problem-cause line) (went (opened (words line)))) k (λ t. body t (suc k) ls)
 
 -- 'First any lines beginning with c'; they count as lines.
-abbrev pub after-comments : ℕ → List Line → Result
+abbrev pub after-comments : ℕ → List Line → Scan
 after-comments k [] = problem k []
 after-comments k (unended line ∷ ls) = problem k (unended line ∷ ls)
 after-comments k (ended line ∷ ls) =
@@ -179,13 +182,45 @@ abbrev pub lent-well : Bytes → ℕ → ℕ → ℕ → Bool
 lent-well text kinds literals names =
     leb (length text) max-bytes && eqb kinds max-unknowns && eqb literals max-entries && eqb names max-unknowns
 
+-- The lines of a text, with tables of these lengths lent.
+unfoldable pub scan : Bytes → ℕ → ℕ → ℕ → Scan
+scan text kinds literals names = cond (lent-well text kinds literals names) (after-comments 1 (lines text)) (stopped 9 0)
+
+-- What is read of a text: kinds and names in prefix order, literals by position, V and C.
+pub record Read : Type 0 where
+  pub kinds : List ℕ
+  pub names : List ℕ
+  pub literals : List ℤ
+  pub variables : ℕ
+  pub clauses : ℕ
+
+-- The names bound nowhere are placed first, 'existential in front of everything'; then every entry has its position.
+unfoldable pub closed : State → Read
+closed s =
+    record {
+      kinds = closed-kinds (s .free) (s .kinds);
+      names = closed-names (s .free) (s .names);
+      literals = closed-literals (s .free) (s .names) (s .entries);
+      variables = s .variables;
+      clauses = s .clauses;
+    }
+
+-- What a text gives: what is read of it, or a cause and its line.
+pub data Result : Type 0 where
+  taken : Read → Result
+  refused : ℕ → ℕ → Result
+
+abbrev pub result-of : Scan → Result
+result-of (whole s) = taken (closed s)
+result-of (stopped number line) = refused number line
+
 -- The reading of a text, with tables of these lengths lent.
 unfoldable pub read : Bytes → ℕ → ℕ → ℕ → Result
-read text kinds literals names = cond (lent-well text kinds literals names) (after-comments 1 (lines text)) (refused 9 0)
+read text kinds literals names = result-of (scan text kinds literals names)
 
 -- 'Returns n, the literals used, V and C', or number and line.
 abbrev pub returned : Result → Reading
-returned (taken s) = Taken (length (s .names)) (length (s .literals)) (s .variables) (s .clauses)
+returned (taken r) = Taken (length (r .names)) (length (r .literals)) (r .variables) (r .clauses)
 returned (refused number line) = Refused number line
 
 -- 01's number of each case: 0 for a text that is taken, else the cause's.
@@ -195,7 +230,7 @@ number-of (Refused number line) = number
 
 -- The number of the cause for which a text is refused, or 0.
 abbrev pub cause-of : Result → ℕ
-cause-of (taken s) = 0
+cause-of (taken r) = 0
 cause-of (refused number line) = number
 
 -- 'Writes kinds, literals and the text name of each position, leaves entries past those used'; a refusal leaves all.
@@ -203,20 +238,20 @@ abbrev pub over {ℓ} : {A : Type ℓ} → List A → List A → List A
 over new old = new ++ drop (length new) old
 
 abbrev pub kinds-after : Result → List ℕ → List ℕ
-kinds-after (taken s) old = over (s .kinds) old
+kinds-after (taken r) old = over (r .kinds) old
 kinds-after (refused number line) old = old
 
 abbrev pub literals-after : Result → List ℤ → List ℤ
-literals-after (taken s) old = over (s .literals) old
+literals-after (taken r) old = over (r .literals) old
 literals-after (refused number line) old = old
 
 abbrev pub names-after : Result → List ℕ → List ℕ
-names-after (taken s) old = over (s .names) old
+names-after (taken r) old = over (r .names) old
 names-after (refused number line) old = old
 
 -- What is taken has a kind for each name and stays within the limits, so that its caller may take the front of each table.
 abbrev pub fits : Result → Type 0
-fits (taken s) = (length (s .kinds) ≡ length (s .names)) × (length (s .names) ≤ max-unknowns) × (length (s .literals) ≤ max-entries)
+fits (taken r) = (length (r .kinds) ≡ length (r .names)) × (length (r .names) ≤ max-unknowns) × (length (r .literals) ≤ max-entries)
 fits (refused number line) = Unit {0}
 
 -- What `read` promises: the outcome and each table at exit, from a result and the tables at entry.
@@ -231,3 +266,6 @@ pub record Read-so (result : Result) (outcome : Reading) (kinds : List ℕ) (lit
 -- The reading of a text with tables of 01's lengths: what its bytes alone give.
 abbrev pub text-read : Bytes → Result
 text-read text = read text max-unknowns max-entries max-unknowns
+
+abbrev pub text-scan : Bytes → Scan
+text-scan text = scan text max-unknowns max-entries max-unknowns

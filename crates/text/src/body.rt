@@ -10,18 +10,20 @@ ghost use Rattle.formula.specs.Formula.{max-unknowns, max-entries};
 ghost use Rattle.lines.specs.Lines.{lines, words};
 ghost use Rattle.lines.specs.Shapes.{is-prefix};
 ghost use Rattle.text.specs.Reading.{max-variables, body as body-read, body-line as body-line-read, prefix-line as prefix-line-read, clause-line as clause-line-read, kind-of-word};
-ghost use Rattle.text.specs.Steps.{Indexed, Sized, fresh, held, Line-read, All-read};
+ghost use Rattle.text.specs.Steps.{Marked, placed-in, Sized, fresh, held, Line-read, All-read};
 use crate::names;
 use crate::opening::Opened;
 use formula::Formula;
 use lines::numbers;
 use lines::shapes;
 
-// How far a text was taken: V and C, what is used of the tables, the clause lines, a cause, 0 for none, and the line reached.
+// How far a text was taken: V and C, the names bound and those bound nowhere, the entries used, the clause lines, a cause, 0 for none, and the
+// line reached.
 pub(crate) struct Counts {
     pub(crate) variables: usize,
     pub(crate) clauses: usize,
-    pub(crate) unknowns: usize,
+    pub(crate) bound: usize,
+    pub(crate) free: usize,
     pub(crate) entries: usize,
     pub(crate) clauses_read: usize,
     pub(crate) cause: u32,
@@ -44,7 +46,8 @@ pub(crate) fn read_lines(
     let mut s = Counts {
         variables: o.variables,
         clauses: o.clauses,
-        unknowns: 0,
+        bound: 0,
+        free: 0,
         entries: 0,
         clauses_read: 0,
         cause: 0,
@@ -79,14 +82,14 @@ fn body_line(
     names: &mut [u16; Formula::UNKNOWNS],
     places: &mut [u8; names::PLACES],
 ) -> Counts
-    requires { ⌜ Sized c (now kinds) (now names) (now literals) × Indexed (take (c .unknowns) (now names)) (now places) ⌝ }
+    requires { ⌜ Sized c (now kinds) (now names) (now literals) × Marked (placed-in (c .bound) (c .free) (now names)) (now places) ⌝ }
     ensures { λ r. ⌜ Line-read (body-line-read (held c (now (kinds .entry)) (now (names .entry)) (now (literals .entry))) (now (line .entry))) c r (now (kinds .exit)) (now (names .exit)) (now (places .exit)) (now (literals .exit)) ⌝ }
 {
     if binds(line, c.clauses_read) {
         return prefix_line(line, c, kinds, names, places);
     }
     if shapes::is_clause(line) {
-        return clause_line(line, c, literals, places);
+        return clause_line(line, c, literals, names, places);
     }
     let mut s = c;
     s.cause = 10;
@@ -112,25 +115,16 @@ fn prefix_line(
     names: &mut [u16; Formula::UNKNOWNS],
     places: &mut [u8; names::PLACES],
 ) -> Counts
-    requires { ⌜ (length (now kinds) ≡ max-unknowns) × (length (now names) ≡ max-unknowns) × (c .unknowns ≤ max-unknowns) × (c .variables ≤ max-variables) × Indexed (take (c .unknowns) (now names)) (now places) ⌝ }
+    requires { ⌜ (length (now kinds) ≡ max-unknowns) × (length (now names) ≡ max-unknowns) × (c .bound ≤ max-unknowns) × (c .free ≡ 0) × (c .variables ≤ max-variables) × Marked (take (c .bound) (now names)) (now places) ⌝ }
     ensures { λ r. ⌜ ((L : List ℤ) → Sized c (now (kinds .entry)) (now (names .entry)) L → Line-read (prefix-line-read (held c (now (kinds .entry)) (now (names .entry)) L) (words (now (line .entry)))) c r (now (kinds .exit)) (now (names .exit)) (now (places .exit)) L) ⌝ }
 {
     let w = lines::next(line, 0);
     let start = w.start;
     let end = w.end;
     let kind = kind_of(&line[start..end]);
-    let used = names::bind_all(
-        line,
-        end,
-        kind,
-        c.variables,
-        c.unknowns,
-        kinds,
-        names,
-        places,
-    );
+    let used = names::bind_all(line, end, kind, c.variables, c.bound, kinds, names, places);
     let mut s = c;
-    s.unknowns = used.count;
+    s.bound = used.count;
     s.cause = used.cause;
     s
 }
@@ -146,19 +140,30 @@ fn clause_line(
     line: &[u8],
     c: Counts,
     literals: &mut [i32; Formula::ENTRIES],
-    places: &[u8; names::PLACES],
+    names: &mut [u16; Formula::UNKNOWNS],
+    places: &mut [u8; names::PLACES],
 ) -> Counts
-    requires { ⌜ (length (now literals) ≡ max-entries) × (c .variables ≤ max-variables) × (c .entries ≤ max-entries) ⌝ }
-    ensures { λ r. ⌜ ((K N : List ℕ) → Sized c K N (now (literals .entry)) → Indexed (take (c .unknowns) N) (now (places .entry)) → Line-read (clause-line-read (held c K N (now (literals .entry))) (words (now (line .entry)))) c r K N (now (places .entry)) (now (literals .exit))) ⌝ }
+    requires { ⌜ (length (now literals) ≡ max-entries) × (length (now names) ≡ max-unknowns) × (c .variables ≤ max-variables) × (c .bound + c .free ≤ max-unknowns) × (c .entries ≤ max-entries) × Marked (placed-in (c .bound) (c .free) (now names)) (now places) ⌝ }
+    ensures { λ r. ⌜ ((K : List ℕ) → Sized c K (now (names .entry)) (now (literals .entry)) → Line-read (clause-line-read (held c K (now (names .entry)) (now (literals .entry))) (words (now (line .entry)))) c r K (now (names .exit)) (now (places .exit)) (now (literals .exit))) ⌝ }
 {
     let mut s = c;
     if c.clauses <= c.clauses_read {
         s.cause = 14;
         return s;
     }
-    let used = names::add_entries(line, c.variables, places, c.entries, literals);
-    s.entries = used.count;
-    s.cause = used.cause;
+    let added = names::add_entries(
+        line,
+        c.variables,
+        c.bound,
+        c.free,
+        c.entries,
+        names,
+        places,
+        literals,
+    );
+    s.free = added.free;
+    s.entries = added.count;
+    s.cause = added.cause;
     s.clauses_read += 1;
     s
 }

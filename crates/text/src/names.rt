@@ -1,18 +1,30 @@
-// Names bound, and the words of prefix and clause lines taken one by one.
+// Names bound and names placed in front, and the words of prefix and clause lines taken one by one.
 ghost use mathlib.Core.Path.{_≡_};
-ghost use Prim.Native.Nat.{_≤_};
-ghost use lib.ListN.{length, take};
+ghost use Prim.Native.Nat.{_+_, _≤_, _<_, min, max};
+ghost use mathlib.Core.Bool.{true, cond};
+ghost use mathlib.Core.List.{_++_};
+ghost use lib.Dec.{ltb};
+ghost use lib.ListN.{length, take, drop};
 ghost use Rattle.formula.specs.Formula.{max-unknowns, max-entries};
-ghost use Rattle.text.specs.Reading.{max-variables, room-cause as cause-of-room, signed as with-sign};
-ghost use Rattle.text.specs.Steps.{Indexed, Named, Bound-all, Placed, Added-all};
+ghost use Rattle.named.specs.Named.{signed as with-sign};
+ghost use Rattle.named.specs.Closing.{insert as inserted};
+ghost use Rattle.text.specs.Reading.{max-variables, room-cause as cause-of-room};
+ghost use Rattle.text.specs.Steps.{Marked, free-in, placed-in, Named, Bound-all, Word-read, Name-placed, Added-all};
 use formula::Formula;
 use lines::numbers;
 
-// The table of places has an entry for each name, and one for 0: the name's position, 0 if it is not bound.
+// A table by name has an entry for each name, and one for 0. Here it marks the names that are placed.
 pub(crate) const PLACES: usize = 32_768;
 
-// How far a line was taken: the entries used of its table, and a cause, 0 for none.
+// How far a prefix line was taken: the names bound, and a cause, 0 for none.
 pub(crate) struct Used {
+    pub(crate) count: usize,
+    pub(crate) cause: u32,
+}
+
+// How far a clause line was taken: the names bound nowhere, the entries used, and a cause, 0 for none.
+pub(crate) struct Added {
+    pub(crate) free: usize,
     pub(crate) count: usize,
     pub(crate) cause: u32,
 }
@@ -29,7 +41,7 @@ pub(crate) fn bind_all(
     places: &mut [u8; PLACES],
 ) -> Used
     requires { ⌜ (i ≤ length (now line)) × (n ≤ max-unknowns) × (variables ≤ max-variables) × (length (now kinds) ≡ max-unknowns) × (length (now names) ≡ max-unknowns) ⌝ }
-    requires { ⌜ Indexed (take n (now names)) (now places) ⌝ }
+    requires { ⌜ Marked (take n (now names)) (now places) ⌝ }
     ensures { λ r. ⌜ Bound-all (now (line .entry)) i kind variables n (now (kinds .entry)) (now (names .entry)) (r .cause) (r .count) (now (kinds .exit)) (now (names .exit)) (now (places .exit)) ⌝ }
 {
     let mut count = n;
@@ -52,7 +64,7 @@ pub(crate) fn bind_all(
         kinds[count] = kind;
         names[count] = v as u16;
         count += 1;
-        places[v] = count as u8;
+        places[v] = 1;
         at = end;
     }
     Used { count, cause: 0 }
@@ -75,17 +87,22 @@ fn name_cause(v: usize, variables: usize, n: usize, places: &[u8; PLACES]) -> u3
     14
 }
 
-// Adds the entries of a clause line. Of the literals, m entries are used.
+// Adds the entries of a clause line. Of the names, `bound` are bound and `free` stand behind them; of the literals, m entries are used.
 pub(crate) fn add_entries(
     line: &[u8],
     variables: usize,
-    places: &[u8; PLACES],
+    bound: usize,
+    free: usize,
     m: usize,
+    names: &mut [u16; Formula::UNKNOWNS],
+    places: &mut [u8; PLACES],
     literals: &mut [i32; Formula::ENTRIES],
-) -> Used
-    requires { ⌜ (variables ≤ max-variables) × (m ≤ max-entries) × (length (now literals) ≡ max-entries) ⌝ }
-    ensures { λ r. ⌜ Added-all (now (line .entry)) variables m (now (places .entry)) (now (literals .entry)) (r .cause) (r .count) (now (literals .exit)) ⌝ }
+) -> Added
+    requires { ⌜ (variables ≤ max-variables) × (bound + free ≤ max-unknowns) × (m ≤ max-entries) × (length (now names) ≡ max-unknowns) × (length (now literals) ≡ max-entries) ⌝ }
+    requires { ⌜ Marked (placed-in bound free (now names)) (now places) ⌝ }
+    ensures { λ r. ⌜ Added-all (now (line .entry)) variables bound free m (now (names .entry)) (now (literals .entry)) (r .cause) (r .free) (r .count) (now (names .exit)) (now (places .exit)) (now (literals .exit)) ⌝ }
 {
+    let mut more = free;
     let mut count = m;
     let mut at = 0;
     while at < line.len() {
@@ -93,12 +110,16 @@ pub(crate) fn add_entries(
         let start = w.start;
         let end = w.end;
         if start == end {
-            return Used { count, cause: 0 };
+            return Added {
+                free: more,
+                count,
+                cause: 0,
+            };
         }
-        let word = &line[start..end];
-        let e = entry(word, variables, places, count);
+        let e = entry(&line[start..end], variables, places, bound + more, count);
         if e.cause != 0 {
-            return Used {
+            return Added {
+                free: more,
                 count,
                 cause: e.cause,
             };
@@ -106,52 +127,66 @@ pub(crate) fn add_entries(
         let literal = e.literal;
         literals[count] = literal;
         count += 1;
+        more = place(e.new, e.name, bound, more, names, places);
         at = end;
     }
-    Used { count, cause: 0 }
+    Added {
+        free: more,
+        count,
+        cause: 0,
+    }
 }
 
-// A word of a clause line: its cause, 0 for none, and its literal by position.
-struct Written {
+// A word of a clause line: its cause, 0 for none, its entry by name, its name, and whether the name is new.
+struct Word {
     cause: u32,
     literal: i32,
+    name: usize,
+    new: bool,
 }
 
-fn entry(word: &[u8], variables: usize, places: &[u8; PLACES], m: usize) -> Written
+// Reads a word of a clause line, n names being placed and m entries used.
+fn entry(word: &[u8], variables: usize, places: &[u8; PLACES], n: usize, m: usize) -> Word
     requires { ⌜ variables ≤ max-variables ⌝ }
-    ensures { λ r. ⌜ Placed variables (now (places .entry)) m (now (word .entry)) (r .cause) (r .literal) ⌝ }
+    ensures { λ r. ⌜ Word-read variables (now (places .entry)) n m (now (word .entry)) (r .cause) (r .literal) (r .name) (r .new) ⌝ }
 {
     if numbers::is_zero(word) {
-        return Written {
+        return Word {
             cause: room_cause(m),
             literal: 0,
+            name: 0,
+            new: false,
         };
     }
     let v = numbers::magnitude(word);
     if variables < v {
-        return Written {
+        return Word {
             cause: 11,
             literal: 0,
+            name: 0,
+            new: false,
         };
     }
-    let p = place_of(places[v]);
-    if p == 0 {
-        return Written {
-            cause: 13,
-            literal: 0,
-        };
-    }
-    Written {
-        cause: room_cause(m),
-        literal: signed(numbers::negative(word), p),
+    let new = places[v] == 0;
+    Word {
+        cause: place_cause(new, n, m),
+        literal: signed(numbers::negative(word), v),
+        name: v,
+        new,
     }
 }
 
-// The position that a byte of the table holds.
-fn place_of(byte: u8) -> usize
-    ensures { λ r. ⌜ (r ≡ byte) × (r ≤ 255) ⌝ }
+// The cause of a literal: a new name wants a place besides those placed, and each literal an entry.
+fn place_cause(new: bool, placed: usize, m: usize) -> u32
+    ensures { λ r. ⌜ r ≡ cond new (cond (ltb placed max-unknowns) (cause-of-room m) 14) (cause-of-room m) ⌝ }
 {
-    byte as usize
+    if new {} else {
+        return room_cause(m);
+    }
+    if placed < Formula::UNKNOWNS {
+        return room_cause(m);
+    }
+    14 // no place is left
 }
 
 fn room_cause(m: usize) -> u32
@@ -163,11 +198,60 @@ fn room_cause(m: usize) -> u32
     14
 }
 
-// The literal of position p.
-fn signed(negative: bool, p: usize) -> i32
-    requires { ⌜ p ≤ 255 ⌝ }
-    ensures { λ r. ⌜ r ≡ with-sign negative p ⌝ }
+// The literal of a name or of a position.
+pub(crate) fn signed(negative: bool, v: usize) -> i32
+    requires { ⌜ v ≤ max-variables ⌝ }
+    ensures { λ r. ⌜ r ≡ with-sign negative v ⌝ }
 {
-    let z = p as i32;
+    let z = v as i32;
     if negative { -z } else { z }
+}
+
+// Places a name that is new among the free ones, of which there are `free`; returns how many there are then.
+fn place(
+    new: bool,
+    name: usize,
+    bound: usize,
+    free: usize,
+    names: &mut [u16; Formula::UNKNOWNS],
+    places: &mut [u8; PLACES],
+) -> usize
+    requires { ⌜ (bound + free ≤ max-unknowns) × (new ≡ true → bound + free < max-unknowns) × (name ≤ max-variables) × (length (now names) ≡ max-unknowns) ⌝ }
+    ensures { λ r. ⌜ Name-placed new name bound free (now (names .entry)) (now (places .entry)) r (now (names .exit)) (now (places .exit)) ⌝ }
+{
+    if new {} else {
+        return free;
+    }
+    insert(names, bound, free, name as u16);
+    places[name] = 1;
+    free + 1
+}
+
+// Inserts a name into the rising ones behind the bound ones: of two names the smaller stays, the larger goes on.
+fn insert(names: &mut [u16; Formula::UNKNOWNS], bound: usize, free: usize, name: u16)
+    requires { ⌜ (bound + free < max-unknowns) × (length (now names) ≡ max-unknowns) ⌝ }
+    ensures { λ _. ⌜ now (names .exit) ≡ take bound (now (names .entry)) ++ (inserted name (free-in bound free (now (names .entry))) ++ drop (bound + free + 1) (now (names .entry))) ⌝ }
+{
+    let end = bound + free;
+    let mut carry = name;
+    let mut i = bound;
+    while i < end {
+        let x = names[i];
+        names[i] = smaller(carry, x);
+        carry = larger(carry, x);
+        i += 1;
+    }
+    names[end] = carry;
+}
+
+fn smaller(a: u16, b: u16) -> u16
+    ensures { λ r. ⌜ r ≡ min a b ⌝ }
+{
+    if a < b { a } else { b }
+}
+
+fn larger(a: u16, b: u16) -> u16
+    ensures { λ r. ⌜ r ≡ max a b ⌝ }
+{
+    if a < b { b } else { a }
 }

@@ -27,22 +27,22 @@ enum-known-number c = search needs
 add-result : tie.Need-add-result
 add-result c =
     let q = c .before .before .before .before .before .before .before .before .before .before .before .before .args in
-    omega (arith, refused-of-text (q .text .now) (c .before .number .given .0 .0) (c .before .number .given .0 .1 .0) (read-refused (c .before .before .before .before .before .before .read .ensures) (c .before .number .given .1)) .to-14)
+    omega (arith, refused-of-text (q .text .now) (c .before .number .given .0 .0) (c .before .number .given .0 .1 .0) (read-refused (c .before .before .before .before .before .before .read .ensures .0) (c .before .number .given .1)) .to-14)
 
 enum-known-unknowns : tie.Need-enum-known-unknowns
 enum-known-unknowns c = search needs
 
 array-share-prefix-kinds : tie.Need-array-share-prefix-kinds
-array-share-prefix-kinds c = read-taken (c .before .before .before .before .before .before .read .ensures) (c .before .unknowns .given .1) .kinds-there
+array-share-prefix-kinds c = read-taken (c .before .before .before .before .before .before .read .ensures .0) (c .before .unknowns .given .1) .kinds-there
 
 slice-aggregate-decide : tie.Need-slice-aggregate-decide
-slice-aggregate-decide c = sym (length-take-le (c .before .before .unknowns .given .0 .0) (c .before .before .before .before .before .before .before .read .last .1 .0) (read-taken (c .before .before .before .before .before .before .before .read .ensures) (c .before .before .unknowns .given .1) .kinds-there))
+slice-aggregate-decide c = sym (length-take-le (c .before .before .unknowns .given .0 .0) (c .before .before .before .before .before .before .before .read .last .1 .0) (read-taken (c .before .before .before .before .before .before .before .read .ensures .0) (c .before .before .unknowns .given .1) .kinds-there))
 
 array-share-prefix-literals : tie.Need-array-share-prefix-literals
-array-share-prefix-literals c = read-taken (c .before .before .before .before .before .before .before .read .ensures) (c .before .before .unknowns .given .1) .literals-there
+array-share-prefix-literals c = read-taken (c .before .before .before .before .before .before .before .read .ensures .0) (c .before .before .unknowns .given .1) .literals-there
 
 slice-aggregate-decide-2 : tie.Need-slice-aggregate-decide-2
-slice-aggregate-decide-2 c = sym (length-take-le (c .before .before .before .unknowns .given .0 .1 .0) (c .before .before .before .before .before .before .before .before .read .last .1 .1 .0) (read-taken (c .before .before .before .before .before .before .before .before .read .ensures) (c .before .before .before .unknowns .given .1) .literals-there))
+slice-aggregate-decide-2 c = sym (length-take-le (c .before .before .before .unknowns .given .0 .1 .0) (c .before .before .before .before .before .before .before .before .read .last .1 .1 .0) (read-taken (c .before .before .before .before .before .before .before .before .read .ensures .0) (c .before .before .before .unknowns .given .1) .literals-there))
 
 decide-requires : tie.Need-decide-requires
 decide-requires c κs = search needs
@@ -51,7 +51,7 @@ returns : tie.Need-returns
 returns c =
     let q = c .before .before .before .before .before .before .before .before .before .before .before .before .args in
     with-numbers (q .text .now) (q .work .now) (q .limit)
-    (refused-back (q .text .now) (q .work .now) (q .limit) (c .before .number .given .0 .0) (c .before .number .given .0 .1 .0) (read-refused (c .before .before .before .before .before .before .read .ensures) (c .before .number .given .1)))
+    (refused-back (q .text .now) (q .work .now) (q .limit) (c .before .number .given .0 .0) (c .before .number .given .0 .1 .0) (read-refused (c .before .before .before .before .before .before .read .ensures .0) (c .before .number .given .1)))
 
 same-length : tie.Need-same-length
 same-length c = search needs
@@ -60,7 +60,7 @@ returns-2 : tie.Need-returns-2
 returns-2 c =
     let q = c .before .before .before .before .before .before .before .before .before .before .before .before .before .before .before .before .before .before .args in
     with-numbers (q .text .now) (q .work .now) (q .limit)
-    (decided-back (q .text .now) (q .work .now) (q .limit) (read-taken (c .before .before .before .before .before .before .before .before .before .before .before .before .read .ensures) (c .before .before .before .before .before .before .before .unknowns .given .1)) (c .before .before .decide .ensures))
+    (decided-back (q .text .now) (q .work .now) (q .limit) (read-taken (c .before .before .before .before .before .before .before .before .before .before .before .before .read .ensures .0) (c .before .before .before .before .before .before .before .unknowns .given .1)) (c .before .before .decide .ensures))
 
 pub vulzhenn-decide-spec : {M : Type 1} → statement M
 vulzhenn-decide-spec =

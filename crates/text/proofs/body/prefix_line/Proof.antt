@@ -1,6 +1,9 @@
 -- A prefix line binds its names with the kind of its first word. Assumes nothing.
 use mathlib.Core.Path.{refl, ap, ap₂, _∙_}
-use Rattle.text.specs.Reading.{prefix-line, kind-of-word, bind-all}
+use mathlib.Core.List.{[]}
+use native.Mathlib.Omega.{arith}
+use lib.ListN.{take}
+use Rattle.text.specs.Reading.{State, prefix-line, kind-of-word, bind-all}
 use Rattle.text.specs.Steps.{held}
 use borrow.Author.Needs.{needs}
 use Rattle.text.proofs.body.prefix_line.Statement.{statement}
@@ -27,12 +30,13 @@ bind-all-requires c κs = search needs
 returns : tie.Need-returns
 unfolding prefix-line held
 returns c = λ M z.
-    let bound = c .bind-all .ensures .right (held (c .before .before .before .before .before .before .before .before .args .c) (c .before .before .before .before .before .before .before .before .args .kinds .now) (c .before .before .before .before .before .before .before .before .args .names .now) M) refl in
+    let start : State = record { variables = c .before .before .before .before .before .before .before .before .args .c .variables; clauses = c .before .before .before .before .before .before .before .before .args .c .clauses; kinds = take (c .before .before .before .before .before .before .before .before .args .c .bound) (c .before .before .before .before .before .before .before .before .args .kinds .now); names = take (c .before .before .before .before .before .before .before .before .args .c .bound) (c .before .before .before .before .before .before .before .before .args .names .now); free = []; entries = take (c .before .before .before .before .before .before .before .before .args .c .entries) M; clauses-read = c .before .before .before .before .before .before .before .before .args .c .«clauses_read» } in
+    let bound = c .bind-all .ensures .right start refl in
     record {
-      sized = record { kinds = c .bind-all .ensures .kinds; names = c .bind-all .ensures .names; literals = z .literals; unknowns = c .bind-all .ensures .room; entries = z .entries; variables = z .variables };
-      indexed = c .bind-all .ensures .indexed;
+      sized = record { kinds = c .bind-all .ensures .kinds; names = c .bind-all .ensures .names; literals = z .literals; unknowns = omega (arith, c .bind-all .ensures .room, c .before .before .before .before .before .before .before .before .pre .3); entries = z .entries; variables = z .variables; unread = λ _. c .before .before .before .before .before .before .before .before .pre .3 };
+      marked = rw (c .before .before .before .before .before .before .before .before .pre .3) (c .bind-all .ensures .marked);
       line = refl;
-      right = bound ∙ ap₂ (λ k ws. bind-all k (held (c .before .before .before .before .before .before .before .before .args .c) (c .before .before .before .before .before .before .before .before .args .kinds .now) (c .before .before .before .before .before .before .before .before .args .names .now) M) ws) (c .before .before .before .before .kind-of .ensures ∙ ap kind-of-word (c .before .before .before .before .before .before .next .ensures .word)) (c .before .before .before .before .before .before .next .ensures .others);
+      right = rw (c .before .before .before .before .before .before .before .before .pre .3) (bound ∙ ap₂ (λ k ws. bind-all k start ws) (c .before .before .before .before .kind-of .ensures ∙ ap kind-of-word (c .before .before .before .before .before .before .next .ensures .word)) (c .before .before .before .before .before .before .next .ensures .others));
     }
 
 pub prefix-line-spec : {M : Type 1} → statement M

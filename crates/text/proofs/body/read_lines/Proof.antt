@@ -5,19 +5,19 @@ use native.Mathlib.Omega.{arith}
 use native.Mathlib.Numerals.{add-one}
 use borrow.Author.Tests.{eq-eqb, ne-eqb}
 use borrow.Author.Needs.{needs}
-use lib.ListN.{length, take, drop, length-drop}
+use lib.ListN.{length, drop, length-drop}
 use Rattle.lines.specs.Lines.{lines}
 use Rattle.text.specs.Reading.{body}
-use Rattle.text.specs.Steps.{Indexed, Sized, fresh, held, outcome}
+use Rattle.text.specs.Steps.{Marked, placed-in, Sized, fresh, held, outcome}
 use Rattle.lines.proofs.Spans.{before-le}
 use Rattle.lines.proofs.LineLaws.{lines-line, lines-rest, lines-none}
-use Rattle.text.proofs.Places.{indexed-none}
+use Rattle.text.proofs.Places.{marked-none}
 use Rattle.text.proofs.BodyLaws.{resized, settled-refused}
 use Rattle.text.proofs.body.read_lines.Statement.{statement}
 use Rattle.text.proofs.body.read_lines.Tie as tie
 
 abbrev Inv-loop : tie.InvT-loop
-Inv-loop text kinds₀ literals₀ names₀ places₀ s₀ at₀ kinds literals names places s at = (at ≤ length text) × (s .line ≤ at + 1) × (s .cause ≡ 0) × Sized s kinds names literals × (body (held s₀ kinds₀ names₀ literals₀) (s₀ .line) (lines (drop at₀ text)) ≡ body (held s kinds names literals) (s .line) (lines (drop at text))) × Indexed (take (s .unknowns) names) places
+Inv-loop text kinds₀ literals₀ names₀ places₀ s₀ at₀ kinds literals names places s at = (at ≤ length text) × (s .line ≤ at + 1) × (s .cause ≡ 0) × Sized s kinds names literals × (body (held s₀ kinds₀ names₀ literals₀) (s₀ .line) (lines (drop at₀ text)) ≡ body (held s kinds names literals) (s .line) (lines (drop at text))) × Marked (placed-in (s .bound) (s .free) names) places
 
 abbrev μ-loop : tie.MeasureT-loop
 μ-loop text kinds₀ literals₀ names₀ places₀ s₀ at₀ kinds literals names places s at = length text - at
@@ -27,14 +27,14 @@ add-t10 c = omega (arith, c .before .before .pre .1 .0, c .before .before .pre .
 
 loop-holds : tie.Need-loop-holds Inv-loop μ-loop
 loop-holds c =
-    (c .before .before .pre .1 .0, omega (arith, c .before .before .pre .1 .1), refl, record { kinds = c .before .before .pre .0 .0; names = c .before .before .pre .0 .1; literals = c .before .before .pre .0 .2; unknowns = omega arith; entries = omega arith; variables = c .before .before .pre .1 .2 }, refl, indexed-none 32768 refl)
+    (c .before .before .pre .1 .0, omega (arith, c .before .before .pre .1 .1), refl, record { kinds = c .before .before .pre .0 .0; names = c .before .before .pre .0 .1; literals = c .before .before .pre .0 .2; unknowns = omega arith; entries = omega arith; variables = c .before .before .pre .1 .2; unread = λ _. refl }, refl, marked-none 32768 refl)
 
 find-requires : tie.Need-find-requires Inv-loop μ-loop
 find-requires c κs = search needs
 
 returns : tie.Need-returns Inv-loop μ-loop
 unfolding outcome held fresh
-returns c = record { sized = resized refl refl refl (c .before .before .before .loop .inv .3); right = sym (c .before .before .before .loop .inv .4 ∙ rw (lines-rest (c .before .before .before .before .before .before .args .text .now) (c .before .before .before .loop .at) (c .before .find .result) (c .before .find .ensures) (c .before .before .loop-test .taken) (c .if1 .taken)) refl) }
+returns c = record { sized = resized refl refl refl refl refl (c .before .before .before .loop .inv .3); right = sym (c .before .before .before .loop .inv .4 ∙ rw (lines-rest (c .before .before .before .before .before .before .args .text .now) (c .before .before .before .loop .at) (c .before .find .result) (c .before .find .ensures) (c .before .before .loop-test .taken) (c .if1 .taken)) refl) }
 
 sub-body-line : tie.Need-sub-body-line Inv-loop μ-loop
 sub-body-line c = omega arith
@@ -74,11 +74,11 @@ loop-again : tie.Need-loop-again Inv-loop μ-loop
 unfolding held
 loop-again c =
     let inside : c .before .before .before .before .before .before .before .before .before .before .find .result < length (c .before .before .before .before .before .before .before .before .before .before .before .before .before .before .before .args .text .now) = omega (arith, before-le 10 (drop (c .before .before .before .before .before .before .before .before .before .before .before .before .loop .at) (c .before .before .before .before .before .before .before .before .before .before .before .before .before .before .before .args .text .now)), length-drop (c .before .before .before .before .before .before .before .before .before .before .before .before .loop .at) (c .before .before .before .before .before .before .before .before .before .before .before .before .before .before .before .args .text .now)) in
-    (omega arith, omega (arith, c .before .before .before .body-line .ensures .line), c .before .if2 .left, resized refl refl refl (c .before .before .before .body-line .ensures .sized), c .before .before .before .before .before .before .before .before .before .before .before .before .loop .inv .4 ∙ rw (lines-line (c .before .before .before .before .before .before .before .before .before .before .before .before .before .before .before .args .text .now) (c .before .before .before .before .before .before .before .before .before .before .before .before .loop .at) (c .before .before .before .before .before .before .before .before .before .before .find .result) (c .before .before .before .before .before .before .before .before .before .before .find .ensures) inside, ← c .before .before .before .body-line .ensures .right, c .before .if2 .left, c .before .before .before .body-line .ensures .line, add-one (c .before .before .before .before .before .before .before .before .before .before .before .before .loop .s .line)) refl, c .before .before .before .body-line .ensures .indexed)
+    (omega arith, omega (arith, c .before .before .before .body-line .ensures .line), c .before .if2 .left, resized refl refl refl refl refl (c .before .before .before .body-line .ensures .sized), c .before .before .before .before .before .before .before .before .before .before .before .before .loop .inv .4 ∙ rw (lines-line (c .before .before .before .before .before .before .before .before .before .before .before .before .before .before .before .args .text .now) (c .before .before .before .before .before .before .before .before .before .before .before .before .loop .at) (c .before .before .before .before .before .before .before .before .before .before .find .result) (c .before .before .before .before .before .before .before .before .before .before .find .ensures) inside, ← c .before .before .before .body-line .ensures .right, c .before .if2 .left, c .before .before .before .body-line .ensures .line, add-one (c .before .before .before .before .before .before .before .before .before .before .before .before .loop .s .line)) refl, c .before .before .before .body-line .ensures .marked)
 
 returns-3 : tie.Need-returns-3 Inv-loop μ-loop
 unfolding outcome held fresh
-returns-3 c = record { sized = resized refl refl refl (c .before .before .before .loop .inv .3); right = sym (c .before .before .before .loop .inv .4 ∙ rw (lines-none (c .before .before .before .before .before .before .args .text .now) (c .before .before .before .loop .at) (c .before .before .loop-test .left), ne-eqb (c .before .before .before .loop .s .«clauses_read») (c .before .before .before .loop .s .clauses) (c .if3 .taken)) refl) }
+returns-3 c = record { sized = resized refl refl refl refl refl (c .before .before .before .loop .inv .3); right = sym (c .before .before .before .loop .inv .4 ∙ rw (lines-none (c .before .before .before .before .before .before .args .text .now) (c .before .before .before .loop .at) (c .before .before .loop-test .left), ne-eqb (c .before .before .before .loop .s .«clauses_read») (c .before .before .before .loop .s .clauses) (c .if3 .taken)) refl) }
 
 returns-4 : tie.Need-returns-4 Inv-loop μ-loop
 unfolding outcome held fresh

@@ -1,4 +1,4 @@
--- A position is small, so its negation fits. Assumes nothing.
+-- A name is small, so its negation fits. Assumes nothing.
 use mathlib.Core.Path.{refl}
 use lib.IntN.{pos, negℤ}
 use mir.Syntax.{w32}
@@ -12,13 +12,13 @@ cast-z : tie.Need-cast-z
 cast-z c = search needs
 
 sub-result : tie.Need-sub-result
-sub-result c = rw (as-negative (c .before .args .p) (c .before .pre)) (negative-fits (c .before .args .p) (c .before .pre))
+sub-result c = rw (as-negative (c .before .args .v) (c .before .pre)) (negative-fits (c .before .args .v) (c .before .pre))
 
 returns : tie.Need-returns
-returns c = rw (as-negative (c .before .args .p) (c .before .pre), toZ-ofZ w32 (negℤ (pos (c .before .args .p))) (negative-fits (c .before .args .p) (c .before .pre)), c .if1 .taken) refl
+returns c = rw (as-negative (c .before .args .v) (c .before .pre), toZ-ofZ w32 (negℤ (pos (c .before .args .v))) (negative-fits (c .before .args .v) (c .before .pre)), c .if1 .taken) refl
 
 returns-2 : tie.Need-returns-2
-returns-2 c = rw (as-positive (c .before .args .p) (c .before .pre), c .if1 .left) refl
+returns-2 c = rw (as-positive (c .before .args .v) (c .before .pre), c .if1 .left) refl
 
 pub signed-spec : {M : Type 1} → statement M
 signed-spec = tie.close (tie.spec cast-z sub-result returns returns-2)

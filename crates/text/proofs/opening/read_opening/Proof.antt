@@ -5,9 +5,9 @@ use mathlib.Core.Bool.{false}
 use native.Mathlib.Omega.{arith}
 use lib.ListN.{length, drop, length-drop}
 use Rattle.lines.proofs.Spans.{before-le}
-use Rattle.text.specs.Reading.{read, lent-well}
+use Rattle.text.specs.Reading.{scan, lent-well}
 use Rattle.text.specs.Steps.{fresh}
-use Rattle.text.proofs.ProblemLaws.{read-lent, lent-sizes, problem-none, problem-refused, problem-taken}
+use Rattle.text.proofs.ProblemLaws.{scan-lent, lent-sizes, problem-none, problem-refused, problem-taken}
 use borrow.Author.Needs.{needs}
 use Rattle.text.proofs.opening.read_opening.Statement.{statement}
 use Rattle.text.proofs.opening.read_opening.Tie as tie
@@ -16,7 +16,7 @@ lent-well-requires : tie.Need-lent-well-requires
 lent-well-requires c κs = search needs
 
 returns : tie.Need-returns
-unfolding read
+unfolding scan
 returns c =
     let w : lent-well (c .before .before .before .args .text .now) (c .before .before .before .args .kinds) (c .before .before .before .args .literals) (c .before .before .before .args .names) ≡ false = sym (c .before .lent-well .ensures) ∙ c .if1 .left in
     record {
@@ -37,7 +37,7 @@ find-requires c κs = search needs
 returns-2 : tie.Need-returns-2
 returns-2 c =
     record {
-      refusal = λ h. (read-lent (c .before .before .before .before .before .before .args .text .now) (c .before .before .before .before .before .before .args .kinds) (c .before .before .before .before .before .before .args .literals) (c .before .before .before .before .before .before .args .names) (sym (c .before .before .before .before .lent-well .ensures) ∙ c .before .before .before .if1 .taken)) ∙ sym (c .before .before .comments .ensures .right) ∙ problem-none (c .before .before .before .before .before .before .args .text .now) (c .before .before .comments .result .at) (c .before .find .result) (c .before .before .comments .result .line) (c .before .find .ensures) (c .before .before .comments .ensures .within) (c .if2 .taken);
+      refusal = λ h. (scan-lent (c .before .before .before .before .before .before .args .text .now) (c .before .before .before .before .before .before .args .kinds) (c .before .before .before .before .before .before .args .literals) (c .before .before .before .before .before .before .args .names) (sym (c .before .before .before .before .lent-well .ensures) ∙ c .before .before .before .if1 .taken)) ∙ sym (c .before .before .comments .ensures .right) ∙ problem-none (c .before .before .before .before .before .before .args .text .now) (c .before .before .comments .result .at) (c .before .find .result) (c .before .before .comments .result .line) (c .before .find .ensures) (c .before .before .comments .ensures .within) (c .if2 .taken);
       right = λ e. absurd (omega arith);
       sizes = λ e. absurd (omega arith);
       within = λ e. absurd (omega arith);
@@ -65,8 +65,8 @@ unfolding fresh
 returns-3 c =
     let inside : c .before .before .before .find .result < length (c .before .before .before .before .before .before .before .before .args .text .now) = omega (arith, c .before .before .before .before .comments .ensures .within, before-le 10 (drop (c .before .before .before .before .comments .result .at) (c .before .before .before .before .before .before .before .before .args .text .now)), length-drop (c .before .before .before .before .comments .result .at) (c .before .before .before .before .before .before .before .before .args .text .now)) in
     record {
-      refusal = λ h. (read-lent (c .before .before .before .before .before .before .before .before .args .text .now) (c .before .before .before .before .before .before .before .before .args .kinds) (c .before .before .before .before .before .before .before .before .args .literals) (c .before .before .before .before .before .before .before .before .args .names) (sym (c .before .before .before .before .before .before .lent-well .ensures) ∙ c .before .before .before .before .before .if1 .taken)) ∙ sym (c .before .before .before .before .comments .ensures .right) ∙ problem-refused (c .before .before .before .before .before .before .before .before .args .text .now) (c .before .before .before .before .comments .result .at) (c .before .before .before .find .result) (c .before .before .before .before .comments .result .line) (c .before .before .before .find .ensures) inside (c .read-problem .ensures) h;
-      right = λ e. (read-lent (c .before .before .before .before .before .before .before .before .args .text .now) (c .before .before .before .before .before .before .before .before .args .kinds) (c .before .before .before .before .before .before .before .before .args .literals) (c .before .before .before .before .before .before .before .before .args .names) (sym (c .before .before .before .before .before .before .lent-well .ensures) ∙ c .before .before .before .before .before .if1 .taken)) ∙ sym (c .before .before .before .before .comments .ensures .right) ∙ problem-taken (c .before .before .before .before .before .before .before .before .args .text .now) (c .before .before .before .before .comments .result .at) (c .before .before .before .find .result) (c .before .before .before .before .comments .result .line) (c .before .before .before .find .ensures) inside (c .read-problem .ensures) e;
+      refusal = λ h. (scan-lent (c .before .before .before .before .before .before .before .before .args .text .now) (c .before .before .before .before .before .before .before .before .args .kinds) (c .before .before .before .before .before .before .before .before .args .literals) (c .before .before .before .before .before .before .before .before .args .names) (sym (c .before .before .before .before .before .before .lent-well .ensures) ∙ c .before .before .before .before .before .if1 .taken)) ∙ sym (c .before .before .before .before .comments .ensures .right) ∙ problem-refused (c .before .before .before .before .before .before .before .before .args .text .now) (c .before .before .before .before .comments .result .at) (c .before .before .before .find .result) (c .before .before .before .before .comments .result .line) (c .before .before .before .find .ensures) inside (c .read-problem .ensures) h;
+      right = λ e. (scan-lent (c .before .before .before .before .before .before .before .before .args .text .now) (c .before .before .before .before .before .before .before .before .args .kinds) (c .before .before .before .before .before .before .before .before .args .literals) (c .before .before .before .before .before .before .before .before .args .names) (sym (c .before .before .before .before .before .before .lent-well .ensures) ∙ c .before .before .before .before .before .if1 .taken)) ∙ sym (c .before .before .before .before .comments .ensures .right) ∙ problem-taken (c .before .before .before .before .before .before .before .before .args .text .now) (c .before .before .before .before .comments .result .at) (c .before .before .before .find .result) (c .before .before .before .before .comments .result .line) (c .before .before .before .find .ensures) inside (c .read-problem .ensures) e;
       sizes = λ e. lent-sizes (c .before .before .before .before .before .before .before .before .args .text .now) (c .before .before .before .before .before .before .before .before .args .kinds) (c .before .before .before .before .before .before .before .before .args .literals) (c .before .before .before .before .before .before .before .before .args .names) (sym (c .before .before .before .before .before .before .lent-well .ensures) ∙ c .before .before .before .before .before .if1 .taken);
       within = λ e. omega arith;
       line = λ e. omega (arith, c .before .before .before .before .comments .ensures .small);
