@@ -284,20 +284,20 @@ module _ (text work : List ℕ) where
           → Certified file lines r file-then lines-then work
       work-refused short d =
           let no = sym (ne-eqb (length work) work-size short) in
-          certified _ (ap (by-length (t .state .kinds) (t .state .literals) (t .state .variables) (t .state .clauses)) no ∙ ap (λ (x : Result). on-text x work) (sym (t .whole)))
+          certified _ (ap (by-length (t .formula .kinds) (t .formula .literals) (t .formula .variables) (t .formula .clauses)) no ∙ ap (λ (x : Result). on-text x work) (sym (t .whole)))
           (ap (λ (b : Bool). cond b (replicate work-size 0) work) no ∙ ap (λ (x : Result). work-by x work) (sym (t .whole))) d
 
       pub text-decided : {work-then : List ℕ} → length work ≡ work-size → work-then ≡ replicate work-size 0
           → Delivered (on-formula (take u kinds) (take e literals) v c) file lines r file-then lines-then → Certified file lines r file-then lines-then work-then
       text-decided {work-then} whole cleared d =
           let yes = sym (eq-eqb (length work) work-size whole) in
-          let here : Delivered (on-formula (t .state .kinds) (t .state .literals) (t .state .variables) (t .state .clauses)) file lines r file-then lines-then =
+          let here : Delivered (on-formula (t .formula .kinds) (t .formula .literals) (t .formula .variables) (t .formula .clauses)) file lines r file-then lines-then =
           rw (t .kinds-front, t .literals-front, t .variables-so, t .clauses-so) at d in
-          certified _ (ap (by-length (t .state .kinds) (t .state .literals) (t .state .variables) (t .state .clauses)) yes ∙ ap (λ (x : Result). on-text x work) (sym (t .whole)))
+          certified _ (ap (by-length (t .formula .kinds) (t .formula .literals) (t .formula .variables) (t .formula .clauses)) yes ∙ ap (λ (x : Result). on-text x work) (sym (t .whole)))
           (cleared ∙ ap (λ (b : Bool). cond b (replicate work-size 0) work) yes ∙ ap (λ (x : Result). work-by x work) (sym (t .whole))) here
 
   module _ {u e v c : ℕ} {kinds : List ℕ} {literals : List ℤ} (t : TextFront (text-read text) u e v c kinds literals) where
-    passes-so : Passes (t .state)
+    passes-so : Passes (t .formula)
     passes-so = subst (Results Passes) (t .whole) (read-passes text 128 8192 128)
 
     pub front-passes : checked (take u kinds) (take e literals) ≡ Accepted (sizes (take u kinds) (take e literals))

@@ -163,7 +163,7 @@ module _ (text f work : List ℕ) where
       → Finds (on-formula (take u kinds) (take e literals) c f) work result work-then → OfText result work-then
   unfolding finding left
   text-taken {result = result} {work-then = work-then} t found =
-      let here : Finds (on-formula (t .state .kinds) (t .state .literals) (t .state .clauses) f) work result work-then =
+      let here : Finds (on-formula (t .formula .kinds) (t .formula .literals) (t .formula .clauses) f) work result work-then =
       rw (t .kinds-front, t .literals-front, t .clauses-so) at found in
       (here .found ∙ ap (λ (r : Result). on-text r f work .finding) (sym (t .whole)), here .area ∙ ap (λ (r : Result). on-text r f work .work) (sym (t .whole)))
 

@@ -26,7 +26,7 @@ enum-known-number : tie.Need-enum-known-number
 enum-known-number c = search needs
 
 cast-refuse : tie.Need-cast-refuse
-cast-refuse c = fits-under w32 _ 4294967296 (omega (arith, line-small (c .before .before .before .before .before .before .before .before .before .before .before .before .before .before .args .text .now) (c .before .before .before .before .before .before .before .before .before .before .before .before .before .before .args .work .now) (read-refused (c .before .before .before .before .before .before .read .ensures) (c .before .number .given .1)))) tt
+cast-refuse c = fits-under w32 _ 4294967296 (omega (arith, line-small (c .before .before .before .before .before .before .before .before .before .before .before .before .before .before .args .text .now) (c .before .before .before .before .before .before .before .before .before .before .before .before .before .before .args .work .now) (read-refused (c .before .before .before .before .before .before .read .ensures .0) (c .before .number .given .1)))) tt
 
 refuse-requires : tie.Need-refuse-requires
 refuse-requires c κs = search needs
@@ -44,28 +44,28 @@ same-length-2 : tie.Need-same-length-2
 same-length-2 c = search needs
 
 returns : tie.Need-returns
-returns c = work-refused (c .before .before .before .before .before .before .before .before .before .before .before .before .before .before .before .before .before .before .before .before .before .before .args .text .now) (c .before .before .before .before .before .before .before .before .before .before .before .before .before .before .before .before .before .before .before .before .before .before .args .work .now) (c .before .before .before .before .before .before .before .before .before .before .before .before .before .before .before .before .before .before .before .before .before .before .args .file .now) (c .before .before .before .before .before .before .before .before .before .before .before .before .before .before .before .before .before .before .before .before .before .before .args .lines .now) (certificate-right (c .before .before .before .before .before .before .before .before .before .before .before .before .before .before .before .before .before .before .before .before .before .before .args .text .now)) (read-taken (c .before .before .before .before .before .before .before .before .before .before .before .before .before .before .read .ensures) (c .before .before .before .before .before .before .before .before .before .unknowns .given .1)) (c .before .before .before .before .before .before .before .if1 .taken) (c .before .before .before .before .refuse2 .ensures)
+returns c = work-refused (c .before .before .before .before .before .before .before .before .before .before .before .before .before .before .before .before .before .before .before .before .before .before .args .text .now) (c .before .before .before .before .before .before .before .before .before .before .before .before .before .before .before .before .before .before .before .before .before .before .args .work .now) (c .before .before .before .before .before .before .before .before .before .before .before .before .before .before .before .before .before .before .before .before .before .before .args .file .now) (c .before .before .before .before .before .before .before .before .before .before .before .before .before .before .before .before .before .before .before .before .before .before .args .lines .now) (certificate-right (c .before .before .before .before .before .before .before .before .before .before .before .before .before .before .before .before .before .before .before .before .before .before .args .text .now)) (read-taken (c .before .before .before .before .before .before .before .before .before .before .before .before .before .before .read .ensures .0) (c .before .before .before .before .before .before .before .before .before .unknowns .given .1)) (c .before .before .before .before .before .before .before .if1 .taken) (c .before .before .before .before .refuse2 .ensures)
 
 array-share-prefix-kinds : tie.Need-array-share-prefix-kinds
-array-share-prefix-kinds c = (read-taken (c .before .before .before .before .before .before .before .read .ensures) (c .before .before .unknowns .given .1)) .kinds-there
+array-share-prefix-kinds c = (read-taken (c .before .before .before .before .before .before .before .read .ensures .0) (c .before .before .unknowns .given .1)) .kinds-there
 
 slice-aggregate-decided : tie.Need-slice-aggregate-decided
-slice-aggregate-decided c = sym (length-take-le (c .before .before .before .unknowns .given .0 .0) (c .before .before .before .before .before .before .before .before .read .last .1 .0) ((read-taken (c .before .before .before .before .before .before .before .before .read .ensures) (c .before .before .before .unknowns .given .1)) .kinds-there))
+slice-aggregate-decided c = sym (length-take-le (c .before .before .before .unknowns .given .0 .0) (c .before .before .before .before .before .before .before .before .read .last .1 .0) ((read-taken (c .before .before .before .before .before .before .before .before .read .ensures .0) (c .before .before .before .unknowns .given .1)) .kinds-there))
 
 array-share-prefix-literals : tie.Need-array-share-prefix-literals
-array-share-prefix-literals c = (read-taken (c .before .before .before .before .before .before .before .before .read .ensures) (c .before .before .before .unknowns .given .1)) .literals-there
+array-share-prefix-literals c = (read-taken (c .before .before .before .before .before .before .before .before .read .ensures .0) (c .before .before .before .unknowns .given .1)) .literals-there
 
 slice-aggregate-decided-2 : tie.Need-slice-aggregate-decided-2
-slice-aggregate-decided-2 c = sym (length-take-le (c .before .before .before .before .unknowns .given .0 .1 .0) (c .before .before .before .before .before .before .before .before .before .read .last .1 .1 .0) ((read-taken (c .before .before .before .before .before .before .before .before .before .read .ensures) (c .before .before .before .before .unknowns .given .1)) .literals-there))
+slice-aggregate-decided-2 c = sym (length-take-le (c .before .before .before .before .unknowns .given .0 .1 .0) (c .before .before .before .before .before .before .before .before .before .read .last .1 .1 .0) ((read-taken (c .before .before .before .before .before .before .before .before .before .read .ensures .0) (c .before .before .before .before .unknowns .given .1)) .literals-there))
 
 cast-decided : tie.Need-cast-decided
-cast-decided c = fits-under w32 _ 4294967296 (omega (arith, variables-small (c .before .before .before .before .before .before .before .before .before .before .before .before .before .before .before .before .before .args .text .now) (c .before .before .before .before .before .before .before .before .before .before .before .before .before .before .before .before .before .args .work .now) (read-taken (c .before .before .before .before .before .before .before .before .before .read .ensures) (c .before .before .before .before .unknowns .given .1)))) tt
+cast-decided c = fits-under w32 _ 4294967296 (omega (arith, variables-small (c .before .before .before .before .before .before .before .before .before .before .before .before .before .before .before .before .before .args .text .now) (c .before .before .before .before .before .before .before .before .before .before .before .before .before .before .before .before .before .args .work .now) (read-taken (c .before .before .before .before .before .before .before .before .before .read .ensures .0) (c .before .before .before .before .unknowns .given .1)))) tt
 
 cast-decided-2 : tie.Need-cast-decided-2
-cast-decided-2 c = fits-under w32 _ 4294967296 (omega (arith, clauses-small (c .before .before .before .before .before .before .before .before .before .before .before .before .before .before .before .before .before .args .text .now) (c .before .before .before .before .before .before .before .before .before .before .before .before .before .before .before .before .before .args .work .now) (read-taken (c .before .before .before .before .before .before .before .before .before .read .ensures) (c .before .before .before .before .unknowns .given .1)))) tt
+cast-decided-2 c = fits-under w32 _ 4294967296 (omega (arith, clauses-small (c .before .before .before .before .before .before .before .before .before .before .before .before .before .before .before .before .before .args .text .now) (c .before .before .before .before .before .before .before .before .before .before .before .before .before .before .before .before .before .args .work .now) (read-taken (c .before .before .before .before .before .before .before .before .before .read .ensures .0) (c .before .before .before .before .unknowns .given .1)))) tt
 
 decided-requires : tie.Need-decided-requires
-decided-requires c κs = (front-passes (c .before .before .before .before .before .before .before .before .before .before .before .before .before .before .before .before .before .before .before .before .args .text .now) (c .before .before .before .before .before .before .before .before .before .before .before .before .before .before .before .before .before .before .before .before .args .work .now) (read-taken (c .before .before .before .before .before .before .before .before .before .before .before .before .read .ensures) (c .before .before .before .before .before .before .before .unknowns .given .1)), c .before .before .before .before .before .if1 .left, clauses-small (c .before .before .before .before .before .before .before .before .before .before .before .before .before .before .before .before .before .before .before .before .args .text .now) (c .before .before .before .before .before .before .before .before .before .before .before .before .before .before .before .before .before .before .before .before .args .work .now) (read-taken (c .before .before .before .before .before .before .before .before .before .before .before .before .read .ensures) (c .before .before .before .before .before .before .before .unknowns .given .1)))
+decided-requires c κs = (front-passes (c .before .before .before .before .before .before .before .before .before .before .before .before .before .before .before .before .before .before .before .before .args .text .now) (c .before .before .before .before .before .before .before .before .before .before .before .before .before .before .before .before .before .before .before .before .args .work .now) (read-taken (c .before .before .before .before .before .before .before .before .before .before .before .before .read .ensures .0) (c .before .before .before .before .before .before .before .unknowns .given .1)), c .before .before .before .before .before .if1 .left, clauses-small (c .before .before .before .before .before .before .before .before .before .before .before .before .before .before .before .before .before .before .before .before .args .text .now) (c .before .before .before .before .before .before .before .before .before .before .before .before .before .before .before .before .before .before .before .before .args .work .now) (read-taken (c .before .before .before .before .before .before .before .before .before .before .before .before .read .ensures .0) (c .before .before .before .before .before .before .before .unknowns .given .1)))
 
 same-length-3 : tie.Need-same-length-3
 same-length-3 c = search needs
@@ -74,7 +74,7 @@ same-length-4 : tie.Need-same-length-4
 same-length-4 c = search needs
 
 returns-2 : tie.Need-returns-2
-returns-2 c = text-refused (c .before .before .before .before .before .before .before .before .before .before .before .before .before .before .before .before .before .before .before .before .before .args .text .now) (c .before .before .before .before .before .before .before .before .before .before .before .before .before .before .before .before .before .before .before .before .before .args .work .now) (c .before .before .before .before .before .before .before .before .before .before .before .before .before .before .before .before .before .before .before .before .before .args .file .now) (c .before .before .before .before .before .before .before .before .before .before .before .before .before .before .before .before .before .before .before .before .before .args .lines .now) (certificate-right (c .before .before .before .before .before .before .before .before .before .before .before .before .before .before .before .before .before .before .before .before .before .args .text .now)) (read-refused (c .before .before .before .before .before .before .before .before .before .before .before .before .before .read .ensures) (c .before .before .before .before .before .before .before .before .number .given .1)) (c .before .before .before .before .refuse .ensures)
+returns-2 c = text-refused (c .before .before .before .before .before .before .before .before .before .before .before .before .before .before .before .before .before .before .before .before .before .args .text .now) (c .before .before .before .before .before .before .before .before .before .before .before .before .before .before .before .before .before .before .before .before .before .args .work .now) (c .before .before .before .before .before .before .before .before .before .before .before .before .before .before .before .before .before .before .before .before .before .args .file .now) (c .before .before .before .before .before .before .before .before .before .before .before .before .before .before .before .before .before .before .before .before .before .args .lines .now) (certificate-right (c .before .before .before .before .before .before .before .before .before .before .before .before .before .before .before .before .before .before .before .before .before .args .text .now)) (read-refused (c .before .before .before .before .before .before .before .before .before .before .before .before .before .read .ensures .0) (c .before .before .before .before .before .before .before .before .number .given .1)) (c .before .before .before .before .refuse .ensures)
 
 same-length-5 : tie.Need-same-length-5
 same-length-5 c = search needs
@@ -86,7 +86,7 @@ same-length-7 : tie.Need-same-length-7
 same-length-7 c = search needs
 
 returns-3 : tie.Need-returns-3
-returns-3 c = text-decided (c .before .before .before .before .before .before .before .before .before .before .before .before .before .before .before .before .before .before .before .before .before .before .before .before .before .before .before .args .text .now) (c .before .before .before .before .before .before .before .before .before .before .before .before .before .before .before .before .before .before .before .before .before .before .before .before .before .before .before .args .work .now) (c .before .before .before .before .before .before .before .before .before .before .before .before .before .before .before .before .before .before .before .before .before .before .before .before .before .before .before .args .file .now) (c .before .before .before .before .before .before .before .before .before .before .before .before .before .before .before .before .before .before .before .before .before .before .before .before .before .before .before .args .lines .now) (certificate-right (c .before .before .before .before .before .before .before .before .before .before .before .before .before .before .before .before .before .before .before .before .before .before .before .before .before .before .before .args .text .now)) (read-taken (c .before .before .before .before .before .before .before .before .before .before .before .before .before .before .before .before .before .before .before .read .ensures) (c .before .before .before .before .before .before .before .before .before .before .before .before .before .before .unknowns .given .1)) (c .before .before .before .before .before .before .before .before .before .before .before .before .if1 .left) (c .before .before .before .before .before .before .decided .ensures .1) (c .before .before .before .before .before .before .decided .ensures .0)
+returns-3 c = text-decided (c .before .before .before .before .before .before .before .before .before .before .before .before .before .before .before .before .before .before .before .before .before .before .before .before .before .before .before .args .text .now) (c .before .before .before .before .before .before .before .before .before .before .before .before .before .before .before .before .before .before .before .before .before .before .before .before .before .before .before .args .work .now) (c .before .before .before .before .before .before .before .before .before .before .before .before .before .before .before .before .before .before .before .before .before .before .before .before .before .before .before .args .file .now) (c .before .before .before .before .before .before .before .before .before .before .before .before .before .before .before .before .before .before .before .before .before .before .before .before .before .before .before .args .lines .now) (certificate-right (c .before .before .before .before .before .before .before .before .before .before .before .before .before .before .before .before .before .before .before .before .before .before .before .before .before .before .before .args .text .now)) (read-taken (c .before .before .before .before .before .before .before .before .before .before .before .before .before .before .before .before .before .before .before .read .ensures .0) (c .before .before .before .before .before .before .before .before .before .before .before .before .before .before .unknowns .given .1)) (c .before .before .before .before .before .before .before .before .before .before .before .before .if1 .left) (c .before .before .before .before .before .before .decided .ensures .1) (c .before .before .before .before .before .before .decided .ensures .0)
 
 pub certify-spec : {M : Type 1} → statement M
 certify-spec =
