@@ -75,16 +75,24 @@ misused() { fail "$*; ${help%%$'\n'*}"; }
 
 version() {
     local commit kit
+    if is_installed; then
+        sed "s/^/$name /" "$root/version"
+        return
+    fi
     commit=$(git -C "$root" describe --always --dirty) || commit="of no known commit"
     kit=$(rt version) || kit="none on PATH"
     printf '%s\n' "$name $commit" "toolchain: $kit"
 }
+
+# Whether this is an installed copy, which has no sources: its programs passed their check when it was made.
+is_installed() { [ ! -e "$root/crates.txt" ]; }
 
 # Whether the program passed its check and nothing that it could be made of has changed since the check began. The time compared is that of the
 # file's last change of any kind, which nothing sets back; folders count, since theirs moves on when a file goes.
 is_current() {
     local changed
     [ -x "$program" ] || return 1
+    ! is_installed || return 0
     changed=$(find "$root/crates.txt" "$root/crates" -name must-fail -prune -o -newercm "$program" -print -quit) && [ -z "$changed" ]
 }
 
