@@ -43,8 +43,8 @@ module _ (text f work : List ℕ) (right : FindingRight text f work) where
   case-judged case found told area = (ap number-of (sym told ∙ found), (area, judged-right))
 
 -- The file alone.
-pub file-certified : {text out work : List ℕ} {lines lines-then : List ℕ} {r : Counts} {out-then work-then : List ℕ}
+pub file-certified : (text out work : List ℕ) {lines lines-then : List ℕ} {r : Counts} {out-then work-then : List ℕ}
     → Delivered (output text work) out lines r out-then lines-then × ((work-then ≡ witness-left text work) × CertificateRight text)
     → (r .file ≡ put-count (output text work .file) out)
     × ((out-then ≡ put (output text work .file) out) × ((work-then ≡ witness-left text work) × CertificateRight text))
-file-certified c = (c .0 .file-counted, (c .0 .file-written, (c .1 .0, c .1 .1)))
+file-certified text out work c = (c .0 .file-counted, (c .0 .file-written, (c .1 .0, c .1 .1)))
