@@ -1,9 +1,12 @@
 # shellcheck shell=bash disable=SC2064,SC2094,SC2154
-# What the commands at the root share: a command builds its program where that is needed, hands it one text, prints what it prints, and ends
-# with a status that tells what was printed. A command sources this file, sets
+# What the commands at the root share: a command builds its program where that is needed, hands it one text, or a text and a file, prints what it
+# prints, and ends with a status that tells what was printed. A command sources this file, sets
 #     help        what --help prints; its first line is the usage
+#     name        what it calls itself, if that is not its crate
+#     second      set where it takes a second file, which the program reads from descriptor 3
 # defines
-#     status_of LINE      prints the exit status for the first line that the program printed; 2 for a line that it never prints
+#     status_of LINE      prints the exit status for the first line that the program printed, on standard error if it printed none on standard
+#                         output; 2 for a line that it never prints
 # and calls
 #     command_of CRATE WORDS..    with its own words
 # What is kept lies in target/command: the program as it last passed its check, the log of its build, and a lock.
@@ -14,7 +17,7 @@ made=$root/target/command
 # No program here takes a text of so many bytes, so the rest of a longer one need not be read for it to be refused.
 MOST_BYTES=1048576
 
-say() { printf '%s: %s\n' "$crate" "$*" >&2; }
+say() { printf '%s: %s\n' "$name" "$*" >&2; }
 
 # A sentence on standard error, and the status for wrong use, unreadable input, a failed build, and output that could not be written.
 fail() {
@@ -23,10 +26,9 @@ fail() {
 }
 
 command_of() {
-    crate=$1 program=$made/$1
+    crate=$1 program=$made/$1 name=${name:-$1}
     shift
     { : 3>&1; } 2>/dev/null || fail "standard output is closed"
-    local input="standard input"
     case ${1-} in
     -h | --help)
         printf '%s\n' "$help" 2>/dev/null || fail "standard output could not be written"
@@ -36,37 +38,61 @@ command_of() {
         version 2>/dev/null || fail "standard output could not be written"
         exit 0
         ;;
-    -) [ $# -eq 1 ] || misused "one text at a time" ;;
-    -*) misused "there is no option $1" ;;
-    *)
-        [ $# -le 1 ] || misused "one file at a time"
-        if [ $# -eq 1 ]; then
-            input=$1
-            [ ! -d "$input" ] || fail "$input is a directory"
-            [ -e "$input" ] || fail "there is no file $input"
-            { exec <"$input"; } 2>/dev/null || fail "cannot open $input"
-        fi
-        ;;
+    -?*) misused "there is no option $1" ;;
     esac
+    if [ -n "${second-}" ]; then
+        [ $# -eq 2 ] || misused "a formula and a file are wanted"
+        [ "$1 $2" != "- -" ] || misused "only one of the two can be standard input"
+        [ "$2" != - ] || exec 8<&0
+    elif [ $# -gt 1 ]; then
+        [ "$1" = - ] && misused "one text at a time"
+        misused "one file at a time"
+    fi
+    local input="standard input" file="standard input"
+    if [ $# -ge 1 ] && [ "$1" != - ]; then
+        input=$1
+        can_open "$input"
+        { exec <"$input"; } 2>/dev/null || fail "cannot open $input"
+    fi
+    if [ $# -eq 2 ] && [ "$2" != - ]; then
+        file=$2
+        can_open "$file"
+        { exec 8<"$file"; } 2>/dev/null || fail "cannot open $file"
+    fi
     { : 3<&0; } 2>/dev/null || fail "standard input is closed"
+    [ -z "${second-}" ] || { : 3<&8; } 2>/dev/null || fail "standard input is closed"
     is_current || build
-    answer "$input"
+    answer "$input" "$file"
+}
+
+# A sentence for a name that is no file's.
+can_open() { # FILE
+    [ ! -d "$1" ] || fail "$1 is a directory"
+    [ -e "$1" ] || fail "there is no file $1"
 }
 
 misused() { fail "$*; ${help%%$'\n'*}"; }
 
 version() {
     local commit kit
+    if is_installed; then
+        sed "s/^/$name /" "$root/version"
+        return
+    fi
     commit=$(git -C "$root" describe --always --dirty) || commit="of no known commit"
     kit=$(rt version) || kit="none on PATH"
-    printf '%s\n' "$crate $commit" "toolchain: $kit"
+    printf '%s\n' "$name $commit" "toolchain: $kit"
 }
+
+# Whether this is an installed copy, which has no sources: its programs passed their check when it was made.
+is_installed() { [ ! -e "$root/crates.txt" ]; }
 
 # Whether the program passed its check and nothing that it could be made of has changed since the check began. The time compared is that of the
 # file's last change of any kind, which nothing sets back; folders count, since theirs moves on when a file goes.
 is_current() {
     local changed
     [ -x "$program" ] || return 1
+    ! is_installed || return 0
     changed=$(find "$root/crates.txt" "$root/crates" -name must-fail -prune -o -newercm "$program" -print -quit) && [ -z "$changed" ]
 }
 
@@ -114,7 +140,7 @@ watch_build() {
         kill -0 "$building" 2>/dev/null || running=no
         proved=$(grep -c '^rt: [A-Za-z0-9_]* proved (' "$1")
         if [ -t 2 ]; then
-            printf '\r%s: %s of %s crates proved, %s s ' "$crate" "$proved" "$all" "$SECONDS" >&2
+            printf '\r%s: %s of %s crates proved, %s s ' "$name" "$proved" "$all" "$SECONDS" >&2
         elif [ "$proved" != "$shown" ]; then
             say "$proved of $all crates proved, $SECONDS s"
         fi
@@ -147,25 +173,39 @@ stop_build() { # SIGNAL
     kill "-$1" "$$"
 }
 
-# Hands standard input to the program, prints its lines and ends with their status. A text that cannot be read to its end is not handed on, since
-# the program would take what there is for the whole. However this call ends, the program ends with it, and no file is left.
-answer() { # INPUT
+# Hands standard input, and the second file, to the program, prints its lines and ends with their status. What cannot be read to its end is not
+# handed on, since the program would take what there is for the whole. However this call ends, the program ends with it, and no file is left.
+answer() { # INPUT FILE
     local room said ended line status signal with=()
     room=$(mktemp -d 2>/dev/null) || fail "cannot make a temporary folder in ${TMPDIR:-/tmp}"
-    exec 3>"$room/text" 4<"$room/text" 5>"$room/lines" 6<"$room/lines" 7<"$room/lines"
+    local text read_text file read_file lines first_line all_lines errors first_error all_errors
+    exec {text}>"$room/text" {read_text}<"$room/text" {file}>"$room/file" {read_file}<"$room/file"
+    exec {lines}>"$room/lines" {first_line}<"$room/lines" {all_lines}<"$room/lines"
+    exec {errors}>"$room/errors" {first_error}<"$room/errors" {all_errors}<"$room/errors"
     rm -rf "$room" # a file lasts as long as it is open
-    said=$(head -c "$MOST_BYTES" 2>&1 >&3) || fail "cannot read $1 to its end (${said#head: })"
+    said=$(head -c "$MOST_BYTES" 2>&1 >&"$text") || fail "cannot read $1 to its end (${said#head: })"
+    if [ -n "${second-}" ]; then
+        said=$(head -c "$MOST_BYTES" <&8 2>&1 >&"$file") || fail "cannot read $2 to its end (${said#head: })"
+        exec 3<&"$read_file"
+    fi
     ! setpriv --pdeathsig KILL true 2>/dev/null || with=(setpriv --pdeathsig KILL)
-    "${with[@]}" "$program" <&4 >&5 3>&- 4<&- 5>&- 6<&- 7<&- &
+    (
+        exec <&"$read_text" >&"$lines" 2>&"$errors" 8<&-
+        [ -n "${second-}" ] || exec 3<&-
+        exec {text}>&- {read_text}<&- {file}>&- {read_file}<&- {lines}>&- {first_line}<&- {all_lines}<&- {errors}>&- {first_error}<&- {all_errors}<&-
+        exec "${with[@]}" "$program"
+    ) &
     running=$!
     for signal in HUP INT TERM; do trap "stop_program $signal" "$signal"; done
     wait "$running"
     ended=$?
     trap - HUP INT TERM
-    IFS= read -r line <&6
+    IFS= read -r line <&"$first_line"
+    [ -n "$line" ] || IFS= read -r line <&"$first_error"
     status=$(status_of "$line")
     [ "$status" -ne 2 ] || fail "the program ended with status $ended and without an answer"
-    cat <&7 2>/dev/null || fail "standard output could not be written"
+    cat <&"$all_errors" >&2
+    cat <&"$all_lines" 2>/dev/null || fail "standard output could not be written"
     exit "$status"
 }
 

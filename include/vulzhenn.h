@@ -1,7 +1,7 @@
-/* Vulzhenn: decides a quantified Boolean formula in narrowed QDIMACS, by one function for C.
+/* Vulzhenn: decides a quantified Boolean formula in narrowed QDIMACS, writes the rows that bear the answer out, and judges such rows.
  *
  * Link with target/staticlib/libdoor.a, which `rt staticlib door` proves and writes for x86-64 Linux. It uses memcpy and memset, and nothing
- * else of the C library. What the function returns and leaves is defined in crates/door/specs/Door.antt and proved for every input.
+ * else of the C library. What each function returns and leaves is defined in crates/door/specs and proved for every input.
  */
 #ifndef VULZHENN_H
 #define VULZHENN_H
@@ -73,6 +73,49 @@ extern "C" {
  * share a text.
  */
 uint32_t vulzhenn_decide(const uint8_t *text, size_t text_length, uint8_t *work, size_t work_length, uint32_t limit);
+
+/* A witness file that vulzhenn_witness writes has at most this many bytes. */
+#define VULZHENN_WITNESS 4106
+
+/* A witness file that is accepted has at most this many bytes. */
+#define VULZHENN_WITNESS_READ 8204
+
+/* The text is decided with no preferences, 256 rows a side and a limit of 1,000 rounds, and the witness file of the side that settled it is put at the start of
+ * out: the claim, the number of unknowns and of clauses, the side's rows, the rounds. vulzhenn_judge accepts it on that text.
+ *
+ * text, text_length   the text's bytes; they are read only
+ * out, out_length     room for the file; VULZHENN_WITNESS bytes are always enough
+ * work, work_length   the work area, of VULZHENN_WORK bytes, with any content
+ *
+ * Returns the file's length, and what lies past it in out is as it was; or 0, and out is as it was: the formula is undecided, the text is refused, the file does
+ * not fit, or the work area has not VULZHENN_WORK bytes. Which one it is vulzhenn_decide tells. The work area is zero after a text that is taken, unless
+ * it has another length, and as it was found otherwise. No pointer is null, and no two areas share a byte. A call needs VULZHENN_STACK bytes of stack at most.
+ */
+size_t vulzhenn_witness(const uint8_t *text, size_t text_length, uint8_t *out, size_t out_length, uint8_t *work, size_t work_length);
+
+/* What vulzhenn_judge returns besides a refusal. */
+#define VULZHENN_NOT_BORNE_OUT 0
+#define VULZHENN_ACCEPTED 1
+#define VULZHENN_OTHER_FORMULA 2
+
+/* Judges a witness file about a text: whether the rows of its claim's side bear the claim out.
+ *
+ * text, text_length         the text's bytes
+ * witness, witness_length   the file's bytes
+ * work, work_length         the work area, of VULZHENN_WORK bytes, with any content
+ *
+ * Returns VULZHENN_ACCEPTED only if the text's formula has the value that the file claims; VULZHENN_NOT_BORNE_OUT; VULZHENN_OTHER_FORMULA if the file has sizes
+ * that are not the formula's, when it is not judged; or 100 plus the number of a refusal: those of the text, then of the file 17 (a map with bit 5, 6 or
+ * 7), 18 (it is empty, stops short or goes on), 7 (the claim is above 1, or there is none), 4 (a count of 0 or over 256, or no rows of the claim's side), 8 (a bit
+ * beyond a row's unknowns), and 5 (the work area's length). The work area is zero after 0 and 1, and as it was found otherwise. No pointer is null, and
+ * the work area shares no byte with the others. A call needs VULZHENN_STACK bytes of stack at most.
+ */
+uint32_t vulzhenn_judge(const uint8_t *text, size_t text_length, const uint8_t *witness, size_t witness_length, uint8_t *work, size_t work_length);
+
+/* The number of this interface. A library with another number than VULZHENN_VERSION is not the one of this header. */
+#define VULZHENN_VERSION 2
+
+uint32_t vulzhenn_version(void);
 
 #ifdef __cplusplus
 }

@@ -1,4 +1,4 @@
-/* Checks of the C function: numbers, work areas, the bytes around them, threads, and the stack of a call.
+/* Checks of the C functions: numbers, work areas, the bytes around them, threads, and the stack of a call; that a text's witness file is accepted.
  *
  * usage: door LIST, a line 'NUMBER PATH' for each text that is to be answered or refused with that number under the limit 1,000.
  * The last line is 'N passed, M failed'.
@@ -125,6 +125,7 @@ struct deep {
     const uint8_t *text;
     size_t length;
     uint32_t number;
+    uint32_t judged;
     uint8_t *stack;
     size_t used;
 };
@@ -134,13 +135,21 @@ static __attribute__((noinline)) uint32_t decide(struct deep *d, uint8_t *work)
     return vulzhenn_decide(d->text, d->length, work, VULZHENN_WORK, 1000);
 }
 
+/* The judge's number for the text's own witness file. */
+static __attribute__((noinline)) uint32_t judge(struct deep *d, uint8_t *work, uint8_t *file)
+{
+    size_t length = vulzhenn_witness(d->text, d->length, file, VULZHENN_WITNESS, work, VULZHENN_WORK);
+    return vulzhenn_judge(d->text, d->length, file, length, work, VULZHENN_WORK);
+}
+
 static void *measured(void *given)
 {
-    static uint8_t work[VULZHENN_WORK];
+    static uint8_t work[VULZHENN_WORK], file[VULZHENN_WITNESS];
     struct deep *d = given;
     uint8_t *here = __builtin_frame_address(0);
     size_t low = 0;
     d->number = decide(d, work);
+    d->judged = judge(d, work, file);
     while (d->stack[low] == PAINT)
         low++;
     d->used = (size_t)(here - (d->stack + low));
@@ -149,7 +158,7 @@ static void *measured(void *given)
 
 static void stack(const char *name, const uint8_t *text, size_t length, uint32_t wanted)
 {
-    struct deep d = {text, length, 0, NULL, 0};
+    struct deep d = {text, length, 0, 0, NULL, 0};
     pthread_attr_t with;
     pthread_t thread;
     char said[80];
@@ -162,6 +171,7 @@ static void stack(const char *name, const uint8_t *text, size_t length, uint32_t
     munmap(d.stack, STACK);
     snprintf(said, sizeof said, "wanted %u, got %u", (unsigned)wanted, (unsigned)d.number);
     check(d.number == wanted, name, said);
+    check(d.judged == VULZHENN_ACCEPTED, name, "its witness file is not accepted");
     check(d.used <= VULZHENN_STACK, name, "more stack than the header says");
     printf("%s: %zu bytes of stack\n", name, d.used);
 }
@@ -233,6 +243,7 @@ int main(int count, char **words)
     size_t length = universal(text);
     stack("128 universal unknowns", (const uint8_t *)text, length, 0);
 
+    check(vulzhenn_version() == VULZHENN_VERSION, "version", "another number than the header's");
     printf("%d passed, %d failed\n", passed, failed);
     return failed != 0 || passed == 0;
 }

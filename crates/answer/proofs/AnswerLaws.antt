@@ -2,11 +2,11 @@
 use Prim.Native.Nat.{ℕ, _≤_}
 use native.Mathlib.Omega.{arith}
 use mathlib.Core.Path.{_≡_, refl, sym, ap, subst, _∙_}
-use mathlib.Core.Bool.{Bool, true, false, cond}
-use mathlib.Core.List.{List, _++_}
-use lib.Dec.{eqb, leb}
+use mathlib.Core.Bool.{true}
+use mathlib.Core.List.{List}
+use lib.Dec.{eqb}
 use lib.IntN.{ℤ}
-use lib.ListN.{length, take, drop, replicate, length-replicate, length-append}
+use lib.ListN.{length, take, replicate, length-replicate}
 use Rattle.formula.specs.Formula.{work-size, universal, existential, prefix}
 use Rattle.formula.specs.Causes.{checked, sizes}
 use Rattle.formula.specs.declared.Check.the-variants.{Accepted}
@@ -17,7 +17,7 @@ use Rattle.run.proofs.OutcomeLaws.{number-named}
 use Rattle.text.specs.Reading.{max-variables, max-bytes, Result, taken, refused, text-read}
 use Rattle.text.proofs.TextLaws.{Results, Passes, read-passes, refused-line}
 use Rattle.text.proofs.FrontLaws.{Front}
-use Rattle.report.specs.Report.{result-lines, refusal-line, put, put-count}
+use Rattle.report.specs.Report.{result-lines, refusal-line}
 use Rattle.decision.specs.Decision.{handed-on, own-lent}
 use Rattle.decision.proofs.DecisionLaws.{returned-so}
 use Rattle.answer.specs.Printed.{round-limit, settled, result-of, shown, printed}
@@ -72,12 +72,3 @@ module _ (text : List ℕ) where
     pub taken-printed : result-of (take u kinds) (take e literals) v c ≡ printed text
     unfolding printed
     taken-printed = rw (f .kinds-front, f .literals-front, f .variables-so, f .clauses-so) (ap shown (sym (f .whole)))
-
--- What was put into a buffer is no longer than it.
-pub within : (bytes buffer : List ℕ) {r : ℕ} {after : List ℕ} → r ≡ put-count bytes buffer → after ≡ put bytes buffer → r ≤ length after
-unfolding put put-count
-within bytes buffer {r} {after} counted written = go (leb (length bytes) (length buffer)) counted written
-  where
-    go : (b : Bool) → r ≡ cond b (length bytes) 0 → after ≡ cond b (bytes ++ drop (length bytes) buffer) buffer → r ≤ length after
-    go true e f = omega (arith, e, ap length f, length-append bytes (drop (length bytes) buffer))
-    go false e f = omega (arith, e)

@@ -1,47 +1,13 @@
 -- The printed lines: how long they are, and how they begin. Assumes nothing.
-use Prim.Native.Nat.{ℕ, zero, suc, _+_, _/_, _%_, _^_, _≤_, _<_}
-use native.Mathlib.Nat.{pow-suc}
-use borrow.Author.Tests.{ltb-false}
+use Prim.Native.Nat.{ℕ, zero, suc, _≤_}
 use native.Mathlib.Omega.{arith}
 use mathlib.Core.Path.{_≡_, refl, ap}
-use mathlib.Core.Bool.{Bool, true, false, cond}
-use mathlib.Core.List.{List, [], _∷_, _++_}
-use lib.Dec.{ltb}
-use lib.ListN.{length, length-append}
+use mathlib.Core.List.{List}
+use lib.ListN.{length}
 use Rattle.rounds.specs.Run.{Answer, is-false, is-true, spent, no-room-universal, no-room-existential, number}
-use Rattle.report.specs.Report.{ascii, decimal, decimal-within, truth, line-one, line-two, result-lines, pair-line, refusal-line}
+use Rattle.report.specs.Report.{ascii, truth, line-one, line-two, result-lines, pair-line, refusal-line}
+use Rattle.report.proofs.Lengths.{AtMost, fixed, behind, Small, decimal-short, refusal-most}
 use Rattle.answer.specs.AnswerRight.{Begins}
-
--- A number below a power of ten has no more digits than the exponent says.
-digits-most : (places k n : ℕ) → n < 10 ^ suc k → length (decimal-within places n) ≤ suc k
-digits-most zero k n small = omega arith
-digits-most (suc places) k n small = go (ltb n 10) k refl small (λ k. digits-most places k (n / 10))
-  where
-    go : (b : Bool) (k : ℕ) → ltb n 10 ≡ b → n < 10 ^ suc k → ((k : ℕ) → n / 10 < 10 ^ suc k → length (decimal-within places (n / 10)) ≤ suc k)
-        → length (cond b [] (decimal-within places (n / 10)) ++ ((48 + n % 10) ∷ [])) ≤ suc k
-    go true k e small more = omega arith
-    go false zero e small more = absurd (omega (arith, ltb-false n 10 e))
-    go false (suc k) e small more =
-        let front : n / 10 < 10 ^ suc k = omega (arith, pow-suc 10 (suc k), small) in
-        omega (arith, length-append (decimal-within places (n / 10)) ((48 + n % 10) ∷ []), more k front)
-
--- A part of a line, and how long it is at most.
-record AtMost (m : ℕ) (part : List ℕ) : Type 0 where
-  most : length part ≤ m
-
-fixed : (part : List ℕ) → AtMost (length part) part
-fixed part = record { most = omega arith }
-
-behind : {m n : ℕ} {front back : List ℕ} → AtMost m front → AtMost n back → AtMost (m + n) (front ++ back)
-behind {front = front} {back = back} a b = record { most = omega (arith, a .most, b .most, length-append front back) }
-
--- The numbers that are printed have 32 bits.
-abbrev pub Small : ℕ → Type 0
-Small n = n < 4294967296
-
-decimal-short : (n : ℕ) → Small n → AtMost 10 (decimal n)
-unfolding decimal
-decimal-short n small = record { most = digits-most 20 9 n (omega (arith, small)) }
 
 truth-short : (n : ℕ) → AtMost 2 (ascii (truth n))
 truth-short zero = record { most = omega arith }
@@ -63,11 +29,6 @@ pub result-short : (answer variables clauses rounds universal existential : ℕ)
 unfolding result-lines
 result-short answer variables clauses rounds universal existential v c r a s =
     omega (arith, behind (line-one-short answer variables clauses v c) (line-two-short rounds universal existential r a s) .most)
-
-refusal-most : (n line : ℕ) → Small n → Small line → AtMost 32 (refusal-line n line)
-unfolding refusal-line pair-line
-refusal-most n line a b =
-    behind (behind (behind (behind (fixed (ascii "c refused ")) (decimal-short n a)) (fixed (ascii " "))) (decimal-short line b)) (fixed (ascii "\n"))
 
 pub refusal-short : (n line : ℕ) → Small n → Small line → length (refusal-line n line) ≤ 128
 refusal-short n line a b = omega (arith, refusal-most n line a b .most)

@@ -13,9 +13,9 @@ use Rattle.rows.specs.Table.{table-fits}
 use Rattle.formula.specs.Formula.{work-size, prefix}
 use Rattle.rounds.specs.Run.{run}
 use Rattle.run.specs.declared.Outcome.{Outcome}
-use Rattle.run.specs.Outcome.{Areas, Given, lent, side-fits, tables-fit, tables-counted, cause, reported, returned, left}
+use Rattle.run.specs.Outcome.{Areas, areas, Given, lent, side-fits, tables-fit, tables-counted, cause, reported, returned, left}
 use Rattle.run.specs.Ended.{Ended}
-use Rattle.decision.specs.Decision.{own-rows, own-marks, own-counts, handed-on, own-lent}
+use Rattle.decision.specs.Decision.{own-rows, own-marks, own-counts, handed-on, own-lent, Decided}
 
 own-rows-fit : tables-fit own-rows own-marks own-rows own-marks ≡ true
 unfolding tables-fit side-fits table-fits
@@ -42,6 +42,19 @@ module _ (kinds : List ℕ) (literals : List ℤ) (work : List ℕ) (limit : ℕ
         let none : cause (handed-on kinds literals work limit) ≡ 0 = cause-so ∙ (rw (whole, some) refl) in
         rw none refl
 
--- Of what `run` promises, what `decide` hands on.
-pub ended-so : {g : Given} {r : Outcome} {exit : Areas} → Ended g r exit → (r ≡ returned g) × (exit .work ≡ left g .work)
-ended-so e = (e .returned-so, ap (λ (a : Areas). a .work) (e .left-so))
+-- Of what `run` promises, what `decide_rows` hands on ..
+pub ended-so : {g : Given} {r : Outcome} {universal universal-marks universal-counts existential existential-marks existential-counts work : List ℕ}
+    → Ended g r (areas universal universal-marks universal-counts existential existential-marks existential-counts work)
+    → Decided g r universal existential work
+ended-so e =
+    record {
+      returned-so = e .returned-so;
+      universal-so = ap (λ (a : Areas). a .universal-rows) (e .left-so);
+      existential-so = ap (λ (a : Areas). a .existential-rows) (e .left-so);
+      work-so = ap (λ (a : Areas). a .work) (e .left-so);
+    }
+
+-- .. and of that, what `decide` hands on.
+pub decided-so : {g : Given} {r : Outcome} {universal existential work : List ℕ} → Decided g r universal existential work
+    → (r ≡ returned g) × (work ≡ left g .work)
+decided-so d = (d .returned-so, d .work-so)

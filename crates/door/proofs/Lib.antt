@@ -2,3 +2,4 @@
 pub mod NumberLaws
 pub mod DoorLaws
 pub mod Numbers
+pub mod WitnessLaws

@@ -1,3 +1,4 @@
--- The definition of 01's C door, and what holds of the numbers that it returns.
+-- The definitions of the C functions, and what holds of the numbers that they return.
 pub mod Door
 pub mod Numbers
+pub mod Witness

@@ -1,14 +1,59 @@
-// The C door (01, 'Text', last paragraph): from a text's bytes, a work area and a limit to one number.
-// `vulzhenn_decide` promises, for every input, the number and every byte of the work area that the definition (specs/Door.antt) gives, and
-// cites what that number says (specs/Numbers.antt).
-// Reading belongs to `text`, the run to `decision`; here what one returns is handed to the next.
+// The C door (01, 'Text', last paragraph): from a text's bytes, a work area and a limit to one number; from a text and a witness file to the judge's
+// number; from a text to its witness file.
+// Each function promises, for every input, the number and every byte that the definitions (specs/Door.antt, specs/Witness.antt) give, and cites what
+// they say (specs/Numbers.antt, specs/Witness.antt, certificate's CertificateRight).
+// Reading belongs to `text`, the run to `decision`, the judge to `judgement`, the file to `certificate`; here what one returns is handed to the next.
 use formula::Formula;
+use judgement::Finding;
 use text::Reading;
 ghost use mathlib.Core.Path.{_≡_};
 ghost use Rattle.run.specs.Outcome.{left};
 ghost use Rattle.decision.specs.Decision.{handed-on};
 ghost use Rattle.door.specs.Door.{run-number, answer, work-after};
 ghost use Rattle.door.specs.Numbers.{NumbersRight};
+ghost use Rattle.report.specs.Report.{put, put-count};
+ghost use Rattle.judgement.specs.Finding.{left as judge-left};
+ghost use Rattle.certificate.specs.Certificate.{output, left as witness-left};
+ghost use Rattle.certificate.specs.CertificateRight.{CertificateRight};
+ghost use Rattle.door.specs.Witness.{version, judged, JudgedRight};
+
+// The number of this interface: it grows when a function comes or changes.
+const VERSION: u32 = 2;
+
+#[no_mangle]
+pub extern "C" fn vulzhenn_version() -> u32
+    ensures { λ r. ⌜ r ≡ version ⌝ }
+{
+    VERSION
+}
+
+// 1 for an accepted claim, 0 for one not borne out, 2 for a file of another formula, or 100 plus the number of the refusal.
+#[no_mangle]
+pub extern "C" fn vulzhenn_judge(text: &[u8], witness: &[u8], work: &mut [u8]) -> u32
+    ensures answered { λ r. ⌜ r ≡ judged (now (text .entry)) (now (witness .entry)) (now (work .entry)) ⌝ }
+    ensures left { λ _. ⌜ now (work .exit) ≡ judge-left (now (text .entry)) (now (witness .entry)) (now (work .entry)) ⌝ }
+    ensures right { λ _. ⌜ JudgedRight (now (text .entry)) (now (witness .entry)) (now (work .entry)) ⌝ }
+{
+    match judgement::find(text, witness, work) {
+        Finding::NotBorneOut => 0,
+        Finding::Accepted(_) => 1,
+        Finding::OtherFormula => 2,
+        Finding::Refused { number, .. } => 100 + number,
+    }
+}
+
+// The length of the text's witness file, which is put at the start of `out`; 0 if it does not fit, or there is none.
+#[no_mangle]
+pub extern "C" fn vulzhenn_witness(text: &[u8], out: &mut [u8], work: &mut [u8]) -> usize
+    ensures counted { λ r. ⌜ r ≡ put-count (output (now (text .entry)) (now (work .entry)) .file) (now (out .entry)) ⌝ }
+    ensures written { λ _. ⌜ now (out .exit) ≡ put (output (now (text .entry)) (now (work .entry)) .file) (now (out .entry)) ⌝ }
+    ensures left { λ _. ⌜ now (work .exit) ≡ witness-left (now (text .entry)) (now (work .entry)) ⌝ }
+    ensures right { λ _. ⌜ CertificateRight (now (text .entry)) ⌝ }
+{
+    let mut lines = [0u8; 0];
+    let counts = certificate::certify(text, out, &mut lines, work);
+    counts.file
+}
 
 // The answer's number, or 100 plus the number of the refusal.
 #[no_mangle]

@@ -1,3 +1,4 @@
 pub mod Decimal
 pub mod Laws
 pub mod Example
+pub mod Lengths

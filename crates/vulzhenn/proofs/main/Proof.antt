@@ -2,7 +2,7 @@
 use mathlib.Core.Path.{sym}
 use lib.Seq.{length-take-le}
 use borrow.Author.Needs.{needs}
-use Rattle.answer.proofs.AnswerLaws.{within}
+use Rattle.report.proofs.Lengths.{within}
 use Rattle.vulzhenn.proofs.main.Statement.{statement}
 use Rattle.vulzhenn.proofs.main.Tie as tie
 

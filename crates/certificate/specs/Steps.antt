@@ -1,0 +1,29 @@
+-- What private functions promise. Assumes nothing.
+use Prim.Native.Nat.{ℕ, _*_, _≤_}
+use mathlib.Core.Path.{_≡_}
+use mathlib.Core.List.{List}
+use lib.ListN.{length, take}
+use Rattle.rows.specs.Table.{table-of}
+use Rattle.rounds.specs.Run.{Table, rows, is-false, is-true, Outcome}
+use Rattle.run.specs.Outcome.{named}
+use Rattle.run.specs.declared.Outcome.{Outcome as Returned}
+
+-- The table's rows stand at the start of these bytes.
+abbrev pub Front : Table → List ℕ → Type 0
+Front t bytes = take (16 * length t) bytes ≡ table-of (rows t)
+
+-- The outcome of a run with 256 rows a side, as it was returned and as its rows were left; the side that settled it has a row.
+pub record Ran (o : Outcome) (r : Returned) (universal existential : List ℕ) : Type 0 where
+  pub answer-so : r .answer ≡ named (o .answer)
+  pub round-so : r .round ≡ o .round
+  pub universal-so : r .universal ≡ length (o .A)
+  pub existential-so : r .existential ≡ length (o .S)
+  pub universal-front : Front (o .A) universal
+  pub existential-front : Front (o .S) existential
+  pub universal-there : 16 * length (o .A) ≤ length universal
+  pub existential-there : 16 * length (o .S) ≤ length existential
+  pub few-universal : length (o .A) ≤ 256
+  pub few-existential : length (o .S) ≤ 256
+  pub few-rounds : o .round ≤ 256
+  pub some-universal : o .answer ≡ is-false → 1 ≤ length (o .A)
+  pub some-existential : o .answer ≡ is-true → 1 ≤ length (o .S)

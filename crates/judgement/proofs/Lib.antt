@@ -1,0 +1,3 @@
+-- The laws behind the contracts, and what the printed line says.
+pub mod FindingLaws
+pub mod JudgementRight
