@@ -1,6 +1,6 @@
 -- The lines passed begin with c. Assumes nothing.
-use Prim.Native.Nat.{_+_, _-_, _≤_, _<_}
-use mathlib.Core.Path.{_≡_, refl, _∙_}
+use Prim.Native.Nat.{ℕ, _+_, _-_, _≤_, _<_}
+use mathlib.Core.Path.{_≡_, refl, ap, _∙_}
 use native.Mathlib.Omega.{arith}
 use native.Mathlib.Numerals.{add-one}
 use borrow.Author.Tests.{eq-eqb, ne-eqb}
@@ -52,7 +52,7 @@ loop-again : tie.Need-loop-again Inv-loop μ-loop
 loop-again c =
     let inside : c .before .before .before .find .result < length (c .before .before .before .before .before .before .before .args .text .now) = omega (arith, before-le 10 (drop (c .before .before .before .before .before .loop .at) (c .before .before .before .before .before .before .before .args .text .now)), length-drop (c .before .before .before .before .before .loop .at) (c .before .before .before .before .before .before .before .args .text .now)) in
     let comment : is-comment (take (c .before .before .before .find .result - c .before .before .before .before .before .loop .at) (drop (c .before .before .before .before .before .loop .at) (c .before .before .before .before .before .before .before .args .text .now))) ≡ true = comment-first (c .before .before .before .before .before .before .before .args .text .now) (c .before .before .before .before .before .loop .at) (c .before .before .before .find .result) (c .before .before .before .find .ensures) ∙ eq-eqb (getD (c .before .before .before .before .before .before .before .args .text .now) (c .before .before .before .before .before .loop .at) 0) 99 (c .if2 .left) in
-    (omega arith, omega arith, λ gates. rw (← c .before .before .before .before .before .loop .inv .2 gates, lines-line (c .before .before .before .before .before .before .before .args .text .now) (c .before .before .before .before .before .loop .at) (c .before .before .before .find .result) (c .before .before .before .find .ensures) inside, comment, add-one (c .before .before .before .before .before .loop .line)) refl)
+    (omega arith, omega arith, λ gates. rw (← c .before .before .before .before .before .loop .inv .2 gates, lines-line (c .before .before .before .before .before .before .before .args .text .now) (c .before .before .before .before .before .loop .at) (c .before .before .before .find .result) (c .before .before .before .find .ensures) inside, comment) (ap (λ (n : ℕ). after-comments gates n (lines (drop (c .before .before .before .find .result + 1) (c .before .before .before .before .before .before .before .args .text .now)))) (add-one (c .before .before .before .before .before .loop .line))))
 
 returns-3 : tie.Need-returns-3 Inv-loop μ-loop
 returns-3 c = record { within = omega arith; small = omega arith; right = λ gates. rw (← c .before .loop .inv .2 gates, lines-none (c .before .before .before .args .text .now) (c .before .loop .at) (c .loop-test .left)) refl }
