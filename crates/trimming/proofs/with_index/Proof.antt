@@ -13,7 +13,7 @@ drop-true-requires c κs =
     let start = c .before .before .before .before .before .before .before .before .before .before in
     let fill-call = c .before .before .before .before .fill in
     let index-made =
-        first-index (start .args .table .now) (start .args .index .now) (start .pre .0) (start .pre .2) (start .pre .3) (fill-call .last .1 .0) (fill-call .ensures .0) in
+    first-index (start .args .table .now) (start .args .index .now) (start .pre .0) (start .pre .2) (start .pre .3) (fill-call .last .1 .0) (fill-call .ensures .0) in
     (start .pre .0, index-made, start .pre .2)
 
 settle-requires : tie.Need-settle-requires
