@@ -16,6 +16,7 @@ use Rattle.expansion.proofs.Node.{Node, grown-refl}
 use Rattle.expansion.proofs.ClauseCuts.{Every, Some, Rests, matrix-at, every-map, some-map, dead-row}
 use Rattle.search_cells.specs.Cells.{cells}
 use Rattle.search_sets.specs.Masks.{set-at, masks, cut, SetGrown, SetsKept, United}
+use Rattle.search_sets.proofs.MaskLaws.{kept-trans}
 use Rattle.codes.specs.Clauses.{position, code-true, code-onto, code-clauses, Ended, code-goal, Coded}
 use Rattle.search.specs.Steps.{Fits, Settles, RowBlamed}
 use Rattle.codes.proofs.CodeLaws.{clauses-some}
@@ -216,6 +217,13 @@ row-dead codes w i s t u r emptied blamed = record {
 
 pub row-lives-noted : (codes w : List ℕ) (i : ℕ) (s t : List ℕ) → SetsKept s t → RowDead codes w i s t false
 row-lives-noted codes w i s t kept = record { kept = kept; dead = λ e. absurd (never-both e refl) }
+
+pub row-is-dead : (codes w : List ℕ) (i : ℕ) (s t u : List ℕ) (r : Bool) → SetsKept s t → RowBlamed codes w i t u r → r ≡ true → RowDead codes w i s u true
+row-is-dead codes w i s t u r emptied blamed e = subst (λ (b : Bool). RowDead codes w i s u b) e (row-dead codes w i s t u r emptied blamed)
+
+pub row-lives-blamed : (codes w : List ℕ) (i : ℕ) (s t u v : List ℕ) (r : Bool) → SetsKept s t → RowBlamed codes w i t u r → SetsKept u v → RowDead codes w i s v false
+row-lives-blamed codes w i s t u v r emptied blamed noted =
+    row-lives-noted codes w i s v (kept-trans (row-dead codes w i s t u r emptied blamed .kept) noted)
 
 pub row-lives : (codes w : List ℕ) (i : ℕ) (s : List ℕ) → RowDead codes w i s s false
 row-lives codes w i s = row-lives-noted codes w i s s (record { same = λ p lt l. refl })

@@ -46,7 +46,11 @@ fn dead(codes: &[u16], work: &[u8], sets: &mut [u64], i: usize) -> bool
         return false;
     }
     search_sets::empty(sets, CUT);
-    blame(codes, work, sets, i)
+    if blame(codes, work, sets, i) {
+        return true;
+    }
+    sets[HINTS + i] = search_evaluation::next_live(codes, work, i, 0) as u64;
+    false
 }
 
 // The clause that was live in row i.
@@ -56,8 +60,8 @@ fn live_clause(sets: &[u64], i: usize) -> usize
     sets[HINTS + i] as usize
 }
 
-// The start of another clause without a true literal in row i: that of the row before, the next one behind row i's, or the first one. At
-// least the number of entries if there is none.
+// The start of another clause without a true literal in row i: that of the row before, or the next one behind row i's. At least the number
+// of entries if there is none.
 fn other_live(codes: &[u16], work: &[u8], sets: &[u64], i: usize) -> usize
     requires { ⌜ (length (now sets) ≡ sets-size) × (i < max-rows) ⌝ }
 {
@@ -67,11 +71,7 @@ fn other_live(codes: &[u16], work: &[u8], sets: &[u64], i: usize) -> usize
             return near;
         }
     }
-    let next = search_evaluation::next_live(codes, work, i, live_clause(sets, i));
-    if next < codes.len() {
-        return next;
-    }
-    search_evaluation::next_live(codes, work, i, 0)
+    search_evaluation::next_live(codes, work, i, live_clause(sets, i))
 }
 
 // Unites, at CUT, for each clause the set of its earliest true literal in row i. False: a clause has none.

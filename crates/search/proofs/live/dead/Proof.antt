@@ -1,7 +1,9 @@
 -- `live::dead` meets its contract. Assumes nothing.
+use mathlib.Core.Path.{_∙_}
 use native.Mathlib.Omega.{arith}
+use lib.ListN.{length-set}
 use Rattle.search.proofs.CallLaws.{empties}
-use Rattle.search.proofs.LiveLaws.{row-dead, row-lives, row-lives-noted}
+use Rattle.search.proofs.LiveLaws.{row-is-dead, row-lives, row-lives-noted, row-lives-blamed}
 use Rattle.search_sets.proofs.MaskLaws.{store-behind}
 use borrow.Author.Needs.{needs}
 use Rattle.search.proofs.live.dead.Statement.{statement}
@@ -47,7 +49,25 @@ same-length-3 : tie.Need-same-length-3
 same-length-3 c = search needs
 
 returns-3 : tie.Need-returns-3
-returns-3 c = row-dead (c .before .before .before .before .before .before .before .before .before .before .before .before .before .before .before .before .before .before .args .codes .now) (c .before .before .before .before .before .before .before .before .before .before .before .before .before .before .before .before .before .before .args .work .now) (c .before .before .before .before .before .before .before .before .before .before .before .before .before .before .before .before .before .before .args .i) (c .before .before .before .before .before .before .before .before .before .before .before .before .before .before .before .before .before .before .args .sets .now) _ _ _ (empties _ (c .before .before .before .before .before .before .before .before .before .before .before .before .before .before .before .before .before .before .pre .1) 128 (omega arith) (omega arith) (c .before .before .before .before .before .before .empty .ensures)) (c .before .before .blame .ensures)
+returns-3 c = row-is-dead (c .before .before .before .before .before .before .before .before .before .before .before .before .before .before .before .before .before .before .before .args .codes .now) (c .before .before .before .before .before .before .before .before .before .before .before .before .before .before .before .before .before .before .before .args .work .now) (c .before .before .before .before .before .before .before .before .before .before .before .before .before .before .before .before .before .before .before .args .i) (c .before .before .before .before .before .before .before .before .before .before .before .before .before .before .before .before .before .before .before .args .sets .now) _ _ _ (empties _ (c .before .before .before .before .before .before .before .before .before .before .before .before .before .before .before .before .before .before .before .pre .1) 128 (omega arith) (omega arith) (c .before .before .before .before .before .before .before .empty .ensures)) (c .before .before .before .blame .ensures) (c .if3 .taken)
+
+next-live-requires : tie.Need-next-live-requires
+next-live-requires c κs = tt
+
+add-sets-2 : tie.Need-add-sets-2
+add-sets-2 c = search needs
+
+mul-sets-2 : tie.Need-mul-sets-2
+mul-sets-2 c = search needs
+
+slice-write-sets-2 : tie.Need-slice-write-sets-2
+slice-write-sets-2 c = search needs
+
+same-length-4 : tie.Need-same-length-4
+same-length-4 c = length-set (c .before .before .before .before .blame .last .1 .1 .0) _ _ ∙ c .before .before .before .before .blame .kept .1 .1 .0 ∙ c .before .before .before .before .before .before .before .before .empty .kept .0
+
+returns-4 : tie.Need-returns-4
+returns-4 c = row-lives-blamed (c .before .before .before .before .before .before .before .before .before .before .before .before .before .before .before .before .before .before .before .before .args .codes .now) (c .before .before .before .before .before .before .before .before .before .before .before .before .before .before .before .before .before .before .before .before .args .work .now) (c .before .before .before .before .before .before .before .before .before .before .before .before .before .before .before .before .before .before .before .before .args .i) (c .before .before .before .before .before .before .before .before .before .before .before .before .before .before .before .before .before .before .before .before .args .sets .now) _ _ _ _ (empties _ (c .before .before .before .before .before .before .before .before .before .before .before .before .before .before .before .before .before .before .before .before .pre .1) 128 (omega arith) (omega arith) (c .before .before .before .before .before .before .before .before .empty .ensures)) (c .before .before .before .before .blame .ensures) (store-behind _ _ _ (omega arith))
 
 pub dead-spec : {M : Type 1} → statement M
 dead-spec =
@@ -66,4 +86,10 @@ dead-spec =
     empty-requires
     blame-requires
     same-length-3
-    returns-3)
+    returns-3
+    next-live-requires
+    add-sets-2
+    mul-sets-2
+    slice-write-sets-2
+    same-length-4
+    returns-4)
