@@ -53,6 +53,17 @@ one-compared t s from i found more before-it is none p low high =
 pub found-nowhere : (t : List ℕ) (s to : ℕ) → to + before s (slice to to t) ≡ to
 found-nowhere t s to = ap (λ (l : List ℕ). to + before s l) (slice-empty to t) ∙ add-zero to
 
+before-inside : (s : ℕ) (l : List ℕ) → before s l ≤ length l
+before-inside s [] = omega arith
+before-inside s (x ∷ l) = go (eqb s x) (before-inside s l)
+  where
+    go : (b : Bool) → before s l ≤ length l → cond b 0 (suc (before s l)) ≤ suc (length l)
+    go true later = omega arith
+    go false later = omega arith
+
+pub found-inside : (t : List ℕ) (s from to : ℕ) → from ≤ to → to ≤ length t → from + before s (slice from to t) ≤ to
+found-inside t s from to order inside = omega (arith, before-inside s (slice from to t), length-slice from to t inside)
+
 -- ---- places closed up
 
 -- What stands behind the first place, up to i, is one place up.
