@@ -6,7 +6,7 @@ use native.Mathlib.Omega.{arith}
 use native.Mathlib.Decide.{ℕ-discrete}
 use mathlib.Core.Path.{_≡_, refl, sym, _∙_, ap}
 use mathlib.Core.Logic.{_⊎_, inl, inr, ⊎-elim}
-use mathlib.Core.Bool.{Bool, true, false, not, cond, _&&_, _||_, or-true, or-false, or-assoc, or-comm, Bool·not-not, false≢true}
+use mathlib.Core.Bool.{Bool, true, false, not, cond, _&&_, _||_, or-true, or-false, or-assoc, or-comm, Bool·not-not, false≢true, true≢false}
 use mathlib.Core.List.{List, [], _∷_, _++_}
 use borrow.Author.Tests.{eq-eqb, ne-eqb, eqb-true, lt-ltb, le-ltb}
 use lib.Dec.{eqb, ltb}
@@ -15,6 +15,7 @@ use lib.ListN.{length, getD, take, replicate, length-append}
 use lib.Seq.{take-at}
 use Rattle.formula.specs.Formula.{Clause, onto, clauses}
 use Rattle.formula.specs.Causes.{any, beyond, ended}
+use Rattle.formula.proofs.Any.{or-none}
 use Rattle.expansion.proofs.ClauseCuts.{Every, every-map, clause-at, matrix-at}
 use Rattle.expansion.proofs.Engine.{literal-at}
 use Rattle.codes.specs.Codes.{code-of, opposite, has, with-code, Reading, so-far, always-true, read-code, closed, encoding-from, encoding, refused, used, filled}
@@ -270,7 +271,7 @@ clauses-some (pos zero) zs = omega arith
 clauses-some (pos (suc v)) zs = onto-some (pos (suc v)) (clauses zs)
 clauses-some (negsuc v) zs = onto-some (negsuc v) (clauses zs)
 
-ended-later : (z : ℤ) (zs : List ℤ) → ended (z ∷ zs) ≡ true → ended zs ≡ true
+pub ended-later : (z : ℤ) (zs : List ℤ) → ended (z ∷ zs) ≡ true → ended zs ≡ true
 ended-later z [] e = refl
 ended-later z (y ∷ zs) e = same ∙ e
   where
@@ -278,21 +279,25 @@ ended-later z (y ∷ zs) e = same ∙ e
     same = simp sub-one
 
 -- A clause goes on behind a literal.
-clauses-behind : (z : ℤ) (zs : List ℤ) → (code-of z ≡ 0 → ⊥) → ended (z ∷ zs) ≡ true → 0 < length (clauses zs)
+pub clauses-behind : (z : ℤ) (zs : List ℤ) → (code-of z ≡ 0 → ⊥) → ended (z ∷ zs) ≡ true → 0 < length (clauses zs)
 clauses-behind z (y ∷ zs) other e = clauses-some y zs
 clauses-behind (pos zero) [] other e = absurd (other refl)
 clauses-behind (pos (suc v)) [] other e = absurd (false≢true e)
 clauses-behind (negsuc v) [] other e = absurd (false≢true e)
 
 -- The codes up to the first zero are the first clause.
-clauses-closed : (clause codes : List ℕ) → Every (λ c. 2 ≤ c) clause → code-clauses ((clause ++ (0 ∷ [])) ++ codes) ≡ clause ∷ code-clauses codes
-clauses-closed [] codes two = refl
-clauses-closed (zero ∷ clause) codes two = absurd (let below : 2 ≤ 0 = two .0 in omega arith)
-clauses-closed (suc c ∷ clause) codes two = ap (code-onto (suc c)) (clauses-closed clause codes (two .1))
+pub clauses-closed : (clause codes : List ℕ) → has 0 clause ≡ false → code-clauses ((clause ++ (0 ∷ [])) ++ codes) ≡ clause ∷ code-clauses codes
+clauses-closed [] codes none = refl
+clauses-closed (zero ∷ clause) codes none = absurd (true≢false none)
+clauses-closed (suc c ∷ clause) codes none = ap (code-onto (suc c)) (clauses-closed clause codes (or-none (eqb 0 (suc c)) (has 0 clause) none .1))
+
+no-zero : (clause : List ℕ) → Every (λ c. 2 ≤ c) clause → has 0 clause ≡ false
+no-zero [] two = refl
+no-zero (c ∷ clause) two = rw (ne-eqb 0 c (λ e. let above : 2 ≤ c = two .0 in omega arith)) (no-zero clause (two .1))
 
 module _ (f : ℕ → Bool) where
   closed-value : (r : Reading) (codes : List ℕ) → All (λ c. 2 ≤ c) r → (value f r && matrix-at code-true (code-clauses codes) f) ≡ matrix-at code-true (code-clauses (closed r ++ codes)) f
-  closed-value (so-far clause) codes two = ap (λ (xss : List (List ℕ)). matrix-at code-true xss f) (sym (clauses-closed clause codes two))
+  closed-value (so-far clause) codes two = ap (λ (xss : List (List ℕ)). matrix-at code-true xss f) (sym (clauses-closed clause codes (no-zero clause two)))
   closed-value always-true codes two = refl
 
   literal-value : (r : Reading) (z : ℤ) (zs : List ℤ) → (code-of z ≡ 0 → ⊥) → 2 ≤ code-of z → ended (z ∷ zs) ≡ true → begun f (value f r) (onto z (clauses zs)) ≡ begun f (value f (read-code (code-of z) r)) (clauses zs)

@@ -108,11 +108,11 @@ module _ (start to code : ℕ) (w : List ℕ) (below : to < length w) where
 
 -- ---- the marks
 
-has-behind : (y : ℕ) (xs : List ℕ) (x : ℕ) → has y (xs ++ (x ∷ [])) ≡ (eqb y x || has y xs)
+pub has-behind : (y : ℕ) (xs : List ℕ) (x : ℕ) → has y (xs ++ (x ∷ [])) ≡ (eqb y x || has y xs)
 has-behind y [] x = refl
 has-behind y (z ∷ xs) x = rw (has-behind y xs x) (or-swap (eqb y z) (eqb y x) (has y xs))
 
-has-with-code : (y c : ℕ) (xs : List ℕ) → has y (with-code c xs) ≡ (eqb y c || has y xs)
+pub has-with-code : (y c : ℕ) (xs : List ℕ) → has y (with-code c xs) ≡ (eqb y c || has y xs)
 unfolding with-code
 has-with-code y c [] = refl
 has-with-code y c (x ∷ xs) =

@@ -1,17 +1,20 @@
 -- One list: a name found in it and taken out, and the list emptied. Assumes nothing.
-use Prim.Native.Nat.{ℕ, suc, _+_, _-_, _≤_, _<_}
+use Prim.Native.Nat.{ℕ, zero, suc, _+_, _-_, _≤_, _<_}
 use native.Mathlib.Numerals.{add-one}
 use native.Mathlib.Nat.{add-zero}
 use native.Mathlib.Omega.{arith}
+use native.Mathlib.Decide.{ℕ-discrete}
 use mathlib.Core.Path.{_≡_, refl, sym, ap, ap₂, _∙_}
-use mathlib.Core.Bool.{Bool, true, false, cond, _&&_, and-eq-true-iff}
+use mathlib.Core.Bool.{Bool, true, false, cond, _&&_, _||_, and-eq-true-iff}
 use mathlib.Core.List.{List, [], _∷_, _++_, append-assoc}
 use lib.Dec.{eqb, leb, ltb}
-use lib.ListN.{length, getD, set, take, drop, replicate, length-append, length-drop, length-replicate, take-append-drop, replicate-append-replicate}
-use lib.Seq.{slice, slice-empty, slice-cons, length-slice, length-take-le, take-take, take-add, take-suc, drop-cons, drop-drop, drop-append-le, set-at, set-getD, getD-append-add, append-snoc}
-use borrow.Author.Tests.{eqb-true, eq-eqb, ne-eqb, lt-ltb, le-ltb, ltb-true, leb-true, le-leb, lt-leb}
+use lib.ListN.{length, getD, set, take, drop, replicate, length-append, length-drop, length-replicate, take-append-drop, replicate-append-replicate, drop-of-length-le}
+use lib.Seq.{slice, slice-empty, slice-cons, length-slice, length-take-le, take-all, take-take, take-add, take-suc, drop-cons, drop-at, drop-drop, drop-append-le, set-at, set-getD, getD-append-add, append-snoc}
+use borrow.Rule.Slice.PartMut.{midOf, putMid, post-is}
+use borrow.Author.Tests.{eqb-true, eqb-false, eq-eqb, ne-eqb, lt-ltb, le-ltb, ltb-true, leb-true, le-leb, lt-leb}
+use Rattle.formula.proofs.Any.{or-none}
 use Rattle.index.specs.Index.{begin-of, end-of, list-of, in-rooms, has-list, with-list, without, removed, cleared}
-use Rattle.index.specs.Passes.{blanked, before, closed-up}
+use Rattle.index.specs.Passes.{blanked, before, Absent, closed-up}
 use Rattle.index.proofs.LayoutLaws.{end-is}
 
 -- ---- a name is looked for
@@ -30,75 +33,94 @@ module _ (t : List ℕ) (s at to : ℕ) (h : at < to) (inside : to ≤ length t)
       ∙ (let on : at + suc (before s (slice (suc at) to t)) ≡ at + 1 + before s (slice (suc at) to t) = omega arith in on)
       ∙ ap (λ (n : ℕ). at + 1 + before s (slice n to t)) (sym (add-one at))
 
+-- Places are passed at which the name doesn't stand.
+pub found-past : (t : List ℕ) (s to : ℕ) → to ≤ length t → (k at : ℕ) → at + k ≤ to → Absent t s at (at + k) → at + before s (slice at to t) ≡ at + k + before s (slice (at + k) to t)
+found-past t s to inside zero at fits none = sym (ap (λ (n : ℕ). n + before s (slice n to t)) (add-zero at))
+found-past t s to inside (suc k) at fits none =
+    found-later t s at to (omega arith) inside (none at (omega arith) (omega arith))
+    ∙ found-past t s to inside k (at + 1) (omega arith) (λ p low high. none p (omega arith) (omega arith))
+    ∙ ap (λ (n : ℕ). n + before s (slice n to t)) (let on : at + 1 + k ≡ at + suc k = omega arith in on)
+
+-- One place more is compared.
+pub one-compared : (t : List ℕ) (s from i : ℕ) (found more : Bool) → (found ≡ false → Absent t s from i) → more ≡ (found || eqb (getD t i 0) s) → more ≡ false → Absent t s from (i + 1)
+one-compared t s from i found more before-it is none p low high =
+    let neither = or-none found (eqb (getD t i 0) s) (sym is ∙ none) in
+    elim (ℕ-discrete p i) [
+      | yes e ↦ (λ there. eqb-false (getD t i 0) s (neither .1) (sym (ap (λ (n : ℕ). getD t n 0) e) ∙ there))
+      | no other ↦ before-it (neither .0) p low (omega arith)
+    ]
+
 pub found-nowhere : (t : List ℕ) (s to : ℕ) → to + before s (slice to to t) ≡ to
 found-nowhere t s to = ap (λ (l : List ℕ). to + before s l) (slice-empty to t) ∙ add-zero to
 
+before-inside : (s : ℕ) (l : List ℕ) → before s l ≤ length l
+before-inside s [] = omega arith
+before-inside s (x ∷ l) = go (eqb s x) (before-inside s l)
+  where
+    go : (b : Bool) → before s l ≤ length l → cond b 0 (suc (before s l)) ≤ suc (length l)
+    go true later = omega arith
+    go false later = omega arith
+
+pub found-inside : (t : List ℕ) (s from to : ℕ) → from ≤ to → to ≤ length t → from + before s (slice from to t) ≤ to
+found-inside t s from to order inside = omega (arith, before-inside s (slice from to t), length-slice from to t inside)
+
 -- ---- places closed up
 
--- What stands behind place `at`, up to i, is one place up.
-unfoldable pub shifted : List ℕ → ℕ → ℕ → List ℕ
-shifted t at i = take at t ++ (slice (suc at) i t ++ drop (i - 1) t)
+-- What stands behind the first place, up to i, is one place up.
+unfoldable pub shifted : List ℕ → ℕ → List ℕ
+shifted t i = slice 1 i t ++ drop (i - 1) t
 
-pub none-shifted : (t : List ℕ) (at : ℕ) → t ≡ shifted t at (at + 1)
+pub none-shifted : (t : List ℕ) → t ≡ shifted t 1
 unfolding shifted
-none-shifted t at =
-    sym (ap (λ (n : ℕ). take at t ++ (slice (suc at) n t ++ drop (n - 1) t)) (add-one at)
-    ∙ ap (λ (l : List ℕ). take at t ++ (l ++ drop (suc at - 1) t)) (slice-empty (suc at) t)
-    ∙ ap (λ (n : ℕ). take at t ++ drop n t) (let back : suc at - 1 ≡ at = omega arith in back)
-    ∙ take-append-drop at t)
+none-shifted t = sym (ap (λ (l : List ℕ). l ++ t) (slice-empty 1 t))
 
-module _ (t : List ℕ) (at i : ℕ) (after : at < i) where
-  front : List ℕ
-  front = take at t ++ slice (suc at) i t
-
-  as-front : shifted t at i ≡ front ++ drop (i - 1) t
-  unfolding shifted front
-  as-front = sym (append-assoc (take at t) (slice (suc at) i t) (drop (i - 1) t))
-
+module _ (t : List ℕ) (i : ℕ) (some : 0 < i) where
   module _ (inside : i ≤ length t) where
-    front-length : length front ≡ i - 1
-    unfolding front
-    front-length =
-        length-append (take at t) (slice (suc at) i t)
-        ∙ omega (arith, length-take-le at t (omega arith), length-slice (suc at) i t inside)
+    front-length : length (slice 1 i t) ≡ i - 1
+    front-length = length-slice 1 i t inside
 
-    last-two : drop (i - 1) t ≡ getD t (i - 1) 0 ∷ drop i t
-    last-two =
-        drop-cons t (i - 1) 0 (omega arith)
-        ∙ ap (λ (n : ℕ). getD t (i - 1) 0 ∷ drop n t) (let on : suc (i - 1) ≡ i = omega arith in on)
+    split : shifted t i ≡ slice 1 i t ++ (getD t (i - 1) 0 ∷ drop i t)
+    unfolding shifted
+    split =
+        ap (λ (l : List ℕ). slice 1 i t ++ l)
+        (drop-cons t (i - 1) 0 (omega arith)
+        ∙ ap (λ (n : ℕ). getD t (i - 1) 0 ∷ drop n t) (let on : suc (i - 1) ≡ i = omega arith in on))
 
-    split : shifted t at i ≡ front ++ (getD t (i - 1) 0 ∷ drop i t)
-    split = as-front ∙ ap (λ (l : List ℕ). front ++ l) last-two
-
-    put : (v : ℕ) → set (shifted t at i) (i - 1) v ≡ front ++ (v ∷ drop i t)
-    put v = ap (λ (l : List ℕ). set l (i - 1) v) split ∙ set-at front (getD t (i - 1) 0) (drop i t) v (i - 1) front-length
-
-    pub last-blank : set (shifted t at i) (i - 1) 0 ≡ closed-up t at i
-    unfolding closed-up front
-    last-blank = put 0 ∙ append-assoc (take at t) (slice (suc at) i t) (0 ∷ drop i t)
+    pub put : (v : ℕ) → set (shifted t i) (i - 1) v ≡ slice 1 i t ++ (v ∷ drop i t)
+    put v = ap (λ (l : List ℕ). set l (i - 1) v) split ∙ set-at (slice 1 i t) (getD t (i - 1) 0) (drop i t) v (i - 1) front-length
 
   module _ (more : i < length t) where
-    pub read-shifted : getD (shifted t at i) i 0 ≡ getD t i 0
+    pub read-shifted : getD (shifted t i) i 0 ≡ getD t i 0
     read-shifted =
         ap (λ (l : List ℕ). getD l i 0) (split (omega arith))
-        ∙ ap (λ (n : ℕ). getD (front ++ (getD t (i - 1) 0 ∷ drop i t)) n 0) (let there : i ≡ length front + 1 = omega (arith, front-length (omega arith)) in there)
-        ∙ getD-append-add front (getD t (i - 1) 0 ∷ drop i t) 1 0
+        ∙ ap (λ (n : ℕ). getD (slice 1 i t ++ (getD t (i - 1) 0 ∷ drop i t)) n 0) (let there : i ≡ length (slice 1 i t) + 1 = omega (arith, front-length (omega arith)) in there)
+        ∙ getD-append-add (slice 1 i t) (getD t (i - 1) 0 ∷ drop i t) 1 0
         ∙ ap (λ (l : List ℕ). getD l 0 0) (drop-cons t i 0 more)
 
-    pub one-shifted : set (shifted t at i) (i - 1) (getD t i 0) ≡ shifted t at (i + 1)
-    unfolding shifted front
+    pub one-shifted : set (shifted t i) (i - 1) (getD t i 0) ≡ shifted t (i + 1)
+    unfolding shifted
     one-shifted =
         put (omega arith) (getD t i 0)
-        ∙ sym (append-snoc front (getD t i 0) (drop i t))
-        ∙ ap (λ (l : List ℕ). l ++ drop i t) (append-assoc (take at t) (slice (suc at) i t) (getD t i 0 ∷ []) ∙ ap (λ (l : List ℕ). take at t ++ l) (sym longer))
-        ∙ append-assoc (take at t) (slice (suc at) (i + 1) t) (drop i t)
-        ∙ ap (λ (n : ℕ). take at t ++ (slice (suc at) (i + 1) t ++ drop n t)) (let back : i ≡ i + 1 - 1 = omega arith in back)
+        ∙ sym (append-snoc (slice 1 i t) (getD t i 0) (drop i t))
+        ∙ ap₂ (λ (l : List ℕ) (n : ℕ). l ++ drop n t) (sym longer) (let back : i ≡ i + 1 - 1 = omega arith in back)
       where
-        longer : slice (suc at) (i + 1) t ≡ slice (suc at) i t ++ (getD t i 0 ∷ [])
+        longer : slice 1 (i + 1) t ≡ slice 1 i t ++ (getD t i 0 ∷ [])
         longer =
-            ap (λ (n : ℕ). drop (suc at) (take n t)) (add-one i)
-            ∙ ap (drop (suc at)) (take-suc t i 0 more)
-            ∙ drop-append-le (suc at) (take i t) (getD t i 0 ∷ []) (omega (arith, length-take-le i t (omega arith)))
+            ap (λ (n : ℕ). drop 1 (take n t)) (add-one i)
+            ∙ ap (drop 1) (take-suc t i 0 more)
+            ∙ drop-append-le 1 (take i t) (getD t i 0 ∷ []) (omega (arith, length-take-le i t (omega arith)))
+
+pub last-blank : (t : List ℕ) → 0 < length t → set (shifted t (length t)) (length t - 1) 0 ≡ closed-up t
+last-blank t some =
+    put t (length t) some (omega arith) 0
+    ∙ ap₂ (λ (l m : List ℕ). l ++ (0 ∷ m)) (ap (drop 1) (take-all (length t) t (omega arith))) (drop-of-length-le t {i = length t} (omega arith))
+
+-- A part of a table that is lent.
+part-slice : (t : List ℕ) (from to : ℕ) → from ≤ to → from ≤ length t → midOf from (to - from) t ≡ slice from to t
+part-slice t from to order inside =
+    sym (ap (λ (n : ℕ). slice from n t) (let whole : to ≡ from + (to - from) = omega arith in whole)
+    ∙ ap (drop from) (take-add from (to - from) t)
+    ∙ drop-at (take from t) (take (to - from) (drop from t)) from (length-take-le from t inside))
 
 -- ---- places blanked
 
@@ -271,19 +293,23 @@ module _ (t : List ℕ) (c : ℕ) (has : has-list t c ≡ true) where
           ∙ take-add from j (take to t)
           ∙ ap (λ (l : List ℕ). l ++ take j (list-of t c)) (take-take from to t (is .order))
 
-      back-there : slice (suc (from + j)) to t ≡ drop (suc j) (list-of t c)
-      back-there = sym (drop-drop (suc j) from (take to t) ∙ ap (λ (n : ℕ). drop n (take to t)) (let a : from + suc j ≡ suc (from + j) = omega arith in a))
+      back-there : midOf (from + j) (to - (from + j)) t ≡ drop j (list-of t c)
+      back-there = part-slice t (from + j) to (omega arith) (omega (arith, is .sized, is .to)) ∙ sym (drop-drop j from (take to t))
 
       left-long : length (take j (list-of t c) ++ drop (suc j) (list-of t c)) ≡ to - from - 1
       left-long =
           length-append (take j (list-of t c)) (drop (suc j) (list-of t c))
           ∙ omega (arith, length-take-le j (list-of t c) (omega (arith, there)), length-drop (suc j) (list-of t c), list-long, there)
 
-      pub one-removed : set (closed-up t (from + j) to) (259 + c) (to - 1) ≡ removed t c s
-      unfolding closed-up removed with-list
-      one-removed =
-          ap (λ (l : List ℕ). set l (259 + c) (to - 1))
-          (ap₂ (λ (l m : List ℕ). l ++ (m ++ (0 ∷ drop to t))) front-there back-there
+      pub one-removed : (at end : ℕ) (part : List ℕ) → at ≡ from + j → end ≡ to → part ≡ closed-up (midOf at (end - at) t) → set (putMid at (end - at) t part) (259 + c) (end - 1) ≡ removed t c s
+      unfolding removed with-list
+      one-removed at end part at-is end-is is-part =
+          ap₂ (λ (x y : ℕ). set (putMid x (y - x) t part) (259 + c) (y - 1)) at-is end-is
+          ∙ ap (λ (l : List ℕ). set l (259 + c) (to - 1))
+          (ap₂ (λ (l m : List ℕ). take (from + j) t ++ (l ++ m)) (is-part ∙ ap₂ (λ (x y : ℕ). closed-up (midOf x (y - x) t)) at-is end-is) (post-is (from + j) to t (omega arith))
+          ∙ ap₂ (λ (l m : List ℕ). l ++ ((drop 1 m ++ (0 ∷ [])) ++ drop to t)) front-there back-there
+          ∙ ap (λ (m : List ℕ). (take from t ++ take j (list-of t c)) ++ ((m ++ (0 ∷ [])) ++ drop to t)) (drop-drop 1 j (list-of t c) ∙ ap (λ (n : ℕ). drop n (list-of t c)) (add-one j))
+          ∙ ap (λ (m : List ℕ). (take from t ++ take j (list-of t c)) ++ m) (append-assoc (drop (suc j) (list-of t c)) (0 ∷ []) (drop to t))
           ∙ append-assoc (take from t) (take j (list-of t c)) (drop (suc j) (list-of t c) ++ (0 ∷ drop to t))
           ∙ ap (λ (l : List ℕ). take from t ++ l) (sym (append-assoc (take j (list-of t c)) (drop (suc j) (list-of t c)) (0 ∷ drop to t))))
           ∙ ap₂ (λ (n m : ℕ). set (take from t ++ ((take j (list-of t c) ++ drop (suc j) (list-of t c)) ++ (replicate n 0 ++ drop to t))) (259 + c) m)

@@ -1,11 +1,10 @@
 -- The search's clauses are the lent ones that are not always true, in order, each literal once.
 -- Assumes nothing.
 use Prim.Native.Nat.{ℕ, zero, suc, _+_, _*_, _-_, _%_, _≤_, _<_}
-use native.Mathlib.Numerals.{sub-one}
 use native.Mathlib.Omega.{arith}
 use mathlib.Core.Path.{_≡_, refl, sym, ap, ap₂, _∙_, subst}
 use mathlib.Core.Logic.{_⊎_, inl, inr}
-use mathlib.Core.Bool.{Bool, true, false, cond, _||_, or-true, true≢false, false≢true}
+use mathlib.Core.Bool.{Bool, true, false, cond, _||_, or-true, false≢true}
 use mathlib.Core.List.{List, [], _∷_, _++_, map, append-nil, append-assoc}
 use borrow.Author.Tests.{eqb-true, eqb-false, eq-eqb, ne-eqb}
 use lib.Dec.{eqb}
@@ -13,29 +12,15 @@ use lib.IntN.{ℤ, pos, negsuc}
 use lib.ListN.{length}
 use Rattle.formula.specs.Formula.{Clause, onto, clauses}
 use Rattle.formula.specs.Causes.{any, ended}
+use Rattle.formula.proofs.Any.{or-none}
 use Rattle.codes.specs.Codes.{code-of, opposite, has, with-code, Reading, so-far, read-code, closed, encoding-from, encoding}
 use Rattle.codes.specs.Codes as Codes
-use Rattle.codes.specs.Clauses.{code-onto, code-clauses}
-use Rattle.codes.proofs.EncodeLaws.{even-or-odd, with-code-cases, or-swap}
+use Rattle.codes.specs.Clauses.{code-clauses}
+use Rattle.codes.proofs.EncodeLaws.{even-or-odd, with-code-cases, or-swap, ended-later, clauses-behind, clauses-closed}
+use Rattle.codes.proofs.ReadLaws.{has-behind, has-with-code}
 use Rattle.index.specs.Searched.{always-true, looked-up, Once, Stand}
 
 -- ---- codes in a clause
-
-or-false-both : (a b : Bool) → (a || b) ≡ false → (a ≡ false) × (b ≡ false)
-or-false-both true b h = absurd (true≢false h)
-or-false-both false b h = (refl, h)
-
-has-behind : (y : ℕ) (xs : List ℕ) (x : ℕ) → has y (xs ++ (x ∷ [])) ≡ (eqb y x || has y xs)
-has-behind y [] x = refl
-has-behind y (z ∷ xs) x = rw (has-behind y xs x) (or-swap (eqb y z) (eqb y x) (has y xs))
-
-has-with-code : (y c : ℕ) (xs : List ℕ) → has y (with-code c xs) ≡ (eqb y c || has y xs)
-unfolding with-code
-has-with-code y c [] = refl
-has-with-code y c (x ∷ xs) =
-    with-code-cases (λ l. has y l ≡ (eqb y c || (eqb y x || has y xs))) c x xs
-    (λ e. ap (λ (b : Bool). eqb y c || b) (has-behind y xs x))
-    (λ e. ap (λ (b : Bool). eqb y x || b) (has-behind y xs c) ∙ or-swap (eqb y x) (eqb y c) (has y xs))
 
 eqb-flip : (x y : ℕ) → eqb x y ≡ false → eqb y x ≡ false
 eqb-flip x y e = ne-eqb y x (λ q. eqb-false x y e (sym q))
@@ -43,14 +28,14 @@ eqb-flip x y e = ne-eqb y x (λ q. eqb-false x y e (sym q))
 once-behind : (xs : List ℕ) (z : ℕ) → Once xs → has z xs ≡ false → Once (xs ++ (z ∷ []))
 once-behind [] z once new = (refl, tt)
 once-behind (y ∷ xs) z once new =
-    let apart = or-false-both (eqb z y) (has z xs) new in
+    let apart = or-none (eqb z y) (has z xs) new in
     (has-behind y xs z ∙ ap₂ _||_ (eqb-flip z y (apart .0)) (once .0), once-behind xs z (once .1) (apart .1))
 
 once-with-code : (c : ℕ) (xs : List ℕ) → Once xs → has c xs ≡ false → Once (with-code c xs)
 unfolding with-code
 once-with-code c [] once new = (refl, tt)
 once-with-code c (x ∷ xs) once new =
-    let apart = or-false-both (eqb c x) (has c xs) new in
+    let apart = or-none (eqb c x) (has c xs) new in
     with-code-cases Once c x xs
     (λ e. (has-behind c xs x ∙ ap₂ _||_ (apart .0) (apart .1), once-behind xs x (once .1) (once .0)))
     (λ e. (has-behind x xs c ∙ ap₂ _||_ (eqb-flip c x (apart .0)) (once .0), once-behind xs c (once .1) (apart .1)))
@@ -111,8 +96,8 @@ module _ (q : List ℕ) (x : ℕ) where
       each : (l : List ℕ) → any (λ y. has (opposite y) q) l ≡ false → has (opposite x) l ≡ false → any (λ y. has (opposite y) more) l ≡ false
       each [] a b = refl
       each (y ∷ l) a b =
-          let here = or-false-both (has (opposite y) q) (any (λ y. has (opposite y) q) l) a in
-          let apart = or-false-both (eqb (opposite x) y) (has (opposite x) l) b in
+          let here = or-none (has (opposite y) q) (any (λ y. has (opposite y) q) l) a in
+          let apart = or-none (eqb (opposite x) y) (has (opposite x) l) b in
           ap₂ _||_
           (has-behind (opposite y) q x ∙ ap₂ _||_ (ne-eqb (opposite y) x (λ e. eqb-false (opposite x) y (apart .0) (sym (opposite-back x y two e)))) (here .0))
           (each l (here .1) (apart .1))
@@ -179,33 +164,6 @@ joined-onto p z (k ∷ ks) some = ap (λ (l : Clause). l ∷ ks) (sym (append-as
 codes-behind : (p : Clause) (z : ℤ) → map code-of (p ++ (z ∷ [])) ≡ map code-of p ++ (code-of z ∷ [])
 codes-behind [] z = refl
 codes-behind (y ∷ p) z = ap (λ (l : List ℕ). code-of y ∷ l) (codes-behind p z)
-
-onto-some : (z : ℤ) (cs : List Clause) → 0 < length (onto z cs)
-onto-some z [] = omega arith
-onto-some z (c ∷ cs) = omega arith
-
-clauses-some : (z : ℤ) (zs : List ℤ) → 0 < length (clauses (z ∷ zs))
-clauses-some (pos zero) zs = omega arith
-clauses-some (pos (suc v)) zs = onto-some (pos (suc v)) (clauses zs)
-clauses-some (negsuc v) zs = onto-some (negsuc v) (clauses zs)
-
-ended-later : (z : ℤ) (zs : List ℤ) → ended (z ∷ zs) ≡ true → ended zs ≡ true
-ended-later z [] e = refl
-ended-later z (y ∷ zs) e = same ∙ e
-  where
-    same : ended (y ∷ zs) ≡ ended (z ∷ y ∷ zs)
-    same = simp sub-one
-
-clauses-behind : (z : ℤ) (zs : List ℤ) → (code-of z ≡ 0 → ⊥) → ended (z ∷ zs) ≡ true → 0 < length (clauses zs)
-clauses-behind z (y ∷ zs) other e = clauses-some y zs
-clauses-behind (pos zero) [] other e = absurd (other refl)
-clauses-behind (pos (suc v)) [] other e = absurd (false≢true e)
-clauses-behind (negsuc v) [] other e = absurd (false≢true e)
-
-clauses-closed : (c codes : List ℕ) → has 0 c ≡ false → code-clauses ((c ++ (0 ∷ [])) ++ codes) ≡ c ∷ code-clauses codes
-clauses-closed [] codes none = refl
-clauses-closed (zero ∷ c) codes none = absurd (true≢false none)
-clauses-closed (suc x ∷ c) codes none = ap (code-onto (suc x)) (clauses-closed c codes (or-false-both (eqb 0 (suc x)) (has 0 c) none .1))
 
 -- A clause is closed.
 clause-closed : (p : Clause) (r : Reading) (ks : List Clause) (codes : List ℕ) → Read (map code-of p) r → Stand (looked-up ks) (code-clauses codes)

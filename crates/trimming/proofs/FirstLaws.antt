@@ -14,11 +14,11 @@ use lib.ListN.{length, getD, set, drop, replicate, length-append, length-set, ge
 use lib.Seq.{getD-set-same, getD-set-other, drop-at}
 use Rattle.formula.specs.Formula.{prefix}
 use Rattle.formula.specs.Causes.{any}
-use Rattle.codes.specs.Codes.{opposite}
+use Rattle.codes.specs.Codes.{opposite, has}
 use Rattle.trimming_rules.specs.Trimming as Trimming
 use Rattle.trimming_rules.specs.Trimming.{keep, lower, lowest-unit}
 use Rattle.trimming_rules.proofs.ClauseLaws.{Every, In}
-use Rattle.trimming_marks.specs.Marks.{is-left, first-clause, has, unit}
+use Rattle.trimming_marks.specs.Marks.{is-left, first-clause, unit}
 use Rattle.index.specs.Occurrences.{listed, begins, Names}
 use Rattle.trimming.specs.Table.{literal-of, clauses-left, Entry, Block, standing, gone, inner, whole, Fine, laid, shown, all-shown, Laid, literal-or-none, Picked, AllBut, SomeAt, UnitKnown, FirstUnit, noted-unit, Units}
 use Rattle.trimming.proofs.CodeLaws.{Form, even, odd, form, opposite-even, opposite-odd, position-code}

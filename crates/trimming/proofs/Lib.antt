@@ -23,4 +23,5 @@ pub mod LoopLaws
 pub mod RoundLaws
 pub mod CopyLaws
 pub mod TrimLaws
+pub mod CauseCases
 pub mod OutcomeLaws

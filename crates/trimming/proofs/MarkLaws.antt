@@ -8,10 +8,11 @@ use mathlib.Core.List.{List, [], _∷_, map}
 use borrow.Author.Tests.{ltb-true, ltb-false, le-ltb, lt-ltb, leb-true, le-leb, ne-eqb}
 use lib.Dec.{leb, eqb}
 use Rattle.formula.specs.Causes.{any}
+use Rattle.codes.specs.Codes.{has}
 use Rattle.trimming_rules.specs.Trimming as Trimming
 use Rattle.trimming_rules.specs.Trimming.{keep}
 use Rattle.trimming_rules.proofs.ClauseLaws.{Every}
-use Rattle.trimming_marks.specs.Marks.{is-left, marked, has}
+use Rattle.trimming_marks.specs.Marks.{is-left, marked}
 use Rattle.trimming.specs.Table.{literal-of, Entry}
 use Rattle.trimming.proofs.CodeLaws.{same-code}
 use Rattle.trimming.proofs.BlockLaws.{left-code}

@@ -4,15 +4,16 @@ use Prim.Native.Nat.{ℕ, zero, suc, _+_, _≤_, _<_}
 use native.Mathlib.Omega.{arith}
 use mathlib.Core.Path.{_≡_, refl, sym, _∙_, ap, ap₂, subst}
 use mathlib.Core.Logic.{inl, inr}
-use mathlib.Core.Bool.{Bool, true, false, cond, _||_, false≢true}
+use mathlib.Core.Bool.{Bool, true, false, cond, _||_, or-false, false≢true}
 use mathlib.Core.List.{List, [], _∷_, _++_}
 use borrow.Author.Tests.{ne-eqb, ltb-true, ltb-false, le-ltb, lt-ltb}
 use lib.Dec.{eqb, ltb}
 use lib.ListN.{length, getD, drop, length-append}
 use lib.Seq.{drop-at}
+use Rattle.codes.specs.Codes.{has}
 use Rattle.trimming_rules.specs.Trimming.{found}
 use Rattle.trimming_rules.proofs.ClauseLaws.{Every, In}
-use Rattle.trimming_marks.specs.Marks.{ends, has}
+use Rattle.trimming_marks.specs.Marks.{ends}
 use Rattle.index.specs.Occurrences.{whole-clause, has-left, listed, begins, Names}
 use Rattle.index.specs.Index.{code-count, begin-of, end-of}
 use Rattle.trimming.specs.Table.{literal-of, clauses-left, Entry, Block, standing, gone, inner, whole, Fine, laid, shown, all-shown, Laid, Indexed, Here}
@@ -71,15 +72,11 @@ pub has-entries : (c : ℕ) (es : List ℕ) → Every Entry es → has-left c es
 has-entries c [] all = refl
 has-entries c (y ∷ es) all = ap₂ _||_ (ap (eqb c) (under-itself y (entry-two y (all .0)))) (has-entries c es (all .1))
 
-or-none : (b : Bool) → (b || false) ≡ b
-or-none true = refl
-or-none false = refl
-
 pub standing-has : (c : ℕ) → 2 ≤ c → (es : List ℕ) → Every Entry es → block-has c (standing es) ≡ has c es
 standing-has c two es all =
     has-append c es (0 ∷ [])
     ∙ ap (λ (b : Bool). has-left c es || (b || false)) (ne-eqb c 1 (λ e. omega arith))
-    ∙ or-none (has-left c es)
+    ∙ or-false (has-left c es)
     ∙ has-entries c es all
 
 pub has-inner : (c : ℕ) → 2 ≤ c → c < 512 → (b : Block) → Fine b → block-has c b ≡ has c (inner b)

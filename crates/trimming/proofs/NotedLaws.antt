@@ -10,9 +10,10 @@ use borrow.Author.Tests.{eqb-true, ltb-false}
 use lib.Dec.{eqb}
 use lib.ListN.{length, length-append, length-map}
 use Rattle.formula.specs.Causes.{any}
+use Rattle.codes.specs.Codes.{has}
 use Rattle.trimming_rules.specs.Trimming.{keep}
 use Rattle.trimming_rules.proofs.ClauseLaws.{Every, In}
-use Rattle.trimming_marks.specs.Marks.{is-left, is-universal, marked, has, only, unit}
+use Rattle.trimming_marks.specs.Marks.{is-left, is-universal, marked, only, unit}
 use Rattle.index.specs.Occurrences.{listed, begins}
 use Rattle.trimming.specs.Table.{Entry, Block, gone, inner, whole, Fine, laid, Laid, marked-at, AllBut, SomeAt, UnitKnown, FirstUnit, Units}
 use Rattle.trimming.proofs.BlockLaws.{every-append, entries-of, gone-none}

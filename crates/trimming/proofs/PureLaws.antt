@@ -4,19 +4,19 @@ use Prim.Native.Nat.{ℕ, zero, suc, _+_, _*_, _≤_, _<_}
 use native.Mathlib.Omega.{arith}
 use native.Mathlib.Numerals.{add-one}
 use mathlib.Core.Path.{_≡_, refl, sym, _∙_, ap, ap₂, subst}
-use mathlib.Core.Bool.{Bool, true, false, not, cond, _||_, true≢false}
+use mathlib.Core.Bool.{Bool, true, false, not, cond, _||_, or-false, true≢false}
 use mathlib.Core.List.{List, [], _∷_, _++_, map}
 use mathlib.Core.Option.{Option, some}
 use lib.IntN.{ℤ, pos, negsuc, negℤ}
 use lib.ListN.{length, drop, length-map, drop-of-length-le}
 use Rattle.formula.specs.Formula.{Kind, existential, universal, kind-of, prefix, Clause}
 use Rattle.formula.proofs.Places.{drop-front}
-use Rattle.codes.specs.Codes.{opposite}
+use Rattle.codes.specs.Codes.{opposite, has}
 use Rattle.trimming_rules.specs.Trimming as Trimming
 use Rattle.trimming_rules.specs.Trimming.{keep, first-of, if-some, lowest-unit, set-true, rule-3, found, one-of, lowest-pure, dropped, rule-4, kind-at, without-clauses, without-literal}
 use Rattle.trimming_rules.proofs.ClauseLaws.{Named, without-literal-none, without-clauses-none}
 use Rattle.trimming_rules.proofs.RuleLaws.{pure-stands}
-use Rattle.trimming_marks.specs.Marks.{is-left, is-universal, has}
+use Rattle.trimming_marks.specs.Marks.{is-left, is-universal}
 use Rattle.trimming.specs.Table.{literal-of, Block, standing, gone, inner, Fine, shown, literal-or-none, Chosen, Picked, lists-some, pure-code, one-code, made-true, Next, Found}
 use Rattle.trimming.proofs.CodeLaws.{literal-even, literal-odd, opposite-literal, opposite-bounds, named-code, universal-code}
 use Rattle.trimming.proofs.BlockLaws.{gone-none, entries-of}
@@ -25,12 +25,8 @@ use Rattle.trimming.proofs.UnitLaws.{nothing-chosen, some-literal}
 
 -- ---- what the clauses have
 
-or-none : (b : Bool) → (b || false) ≡ b
-or-none true = refl
-or-none false = refl
-
 pub found-block : (c : ℕ) → 2 ≤ c → c < 258 → (b : Block) → Fine b → has c (inner b) ≡ found (literal-of c) (shown b)
-found-block c two small (standing l) f = sym (has-literal c two small l f) ∙ sym (or-none (Trimming.has (literal-of c) (map literal-of (keep is-left l))))
+found-block c two small (standing l) f = sym (has-literal c two small l f) ∙ sym (or-false (Trimming.has (literal-of c) (map literal-of (keep is-left l))))
 found-block c two small (gone l) f =
     sym (has-literal c two small l (entries-of (gone l) f)) ∙ ap (λ (k : List ℕ). Trimming.has (literal-of c) (map literal-of k)) (gone-none l f)
 

@@ -7,10 +7,11 @@ use mathlib.Core.Bool.{Bool, true, false, not, cond, _&&_, _||_}
 use mathlib.Core.List.{List, [], _∷_, _++_, map}
 use borrow.Author.Tests.{ne-eqb, eqb-true, eqb-false, le-leb, leb-true}
 use lib.Dec.{eqb, leb}
+use Rattle.codes.specs.Codes.{has}
 use Rattle.trimming_rules.specs.Trimming as Trimming
 use Rattle.trimming_rules.specs.Trimming.{keep}
 use Rattle.trimming_rules.proofs.ClauseLaws.{Every}
-use Rattle.trimming_marks.specs.Marks.{is-left, marked, has}
+use Rattle.trimming_marks.specs.Marks.{is-left, marked}
 use Rattle.index.specs.Occurrences.{listed-under, has-left}
 use Rattle.trimming.specs.Table.{literal-of, Entry}
 use Rattle.trimming.proofs.CodeLaws.{same-code}

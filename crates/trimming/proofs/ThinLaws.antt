@@ -11,11 +11,11 @@ use lib.Dec.{eqb, ltb}
 use lib.IntN.{ℤ}
 use lib.ListN.{length, getD, take, length-append}
 use Rattle.formula.specs.Formula.{Clause}
-use Rattle.codes.specs.Codes.{opposite}
+use Rattle.codes.specs.Codes.{opposite, has}
 use Rattle.trimming_rules.specs.Trimming as Trimming
 use Rattle.trimming_rules.specs.Trimming.{keep, without-clauses, without-literal, set-true}
 use Rattle.trimming_rules.proofs.ClauseLaws.{Every, In, every-from, without-clauses-none, without-literal-none}
-use Rattle.trimming_marks.specs.Marks.{is-left, marked, has}
+use Rattle.trimming_marks.specs.Marks.{is-left, marked}
 use Rattle.index.specs.Occurrences.{listed, begins}
 use Rattle.index.specs.Index.{code-count, begin-of, end-of, without, cleared}
 use Rattle.trimming.specs.Table.{literal-of, clauses-left, Entry, Block, standing, gone, whole, Fine, laid, Laid, marked-at, Indexed, Here, AllBut, Except, Irreducible, UnitKnown, Units, Toward, Cleared, Dropped}

@@ -8,12 +8,12 @@ use mathlib.Core.List.{List, [], _∷_, _++_, map}
 use borrow.Author.Tests.{ltb-false, lt-ltb, le-ltb}
 use lib.IntN.{negℤ}
 use Rattle.formula.specs.Causes.{any}
-use Rattle.codes.specs.Codes.{opposite}
+use Rattle.codes.specs.Codes.{opposite, has}
 use Rattle.trimming_rules.specs.Trimming as Trimming
 use Rattle.trimming_rules.specs.Trimming.{keep}
 use Rattle.trimming_rules.specs.Rounds.{untrue}
 use Rattle.trimming_rules.proofs.ClauseLaws.{Every}
-use Rattle.trimming_marks.specs.Marks.{is-left, marked, has, clashes, always-true}
+use Rattle.trimming_marks.specs.Marks.{is-left, marked, clashes, always-true}
 use Rattle.trimming.specs.Table.{literal-of, Entry, Block, standing, gone, inner, Fine, true-from}
 use Rattle.trimming.proofs.CodeLaws.{opposite-literal, opposite-bounds}
 use Rattle.trimming.proofs.BlockLaws.{map-append, keep-append, left-code}

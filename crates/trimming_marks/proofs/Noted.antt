@@ -1,17 +1,18 @@
 -- A table with a 1 at each code that a clause has says which codes it has.
 -- Assumes nothing.
-use Prim.Native.Nat.{ℕ, _<_, _+_, _-_, _%_}
+use Prim.Native.Nat.{ℕ, _<_}
 use native.Mathlib.Omega.{arith}
 use mathlib.Core.Path.{_≡_, refl, _∙_, ap, ap₂}
-use mathlib.Core.Bool.{Bool, true, false, cond, _&&_, _||_}
+use mathlib.Core.Bool.{Bool, true, false, cond, _&&_, _||_, or-false}
 use mathlib.Core.List.{List, [], _∷_}
 use borrow.Author.Tests.{ltb-true, ltb-false, eqb-true, eqb-false}
 use lib.Dec.{ltb, eqb}
 use lib.ListN.{length, getD, set, replicate, length-set, length-replicate, getD-replicate}
 use lib.Seq.{getD-set-same, getD-set-other}
 use Rattle.formula.specs.Causes.{any}
-use Rattle.codes.specs.Codes.{opposite}
-use Rattle.trimming_marks.specs.Marks.{has, clashes, always-true, noted-one, noted, noted-clash}
+use Rattle.codes.specs.Codes.{opposite, has}
+use Rattle.codes.proofs.ReadLaws.{opposite-below}
+use Rattle.trimming_marks.specs.Marks.{clashes, always-true, noted-one, noted, noted-clash}
 
 -- Whether a 1 stands at a code.
 abbrev pub stands : List ℕ → ℕ → Bool
@@ -52,28 +53,16 @@ noted-stands (x ∷ xs) seen c size small =
     ∙ ap (λ (b : Bool). has c xs || b) (noted-one-stands seen x c size small)
     ∙ or-swap (has c xs) (eqb c x) (stands seen c)
 
-or-none : (b : Bool) → (b || false) ≡ b
-or-none true = refl
-or-none false = refl
-
-pub opposite-small : (x : ℕ) → x < 258 → opposite x < 258
-unfolding opposite
-opposite-small x small = go (eqb (x % 2) 0) refl
-  where
-    go : (even : Bool) → eqb (x % 2) 0 ≡ even → cond even (x + 1) (x - 1) < 258
-    go true e = let z = eqb-true (x % 2) 0 e in omega arith
-    go false e = omega arith
-
 noted-clash-is : (clause : List ℕ) (x : ℕ) → noted-clash (noted (replicate 258 0) clause) x ≡ clashes clause x
 unfolding noted-clash
 noted-clash-is clause x = go (ltb x 258) refl
   where
     go : (small : Bool) → ltb x 258 ≡ small → (small && stands (noted (replicate 258 0) clause) (opposite x)) ≡ (small && has (opposite x) clause)
     go true s =
-        let o = opposite-small x (ltb-true x 258 s) in
+        let o = opposite-below x (ltb-true x 258 s) in
         noted-stands clause (replicate 258 0) (opposite x) (length-replicate {A = ℕ} 258 0) o
         ∙ ap (λ (y : ℕ). has (opposite x) clause || eqb y 1) (getD-replicate {A = ℕ} 258 (opposite x) 0 0 o)
-        ∙ or-none (has (opposite x) clause)
+        ∙ or-false (has (opposite x) clause)
     go false s = refl
 
 any-same : (f g : ℕ → Bool) → ((x : ℕ) → f x ≡ g x) → (xs : List ℕ) → any f xs ≡ any g xs

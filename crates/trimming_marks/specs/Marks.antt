@@ -8,7 +8,7 @@ use mathlib.Core.List.{List, [], _∷_}
 use lib.Dec.{eqb, leb, ltb}
 use lib.ListN.{getD, set}
 use Rattle.formula.specs.Causes.{any}
-use Rattle.codes.specs.Codes.{opposite}
+use Rattle.codes.specs.Codes.{opposite, has}
 
 -- An entry that is not dropped.
 abbrev pub is-left : ℕ → Bool
@@ -42,9 +42,6 @@ mark-clause low high [] = []
 mark-clause low high (x ∷ xs) = let rest = mark-clause low high xs in marked low high x ∷ cond (ends x) xs rest
 
 -- ---- what is read of a clause
-
-abbrev pub has : ℕ → List ℕ → Bool
-has c clause = any (eqb c) clause
 
 -- A code that is left, and its opposite in the same clause.
 abbrev pub clashes : List ℕ → ℕ → Bool

@@ -6,8 +6,8 @@ ghost use Prim.Native.Nat.{_+_, _<_};
 ghost use mathlib.Core.List.{_++_};
 ghost use lib.ListN.{length, take, drop};
 ghost use Rattle.formula.specs.Causes.{any};
-ghost use Rattle.codes.specs.Codes.{opposite as code-opposite};
-ghost use Rattle.trimming_marks.specs.Marks.{ends, first-clause, first-length, is-universal as universal-code, marked as marked-entry, mark-clause, has as has-code, always-true, reducible-from, raised as raised-by, only as only-left, unit as unit-code, noted-one, noted, noted-clash};
+ghost use Rattle.codes.specs.Codes.{opposite as code-opposite, has as has-code};
+ghost use Rattle.trimming_marks.specs.Marks.{ends, first-clause, first-length, is-universal as universal-code, marked as marked-entry, mark-clause, always-true, reducible-from, raised as raised-by, only as only-left, unit as unit-code, noted-one, noted, noted-clash};
 
 // The place behind the clause that begins at `start`.
 pub fn past(table: &[u16], start: usize) -> usize

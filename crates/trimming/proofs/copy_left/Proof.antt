@@ -54,7 +54,7 @@ loop-less : tie.Need-loop-less Inv-loop μ-loop
 loop-less c = omega arith
 
 loop-again : tie.Need-loop-again Inv-loop μ-loop
-loop-again c = λ same room. copied-one (c .before .before .before .before .before .args .literals .now) (c .before .before .before .before .before .args .table .now) same (c .before .before .before .before .before .args .output .now) room (c .before .before .before .before .loop .inv same room) (c .before .before .before .loop-test .taken) (lt-ltb (getD (c .before .before .before .before .before .args .table .now) (c .before .before .before .before .loop .i) 0) 512 (c .if1 .taken)) (toZ w32 (ofZ w32 (getD (c .before .before .before .before .before .args .literals .now) (c .before .before .before .before .loop .i) (pos 0)))) (bits (λ z. z) (getD (c .before .before .before .before .before .args .literals .now) (c .before .before .before .before .loop .i) (pos 0)) (c .before .literal .given))
+loop-again c = λ same room. copied-one (c .before .before .before .before .before .args .literals .now) (c .before .before .before .before .before .args .table .now) same (c .before .before .before .before .before .args .output .now) room (c .before .before .before .before .loop .inv same room) (c .before .before .before .loop-test .taken) (lt-ltb (getD (c .before .before .before .before .before .args .table .now) (c .before .before .before .before .loop .i) 0) 512 (omega arith)) (toZ w32 (ofZ w32 (getD (c .before .before .before .before .before .args .literals .now) (c .before .before .before .before .loop .i) (pos 0)))) (bits (λ z. z) (getD (c .before .before .before .before .before .args .literals .now) (c .before .before .before .before .loop .i) (pos 0)) (c .before .literal .given))
 
 loop-less-2 : tie.Need-loop-less-2 Inv-loop μ-loop
 loop-less-2 c = omega arith

@@ -1,5 +1,6 @@
 -- `trimming::forget` meets its contract.
 -- Assumes nothing.
+use native.Mathlib.Omega.{arith}
 use borrow.Author.Needs.{needs}
 use mathlib.Core.Path.{refl, sym, _∙_, ap}
 use mathlib.Core.Bool.{Bool, cond}
@@ -31,10 +32,10 @@ same-length : tie.Need-same-length
 same-length c = search needs
 
 returns : tie.Need-returns
-returns c = ((c .before .before .remove .ensures) ∙ sym (ap (λ (b : Bool). cond b (removed ((c .before .before .before .before .before .before .before .args .index .now)) ((c .before .before .before .before .before .before .before .args .x)) ((c .before .before .before .before .before .before .before .args .start))) ((c .before .before .before .before .before .before .before .args .index .now))) (eq-eqb (getD ((c .before .before .before .before .before .before .before .args .counts .now)) ((c .before .before .before .before .before .before .before .args .x)) 0) 1 (c .before .before .before .before .if1 .taken))), refl)
+returns c = ((c .before .before .remove .ensures) ∙ sym (ap (λ (b : Bool). cond b (removed ((c .before .before .before .before .before .before .before .args .index .now)) ((c .before .before .before .before .before .before .before .args .x)) ((c .before .before .before .before .before .before .before .args .start))) ((c .before .before .before .before .before .before .before .args .index .now))) (eq-eqb (getD ((c .before .before .before .before .before .before .before .args .counts .now)) ((c .before .before .before .before .before .before .before .args .x)) 0) 1 (omega arith))), refl)
 
 returns-2 : tie.Need-returns-2
-returns-2 c = (sym (ap (λ (b : Bool). cond b (removed ((c .before .before .before .args .index .now)) ((c .before .before .before .args .x)) ((c .before .before .before .args .start))) ((c .before .before .before .args .index .now))) (ne-eqb (getD ((c .before .before .before .args .counts .now)) ((c .before .before .before .args .x)) 0) 1 (c .if1 .left))), refl)
+returns-2 c = (sym (ap (λ (b : Bool). cond b (removed ((c .before .before .before .args .index .now)) ((c .before .before .before .args .x)) ((c .before .before .before .args .start))) ((c .before .before .before .args .index .now))) (ne-eqb (getD ((c .before .before .before .args .counts .now)) ((c .before .before .before .args .x)) 0) 1 (λ e. omega arith))), refl)
 
 pub forget-spec : {M : Type 1} → statement M
 forget-spec =

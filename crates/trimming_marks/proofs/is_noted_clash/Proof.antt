@@ -7,7 +7,7 @@ use Prim.Native.Nat.{ℕ}
 use mathlib.Core.Path.{ap}
 use lib.ListN.{getD}
 use Rattle.trimming_marks.specs.Marks.{noted-clash}
-use Rattle.trimming_marks.proofs.Noted.{opposite-small}
+use Rattle.codes.proofs.ReadLaws.{opposite-below}
 use Rattle.trimming_marks.proofs.is_noted_clash.Statement.{statement}
 use Rattle.trimming_marks.proofs.is_noted_clash.Tie as tie
 
@@ -15,7 +15,7 @@ opposite-requires : tie.Need-opposite-requires
 opposite-requires c κs = search needs
 
 element-copy-out-result : tie.Need-element-copy-out-result
-element-copy-out-result c = let o = opposite-small (c .before .before .args .x) (omega arith) in omega arith
+element-copy-out-result c = let o = opposite-below (c .before .before .args .x) (omega arith) in omega arith
 
 returns : tie.Need-returns
 unfolding noted-clash
