@@ -8,7 +8,7 @@ use borrow.Author.Tests.{ltb-false, eqb-true, eqb-false}
 use lib.Dec.{eqb, ltb}
 use lib.IntN.{ℤ, pos, negsuc, natAbs}
 use lib.ListN.{length}
-use Rattle.formula.specs.Formula.{max-unknowns, prefix}
+use Rattle.formula.specs.Formula.{max-entries, max-unknowns, prefix}
 use Rattle.formula.specs.Meaning.{verdict}
 use Rattle.gates.specs.Clauses.{flat}
 use Rattle.lines.specs.Lines.{Bytes, Line, ended, unended, lines, words, first, rest, third, fourth, fifth}
@@ -278,7 +278,7 @@ scan-ended text kinds literals names =
 
 pub gates-right : (text : Bytes) → GatesRight text
 unfolding read-gates drawing output-of
-gates-right text r e g = go (scan true text 128 8192 128) (scan-ended text 128 8192 128) e
+gates-right text r e g = go (scan true text max-unknowns max-entries max-unknowns) (scan-ended text max-unknowns max-entries max-unknowns) e
   where
     carried : (value : Bool) (s : State) → closed s ≡ r → verdict (closed s .kinds) (closed s .literals) ≡ value → verdict (r .kinds) (r .literals) ≡ value
     carried value s same right = subst (λ (q : Read). verdict (q .kinds) (q .literals) ≡ value) same right

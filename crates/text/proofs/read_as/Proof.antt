@@ -4,6 +4,7 @@ use mathlib.Core.Path.{sym, _∙_}
 use native.Mathlib.Omega.{arith}
 use lib.IntN.{ℤ, pos}
 use lib.ListN.{length, length-replicate}
+use Rattle.formula.specs.Formula.{max-unknowns, max-entries}
 use Rattle.text.proofs.ReadingLaws.{refused-whole, outcome-refused, outcome-taken, scan-placeable, taken-whole}
 use borrow.Author.Needs.{needs}
 use Rattle.text.proofs.read_as.Statement.{statement}
@@ -17,7 +18,7 @@ returns c = refused-whole (c .before .before .read-opening .ensures .refusal (c 
 
 read-lines-requires : tie.Need-read-lines-requires
 read-lines-requires c κs =
-    ((length-replicate {A = ℕ} 128 0, length-replicate {A = ℕ} 128 0, length-replicate {A = ℤ} 8192 (pos 0)), (c .before .before .before .before .before .read-opening .ensures .within (c .before .before .before .if1 .left), c .before .before .before .before .before .read-opening .ensures .line (c .before .before .before .if1 .left), c .before .before .before .before .before .read-opening .ensures .small (c .before .before .before .if1 .left), c .before .before .before .before .before .read-opening .ensures .named (c .before .before .before .if1 .left)))
+    ((length-replicate {A = ℕ} max-unknowns 0, length-replicate {A = ℕ} max-unknowns 0, length-replicate {A = ℤ} max-entries (pos 0)), (c .before .before .before .before .before .read-opening .ensures .within (c .before .before .before .if1 .left), c .before .before .before .before .before .read-opening .ensures .line (c .before .before .before .if1 .left), c .before .before .before .before .before .read-opening .ensures .small (c .before .before .before .if1 .left), c .before .before .before .before .before .read-opening .ensures .named (c .before .before .before .if1 .left)))
 
 returns-2 : tie.Need-returns-2
 returns-2 c = refused-whole (c .before .before .before .before .before .before .before .before .read-opening .ensures .right (c .before .before .before .before .before .before .if1 .left) ∙ sym (c .before .before .read-lines .ensures .right) ∙ outcome-refused (c .before .before .read-lines .result) (c .before .before .read-lines .last .1 .1 .1 .0) (c .before .before .read-lines .last .1 .1 .1 .1 .1 .0) (c .before .before .read-lines .last .1 .1 .1 .1 .0) (λ e. omega (arith, c .if2 .taken)))

@@ -3,6 +3,7 @@ use mathlib.Core.Path.{refl, sym, ap}
 use native.Mathlib.Omega.{arith}
 use lib.IntN.{ℤ, pos}
 use lib.ListN.{length-replicate}
+use Rattle.formula.specs.Formula.{max-clauses}
 use Rattle.lines.specs.Lines.{words}
 use Rattle.lines.proofs.ShapeLaws.{taken-word}
 use Rattle.text_gates.specs.GateLine.{function-of}
@@ -18,7 +19,7 @@ next-requires-2 : tie.Need-next-requires-2
 next-requires-2 c κs = search needs
 
 read-inputs-requires : tie.Need-read-inputs-requires
-read-inputs-requires c κs = (c .before .next2 .ensures .within, length-replicate {A = ℤ} 2048 (pos 0), zeros-small 2048)
+read-inputs-requires c κs = (c .before .next2 .ensures .within, length-replicate {A = ℤ} max-clauses (pos 0), zeros-small max-clauses)
 
 returns : tie.Need-returns
 returns c =
