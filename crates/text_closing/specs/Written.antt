@@ -1,5 +1,5 @@
--- Names bound nowhere in a reader's tables, and what was read by name, written by position: 'Writes kinds, literals and the text name of each position, leaves entries past those used.'
--- Assumes nothing.
+-- Names bound nowhere in a reader's tables, and what was read by name, written by position: 'Writes kinds, literals and the text name of each
+-- position, leaves entries past those used.' Assumes nothing.
 use Prim.Native.Nat.{ℕ, _+_}
 use mathlib.Core.Path.{_≡_}
 use mathlib.Core.Bool.{Bool, true, cond, _&&_}
