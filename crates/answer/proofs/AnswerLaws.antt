@@ -7,7 +7,7 @@ use mathlib.Core.List.{List}
 use lib.Dec.{eqb}
 use lib.IntN.{ℤ}
 use lib.ListN.{length, take, replicate, length-replicate}
-use Rattle.formula.specs.Formula.{work-size, universal, existential, prefix}
+use Rattle.formula.specs.Formula.{max-unknowns, max-entries, max-rows, max-clauses, work-size, universal, existential, prefix}
 use Rattle.formula.specs.Causes.{checked, sizes}
 use Rattle.formula.specs.declared.Check.the-variants.{Accepted}
 use Rattle.rounds.proofs.Bounds.{count-in-room}
@@ -31,11 +31,11 @@ module _ (kinds : List ℕ) (literals : List ℤ) (passes : checked kinds litera
     reported-so : r ≡ reported (prefix kinds) (settled kinds literals)
     reported-so = e ∙ returned-so kinds literals (replicate work-size 0) round-limit passes whole refl
 
-    pub universal-few : r .universal ≤ 256
-    universal-few = subst (λ (o : Outcome). o .universal ≤ 256) (sym reported-so) (count-in-room (own-lent kinds literals) round-limit universal (omega arith))
+    pub universal-few : r .universal ≤ max-rows
+    universal-few = subst (λ (o : Outcome). o .universal ≤ max-rows) (sym reported-so) (count-in-room (own-lent kinds literals) round-limit universal (omega arith))
 
-    pub existential-few : r .existential ≤ 256
-    existential-few = subst (λ (o : Outcome). o .existential ≤ 256) (sym reported-so) (count-in-room (own-lent kinds literals) round-limit existential (omega arith))
+    pub existential-few : r .existential ≤ max-rows
+    existential-few = subst (λ (o : Outcome). o .existential ≤ max-rows) (sym reported-so) (count-in-room (own-lent kinds literals) round-limit existential (omega arith))
 
     pub lines-so : (variables clauses : ℕ) {n : ℕ} → n ≡ number-of (r .answer)
         → result-lines n variables clauses (r .round) (r .universal) (r .existential) ≡ result-of kinds literals variables clauses
@@ -53,20 +53,20 @@ module _ (text : List ℕ) where
   refused-printed e = ap shown (sym e)
 
   pub line-small : {n line : ℕ} → text-read text ≡ refused n line → line ≤ 65538
-  line-small {n} {line} e = refused-line text 128 8192 128 n line e
+  line-small {n} {line} e = refused-line text max-unknowns max-entries max-unknowns n line e
 
   -- A text that is taken: its formula stands at the front of the tables.
   module _ {u e v c : ℕ} {kinds : List ℕ} {literals : List ℤ} (f : Front (text-read text) u e v c kinds literals) where
     passes-so : Passes (f .formula)
-    passes-so = subst (Results Passes) (f .whole) (read-passes text 128 8192 128)
+    passes-so = subst (Results Passes) (f .whole) (read-passes text max-unknowns max-entries max-unknowns)
 
     pub front-passes : checked (take u kinds) (take e literals) ≡ Accepted (sizes (take u kinds) (take e literals))
     front-passes = rw (f .kinds-front, f .literals-front) (passes-so .accepted)
 
-    pub variables-small : v ≤ 32767
+    pub variables-small : v ≤ max-variables
     variables-small = omega (arith, f .variables-so, passes-so .few-variables)
 
-    pub clauses-small : c ≤ 2048
+    pub clauses-small : c ≤ max-clauses
     clauses-small = omega (arith, f .clauses-so, passes-so .few-clauses)
 
     pub taken-printed : result-of (take u kinds) (take e literals) v c ≡ printed text

@@ -7,7 +7,7 @@ use mathlib.Core.List.{List}
 use Prim.Native.String.{String}
 use mathlib.Core.Logic.{_⊎_, inl, inr}
 use lib.ListN.{length}
-use Rattle.formula.specs.Formula.{universal, existential}
+use Rattle.formula.specs.Formula.{max-unknowns, max-entries, max-rows, universal, existential}
 use Rattle.formula.specs.Meaning.{verdict}
 use Rattle.rounds.specs.Run.{Answer, is-false, is-true, spent, no-room-universal, no-room-existential, Outcome}
 use Rattle.rounds.proofs.Verdict.{verdict-right}
@@ -33,10 +33,10 @@ module _ (text : List ℕ) where
 
     pub when-refused : AnswerRight text
     when-refused =
-        let of-text = subst (Results Passes) e (read-passes text 128 8192 128) in
+        let of-text = subst (Results Passes) e (read-passes text max-unknowns max-entries max-unknowns) in
         record {
           one-form = inl (subst (λ (bytes : List ℕ). Begins bytes "c refused ") (sym refused-printed) (refusal-begins n line));
-          short = subst (λ (bytes : List ℕ). length bytes ≤ 128) (sym refused-printed) (refusal-short n line (omega (arith, of-text .to-14)) (omega (arith, refused-line text 128 8192 128 n line e)));
+          short = subst (λ (bytes : List ℕ). length bytes ≤ 128) (sym refused-printed) (refusal-short n line (omega (arith, of-text .to-14)) (omega (arith, refused-line text max-unknowns max-entries max-unknowns n line e)));
           refusal =
               λ _. record { n = n; line = line; read-so = e; from-9 = of-text .from-9; to-14 = of-text .to-14; not-13 = of-text .not-13; printed-so = refused-printed };
           only-true = λ b. absurd (refusal-not-true n line (begins-so "s cnf 1 " b));
@@ -61,7 +61,7 @@ module _ (text : List ℕ) where
 
     -- With 256 rows a side no run makes 1,000 rounds.
     not-spent : o .answer ≡ spent → ⊥
-    not-spent is = let most : round-limit ≤ 256 = next-round-in-room (own-lent (s .kinds) (s .literals)) round-limit (omega arith) is in omega arith
+    not-spent is = let most : round-limit ≤ max-rows = next-round-in-room (own-lent (s .kinds) (s .literals)) round-limit (omega arith) is in omega arith
 
     right-true : o .answer ≡ is-true → value result ≡ true
     unfolding verdict result
@@ -95,7 +95,7 @@ module _ (text : List ℕ) where
 
     pub when-taken : AnswerRight text
     when-taken =
-        let passes : Passes s = subst (Results Passes) e (read-passes text 128 8192 128) in
+        let passes : Passes s = subst (Results Passes) e (read-passes text max-unknowns max-entries max-unknowns) in
         let l = own-lent (s .kinds) (s .literals) in
         record {
           one-form = form (o .answer) refl;

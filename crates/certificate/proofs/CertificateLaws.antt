@@ -9,7 +9,7 @@ use lib.IntN.{ℤ}
 use lib.ListN.{length, take, drop, replicate, length-append, length-map}
 use lib.Seq.{take-all, take-at}
 use borrow.Author.Tests.{eq-eqb, ne-eqb}
-use Rattle.formula.specs.Formula.{work-size, universal, existential, prefix, clauses}
+use Rattle.formula.specs.Formula.{max-unknowns, max-entries, max-rows, max-clauses, work-size, universal, existential, prefix, clauses}
 use Rattle.formula.specs.Meaning.{matrix}
 use Rattle.formula.specs.Causes.{checked, sizes}
 use Rattle.formula.specs.declared.Check.the-variants.{Accepted}
@@ -22,7 +22,7 @@ use Rattle.run.specs.declared.Outcome.{Outcome as Returned}
 use Rattle.run.specs.Outcome.{Areas, Given, lent, cause, number-of, reported, row-bytes, given-up, after, returned, left as run-left}
 use Rattle.run.proofs.OutcomeLaws.{number-named}
 use Rattle.run.proofs.ByteLaws.{length-table-of}
-use Rattle.text.specs.Reading.{Result, taken, refused, text-read}
+use Rattle.text.specs.Reading.{max-variables, Result, taken, refused, text-read}
 use Rattle.text.proofs.TextLaws.{Results, Passes, read-passes, refused-line}
 use Rattle.text.proofs.FrontLaws.{Front as TextFront}
 use Rattle.report.specs.Report.{result-lines, refusal-line, put, put-count}
@@ -125,7 +125,7 @@ module _ (kinds : List ℕ) (literals : List ℤ) (variables clauses : ℕ) {r :
     some-S : 1 ≤ r .existential
     some-S = omega (arith, ran .existential-so, ran .some-existential (true-if (o .answer) one))
 
-    few-S : r .existential ≤ 256
+    few-S : r .existential ≤ max-rows
     few-S = omega (arith, ran .existential-so, ran .few-existential)
 
     pub true-writes : write-cause R U E (size R) ≡ 0
@@ -150,7 +150,7 @@ module _ (kinds : List ℕ) (literals : List ℤ) (variables clauses : ℕ) {r :
     some-A : 1 ≤ r .universal
     some-A = omega (arith, ran .universal-so, ran .some-universal (false-if (o .answer) none))
 
-    few-A : r .universal ≤ 256
+    few-A : r .universal ≤ max-rows
     few-A = omega (arith, ran .universal-so, ran .few-universal)
 
     pub false-writes : write-cause R U E (size R) ≡ 0
@@ -217,13 +217,13 @@ module _ (kinds : List ℕ) (literals : List ℤ) (work : List ℕ) (passes : ch
   unfolding row-bytes
   there t found = omega (arith, length-append (table-of (rows t)) (drop (16 * length t) found), length-table-of (rows t), length-rows t)
 
-  few-universal-rows : length (end .A) ≤ 256
+  few-universal-rows : length (end .A) ≤ max-rows
   few-universal-rows = count-in-room (own-lent kinds literals) round-limit universal (omega arith)
 
-  few-existential-rows : length (end .S) ≤ 256
+  few-existential-rows : length (end .S) ≤ max-rows
   few-existential-rows = count-in-room (own-lent kinds literals) round-limit existential (omega arith)
 
-  pub few-unknowns : length kinds ≤ 128
+  pub few-unknowns : length kinds ≤ max-unknowns
   few-unknowns = accepted kinds literals passes .few-unknowns
 
   module _ {r : Returned} {U E work-then : List ℕ} (d : Decided g r U E work-then) where
@@ -267,7 +267,7 @@ by-length kinds literals variables clause-count b = cond b (on-formula kinds lit
 
 module _ (text work : List ℕ) where
   pub line-small : {n line : ℕ} → text-read text ≡ refused n line → line ≤ 65538
-  line-small {n} {line} e = refused-line text 128 8192 128 n line e
+  line-small {n} {line} e = refused-line text max-unknowns max-entries max-unknowns n line e
 
   abbrev pub Certified : List ℕ → List ℕ → Counts → List ℕ → List ℕ → List ℕ → Type 0
   Certified file lines r file-then lines-then work-then =
@@ -302,13 +302,13 @@ module _ (text work : List ℕ) where
 
   module _ {u e v c : ℕ} {kinds : List ℕ} {literals : List ℤ} (t : TextFront (text-read text) u e v c kinds literals) where
     passes-so : Passes (t .formula)
-    passes-so = subst (Results Passes) (t .whole) (read-passes text 128 8192 128)
+    passes-so = subst (Results Passes) (t .whole) (read-passes text max-unknowns max-entries max-unknowns)
 
     pub front-passes : checked (take u kinds) (take e literals) ≡ Accepted (sizes (take u kinds) (take e literals))
     front-passes = rw (t .kinds-front, t .literals-front) (passes-so .accepted)
 
-    pub variables-small : v ≤ 32767
+    pub variables-small : v ≤ max-variables
     variables-small = omega (arith, t .variables-so, passes-so .few-variables)
 
-    pub clauses-small : c ≤ 2048
+    pub clauses-small : c ≤ max-clauses
     clauses-small = omega (arith, t .clauses-so, passes-so .few-clauses)

@@ -10,7 +10,7 @@ use lib.Dec.{eqb}
 use lib.IntN.{ℤ}
 use lib.ListN.{length, take, replicate, length-replicate, length-map}
 use lib.Seq.{take-all}
-use Rattle.formula.specs.Formula.{work-size, universal, existential, prefix, clauses}
+use Rattle.formula.specs.Formula.{max-unknowns, max-entries, max-rows, work-size, universal, existential, prefix, clauses}
 use Rattle.formula.specs.Meaning.{matrix, bit}
 use Rattle.formula.specs.Causes.{checked, sizes}
 use Rattle.formula.specs.declared.Check.the-variants as Check
@@ -82,10 +82,10 @@ module _ (kinds : List ℕ) (literals : List ℤ) (variables clause-count : ℕ)
   unfolding width
   wide-A = wide-of-sized (width kinds 0) (rows (o .A)) (row-length (own-lent kinds literals) round-limit universal)
 
-  few-S : length (o .S) ≤ 256
+  few-S : length (o .S) ≤ max-rows
   few-S = count-in-room (own-lent kinds literals) round-limit existential (omega arith)
 
-  few-A : length (o .A) ≤ 256
+  few-A : length (o .A) ≤ max-rows
   few-A = count-in-room (own-lent kinds literals) round-limit universal (omega arith)
 
   module _ (is : o .answer ≡ is-true) where
@@ -257,4 +257,4 @@ module _ (text : List ℕ) where
       (settled (s .kinds) (s .literals) .answer) refl
 
   pub certificate-right : CertificateRight text
-  certificate-right = by-reading (text-read text) refl (read-passes text 128 8192 128)
+  certificate-right = by-reading (text-read text) refl (read-passes text max-unknowns max-entries max-unknowns)

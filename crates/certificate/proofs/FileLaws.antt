@@ -79,7 +79,7 @@ module _ (r : Record) (U E : List ℕ) (fine : write-cause r U E (size r) ≡ 0)
       ap (λ (n : ℕ). cond (eqb n 0) (Taken (record-of f)) (Not-read n)) (again .accepted) ∙ ap Taken (again .same ∙ same)
 
 -- The records of a true and of a false formula, with k rows.
-module _ (u c k rounds : ℕ) (some-row : 1 ≤ k) (few : k ≤ 256) where
+module _ (u c k rounds : ℕ) (some-row : 1 ≤ k) (few : k ≤ max-rows) where
   abbrev pub of-true : Record
   of-true = made 27 1 u c 0 k rounds
 

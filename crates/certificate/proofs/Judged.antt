@@ -8,7 +8,7 @@ use lib.Dec.{eqb, leb, ltb}
 use lib.IntN.{ℤ}
 use lib.ListN.{length, replicate, length-replicate}
 use borrow.Author.Tests.{le-leb, le-ltb, eq-eqb}
-use Rattle.formula.specs.Formula.{max-rows, work-size, prefix, clauses}
+use Rattle.formula.specs.Formula.{max-unknowns, max-rows, work-size, prefix, clauses}
 use Rattle.formula.specs.Meaning.{matrix, bit}
 use Rattle.formula.specs.Causes as Causes
 use Rattle.formula.specs.declared.Check.the-variants as Check
@@ -39,14 +39,14 @@ no-cause-by : (formula : ℕ) (fits sized over stray : Bool) → formula ≡ 0 �
 no-cause-by formula fits sized over stray a b c d e = rw (a, b, c, d, e) refl
 
 module _ (kinds : List ℕ) (literals : List ℤ) (passes : Causes.checked kinds literals ≡ Check.Accepted (Causes.sizes kinds literals)) (claim : Bool) (xs : List Row)
-    (wide : Wide (width kinds (bit claim)) xs) (some-rows : 1 ≤ length xs) (few-rows : length xs ≤ 256) where
+    (wide : Wide (width kinds (bit claim)) xs) (some-rows : 1 ≤ length xs) (few-rows : length xs ≤ max-rows) where
   abbrev t : List ℕ
   t = table-of xs
 
   abbrev m : ℕ
   m = width kinds (bit claim)
 
-  few : m ≤ 128
+  few : m ≤ max-unknowns
   unfolding width
   few = few-unknowns kinds literals passes (other (side-of (claims-true (bit claim))))
 

@@ -3,6 +3,7 @@ use Prim.Native.Nat.{ℕ, _*_, _≤_}
 use mathlib.Core.Path.{_≡_}
 use mathlib.Core.List.{List}
 use lib.ListN.{length, take}
+use Rattle.formula.specs.Formula.{max-rows}
 use Rattle.rows.specs.Table.{table-of}
 use Rattle.rounds.specs.Run.{Table, rows, is-false, is-true, Outcome}
 use Rattle.run.specs.Outcome.{named}
@@ -22,8 +23,8 @@ pub record Ran (o : Outcome) (r : Returned) (universal existential : List ℕ) :
   pub existential-front : Front (o .S) existential
   pub universal-there : 16 * length (o .A) ≤ length universal
   pub existential-there : 16 * length (o .S) ≤ length existential
-  pub few-universal : length (o .A) ≤ 256
-  pub few-existential : length (o .S) ≤ 256
-  pub few-rounds : o .round ≤ 256
+  pub few-universal : length (o .A) ≤ max-rows
+  pub few-existential : length (o .S) ≤ max-rows
+  pub few-rounds : o .round ≤ max-rows
   pub some-universal : o .answer ≡ is-false → 1 ≤ length (o .A)
   pub some-existential : o .answer ≡ is-true → 1 ≤ length (o .S)

@@ -5,6 +5,7 @@ use mathlib.Core.Path.{_≡_, sym, ap, subst, _∙_}
 use mathlib.Core.List.{List}
 use lib.IntN.{ℤ}
 use lib.ListN.{take}
+use Rattle.formula.specs.Formula.{max-unknowns, max-entries}
 use Rattle.run.specs.declared.Outcome.{Outcome}
 use Rattle.run.specs.Outcome.{Given, returned, left}
 use Rattle.run.specs.Numbers.{one-number}
@@ -21,7 +22,7 @@ returned-small g e = subst (λ (o : Outcome). one-number (o .answer) ≤ 116) (s
 
 -- The text is refused.
 pub refused-of-text : (text : List ℕ) (n line : ℕ) → text-read text ≡ refused n line → OfText n
-refused-of-text text n line e = subst (Results Passes) e (read-passes text 128 8192 128)
+refused-of-text text n line e = subst (Results Passes) e (read-passes text max-unknowns max-entries max-unknowns)
 
 pub refused-back : (text work : List ℕ) (limit n line : ℕ) → text-read text ≡ refused n line
     → (100 + n ≡ answer text work limit) × (work ≡ work-after text work limit)

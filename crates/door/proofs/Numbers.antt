@@ -6,7 +6,7 @@ use mathlib.Core.Bool.{Bool, true, false, not, cond}
 use mathlib.Core.List.{List}
 use lib.Dec.{eqb}
 use lib.ListN.{length, replicate}
-use Rattle.formula.specs.Formula.{work-size}
+use Rattle.formula.specs.Formula.{max-unknowns, max-entries, work-size}
 use Rattle.formula.specs.Meaning.{verdict}
 use Rattle.rounds.specs.Run.{number}
 use Rattle.run.specs.Outcome.{Given, lent, cause, accepted, reached, after, left}
@@ -64,7 +64,7 @@ module _ (text work : List ℕ) (limit : ℕ) where
     work-taken = ap (λ (r : Result). work-back r work limit) e
 
     cause-taken : cause (handed s) ≡ cond (not (eqb (length work) work-size)) 5 (cond (eqb limit 0) 6 0)
-    cause-taken = cause-so (s .kinds) (s .literals) work limit (subst (Results Passes) e (read-passes text 128 8192 128) .accepted)
+    cause-taken = cause-so (s .kinds) (s .literals) work limit (subst (Results Passes) e (read-passes text max-unknowns max-entries max-unknowns) .accepted)
 
     taken-number : answer text work limit ≡ cond (not (eqb (length work) work-size)) 105 (cond (eqb limit 0) 106 (number (reached (handed s) .answer)))
     taken-number = answer-taken ∙ run-refused-or-answered (handed s) (not (eqb (length work) work-size)) (eqb limit 0) cause-taken

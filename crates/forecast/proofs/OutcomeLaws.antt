@@ -1,5 +1,5 @@
 -- What is returned where a cause applies and where none does. Assumes nothing.
-use Prim.Native.Nat.{ℕ, _+_, _-_, _%_, _≤_}
+use Prim.Native.Nat.{ℕ, _+_, _-_, _*_, _%_, _≤_}
 use native.Mathlib.Omega.{arith}
 use mathlib.Core.Path.{_≡_, refl, sym, ap, ap₂, _∙_}
 use mathlib.Core.Bool.{Bool, true, false, not, _&&_, _||_, cond, and-eq-true-iff}
@@ -8,7 +8,7 @@ use lib.Dec.{eqb, leb, ltb}
 use lib.IntN.{ℤ}
 use lib.ListN.{length, length-map}
 use borrow.Author.Tests.{ltb-false, leb-true, eqb-false, ne-eqb}
-use Rattle.formula.specs.Formula.{Kind, existential, universal, kind-of, prefix}
+use Rattle.formula.specs.Formula.{max-rows, Kind, existential, universal, kind-of, prefix}
 use Rattle.formula.specs.Causes as Causes
 use Rattle.formula.specs.declared.Check.{Check}
 use Rattle.formula.specs.declared.Check.the-variants as Check
@@ -33,20 +33,20 @@ neither : (a b : Bool) → a || b ≡ false → (a ≡ false) × (b ≡ false)
 neither false b e = (refl, e)
 neither true b e = let z : _≡_ {A = ℕ} 0 1 = cc in absurd (omega arith)
 
-few-rows : (table : List ℕ) → table-fits table ≡ true → room table ≤ 256
+few-rows : (table : List ℕ) → table-fits table ≡ true → room table ≤ max-rows
 unfolding table-fits
 few-rows table e =
-    let both = and-eq-true-iff (leb 16 (length table) && leb (length table) 4096) (eqb (length table % 16) 0) .0 e in
-    let sizes = and-eq-true-iff (leb 16 (length table)) (leb (length table) 4096) .0 (both .0) in
-    let most = leb-true (length table) 4096 (sizes .1) in
+    let both = and-eq-true-iff (leb 16 (length table) && leb (length table) (max-rows * 16)) (eqb (length table % 16) 0) .0 e in
+    let sizes = and-eq-true-iff (leb 16 (length table)) (leb (length table) (max-rows * 16)) .0 (both .0) in
+    let most = leb-true (length table) (max-rows * 16) (sizes .1) in
     omega arith
 
 -- What the tables are if none of their causes applies.
 pub record Fitting (A : List ℕ) (a : ℕ) (S : List ℕ) (s : ℕ) : Type 0 where
   pub universal : a ≤ room A
-  pub few-universal : a ≤ 256
+  pub few-universal : a ≤ max-rows
   pub existential : s ≤ room S
-  pub few-existential : s ≤ 256
+  pub few-existential : s ≤ max-rows
 
 pub fitting : (A : List ℕ) (a m : ℕ) (S : List ℕ) (s n : ℕ) → table-cause A a m S s n ≡ 0 → Fitting A a S s
 unfolding table-cause

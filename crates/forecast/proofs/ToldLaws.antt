@@ -12,7 +12,7 @@ use lib.Dec.{eqb, leb, eqb·suc-zero}
 use lib.ListN.{length, getD, take, drop, length-map, length-append}
 use lib.Seq.{ext-getD, getD-take, length-take-le}
 use borrow.Author.Tests.{leb-true, leb-false, le-leb, lt-leb}
-use Rattle.formula.specs.Formula.{Kind, existential, universal, kind-of, prefix}
+use Rattle.formula.specs.Formula.{max-unknowns, max-rows, Kind, existential, universal, kind-of, prefix}
 use Rattle.formula.specs.Causes.{count}
 use Rattle.rows.specs.Row.{weight, row-of}
 use Rattle.rows.specs.Table.{row-at, room, rows-of}
@@ -65,7 +65,7 @@ module _ (m : ℕ) (b : ℕ) (few : b ≤ m) (row other : List ℕ) where
 
 -- ---- the rows that are told from those before
 
-module _ (t numbers : List ℕ) (ts : List Bool) (m k : ℕ) (few : others-before ts k ≤ m) (own : m ≤ 128) where
+module _ (t numbers : List ℕ) (ts : List Bool) (m k : ℕ) (few : others-before ts k ≤ m) (own : m ≤ max-unknowns) where
   abbrev seen : ℕ → List Row
   seen n = map (restriction ts k) (rows-of m n t)
 
@@ -173,7 +173,7 @@ count-most existential (universal ∷ ks) = let h = count-most existential ks in
 count-most universal (existential ∷ ks) = let h = count-most universal ks in omega arith
 count-most universal (universal ∷ ks) = let h = count-most universal ks in omega arith
 
-module _ (kinds t numbers : List ℕ) (n : ℕ) (few : length kinds ≤ 128) (into : n ≤ room t) (told : Told t numbers n) where
+module _ (kinds t numbers : List ℕ) (n : ℕ) (few : length kinds ≤ max-unknowns) (into : n ≤ room t) (told : Told t numbers n) where
   told-copies : (kind : Kind) → copies-over kind kinds t n ≡ summed (λ b. within numbers b n) 0 (flags (other kind) (prefix kinds))
   unfolding copies-over copies
   told-copies kind =
@@ -211,7 +211,7 @@ drop-past (v ∷ ts) (suc k) h = drop-past ts k (omega arith)
 pub record Adding (kinds : List ℕ) (universal? : Bool) (numbers : List ℕ) (n total before k : ℕ) : Type 0 where
   pub inside : k ≤ length kinds
   pub fewer : before ≤ k
-  pub small : total ≤ 256 * k
+  pub small : total ≤ max-rows * k
   pub left : total + summed (λ b. within numbers b n) before (drop k (flags (side-of universal?) (prefix kinds))) ≡ summed (λ b. within numbers b n) 0 (flags (side-of universal?) (prefix kinds))
 
 module _ (kinds : List ℕ) (universal? : Bool) (numbers : List ℕ) (n : ℕ) where
@@ -230,7 +230,7 @@ module _ (kinds : List ℕ) (universal? : Bool) (numbers : List ℕ) (n : ℕ) w
       ∙ ap₂ (λ (u : Bool) (l : List Bool). u ∷ l) (sym (own-kind universal? (getD kinds k 0)) ∙ e) (ap (λ (i : ℕ). drop i ts) (sym (add-one k)))
 
   module _ (total before k : ℕ) (so-far : Adding kinds universal? numbers n total before k) (h : k < length kinds) where
-    pub adding-own : (r : ℕ) → Bool·beq (not (eqb (getD kinds k 0) 0)) universal? ≡ true → r ≡ within numbers before n → r ≤ 256
+    pub adding-own : (r : ℕ) → Bool·beq (not (eqb (getD kinds k 0) 0)) universal? ≡ true → r ≡ within numbers before n → r ≤ max-rows
         → Adding kinds universal? numbers n (total + r) before (k + 1)
     adding-own r e same small =
         let here : rest before (drop k ts) ≡ within numbers before n + rest before (drop (k + 1) ts) = ap (rest before) (flag-at k true h e) in

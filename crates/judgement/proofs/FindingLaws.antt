@@ -8,7 +8,7 @@ use lib.Dec.{eqb, leb}
 use lib.IntN.{ℤ}
 use lib.ListN.{length, take, drop, replicate}
 use borrow.Author.Tests.{eq-eqb, ne-eqb}
-use Rattle.formula.specs.Formula.{work-size}
+use Rattle.formula.specs.Formula.{max-unknowns, max-entries, work-size}
 use Rattle.rows.specs.Table.{room}
 use Rattle.judge.specs.declared.Judgement.{Judgement}
 use Rattle.judge.specs.Judge.{outcome, work-after, Judged}
@@ -171,7 +171,7 @@ pub with-finding : {A B C : Type 0} → C → A × B → A × (B × C)
 with-finding right p = (p .0, (p .1, right))
 
 pub line-small : (text : List ℕ) {n line : ℕ} → text-read text ≡ refused n line → line ≤ 65538
-line-small text {n} {line} e = refused-line text 128 8192 128 n line e
+line-small text {n} {line} e = refused-line text max-unknowns max-entries max-unknowns n line e
 
 -- The line of what was found.
 pub printed-as : (text f out : List ℕ) {result : Finding} (case : Finding) {r : ℕ} {after : List ℕ} → result ≡ finding text f (replicate work-size 0)

@@ -9,7 +9,7 @@ use lib.Dec.{eqb, ltb}
 use lib.IntN.{ℤ}
 use lib.ListN.{length, getD, replicate}
 use borrow.Author.Tests.{eqb-true, eq-eqb}
-use Rattle.formula.specs.Formula.{work-size}
+use Rattle.formula.specs.Formula.{max-unknowns, max-entries, work-size}
 use Rattle.formula.specs.Meaning.{verdict, bit}
 use Rattle.formula.specs.Causes as Causes
 use Rattle.formula.specs.declared.Formula.{Formula}
@@ -159,7 +159,7 @@ module _ (text f work : List ℕ) where
   refused-few (taken s) e n line t = t .0
   refused-few (refused m at) e n line t =
       let same : n ≡ m = cc in
-      omega (arith, same, subst (Results Passes) e (read-passes text 128 8192 128) .to-14)
+      omega (arith, same, subst (Results Passes) e (read-passes text max-unknowns max-entries max-unknowns) .to-14)
 
   accepted-told : (r : Result) (claim : ℕ) → Told r f (Accepted claim) → (claim ≡ record-of f .claim) × IsVerdict claim r
   accepted-told (taken s) claim t = (t .its-own, t .is-verdict)
@@ -244,8 +244,8 @@ module _ (text f : List ℕ) where
   refused-as (refused m at) e n line so t =
       let same-number : n ≡ m = cc in
       let same-line : line ≡ at = cc in
-      let of-text = subst (Results Passes) e (read-passes text 128 8192 128) in
-      refusal n line so (omega (arith, same-number, of-text .to-14)) (omega (arith, same-line, refused-line text 128 8192 128 m at e))
+      let of-text = subst (Results Passes) e (read-passes text max-unknowns max-entries max-unknowns) in
+      refusal n line so (omega (arith, same-number, of-text .to-14)) (omega (arith, same-line, refused-line text max-unknowns max-entries max-unknowns m at e))
       (inl (e ∙ ap₂ refused (sym same-number) (sym same-line)))
 
   other-as : (r : Result) → text-read text ≡ r → printed text f ≡ ascii "not of this formula\n" → Told r f OtherFormula → JudgementRight text f

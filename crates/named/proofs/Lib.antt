@@ -4,6 +4,7 @@ pub mod ByHand
 pub mod NameLaws
 pub mod PlaceLaws
 pub mod Positions
+pub mod Negation
 pub mod CauseLaws
 pub mod Closing
 pub mod ClosingRight

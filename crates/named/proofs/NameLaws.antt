@@ -3,7 +3,7 @@ use Prim.Native.Nat.{ℕ, zero, suc, _+_, _≤_, _<_, min, max}
 use native.Mathlib.Omega.{arith}
 use native.Mathlib.Decide.{decLt}
 use mathlib.Core.Path.{_≡_, refl, sym, ap, subst, _∙_}
-use mathlib.Core.Bool.{Bool, true, false, _||_, true≢false, false≢true}
+use mathlib.Core.Bool.{Bool, true, false, _&&_, _||_, true≢false, false≢true}
 use mathlib.Core.List.{List, [], _∷_, _++_}
 use mathlib.Core.Logic.{_⊎_, inl, inr}
 use borrow.Author.Tests.{eq-eqb, ne-eqb, eqb-true, eqb-false}
@@ -14,6 +14,11 @@ use lib.Seq.{take-take}
 use Rattle.named.specs.Named.{among, place-from, position, signed, placed}
 use Rattle.named.specs.Names.{In, Distinct, Above, Rising, UpTo, Known}
 use Rattle.named.specs.Closing.{insert}
+
+-- Two tests.
+pub and-both : (a b : Bool) → (a && b) ≡ true → (a ≡ true) × (b ≡ true)
+and-both true b e = (refl, e)
+and-both false b e = absurd (false≢true e)
 
 -- The test and what it tests.
 pub among-in : (v : ℕ) (xs : List ℕ) → among v xs ≡ true → In v xs

@@ -26,6 +26,17 @@ pub place-other : (k v w : ℕ) (names : List ℕ) → (v ≡ w → ⊥) → pla
 place-other k v w [] h = rw (ne-eqb v w h) refl
 place-other k v w (x ∷ xs) h = ap (cond (eqb x w) k) (place-other (suc k) v w xs h)
 
+-- A name that has a place keeps it.
+pub place-kept : (k w : ℕ) (names more : List ℕ) → (place-from (suc k) w names ≡ 0 → ⊥) → place-from (suc k) w (names ++ more) ≡ place-from (suc k) w names
+place-kept k w [] more h = absurd (h refl)
+place-kept k w (x ∷ xs) more h = go (eqb x w) (place-kept (suc k) w xs more) h
+  where
+    go : (t : Bool) → ((place-from (suc (suc k)) w xs ≡ 0 → ⊥) → place-from (suc (suc k)) w (xs ++ more) ≡ place-from (suc (suc k)) w xs)
+        → (cond t (suc k) (place-from (suc (suc k)) w xs) ≡ 0 → ⊥)
+        → cond t (suc k) (place-from (suc (suc k)) w (xs ++ more)) ≡ cond t (suc k) (place-from (suc (suc k)) w xs)
+    go true ih h = refl
+    go false ih h = ih h
+
 -- A name that is not there has no place.
 place-none : (k v : ℕ) (names : List ℕ) → (In v names → ⊥) → place-from k v names ≡ 0
 place-none k v [] none = refl

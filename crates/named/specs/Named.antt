@@ -7,6 +7,13 @@ use lib.Dec.{eqb}
 use lib.IntN.{ℤ, pos, negsuc, negℤ}
 use Rattle.formula.specs.Formula.{Kind, existential, universal, Clause}
 
+-- 'Names are 1 to 32,767', and so 'V is at most 32,767'. A table by name has an entry for each name, and one for 0.
+abbrev pub max-variables : ℕ
+max-variables = 32767
+
+abbrev pub max-places : ℕ
+max-places = 32768
+
 -- A value for each name.
 abbrev pub Values : Type 0
 Values = ℕ → Bool

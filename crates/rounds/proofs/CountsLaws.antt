@@ -16,7 +16,7 @@ use Rattle.expansion.specs.Model.{search}
 use Rattle.expansion.proofs.Membership.{In, in-among, not-in-among, in-append-cases, in-append-left, in-append-right, in-or-not, in-fresh, fresh-in}
 use Rattle.rounds.specs.Run.{Entry, Table, rows, grown, if-fits, clears, kept, Answer, is-false, is-true, spent, no-room-universal, no-room-existential, number, Outcome, Lent, step-1, step-2, step-3, step-4, round-of, run}
 use Rattle.rounds.specs.Claim.{table, Stands, Finished}
-use Rattle.rounds.specs.Counts.{rows-found, first-search, second-search, second-search-after, searched, is-spent, since, once, came, CountsRight}
+use Rattle.rounds.specs.Counts.{rows-found, is-spent, came-to-3, searched, since, once, came, CountsRight}
 use Rattle.rounds.proofs.TableLaws.{rows-grown, stands-in}
 use Rattle.rounds.proofs.GrowthLaws.{Fitted, fitted}
 use Rattle.rounds.proofs.RoundLaws.{Over}
@@ -98,19 +98,24 @@ yielded-not x ys h = ap once (not-in-among x ys h)
 pub searched-S : (l : Lent) (r : ℕ) → run l r .answer ≡ spent
     → searched l existential r ≡ rows-found (search (l .prefer) existential (l .ks) (l .phi) (rows (run l r .A)))
 unfolding searched
-searched-S l r e = ap (λ (a : Answer). first-search l a (run l r)) e
+searched-S l r e = ap (λ (a : Answer). cond (is-spent a) (rows-found (search (l .prefer) existential (l .ks) (l .phi) (rows (run l r .A)))) []) e
+
+-- What the universal side's search over an outcome's S yielded, if the round came to it.
+abbrev pub second-search : Lent → Answer → Outcome → List Row
+second-search l a o = cond (came-to-3 a) (rows-found (search (l .prefer) universal (l .ks) (l .phi) (rows (o .S)))) []
 
 -- The universal side's, by the round's answer.
 pub searched-A : (l : Lent) (r : ℕ) (a : Answer) → run l r .answer ≡ spent → run l (suc r) .answer ≡ a → searched l universal r ≡ second-search l a (run l (suc r))
 unfolding searched
 searched-A l r a e f =
-    ap (λ (b : Answer). second-search-after l b (run l (suc r))) e ∙ ap (λ (b : Answer). second-search l b (run l (suc r))) f
+    ap (λ (b : Answer). cond (is-spent b && came-to-3 (run l (suc r) .answer)) (rows-found (search (l .prefer) universal (l .ks) (l .phi) (rows (run l (suc r) .S)))) []) e
+    ∙ ap (λ (b : Answer). second-search l b (run l (suc r))) f
 
 searched-over : (l : Lent) (side : Kind) (r : ℕ) → Over (run l r .answer) → searched l side r ≡ []
 unfolding searched
 searched-over l existential r = go (run l r .answer)
   where
-    go : (a : Answer) → Over a → first-search l a (run l r) ≡ []
+    go : (a : Answer) → Over a → cond (is-spent a) (rows-found (search (l .prefer) existential (l .ks) (l .phi) (rows (run l r .A)))) [] ≡ []
     go is-false over = refl
     go is-true over = refl
     go spent over = absurd over
@@ -118,7 +123,7 @@ searched-over l existential r = go (run l r .answer)
     go no-room-existential over = refl
 searched-over l universal r = go (run l r .answer)
   where
-    go : (a : Answer) → Over a → second-search-after l a (run l (suc r)) ≡ []
+    go : (a : Answer) → Over a → cond (is-spent a && came-to-3 (run l (suc r) .answer)) (rows-found (search (l .prefer) universal (l .ks) (l .phi) (rows (run l (suc r) .S)))) [] ≡ []
     go is-false over = refl
     go is-true over = refl
     go spent over = absurd over

@@ -1,5 +1,5 @@
--- What holds of every run, whatever is lent: 01's demand 2, what an answer says of the formula; and, with every limit from 1, demand 3, one claim
--- about the whole run, as 02's C-15 restates it for every k.
+-- What holds of every run, whatever is lent, with every limit from 1: 01's demand 3, one claim about the whole run, as 02's C-15 restates it for
+-- every k.
 -- 'A table after round r is the rows and marks that stand below its count when the same things are lent with the limit r': it is a table of `run l r`.
 -- Assumes nothing.
 use Prim.Native.Nat.{ℕ, zero, suc, _+_, _-_, _^_, _≤_, _<_, min}
@@ -12,12 +12,6 @@ use Rattle.formula.specs.Formula.{Kind, existential, universal}
 use Rattle.formula.specs.Causes.{count}
 use Rattle.formula.specs.Meaning.{meaning}
 use Rattle.rounds.specs.Run.{clears, Entry, Table, Answer, is-true, is-false, spent, no-room-universal, no-room-existential, Outcome, Lent, round-of, run}
-
--- 'The verdict is this value of the whole formula, 1 for true and 0 for false': the answer is true only if the formula is true, and false
--- only if it is false.
-pub record VerdictRight (l : Lent) (limit : ℕ) : Type 0 where
-  pub only-true : run l limit .answer ≡ is-true → meaning (l .ks) (l .phi) ≡ true
-  pub only-false : run l limit .answer ≡ is-false → meaning (l .ks) (l .phi) ≡ false
 
 -- The table of a side's rows: A holds universal rows, S existential ones.
 abbrev pub table : Kind → Outcome → Table

@@ -11,7 +11,7 @@ use Rattle.formula.specs.Formula.{Kind, existential, universal}
 use Rattle.expansion.specs.Play.{Row}
 use Rattle.expansion.specs.Copies.{among}
 use Rattle.expansion.specs.Model.{search}
-use Rattle.rounds.specs.Run.{Entry, rows, clears, Answer, is-false, is-true, spent, no-room-universal, no-room-existential, Outcome, Lent, run}
+use Rattle.rounds.specs.Run.{Entry, rows, clears, Answer, is-false, is-true, spent, no-room-universal, no-room-existential, Lent, run}
 use Rattle.rounds.specs.Claim.{table, Stands, Finished}
 
 -- The rows that a search yielded; none if it found no model.
@@ -19,41 +19,30 @@ abbrev pub rows-found : Option (List Row) → List Row
 rows-found none = []
 rows-found (some yielded) = yielded
 
--- Step 1 of the round that follows an outcome: the existential side's search, made if there is such a round.
-abbrev pub first-search : Lent → Answer → Outcome → List Row
-first-search l spent o = rows-found (search (l .prefer) existential (l .ks) (l .phi) (rows (o .A)))
-first-search l is-false o = []
-first-search l is-true o = []
-first-search l no-room-universal o = []
-first-search l no-room-existential o = []
-
--- Step 3 of the round that an outcome is of: the universal side's search over S, which later steps leave; made unless step 1 or 2 ended the run.
-abbrev pub second-search : Lent → Answer → Outcome → List Row
-second-search l is-false o = []
-second-search l no-room-existential o = []
-second-search l is-true o = rows-found (search (l .prefer) universal (l .ks) (l .phi) (rows (o .S)))
-second-search l no-room-universal o = rows-found (search (l .prefer) universal (l .ks) (l .phi) (rows (o .S)))
-second-search l spent o = rows-found (search (l .prefer) universal (l .ks) (l .phi) (rows (o .S)))
-
--- The same, by the answer of the run before: the round is made if that is spent.
-abbrev pub second-search-after : Lent → Answer → Outcome → List Row
-second-search-after l spent o = second-search l (o .answer) o
-second-search-after l is-false o = []
-second-search-after l is-true o = []
-second-search-after l no-room-universal o = []
-second-search-after l no-room-existential o = []
-
--- The rows that a side's search of round r + 1 yielded; none if it was not made or found no model.
-unfoldable pub searched : Lent → Kind → ℕ → List Row
-searched l existential r = first-search l (run l r .answer) (run l r)
-searched l universal r = second-search-after l (run l r .answer) (run l (suc r))
-
+-- Whether the run goes on, and whether the round that an answer came in was not ended by step 1 or 2.
 abbrev pub is-spent : Answer → Bool
 is-spent spent = true
 is-spent is-false = false
 is-spent is-true = false
 is-spent no-room-universal = false
 is-spent no-room-existential = false
+
+abbrev pub came-to-3 : Answer → Bool
+came-to-3 is-false = false
+came-to-3 no-room-existential = false
+came-to-3 is-true = true
+came-to-3 no-room-universal = true
+came-to-3 spent = true
+
+-- The rows that a side's search of round r + 1 yielded; none if it was not made or found no model. Step 1 is the existential side's, over A; step 3
+-- the universal side's, over S, which later steps leave.
+unfoldable pub searched : Lent → Kind → ℕ → List Row
+searched l existential r =
+    let yielded = rows-found (search (l .prefer) existential (l .ks) (l .phi) (rows (run l r .A))) in
+    cond (is-spent (run l r .answer)) yielded []
+searched l universal r =
+    let yielded = rows-found (search (l .prefer) universal (l .ks) (l .phi) (rows (run l (suc r) .S))) in
+    cond (is-spent (run l r .answer) && came-to-3 (run l (suc r) .answer)) yielded []
 
 -- 'Universal: from the last clearing on': where round r is finished and clears, what came before it is not counted.
 abbrev pub since : Lent → Kind → ℕ → ℕ → ℕ

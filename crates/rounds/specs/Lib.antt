@@ -1,6 +1,7 @@
 -- The definition of 01's 'The run', and the statements of what holds of it.
 pub mod Run
 pub mod Opening
+pub mod Verdict
 pub mod Claim
 pub mod Counts
 pub mod Worked

@@ -6,6 +6,7 @@ use mathlib.Core.Bool.{true, false, true≢false}
 use mathlib.Core.List.{List, [], _∷_, _++_, append-assoc}
 use lib.ListN.{length, getD, take, drop, length-append}
 use lib.Seq.{ext-getD, getD-take, drop-drop, take-at, drop-at, length-take-le}
+use Rattle.formula.specs.Formula.{max-unknowns}
 use Rattle.rows.specs.Row.{row-of, bytes-of}
 use Rattle.rows.specs.Table.{row-at, rows-of, table-of, room, stray-rows}
 use Rattle.rows.specs.Access.{equal-rows, first-place}
@@ -53,7 +54,7 @@ in-table rows rest i h = omega (arith, length-append (table-of rows) rest, lengt
 pub row-at-table : (rows : List Row) (rest : List ℕ) (i : ℕ) → i < length rows → row-at (table-of rows ++ rest) i ≡ bytes-of (getD rows i [])
 row-at-table rows rest i h = row-at-inside (table-of rows ++ rest) i (in-table rows rest i h) ∙ part-of-table rows rest i h
 
-module _ (m : ℕ) (few : m ≤ 128) (rows : List Row) (rest : List ℕ) (wide : Wide m rows) where
+module _ (m : ℕ) (few : m ≤ max-unknowns) (rows : List Row) (rest : List ℕ) (wide : Wide m rows) where
   pub is-row-at : (i : ℕ) → i < length rows → IsRow m (row-at (table-of rows ++ rest) i)
   is-row-at i h = subst (IsRow m) (sym (row-at-table rows rest i h)) (bytes-of-is-row m (getD rows i []) (wide i h))
 

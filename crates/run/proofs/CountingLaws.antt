@@ -10,7 +10,7 @@ use lib.Dec.{eqb, leb}
 use lib.IntN.{ℤ}
 use lib.ListN.{length, getD, take, drop, replicate, length-map}
 use lib.Seq.{take-all}
-use Rattle.formula.specs.Formula.{work-size, Kind, existential, universal, prefix, clauses}
+use Rattle.formula.specs.Formula.{max-unknowns, work-size, Kind, existential, universal, prefix, clauses}
 use Rattle.formula.specs.Meaning.{matrix}
 use Rattle.formula.specs.Causes.{count}
 use Rattle.preference.specs.Preference.{prefer}
@@ -48,7 +48,7 @@ length-rows (x ∷ t) = ap suc (length-rows t)
 
 -- ---- the rows of a table that are among the yielded ones
 
-module _ (m : ℕ) (few : m ≤ 128) (new : List Row) (rest : List ℕ) (new-wide : Wide m new) (u : Table) (u-wide : Wide m (rows u)) (found : List ℕ) where
+module _ (m : ℕ) (few : m ≤ max-unknowns) (new : List Row) (rest : List ℕ) (new-wide : Wide m new) (u : Table) (u-wide : Wide m (rows u)) (found : List ℕ) where
   -- A look through the yielded rows says whether a row of the table is among them.
   yielded-there : (i : ℕ) (x : Entry) → Stands u i x → was-yielded (row-bytes u found) (table-of new ++ rest) (length new) i ≡ among (x .row) new
   unfolding was-yielded row-bytes
@@ -94,7 +94,7 @@ module _ (t : Table) (came : Row → ℕ) (base counts : List ℕ) (counted : Co
       let same : (x : Row) → came x ≡ half-came cleared no-model none came x = λ x. sym (add-zero (came x)) in
       counted .in-counts ∙ (λ d. tallied (λ x. same x d) t base)
 
-  module _ (m : ℕ) (few : m ≤ 128) (new : List Row) (new-wide : Wide m new) (rest : List ℕ) where
+  module _ (m : ℕ) (few : m ≤ max-unknowns) (new : List Row) (new-wide : Wide m new) (rest : List ℕ) where
     abbrev yields : List ℕ → ℕ → Bool
     yields R = was-yielded R (table-of new ++ rest) (length new)
 
@@ -140,7 +140,7 @@ module _ (t : Table) (came : Row → ℕ) (base counts : List ℕ) (counted : Co
   -- ---- a step
 
   -- A step of round r from the part of t that it keeps, all or nothing of it.
-  module _ (kinds : List ℕ) (side : Kind) (few : count side (prefix kinds) ≤ 128) (place r : ℕ) (cleared : Bool) (found found-marks : List ℕ)
+  module _ (kinds : List ℕ) (side : Kind) (few : count side (prefix kinds) ≤ max-unknowns) (place r : ℕ) (cleared : Bool) (found found-marks : List ℕ)
       (one-a-row : length base ≡ room found) (in-room : length t ≤ room found) (blank : cleared ≡ true → zeroed (length t) base ≡ base)
       (result : Step) (R M W : List ℕ) where
     abbrev Made : Option (List Row) → Type 0

@@ -10,7 +10,7 @@ use lib.IntN.{ℤ}
 use lib.ListN.{length, take, drop, replicate, length-append, length-map, length-replicate}
 use lib.Seq.{take-all}
 use borrow.Author.Tests.{le-leb, lt-leb, eq-eqb, le-ltb, leb-true, leb-false}
-use Rattle.formula.specs.Formula.{work-size, Kind, existential, universal, prefix, clauses, max-rows}
+use Rattle.formula.specs.Formula.{max-unknowns, work-size, Kind, existential, universal, prefix, clauses, max-rows}
 use Rattle.formula.specs.Meaning.{matrix}
 use Rattle.formula.specs.Causes.{count}
 use Rattle.formula.proofs.Accepted.{accepted}
@@ -41,7 +41,7 @@ count-at-most existential (suc k ∷ kinds) = let later = count-at-most existent
 count-at-most universal (zero ∷ kinds) = let later = count-at-most universal kinds in omega arith
 count-at-most universal (suc k ∷ kinds) = let later = count-at-most universal kinds in omega arith
 
-pub few-unknowns : (kinds : List ℕ) (literals : List ℤ) → Passes kinds literals → (side : Kind) → count side (prefix kinds) ≤ 128
+pub few-unknowns : (kinds : List ℕ) (literals : List ℤ) → Passes kinds literals → (side : Kind) → count side (prefix kinds) ≤ max-unknowns
 few-unknowns kinds literals passes side =
     let sized = accepted kinds literals passes .few-unknowns in
     let at-most = count-at-most side kinds in
@@ -52,11 +52,11 @@ pub table-fits-length : (t u : List ℕ) → length t ≡ length u → table-fit
 unfolding table-fits
 table-fits-length t u e = ap (λ (n : ℕ). leb 16 n && leb n (max-rows * 16) && eqb (n % 16) 0) e
 
-pub most-bytes : (t : List ℕ) → table-fits t ≡ true → length t ≤ 4096
+pub most-bytes : (t : List ℕ) → table-fits t ≡ true → length t ≤ max-rows * 16
 unfolding table-fits
 most-bytes t e =
     let both = and-eq-true-iff (leb 16 (length t) && leb (length t) (max-rows * 16)) (eqb (length t % 16) 0) .0 e .0 in
-    leb-true (length t) 4096 (and-eq-true-iff (leb 16 (length t)) (leb (length t) (max-rows * 16)) .0 both .1)
+    leb-true (length t) (max-rows * 16) (and-eq-true-iff (leb 16 (length t)) (leb (length t) (max-rows * 16)) .0 both .1)
 
 module _ (kinds : List ℕ) (literals : List ℤ) (preferences others : List ℕ) (n : ℕ) (side? : Bool) (work : List ℕ) (from : Table) (from-found : List ℕ)
     (passes : Passes kinds literals) (counted : n ≡ length from) (holds : HoldsRows kinds (other (side-of side?)) from from-found others)
@@ -146,12 +146,12 @@ module _ (kinds : List ℕ) (literals : List ℤ) (preferences others : List ℕ
           let model = search-answers (prefer preferences) (side-of side?) (prefix kinds) (matrix (clauses literals)) (rows from) new yielded in
           ap length (model .2) ∙ length-map (rows from) _ ∙ sym as-rows
 
-      few : count (side-of side?) (prefix kinds) ≤ 128
+      few : count (side-of side?) (prefix kinds) ≤ max-unknowns
       few = few-unknowns kinds literals passes (side-of side?)
 
       work-long′ : length work′ ≡ work-size
       work-long′ =
-          let short : n ≤ 256 = omega (arith, holds .in-room, most-bytes from-found (holds .fits)) in
+          let short : n ≤ max-rows = omega (arith, holds .in-room, most-bytes from-found (holds .fits)) in
           ap length packed
           ∙ omega (arith, length-append (table-of new) (replicate (work-size - length (table-of new)) 0), length-replicate {A = ℕ} (work-size - length (table-of new)) 0, length-table-of new, length-new)
 

@@ -10,6 +10,7 @@ use lib.Dec.{ltb}
 use lib.ListN.{length, getD, take, drop, set, length-append, length-drop, length-map}
 use lib.Seq.{take-at, drop-at, drop-drop, take-all, take-suc, drop-cons, set-at, append-snoc}
 use borrow.Author.Tests.{lt-ltb}
+use Rattle.formula.specs.Formula.{max-unknowns}
 use Rattle.rows.specs.Row.{bytes-of, weight}
 use Rattle.rows.specs.Table.{table-of, room}
 use Rattle.rows.specs.Access.{first-place, placed}
@@ -96,7 +97,7 @@ abbrev pub image : List ℕ → List ℕ → Table → Bytes
 image found found-marks u = bytes (row-bytes u found) (mark-numbers u found-marks) (length u)
 
 -- The rows that are yielded stand at the start of the area.
-module _ (m : ℕ) (few : m ≤ 128) (found found-marks : List ℕ) (one-a-row : length found-marks ≡ room found) (new : List Row) (rest : List ℕ)
+module _ (m : ℕ) (few : m ≤ max-unknowns) (found found-marks : List ℕ) (one-a-row : length found-marks ≡ room found) (new : List Row) (rest : List ℕ)
     (new-sized : Sized m new) where
   abbrev area : List ℕ
   area = table-of new ++ rest

@@ -5,7 +5,7 @@ use mathlib.Core.Path.{_≡_, refl, sym, ap, subst, _∙_}
 use mathlib.Core.List.{List}
 use mathlib.Core.Option.{Option, none, some}
 use lib.ListN.{length}
-use Rattle.formula.specs.Formula.{existential, universal, prefix, clauses}
+use Rattle.formula.specs.Formula.{work-size, existential, universal, prefix, clauses}
 use Rattle.formula.specs.Meaning.{matrix}
 use Rattle.preference.specs.Preference.{prefer}
 use Rattle.rows.specs.Table.{room}
@@ -79,7 +79,7 @@ module _ (g : Given) (A-base A-marks-base : List ℕ) (A S : Table) (r u x : ℕ
 
   shown : (o : RunOutcome) (a : RunAnswer) (A′ S′ : Table) (n k : ℕ) (AR AM SR SM W : List ℕ) (result : End) → o ≡ outcome a r A′ S′
       → result ≡ said (named a) r n k → n ≡ length A′ → k ≡ length S′
-      → Holds kinds universal A′ A-base A-marks-base AR AM → Holds kinds existential S′ S-found S-marks-found SR SM → length W ≡ 65536
+      → Holds kinds universal A′ A-base A-marks-base AR AM → Holds kinds existential S′ S-found S-marks-found SR SM → length W ≡ work-size
       → Made o result AR AM SR SM W
   shown o a A′ S′ n k AR AM SR SM W result is told en ek hA hS long =
       subst (λ (q : RunOutcome). Made q result AR AM SR SM W) (sym is)

@@ -8,7 +8,7 @@ use lib.IntN.{ℤ}
 use lib.ListN.{length, getD, take, drop, length-map}
 use lib.Seq.{ext-getD, getD-take}
 use borrow.Author.Tests.{ne-eqb}
-use Rattle.formula.specs.Formula.{Kind, existential, universal, prefix}
+use Rattle.formula.specs.Formula.{max-unknowns, Kind, existential, universal, prefix}
 use Rattle.formula.proofs.Accepted.{accepted}
 use Rattle.rows.specs.Row.{row-of, bytes-of}
 use Rattle.rows.specs.Table.{row-at, table-of}
@@ -39,7 +39,7 @@ block-universal (suc zero ∷ kinds) known = ap suc (block-universal kinds (λ k
 block-universal (suc (suc k) ∷ kinds) known = absurd (let high = known zero in omega arith)
 
 -- The first values of a row, by its bytes.
-values-of-bytes : (m : ℕ) (row : Row) → m ≤ 128 → length (take m row) ≡ m → row-of m (bytes-of row) ≡ take m row
+values-of-bytes : (m : ℕ) (row : Row) → m ≤ max-unknowns → length (take m row) ≡ m → row-of m (bytes-of row) ≡ take m row
 values-of-bytes m row few whole =
     ext-getD false (row-of m (bytes-of row)) (take m row) (length-row-of m (bytes-of row) ∙ sym whole) (λ k below.
     let inside : k < m = omega (arith, length-row-of m (bytes-of row)) in
@@ -50,7 +50,7 @@ last-place x [] = refl
 last-place x (y ∷ xs) = last-place y xs
 
 -- The first bits of the last row that a table's bytes hold. An empty table has no block to open.
-last-bits : (t : Table) (found : List ℕ) (m : ℕ) → m ≤ 128 → length (take m (last-row (rows t))) ≡ m
+last-bits : (t : Table) (found : List ℕ) (m : ℕ) → m ≤ max-unknowns → length (take m (last-row (rows t))) ≡ m
     → first-bits (row-bytes t found) (length t - 1) m ≡ bytes-of (take m (last-row (rows t)))
 unfolding first-bits row-bytes row-of
 last-bits [] found zero few whole = refl
@@ -73,7 +73,7 @@ module _ (kinds : List ℕ) (literals : List ℤ) (passes : Passes kinds literal
   abbrev end : RunAnswer → End
   end a = said (named a) (o .round) (length (o .A)) (length (o .S))
 
-  few : (side : Kind) → block side (prefix kinds) ≤ 128
+  few : (side : Kind) → block side (prefix kinds) ≤ max-unknowns
   few side = let most = block-at-most side (prefix kinds) in omega (arith, few-unknowns kinds literals passes side)
 
   abbrev read : RunAnswer → Outcome

@@ -23,11 +23,11 @@ use Rattle.expansion.specs.Model.{search}
 use Rattle.counts.specs.Fit.{counts-fit}
 use Rattle.counts.specs.Counts.{filled}
 use Rattle.rounds.specs.Run.{Entry, Table, rows, clears, kept, Answer, is-false, is-true, spent, no-room-universal, no-room-existential, Outcome, Lent, round-of, run, highest}
-use Rattle.rounds.specs.Counts.{rows-found, second-search, is-spent, once, came, counts}
+use Rattle.rounds.specs.Counts.{rows-found, is-spent, once, came, counts}
 use Rattle.rounds.proofs.RoundLaws.{Over}
 use Rattle.rounds.proofs.RunLaws.{run-goes-on, run-reached, run-stays}
 use Rattle.rounds.proofs.Highest.{count-at-most-highest, highest-stays}
-use Rattle.rounds.proofs.CountsLaws.{searched-S, searched-A, came-next, came-stays, came-at-most, absent-zero}
+use Rattle.rounds.proofs.CountsLaws.{second-search, searched-S, searched-A, came-next, came-stays, came-at-most, absent-zero}
 use Rattle.run.specs.declared.Step.{Step}
 use Rattle.run.specs.Outcome.{Given, lent, tables-counted}
 use Rattle.run.specs.Growing.{Half, no-model, no-room, grows, half, half-table, half-end, half-of, Extended, Extends, ExtendsUniversal, Ready}

@@ -7,7 +7,7 @@ use mathlib.Core.Logic.{_≢_}
 use mathlib.Core.Option.{some, Option·none-ne-some}
 use lib.ListN.{length, getD, take, drop, getElem?, length-map}
 use lib.Seq.{take-at}
-use Rattle.formula.specs.Formula.{Kind, existential, universal, prefix}
+use Rattle.formula.specs.Formula.{max-unknowns, Kind, existential, universal, prefix}
 use Rattle.formula.specs.Causes.{count}
 use Rattle.rows.specs.Row.{row-of}
 use Rattle.rows.specs.Table.{row-at, rows-of, table-of, zeroed}
@@ -47,7 +47,7 @@ length-rows : (t : Table) → length (rows t) ≡ length t
 length-rows t = length-map t (λ (x : Entry). x .row)
 
 -- A table of the run in bytes, whatever was found behind it.
-module _ (m : ℕ) (few : m ≤ 128) where
+module _ (m : ℕ) (few : m ≤ max-unknowns) where
   value-there : (found : List ℕ) (t : Table) → Wide m (rows t) → (i : ℕ) (x : Entry) → Stands t i x → row-of m (row-at (row-bytes t found) i) ≡ x .row
   unfolding row-bytes
   value-there found t wide i x s =

@@ -8,7 +8,7 @@ use Rattle.lines.specs.Lines.{Bytes, lines, words}
 use Rattle.lines.specs.Numbers as Numbers
 use Rattle.lines.specs.Shapes.{is-comment, is-trimmed, is-problem, is-led, is-gate}
 use Rattle.named.specs.Named.{position}
-use Rattle.text.specs.Reading.{read-gates, gates-read, scan, closed, taken, refused, problem-cause, opened, body-line, prefix-line, gate-line, name-cause, gate-cause, input-cause, limit-cause, output-cause}
+use Rattle.text.specs.Reading.{read-gates, gates-read, scan, closed, taken, refused, problem-cause, opened, body-line, prefix-line, gate-line, name-cause, gate-cause, output-cause}
 
 -- `p gate 2 3 9`, `a 2 0`, `e 1 0`, `& 9 2 1 0`, `^ 3 9 -2 0`, `| 5 3 1 0`.
 abbrev three-gates : Bytes
@@ -22,7 +22,7 @@ three-gates-read : gates-read three-gates
       variables = 2;
       clauses = 11;
     })
-unfolding read-gates scan closed lines words Numbers.number-within Numbers.number-shape Numbers.unsigned is-comment is-trimmed is-problem is-led is-gate problem-cause opened body-line prefix-line gate-line name-cause gate-cause input-cause limit-cause output-cause position
+unfolding read-gates scan closed lines words Numbers.number-within Numbers.number-shape Numbers.unsigned is-comment is-trimmed is-problem is-led is-gate problem-cause opened body-line prefix-line gate-line name-cause gate-cause output-cause position
 three-gates-read = refl
 
 -- It is false.
@@ -35,7 +35,7 @@ abbrev no-inputs : Bytes
 no-inputs = 112 ∷ 32 ∷ 103 ∷ 97 ∷ 116 ∷ 101 ∷ 32 ∷ 48 ∷ 32 ∷ 49 ∷ 32 ∷ 53 ∷ 10 ∷ 38 ∷ 32 ∷ 53 ∷ 32 ∷ 48 ∷ 10 ∷ []
 
 no-inputs-read : gates-read no-inputs ≡ taken (record { kinds = 0 ∷ []; names = 5 ∷ []; literals = pos 1 ∷ pos 0 ∷ pos 1 ∷ pos 0 ∷ []; variables = 0; clauses = 2 })
-unfolding read-gates scan closed lines words Numbers.number-within Numbers.number-shape Numbers.unsigned is-comment is-trimmed is-problem is-led is-gate problem-cause opened body-line prefix-line gate-line name-cause gate-cause input-cause limit-cause output-cause position
+unfolding read-gates scan closed lines words Numbers.number-within Numbers.number-shape Numbers.unsigned is-comment is-trimmed is-problem is-led is-gate problem-cause opened body-line prefix-line gate-line name-cause gate-cause output-cause position
 no-inputs-read = refl
 
 no-inputs-true : verdict (0 ∷ []) (pos 1 ∷ pos 0 ∷ pos 1 ∷ pos 0 ∷ []) ≡ true
@@ -47,5 +47,5 @@ abbrev no-lines : Bytes
 no-lines = 112 ∷ 32 ∷ 103 ∷ 97 ∷ 116 ∷ 101 ∷ 32 ∷ 48 ∷ 32 ∷ 48 ∷ 32 ∷ 49 ∷ 10 ∷ []
 
 no-lines-read : gates-read no-lines ≡ refused 19 1
-unfolding read-gates scan closed lines words Numbers.number-within Numbers.number-shape Numbers.unsigned is-comment is-trimmed is-problem is-led is-gate problem-cause opened body-line prefix-line gate-line name-cause gate-cause input-cause limit-cause output-cause position
+unfolding read-gates scan closed lines words Numbers.number-within Numbers.number-shape Numbers.unsigned is-comment is-trimmed is-problem is-led is-gate problem-cause opened body-line prefix-line gate-line name-cause gate-cause output-cause position
 no-lines-read = refl

@@ -2,6 +2,7 @@
 use Prim.Native.Nat.{ℕ}
 use mathlib.Core.Path.{_≡_, refl, sym, subst, _∙_}
 use native.Mathlib.Omega.{arith}
+use Rattle.formula.specs.Formula.{max-unknowns, max-entries}
 use Rattle.lines.specs.Lines.{Bytes}
 use Rattle.named.proofs.ClosingRight.{closing-right}
 use Rattle.text.specs.Reading.{State, Scan, whole, stopped, closed, Read, taken, result-of, read, text-scan, text-read}
@@ -13,7 +14,7 @@ use Rattle.text.proofs.TextLaws.{OfText, scan-whole}
 state-closed : (text : Bytes) (s : State) (r : Read) → text-scan text ≡ whole s → taken (closed s) ≡ taken r → Closed text r
 unfolding closed
 state-closed text s r e f =
-    let K = subst (Scans OfText Whole) e (scan-whole text 128 8192 128) .kept in
+    let K = subst (Scans OfText Whole) e (scan-whole text max-unknowns max-entries max-unknowns) .kept in
     let c = closing-right (s .free) (s .kinds) (s .names) (s .entries) (K .as-many) (K .placeable .different) (K .placeable .known) in
     let g : closed s ≡ r = cc in
     subst (Closed text) g

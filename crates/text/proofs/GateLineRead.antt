@@ -1,24 +1,26 @@
 -- A gate line is read: what is held afterwards is what the definition says. Assumes nothing.
-use Prim.Native.Nat.{ℕ, suc, _+_, _≤_, _<_}
+use Prim.Native.Nat.{ℕ, zero, suc, _+_, _≤_, _<_}
 use native.Mathlib.Omega.{arith}
 use native.Mathlib.Numerals.{add-one}
 use mathlib.Core.Path.{_≡_, refl, sym, ap, _∙_}
-use mathlib.Core.Bool.{true}
+use mathlib.Core.Bool.{Bool, true, false}
 use mathlib.Core.List.{List, [], _∷_, _++_}
-use borrow.Author.Tests.{lt-ltb, le-ltb}
-use lib.IntN.{ℤ, pos, natAbs}
-use lib.ListN.{length, take, getD, set, length-set}
+use lib.IntN.{ℤ, pos}
+use lib.ListN.{length, take}
 use lib.Seq.{length-take-le}
 use Rattle.formula.specs.Formula.{max-clauses, max-entries}
 use Rattle.lines.specs.Lines.{Bytes, words, rest, second}
 use Rattle.lines.specs.Numbers.{number}
+use Rattle.named.specs.Named.{signed}
+use Rattle.named.proofs.Negation.{signed-size}
+use Rattle.text_gates.specs.GateLine.{marked, room-limit, output-cause as put-cause, Put-so}
+use Rattle.text_gates.proofs.GateLineLaws.{limit-zero, kept-all, put-so}
 use Rattle.text.specs.declared.body.Counts.{Counts}
-use Rattle.text.specs.Reading.{State, went, unless, gate-cause, first-cause, inputs-cause, gate-of, clauses-of-gate, entries-of-gate, limit-cause, with-gate, gate-line, max-variables, output-cause, whole}
+use Rattle.text.specs.Reading.{State, went, unless, gate-cause, first-cause, inputs-cause, gate-of, clauses-of-gate, entries-of-gate, limit-cause, with-gate, gate-line, max-variables, output-cause, with-output, whole, stopped, go-on}
 use Rattle.text.specs.Steps.{Marked, free-in, placed-in, Sized, held, Line-read, Gate-named, Clauses-put, Name-bound, Output-added, outcome, settled}
 use Rattle.text.proofs.NameLaws.{refused-alike}
 use Rattle.text.proofs.BodyLaws.{resized, marked-bound}
-use Rattle.text.proofs.GateStateLaws.{gate-line-so, two-behind}
-use Rattle.text.proofs.Places.{mark-none, mark-some}
+use Rattle.text.proofs.GateStateLaws.{marked-among, gate-line-so}
 
 -- A state from its parts.
 pub state-same : {v v′ c c′ : ℕ} {k k′ n n′ f f′ : List ℕ} {e e′ : List ℤ} {r r′ m m′ : ℕ} → v ≡ v′ → c ≡ c′ → k ≡ k′ → n ≡ n′ → f ≡ f′ → e ≡ e′ → r ≡ r′ → m ≡ m′
@@ -132,75 +134,59 @@ module _ (c r : Counts) (K N P : List ℕ) (L : List ℤ) where
       }
 
 -- O is looked up, and its clause is added.
-module _ (c r : Counts) (o : ℤ) (line : ℕ) (P : List ℕ) (L : List ℤ) {v : ℕ} (value : v ≡ natAbs o) (small : natAbs o ≤ max-variables) where
-  -- One of its causes: 19, or 14 for a limit.
-  pub output-unknown : getD P v 0 ≡ 0 → r .cause ≡ 19 → r .line ≡ line
-      → r .bound ≡ c .bound → r .free ≡ c .free → r .entries ≡ c .entries → r .variables ≡ c .variables → r .«clauses_read» ≡ c .«clauses_read» → r .made ≡ c .made
-      → Output-added c o line P L r L
-  unfolding outcome held output-cause
-  output-unknown absent cause at eb ef ee ev er em =
-      record {
-        sized = λ K N z. resized (sym eb) (sym ef) (sym ee) (sym ev) (sym er) (sym em) z;
-        right = λ none free K N z x k. rw (cause, at, mark-none x (natAbs o) small (ap (λ (n : ℕ). getD P n 0) (sym value) ∙ absent)) refl;
-      }
+pub output-added : (c r : Counts) (b : Bool) (v line : ℕ) (P : List ℕ) (L L′ : List ℤ) {cause entries all : ℕ} → v ≤ max-variables → length L ≡ max-entries → c .entries ≤ max-entries → c .made ≤ max-clauses
+    → Put-so (put-cause (marked P) v (c .made) (c .entries) (length L)) (signed b v ∷ pos 0 ∷ []) 1 (c .made) (c .entries) L cause entries all L′
+    → r .cause ≡ cause → r .line ≡ line → r .bound ≡ c .bound → r .free ≡ c .free → r .entries ≡ entries → r .variables ≡ c .variables → r .«clauses_read» ≡ c .«clauses_read» → r .made ≡ all → r .clauses ≡ all
+    → Output-added c (signed b v) line P L r L′
+unfolding outcome held output-cause put-cause
+output-added c r b v line P L L′ {cause} {entries} {all} small size room limit put es el eb ef ee ev er em ec = go cause refl
+  where
+    known : (K N : List ℕ) → Sized c K N L → Marked (take (c .bound) N) P → cause ≡ output-cause (held c K N L) (signed b v)
+    known K N z x = put .caused ∙ rw (marked-among x v small, signed-size b v, size, length-take-le (c .entries) L (omega (arith, z .literals, z .entries))) refl
 
-  pub output-over : (getD P v 0 ≡ 0 → ⊥) → max-clauses ≤ c .made → r .cause ≡ 14 → r .line ≡ line
-      → r .bound ≡ c .bound → r .free ≡ c .free → r .entries ≡ c .entries → r .variables ≡ c .variables → r .«clauses_read» ≡ c .«clauses_read» → r .made ≡ c .made
-      → Output-added c o line P L r L
-  unfolding outcome held output-cause limit-cause
-  output-over there over cause at eb ef ee ev er em =
-      record {
-        sized = λ K N z. resized (sym eb) (sym ef) (sym ee) (sym ev) (sym er) (sym em) z;
-        right = λ none free K N z x k.
-            rw (cause, at, mark-some x (natAbs o) small (λ e. there (ap (λ (n : ℕ). getD P n 0) value ∙ e)), lt-ltb max-clauses (suc (c .made)) (omega arith)) refl;
-      }
+    known-limits : cause ≡ 0 → (t : Bool) → marked P v ≡ t → room-limit (length L) (suc (c .made)) (c .entries + 2) ≡ 0
+    known-limits none true q = (let e : cause ≡ room-limit (length L) (suc (c .made)) (c .entries + 2) = put .caused ∙ rw q refl in sym e ∙ none)
+    known-limits none false q = let bad : cause ≡ 19 = put .caused ∙ rw q refl in absurd (omega arith)
 
-  pub output-full : (getD P v 0 ≡ 0 → ⊥) → c .made < max-clauses → max-entries < c .entries + 2 → r .cause ≡ 14 → r .line ≡ line
-      → r .bound ≡ c .bound → r .free ≡ c .free → r .entries ≡ c .entries → r .variables ≡ c .variables → r .«clauses_read» ≡ c .«clauses_read» → r .made ≡ c .made
-      → Output-added c o line P L r L
-  unfolding outcome held output-cause limit-cause
-  output-full there under full cause at eb ef ee ev er em =
-      record {
-        sized = λ K N z. resized (sym eb) (sym ef) (sym ee) (sym ev) (sym er) (sym em) z;
-        right = λ none free K N z x k.
-            rw (
-              cause,
-              at,
-              mark-some x (natAbs o) small (λ e. there (ap (λ (n : ℕ). getD P n 0) value ∙ e)),
-              le-ltb max-clauses (suc (c .made)) (omega arith),
-              length-take-le (c .entries) L (omega (arith, z .literals, z .entries)),
-              lt-ltb max-entries (c .entries + 2) full,
-            ) refl;
-      }
-
-  -- There is room for it.
-  pub output-taken : (getD P v 0 ≡ 0 → ⊥) → c .made < max-clauses → c .entries + 2 ≤ max-entries → (L′ : List ℤ) → L′ ≡ set (set L (c .entries) o) (c .entries + 1) (pos 0)
-      → r .cause ≡ c .cause → r .bound ≡ c .bound → r .free ≡ c .free → r .entries ≡ c .entries + 2 → r .variables ≡ c .variables → r .«clauses_read» ≡ c .«clauses_read»
-      → r .made ≡ c .made + 1 → r .clauses ≡ c .made + 1 → Output-added c o line P L r L′
-  unfolding outcome held output-cause limit-cause
-  output-taken there under room L′ put cause eb ef ee ev er em ec =
-      record {
-        sized = λ K N z.
-            record {
-              kinds = z .kinds;
-              names = z .names;
-              literals = ap length put ∙ simp length-set (z .literals);
-              unknowns = omega (arith, z .unknowns);
-              entries = omega arith;
-              variables = omega (arith, z .variables);
-              unread = λ start. ef ∙ z .unread (sym er ∙ start);
-              made = omega arith;
-            };
-        right = λ none free K N z x k.
-            let behind = two-behind L (c .entries) o (omega (arith, z .literals)) in
-            let same = state-same ev (ec ∙ add-one (c .made)) (ap (λ (n : ℕ). take n K) eb) (ap (λ (n : ℕ). take n N) eb) (ap (λ (n : ℕ). free-in n (r .free) N) eb ∙ ap (λ (n : ℕ). free-in (c .bound) n N) ef)
-            (ap (λ (n : ℕ). take n L′) ee ∙ ap (take (c .entries + 2)) put ∙ behind) er (em ∙ add-one (c .made)) in
-            ap (λ (n : ℕ). settled n (r .line) (held r K N L′)) (cause ∙ none)
-            ∙ ap whole same
-            ∙ rw (
-              mark-some x (natAbs o) small (λ e. there (ap (λ (n : ℕ). getD P n 0) value ∙ e)),
-              le-ltb max-clauses (suc (c .made)) (omega arith),
-              length-take-le (c .entries) L (omega (arith, z .literals, z .entries)),
-              le-ltb max-entries (c .entries + 2) room,
-            ) refl;
-      }
+    go : (k : ℕ) → cause ≡ k → Output-added c (signed b v) line P L r L′
+    go (suc k) some =
+        let kept = kept-all put (λ none. omega arith) in
+        record {
+          sized = λ K N z.
+              record {
+                kinds = z .kinds;
+                names = z .names;
+                literals = ap length (kept .2) ∙ z .literals;
+                unknowns = omega (arith, z .unknowns);
+                entries = omega (arith, z .entries, kept .0);
+                variables = omega (arith, z .variables);
+                unread = λ start. ef ∙ z .unread (sym er ∙ start);
+                made = omega (arith, z .made, kept .1);
+              };
+          right = λ none free K N z x n.
+              ap (λ (j : ℕ). settled j (r .line) (held r K N L′)) (es ∙ some)
+              ∙ ap (stopped (suc k)) el
+              ∙ ap (λ (j : ℕ). go-on (unless j (went (with-output (held c K N L) (signed b v)))) line whole) (sym some ∙ known K N z x);
+        }
+    go zero none =
+        let fit = limit-zero (length L) (suc (c .made)) (c .entries + 2) (known-limits none (marked P v) refl) in
+        let done = put-so put none (fit .1) in
+        record {
+          sized = λ K N z.
+              record {
+                kinds = z .kinds;
+                names = z .names;
+                literals = done .3 ∙ z .literals;
+                unknowns = omega (arith, z .unknowns);
+                entries = omega (arith, done .0, fit .1);
+                variables = omega (arith, z .variables);
+                unread = λ start. ef ∙ z .unread (sym er ∙ start);
+                made = omega (arith, done .1, fit .0);
+              };
+          right = λ free none′ K N z x n.
+              let same = state-same ev (ec ∙ done .1 ∙ add-one (c .made)) (ap (λ (n : ℕ). take n K) eb) (ap (λ (n : ℕ). take n N) eb) (ap (λ (n : ℕ). free-in n (r .free) N) eb ∙ ap (λ (n : ℕ). free-in (c .bound) n N) ef)
+              (ap (λ (n : ℕ). take n L′) (ee ∙ done .0) ∙ done .2) er (em ∙ done .1 ∙ add-one (c .made)) in
+              ap (λ (j : ℕ). settled j (r .line) (held r K N L′)) (es ∙ none)
+              ∙ ap whole same
+              ∙ ap (λ (j : ℕ). go-on (unless j (went (with-output (held c K N L) (signed b v)))) line whole) (sym none ∙ known K N z x);
+        }

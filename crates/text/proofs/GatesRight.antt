@@ -8,7 +8,7 @@ use borrow.Author.Tests.{ltb-false, eqb-true, eqb-false}
 use lib.Dec.{eqb, ltb}
 use lib.IntN.{ℤ, pos, negsuc, natAbs}
 use lib.ListN.{length}
-use Rattle.formula.specs.Formula.{max-unknowns, prefix}
+use Rattle.formula.specs.Formula.{max-entries, max-unknowns, prefix}
 use Rattle.formula.specs.Meaning.{verdict}
 use Rattle.gates.specs.Clauses.{flat}
 use Rattle.lines.specs.Lines.{Bytes, Line, ended, unended, lines, words, first, rest, third, fourth, fifth}
@@ -19,15 +19,15 @@ use Rattle.named.specs.Names.{In, Distinct, UpTo, InAll, Known}
 use Rattle.named.specs.Closing.{closed-names, closed-kinds, closed-literals}
 use Rattle.named.specs.Gates.{Gate, circuit, clauses-of}
 use Rattle.named.specs.CircuitRight.{circuit-kinds, circuit-names}
-use Rattle.named.proofs.NameLaws.{among-in}
+use Rattle.named.proofs.NameLaws.{and-both, among-in}
 use Rattle.named.proofs.CircuitRight.{circuit-distinct, circuit-known, circuit-right}
 use Rattle.text.specs.Reading.{max-variables, State, Step, went, fault, unless, name-cause, bind, kind-of-word, prefix-line, literal-of, gate-cause, inputs-cause, gate-of, limit-cause, clauses-of-gate, entries-of-gate, with-gate, gate-line, body-line, step, Scan, whole, stopped, go-on, gate-list, with-output, output-cause, finish, body, problem-cause, output-range, max-items, opened, Read, taken, closed, result-of, scan, read-gates}
 use Rattle.text.specs.Steps.{Placeable}
 use Rattle.text.specs.GatesRight.{Drawing, names-in, with-block, with-gate-line, draw-line, draw, p-words, behind-p, nothing, drawing, output-of, GatesRight}
 use Rattle.text.proofs.NameLaws.{name-cause-zero}
-use Rattle.text.proofs.KeptLaws.{and-both}
 use Rattle.text.proofs.ScanLaws.{cond-so, Steps, Scans, unless-so, go-on-so, bind-all-so, body-so, scan-so}
-use Rattle.text.proofs.DrawnLaws.{Drawn, blocks, bind-drawn, block-none, block-more, made-output, gate-drawn, inputs-known, gate-shaped}
+use Rattle.text.proofs.DrawnLaws.{Drawn, blocks, bind-drawn, block-none, block-more, made-output, gate-drawn, inputs-known}
+use Rattle.text_gates.proofs.GateShape.{gate-shaped}
 
 -- Of the causes nothing is said here.
 abbrev pub Any : ℕ → Type 0
@@ -278,7 +278,7 @@ scan-ended text kinds literals names =
 
 pub gates-right : (text : Bytes) → GatesRight text
 unfolding read-gates drawing output-of
-gates-right text r e g = go (scan true text 128 8192 128) (scan-ended text 128 8192 128) e
+gates-right text r e g = go (scan true text max-unknowns max-entries max-unknowns) (scan-ended text max-unknowns max-entries max-unknowns) e
   where
     carried : (value : Bool) (s : State) → closed s ≡ r → verdict (closed s .kinds) (closed s .literals) ≡ value → verdict (r .kinds) (r .literals) ≡ value
     carried value s same right = subst (λ (q : Read). verdict (q .kinds) (q .literals) ≡ value) same right

@@ -18,7 +18,8 @@ use Rattle.lines.specs.Numbers.{number, unsigned, negative, no-number, is-zero,
 use Rattle.named.specs.Named.{among, signed}
 use Rattle.named.specs.Names.{In, Stands, Distinct, Rising, UpTo, Known}
 use Rattle.named.specs.Closing.{insert, closed-names}
-use Rattle.named.proofs.NameLaws.{among-in, not-among, in-append, in-front, distinct-behind, up-to-append, known-more, known-append, known-signed, length-insert, insert-has, insert-holds, distinct-insert, rising-insert, up-to-inserted}
+use Rattle.named.proofs.NameLaws.{and-both, among-in, not-among, in-append, in-front, distinct-behind, up-to-append, known-more, known-append, known-signed, length-insert, insert-has, insert-holds, distinct-insert, rising-insert, up-to-inserted}
+use Rattle.named.proofs.Negation.{signed-size}
 use Rattle.text.specs.Reading.{max-variables, State, bind, room-cause, has-place, literal-cause, entry, free-with, add-entry}
 use Rattle.text.specs.Steps.{Placeable}
 use Rattle.text.proofs.NameLaws.{room-cause-zero}
@@ -52,10 +53,6 @@ pub record Closed (s : State) : Type 0 where
   pub kept : Kept s (suc (s .clauses-read))
   pub in-count : s .clauses-read < s .clauses
   pub closed : ended (s .entries) ≡ true
-
-pub and-both : (a b : Bool) → (a && b) ≡ true → (a ≡ true) × (b ≡ true)
-and-both true b e = (refl, e)
-and-both false b e = absurd (false≢true e)
 
 -- Lists with one more behind.
 any-behind : {A : Type 0} (test : A → Bool) (l : List A) (x : A) → any test l ≡ false → test x ≡ false → any test (l ++ (x ∷ [])) ≡ false
@@ -179,11 +176,6 @@ signed-some : (b : Bool) (p : ℕ) → (p ≡ 0 → ⊥) → is-end (signed b p)
 signed-some b zero some = absurd (some refl)
 signed-some true (suc p) some = refl
 signed-some false (suc p) some = refl
-
-pub signed-size : (b : Bool) (p : ℕ) → natAbs (signed b p) ≡ p
-signed-size true zero = refl
-signed-size true (suc p) = refl
-signed-size false p = refl
 
 entry-literal : (w : Bytes) → is-zero w ≡ false → entry w ≡ signed (negative w) (number (unsigned w))
 unfolding entry

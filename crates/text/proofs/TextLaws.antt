@@ -20,10 +20,11 @@ use Rattle.lines.specs.Shapes.{is-comment, is-problem, is-prefix, is-clause, is
 use Rattle.named.specs.Named.{among, placed}
 use Rattle.named.specs.Closing.{closed-names, closed-kinds, closed-literals}
 use Rattle.named.proofs.CauseLaws.{length-map, kinds-known, as-many-closed, zeros-placed, ended-placed, placed-within}
+use Rattle.named.proofs.NameLaws.{and-both}
 use Rattle.text.specs.Reading.{max-bytes, max-variables, State, Step, went, fault, unless, name-cause, kind-of-word, prefix-line, has-place, literal-cause, add-entry, add-entries, clause-read, clause-line, body-line, step, Scan, whole, stopped, go-on, finish, body, problem-cause, opened, problem, after-comments, lent-well, scan, Read, closed, Result, taken, refused, result-of, read, clause-list}
 use Rattle.text.proofs.NameLaws.{name-cause-zero, literal-cause-zero}
 use Rattle.text.proofs.ScanLaws.{cond-so, NoneOr, Steps, Scans, unless-so, go-on-so, bind-all-so, body-so, scan-so}
-use Rattle.text.proofs.KeptLaws.{Whole, Open, Closed, and-both, bind-whole, add-zero, add-literal}
+use Rattle.text.proofs.KeptLaws.{Whole, Open, Closed, bind-whole, add-zero, add-literal}
 
 -- A number of the text's causes. 13, of names bound nowhere, is none of them.
 pub record OfText (n : ℕ) : Type 0 where

@@ -7,26 +7,24 @@ use mathlib.Core.Bool.{Bool, true, false, cond, _&&_, _||_}
 use mathlib.Core.List.{List, [], _∷_, _++_}
 use lib.Dec.{leb, ltb, eqb}
 use lib.IntN.{ℤ, pos, natAbs}
-use lib.ListN.{length, drop}
+use lib.ListN.{length}
 use Rattle.formula.specs.Formula.{max-unknowns, max-clauses, max-entries}
 use Rattle.text.specs.declared.Reading.{Reading}
 use Rattle.text.specs.declared.Reading.the-variants.{Taken, Refused}
-use Rattle.gates.specs.Clauses.{gate-clauses, flat}
-use Rattle.gates.specs.declared.Function.{Function}
-use Rattle.gates.specs.declared.Function.the-variants.{And, Or, Xor}
 use Rattle.lines.specs.Lines.{Bytes, Line, ended, unended, lines, words, first, rest, second, third, fourth, fifth, same}
 use Rattle.lines.specs.Numbers.{number, is-zero, negative, unsigned}
-use Rattle.lines.specs.Shapes.{is-comment, is-problem, is-prefix, is-clause, is-gate, a-word, and-word, or-word}
+use Rattle.lines.specs.Shapes.{is-comment, is-problem, is-prefix, is-clause, is-gate, a-word}
+pub use Rattle.named.specs.Named.{max-variables}
 use Rattle.named.specs.Named.{among, signed}
 use Rattle.named.specs.Gates.{Gate}
 use Rattle.named.specs.Closing.{insert, closed-names, closed-kinds, closed-literals}
+pub use Rattle.text_gates.specs.GateLine.{literal-of, first-cause, inputs-of, function-of, gate-of, entries-of-gate, clauses-of-gate}
+use Rattle.text_gates.specs.GateLine.{known-cause, known-causes, room-limit}
+pub use Rattle.text_closing.specs.Written.{over}
 
--- 'Text over 65,536 bytes'; 'V is at most 32,767'.
+-- 'Text over 65,536 bytes'.
 abbrev pub max-bytes : ℕ
 max-bytes = 65536
-
-abbrev pub max-variables : ℕ
-max-variables = 32767
 
 -- What has been read so far, by name: V of the p line, and how many lines it wants behind the prefix, C or G; the kind and the name of each
 -- unknown that a block binds, in prefix order, and behind them of each gate; the names that stand in a clause and that no block binds, rising; the
@@ -94,10 +92,7 @@ literal-cause variables names used w =
     (cond (ltb variables (number (unsigned w))) 11
     (cond (has-place names (number (unsigned w))) (room-cause used) 14))
 
--- 'Literals: v or -v', v being the name; 0 for the closing 0.
-abbrev pub literal-of : Bytes → ℤ
-literal-of w = signed (negative w) (number (unsigned w))
-
+-- The literal of a word; 0 for the closing 0.
 unfoldable pub entry : Bytes → ℤ
 entry w = cond (is-zero w) (pos 0) (literal-of w)
 
@@ -139,47 +134,16 @@ gate-cause names v =
     (cond (among v names) 20
     (cond (ltb (length names) max-unknowns) 0 14))
 
--- An input: 11, 19. The gate itself is no earlier one, so its own name is not yet among these.
-unfoldable pub input-cause : List ℕ → Bytes → ℕ
-input-cause names w =
-    cond (ltb max-variables (number (unsigned w))) 11
-    (cond (among (number (unsigned w)) names) 0 19)
+-- Inputs: 11, 19, from the left. The gate itself is no earlier one, so its own name is not yet among these.
+abbrev pub input-cause : List ℕ → Bytes → ℕ
+input-cause names w = known-cause (λ v. among v names) w
 
--- The first of two causes.
-abbrev pub first-cause : ℕ → ℕ → ℕ
-first-cause zero later = later
-first-cause (suc cause) later = suc cause
-
--- The words of a gate line behind its name, from the left: the first cause of an input, and the inputs by name. The closing 0 has no cause.
 abbrev pub inputs-cause : List ℕ → List Bytes → ℕ
-inputs-cause names [] = 0
-inputs-cause names (w ∷ ws) =
-    let more = inputs-cause names ws in
-    cond (is-zero w) 0 (first-cause (input-cause names w) more)
+inputs-cause names ws = known-causes (λ v. among v names) ws
 
-abbrev pub inputs-of : List Bytes → List ℤ
-inputs-of [] = []
-inputs-of (w ∷ ws) =
-    let more = inputs-of ws in
-    cond (is-zero w) [] (literal-of w ∷ more)
-
--- The gate of a gate line's words.
-abbrev pub function-of : Bytes → Function
-function-of w = cond (same w and-word) And (cond (same w or-word) Or Xor)
-
-abbrev pub gate-of : List Bytes → Gate
-gate-of ws = record { function = function-of (first ws); name = number (second ws); inputs = inputs-of (rest (rest ws)) }
-
--- The entries of its clauses, and how many clauses they are.
-abbrev pub entries-of-gate : Gate → List ℤ
-entries-of-gate gate = flat (gate-clauses (gate .function) (pos (gate .name)) (gate .inputs))
-
-abbrev pub clauses-of-gate : Gate → ℕ
-clauses-of-gate gate = length (gate-clauses (gate .function) (pos (gate .name)) (gate .inputs))
-
--- '14 covers .., after its tokens, a line whose clauses pass the limits': so many clauses and entries in all.
-unfoldable pub limit-cause : ℕ → ℕ → ℕ
-limit-cause clauses entries = cond (ltb max-clauses clauses) 14 (cond (ltb max-entries entries) 14 0)
+-- 'After its tokens, a line whose clauses pass the limits'.
+abbrev pub limit-cause : ℕ → ℕ → ℕ
+limit-cause clauses entries = room-limit max-entries clauses entries
 
 -- A gate is 'a last existential unknown': its name is bound behind all others, with the kind 0, and its clauses come behind those before.
 abbrev pub with-gate : State → Gate → State
@@ -377,9 +341,6 @@ cause-of (taken r) = 0
 cause-of (refused number line) = number
 
 -- 'Writes kinds, literals and the text name of each position, leaves entries past those used'; a refusal leaves all.
-abbrev pub over {ℓ} : {A : Type ℓ} → List A → List A → List A
-over new old = new ++ drop (length new) old
-
 abbrev pub kinds-after : Result → List ℕ → List ℕ
 kinds-after (taken r) old = over (r .kinds) old
 kinds-after (refused number line) old = old

@@ -4,22 +4,19 @@ use mathlib.Core.Path.{_≡_}
 use mathlib.Core.Bool.{Bool, true, false, cond}
 use mathlib.Core.List.{List, [], _∷_, _++_}
 use lib.Dec.{ltb}
-use lib.IntN.{ℤ, pos, natAbs}
+use lib.IntN.{ℤ}
 use lib.ListN.{length, getD, take, drop}
 use Rattle.formula.specs.Formula.{max-unknowns, max-clauses, max-entries}
 use Rattle.text.specs.declared.body.Counts.{Counts}
 use Rattle.text.specs.declared.opening.Opened.{Opened}
-use Rattle.gates.specs.declared.Function.{Function}
-use Rattle.gates.specs.declared.Function.the-variants.{And, Or, Xor}
-use Rattle.gates.specs.Clauses.{gate-clauses, flat}
 use Rattle.lines.specs.Lines.{Bytes, lines, words, rest, second, third, fourth}
 use Rattle.lines.specs.Numbers.{number}
 use Rattle.formula.specs.Meaning.{bit}
-use Rattle.named.specs.Named.{among, position, signed}
+use Rattle.named.specs.Named.{max-places, among, signed}
 use Rattle.named.specs.Names.{Distinct, UpTo, Known}
-use Rattle.named.specs.CircuitRight.{Fits}
 use Rattle.named.specs.Closing.{insert, closed-names}
-use Rattle.text.specs.Reading.{max-variables, name-cause, State, Step, went, unless, with-prefix, with-entries, bind-all, add-entries, literal-cause, entry, free-with, literal-of, gate-cause, input-cause, first-cause, inputs-cause, inputs-of, gate-of, clauses-of-gate, entries-of-gate, limit-cause, ending, max-items, output-range, problem-cause, Form, clause-list, gate-list, form-of, problem, after-comments, body, scan, Scan, whole, stopped}
+pub use Rattle.text_closing.specs.Written.{free-in, placed-in}
+use Rattle.text.specs.Reading.{max-variables, name-cause, State, Step, went, unless, with-prefix, with-entries, bind-all, add-entries, literal-cause, entry, free-with, gate-cause, first-cause, inputs-cause, gate-of, clauses-of-gate, entries-of-gate, limit-cause, ending, max-items, output-range, problem-cause, Form, clause-list, gate-list, form-of, problem, after-comments, body, scan, Scan, whole, stopped}
 
 -- The cause of a p line, whose shape is good or not.
 unfoldable pub range-cause : Bool → Bool → ℕ → ℕ → ℕ → ℕ
@@ -52,26 +49,10 @@ pub record Opened-read (gates : Bool) (text : Bytes) (kinds literals names : ℕ
   pub small : o .cause ≡ 0 → o .variables ≤ max-variables
   pub named : o .cause ≡ 0 → gates ≡ true → o .output ≤ max-variables
 
--- A table by name has an entry for each name, and one for 0.
-abbrev pub max-places : ℕ
-max-places = 32768
-
 -- The table marks the names that are placed.
 pub record Marked (names P : List ℕ) : Type 0 where
   pub size : length P ≡ max-places
   pub right : (v : ℕ) → v ≤ max-variables → getD P v 0 ≡ bit (among v names)
-
--- The table has the position of each of the names.
-pub record Indexed (names P : List ℕ) : Type 0 where
-  pub size : length P ≡ max-places
-  pub right : (v : ℕ) → v ≤ max-variables → getD P v 0 ≡ position v names
-
--- One array has the bound names, and behind them the free ones.
-abbrev pub free-in : ℕ → ℕ → List ℕ → List ℕ
-free-in bound free N = take free (drop bound N)
-
-abbrev pub placed-in : ℕ → ℕ → List ℕ → List ℕ
-placed-in bound free N = closed-names (free-in bound free N) (take bound N)
 
 -- A name in a prefix line, n names being bound.
 pub record Named (variables v n : ℕ) (P : List ℕ) (cause : ℕ) : Type 0 where
@@ -172,36 +153,7 @@ pub record Gate-named (v n : ℕ) (P : List ℕ) (cause : ℕ) : Type 0 where
   pub room : cause ≡ 0 → (v ≤ max-variables) × (n < max-unknowns)
   pub right : (names : List ℕ) → length names ≡ n → Marked names P → cause ≡ gate-cause names v
 
--- An input.
-pub record Input-read (P : List ℕ) (w : Bytes) (cause : ℕ) (literal : ℤ) : Type 0 where
-  pub right : (names : List ℕ) → Marked names P → cause ≡ input-cause names w
-  pub written : cause ≡ 0 → literal ≡ literal-of w
-  pub small : natAbs literal ≤ max-variables
-
--- The inputs of a gate line from i on: their first cause, their number, and themselves, if there are not too many to be kept.
-pub record Inputs-read (line : Bytes) (i : ℕ) (P : List ℕ) (cause count : ℕ) (I : List ℤ) : Type 0 where
-  pub size : length I ≡ max-clauses
-  pub right : (names : List ℕ) → Marked names P → cause ≡ inputs-cause names (words (drop i line))
-  pub many : cause ≡ 0 → count ≡ length (inputs-of (words (drop i line)))
-  pub kept : cause ≡ 0 → count ≤ max-clauses → take count I ≡ inputs-of (words (drop i line))
-  pub small : (j : ℕ) → natAbs (getD I j (pos 0)) ≤ max-variables
-
--- The clauses of a gate, by the number of its inputs.
-abbrev pub clause-count : Function → ℕ → ℕ
-clause-count And n = n + 1
-clause-count Or n = n + 1
-clause-count Xor n = 4
-
--- The clauses of the gate v behind m entries, `made` clauses being made; its inputs are kept in I, if there are not too many.
-pub record Gate-put (f : Function) (v : ℕ) (I : List ℤ) (count made m : ℕ) (L : List ℤ) (cause entries all : ℕ) (L′ : List ℤ) : Type 0 where
-  pub size : length L′ ≡ max-entries
-  pub room : entries ≤ max-entries
-  pub limit : all ≤ max-clauses
-  pub right : (is : List ℤ) → length is ≡ count → (count ≤ max-clauses → take count I ≡ is) → Fits f is
-      → (cause ≡ limit-cause (made + length (gate-clauses f (pos v) is)) (m + length (flat (gate-clauses f (pos v) is))))
-      × (cause ≡ 0 → (take entries L′ ≡ take m L ++ flat (gate-clauses f (pos v) is)) × (all ≡ made + length (gate-clauses f (pos v) is)))
-
--- The same of a whole gate line.
+-- The clauses of a gate line whose name is v, behind m entries, `made` clauses being made.
 pub record Clauses-put (line : Bytes) (v made m : ℕ) (P : List ℕ) (L : List ℤ) (cause entries all : ℕ) (L′ : List ℤ) : Type 0 where
   pub size : length L′ ≡ max-entries
   pub room : entries ≤ max-entries

@@ -45,7 +45,7 @@ pub(crate) fn read_lines(
     requires { ⌜ (o .at ≤ length (now text)) × (o .line ≤ o .at) × (o .variables ≤ max-variables) × (gates ≡ true → o .output ≤ max-variables) ⌝ }
     ensures { λ r. ⌜ All-read (body-read (form-at gates (o .negative) (o .output) (o .line)) (fresh o) (o .line + 1) (lines (drop (o .at) (now (text .entry))))) r (now (kinds .exit)) (now (names .exit)) (now (literals .exit)) ⌝ }
 {
-    let mut places = [0u8; names::PLACES];
+    let mut places = [0u8; named::PLACES];
     let mut s = Counts {
         variables: o.variables,
         clauses: o.clauses,
@@ -97,7 +97,7 @@ fn body_line(
     kinds: &mut [u8; Formula::UNKNOWNS],
     literals: &mut [i32; Formula::ENTRIES],
     names: &mut [u16; Formula::UNKNOWNS],
-    places: &mut [u8; names::PLACES],
+    places: &mut [u8; named::PLACES],
 ) -> Counts
     requires { ⌜ Sized c (now kinds) (now names) (now literals) × Marked (placed-in (c .bound) (c .free) (now names)) (now places) × (gates ≡ true → c .free ≡ 0) ⌝ }
     ensures { λ r. ⌜ Line-read gates (body-line-read gates (held c (now (kinds .entry)) (now (names .entry)) (now (literals .entry))) (now (line .entry))) c r (now (kinds .exit)) (now (names .exit)) (now (places .exit)) (now (literals .exit)) ⌝ }
@@ -144,7 +144,7 @@ fn prefix_line(
     c: Counts,
     kinds: &mut [u8; Formula::UNKNOWNS],
     names: &mut [u16; Formula::UNKNOWNS],
-    places: &mut [u8; names::PLACES],
+    places: &mut [u8; named::PLACES],
 ) -> Counts
     requires { ⌜ (length (now kinds) ≡ max-unknowns) × (length (now names) ≡ max-unknowns) × (c .bound ≤ max-unknowns) × (c .free ≡ 0) × (c .variables ≤ max-variables) × Marked (take (c .bound) (now names)) (now places) ⌝ }
     ensures { λ r. ⌜ ((gates : Bool) (L : List ℤ) → Sized c (now (kinds .entry)) (now (names .entry)) L → Line-read gates (prefix-line-read (held c (now (kinds .entry)) (now (names .entry)) L) (words (now (line .entry)))) c r (now (kinds .exit)) (now (names .exit)) (now (places .exit)) L) ⌝ }
@@ -172,7 +172,7 @@ fn clause_line(
     c: Counts,
     literals: &mut [i32; Formula::ENTRIES],
     names: &mut [u16; Formula::UNKNOWNS],
-    places: &mut [u8; names::PLACES],
+    places: &mut [u8; named::PLACES],
 ) -> Counts
     requires { ⌜ (length (now literals) ≡ max-entries) × (length (now names) ≡ max-unknowns) × (c .variables ≤ max-variables) × (c .bound + c .free ≤ max-unknowns) × (c .entries ≤ max-entries) × Marked (placed-in (c .bound) (c .free) (now names)) (now places) ⌝ }
     ensures { λ r. ⌜ ((K : List ℕ) → Sized c K (now (names .entry)) (now (literals .entry)) → Line-read false (clause-line-read (held c K (now (names .entry)) (now (literals .entry))) (words (now (line .entry)))) c r K (now (names .exit)) (now (places .exit)) (now (literals .exit))) ⌝ }

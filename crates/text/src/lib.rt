@@ -12,7 +12,6 @@ use formula::Formula;
 pub const BYTES: usize = 65_536;
 
 mod body;
-mod closing;
 mod gate;
 mod names;
 mod opening;
@@ -81,13 +80,21 @@ fn read_as(
             line: c.line,
         };
     }
-    closing::hand_over(
-        c,
+    text_closing::close(
+        c.bound,
+        c.free,
+        c.entries,
         &own_kinds,
         &own_literals,
         &own_names,
         kinds,
         literals,
         names,
-    )
+    );
+    Reading::Taken {
+        unknowns: c.free + c.bound,
+        entries: c.entries,
+        variables: c.variables,
+        clauses: c.clauses,
+    }
 }

@@ -1,23 +1,14 @@
 // Names bound and names placed in front, and the words of prefix and clause lines taken one by one.
 ghost use mathlib.Core.Path.{_≡_};
-ghost use Prim.Native.Nat.{_+_, _≤_, _<_, min, max};
+ghost use Prim.Native.Nat.{_+_, _≤_, _<_};
 ghost use mathlib.Core.Bool.{true, cond};
-ghost use mathlib.Core.List.{_++_};
 ghost use lib.Dec.{ltb};
-ghost use lib.ListN.{length, take, drop};
+ghost use lib.ListN.{length, take};
 ghost use Rattle.formula.specs.Formula.{max-unknowns, max-entries};
-ghost use Rattle.named.specs.Named.{signed as with-sign};
-ghost use Rattle.named.specs.Closing.{insert as inserted};
 ghost use Rattle.text.specs.Reading.{max-variables, room-cause as cause-of-room};
-ghost use Rattle.text.specs.Steps.{Marked, free-in, placed-in, Named, Bound-all, Word-read, Name-placed, Added-all};
+ghost use Rattle.text.specs.Steps.{Marked, placed-in, Named, Bound-all, Word-read, Name-placed, Added-all};
 use formula::Formula;
 use lines::numbers;
-
-// A table by name has an entry for each name, and one for 0. Here it marks the names that are placed.
-pub(crate) const PLACES: usize = 32_768;
-
-// The largest name.
-pub(crate) const VARIABLES: usize = 32_767;
 
 // How far a prefix line was taken: the names bound, and a cause, 0 for none.
 pub(crate) struct Used {
@@ -41,7 +32,7 @@ pub(crate) fn bind_all(
     n: usize,
     kinds: &mut [u8; Formula::UNKNOWNS],
     names: &mut [u16; Formula::UNKNOWNS],
-    places: &mut [u8; PLACES],
+    places: &mut [u8; named::PLACES],
 ) -> Used
     requires { ⌜ (i ≤ length (now line)) × (n ≤ max-unknowns) × (variables ≤ max-variables) × (length (now kinds) ≡ max-unknowns) × (length (now names) ≡ max-unknowns) ⌝ }
     requires { ⌜ Marked (take n (now names)) (now places) ⌝ }
@@ -74,7 +65,7 @@ pub(crate) fn bind_all(
 }
 
 // The cause of a name in a prefix line, n names being bound.
-fn name_cause(v: usize, variables: usize, n: usize, places: &[u8; PLACES]) -> u32
+fn name_cause(v: usize, variables: usize, n: usize, places: &[u8; named::PLACES]) -> u32
     requires { ⌜ variables ≤ max-variables ⌝ }
     ensures { λ r. ⌜ Named variables v n (now (places .entry)) r ⌝ }
 {
@@ -98,7 +89,7 @@ pub(crate) fn add_entries(
     free: usize,
     m: usize,
     names: &mut [u16; Formula::UNKNOWNS],
-    places: &mut [u8; PLACES],
+    places: &mut [u8; named::PLACES],
     literals: &mut [i32; Formula::ENTRIES],
 ) -> Added
     requires { ⌜ (variables ≤ max-variables) × (bound + free ≤ max-unknowns) × (m ≤ max-entries) × (length (now names) ≡ max-unknowns) × (length (now literals) ≡ max-entries) ⌝ }
@@ -149,7 +140,7 @@ struct Word {
 }
 
 // Reads a word of a clause line, n names being placed and m entries used.
-fn entry(word: &[u8], variables: usize, places: &[u8; PLACES], n: usize, m: usize) -> Word
+fn entry(word: &[u8], variables: usize, places: &[u8; named::PLACES], n: usize, m: usize) -> Word
     requires { ⌜ variables ≤ max-variables ⌝ }
     ensures { λ r. ⌜ Word-read variables (now (places .entry)) n m (now (word .entry)) (r .cause) (r .literal) (r .name) (r .new) ⌝ }
 {
@@ -173,7 +164,7 @@ fn entry(word: &[u8], variables: usize, places: &[u8; PLACES], n: usize, m: usiz
     let new = places[v] == 0;
     Word {
         cause: place_cause(new, n, m),
-        literal: signed(numbers::negative(word), v),
+        literal: named::signed(numbers::negative(word), v as u16),
         name: v,
         new,
     }
@@ -201,15 +192,6 @@ fn room_cause(m: usize) -> u32
     14
 }
 
-// The literal of a name or of a position.
-pub(crate) fn signed(negative: bool, v: usize) -> i32
-    requires { ⌜ v ≤ max-variables ⌝ }
-    ensures { λ r. ⌜ r ≡ with-sign negative v ⌝ }
-{
-    let z = v as i32;
-    if negative { -z } else { z }
-}
-
 // Places a name that is new among the free ones, of which there are `free`; returns how many there are then.
 fn place(
     new: bool,
@@ -217,7 +199,7 @@ fn place(
     bound: usize,
     free: usize,
     names: &mut [u16; Formula::UNKNOWNS],
-    places: &mut [u8; PLACES],
+    places: &mut [u8; named::PLACES],
 ) -> usize
     requires { ⌜ (bound + free ≤ max-unknowns) × (new ≡ true → bound + free < max-unknowns) × (name ≤ max-variables) × (length (now names) ≡ max-unknowns) ⌝ }
     ensures { λ r. ⌜ Name-placed new name bound free (now (names .entry)) (now (places .entry)) r (now (names .exit)) (now (places .exit)) ⌝ }
@@ -225,36 +207,7 @@ fn place(
     if new {} else {
         return free;
     }
-    insert(names, bound, free, name as u16);
+    text_closing::insert(names, bound, free, name as u16);
     places[name] = 1;
     free + 1
-}
-
-// Inserts a name into the rising ones behind the bound ones: of two names the smaller stays, the larger goes on.
-fn insert(names: &mut [u16; Formula::UNKNOWNS], bound: usize, free: usize, name: u16)
-    requires { ⌜ (bound + free < max-unknowns) × (length (now names) ≡ max-unknowns) ⌝ }
-    ensures { λ _. ⌜ now (names .exit) ≡ take bound (now (names .entry)) ++ (inserted name (free-in bound free (now (names .entry))) ++ drop (bound + free + 1) (now (names .entry))) ⌝ }
-{
-    let end = bound + free;
-    let mut carry = name;
-    let mut i = bound;
-    while i < end {
-        let x = names[i];
-        names[i] = smaller(carry, x);
-        carry = larger(carry, x);
-        i += 1;
-    }
-    names[end] = carry;
-}
-
-fn smaller(a: u16, b: u16) -> u16
-    ensures { λ r. ⌜ r ≡ min a b ⌝ }
-{
-    if a < b { a } else { b }
-}
-
-fn larger(a: u16, b: u16) -> u16
-    ensures { λ r. ⌜ r ≡ max a b ⌝ }
-{
-    if a < b { b } else { a }
 }

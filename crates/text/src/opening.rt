@@ -6,7 +6,6 @@ ghost use Rattle.formula.specs.Formula.{max-unknowns, max-entries};
 ghost use Rattle.text.specs.Reading.{max-bytes, max-items};
 ghost use Rattle.text.specs.Steps.{Opened-read, Comments-read, Problem-read, range-cause as range};
 use super::BYTES;
-use crate::names;
 use formula::Formula;
 use lines::shapes;
 
@@ -141,7 +140,7 @@ fn range_cause(gates: bool, good: bool, variables: usize, clauses: usize, output
     if good {} else {
         return 10;
     }
-    if names::VARIABLES < variables {
+    if named::LARGEST < variables {
         return 11;
     }
     if items(gates) < clauses {
@@ -150,7 +149,7 @@ fn range_cause(gates: bool, good: bool, variables: usize, clauses: usize, output
     if gates {} else {
         return 0;
     }
-    if names::VARIABLES < output {
+    if named::LARGEST < output {
         return 11;
     }
     0

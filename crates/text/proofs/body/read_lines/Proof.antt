@@ -7,6 +7,7 @@ use native.Mathlib.Numerals.{add-one}
 use borrow.Author.Tests.{eq-eqb, ne-eqb}
 use borrow.Author.Needs.{needs}
 use lib.ListN.{length, drop, length-drop}
+use Rattle.named.specs.Named.{max-places}
 use Rattle.lines.specs.Lines.{lines}
 use Rattle.text.specs.Reading.{body}
 use Rattle.text.specs.Steps.{Marked, placed-in, Sized, form-at, fresh, held, outcome}
@@ -28,7 +29,7 @@ add-t11 c = omega (arith, c .before .before .pre .1 .0, c .before .before .pre .
 
 loop-holds : tie.Need-loop-holds Inv-loop μ-loop
 loop-holds c =
-    (c .before .before .pre .1 .0, omega (arith, c .before .before .pre .1 .1), refl, record { kinds = c .before .before .pre .0 .0; names = c .before .before .pre .0 .1; literals = c .before .before .pre .0 .2; unknowns = omega arith; entries = omega arith; variables = c .before .before .pre .1 .2; unread = λ _. refl; made = omega arith }, refl, marked-none 32768 refl, λ _. refl)
+    (c .before .before .pre .1 .0, omega (arith, c .before .before .pre .1 .1), refl, record { kinds = c .before .before .pre .0 .0; names = c .before .before .pre .0 .1; literals = c .before .before .pre .0 .2; unknowns = omega arith; entries = omega arith; variables = c .before .before .pre .1 .2; unread = λ _. refl; made = omega arith }, refl, marked-none max-places refl, λ _. refl)
 
 find-requires : tie.Need-find-requires Inv-loop μ-loop
 find-requires c κs = search needs

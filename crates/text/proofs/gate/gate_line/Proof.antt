@@ -8,6 +8,7 @@ use Rattle.lines.proofs.ShapeLaws.{taken-word}
 use Rattle.text.specs.Reading.{gate-line}
 use Rattle.text.specs.Steps.{held}
 use Rattle.text.proofs.BodyLaws.{resized}
+use Rattle.text.proofs.GateStateLaws.{line-put}
 use Rattle.text.proofs.GateLineRead.{name-refused, clauses-faulty, gate-read}
 use borrow.Author.Needs.{needs}
 use Rattle.text.proofs.gate.gate_line.Statement.{statement}
@@ -45,15 +46,18 @@ returns-2 c =
     let value = c .before .before .before .number .ensures ∙ ap number (taken-word (c .before .before .before .before .before .next2 .ensures) (q0 .1) .0) in
     name-refused (given .c) _ (given .kinds .now) (given .names .now) (given .places .now) (given .literals .now) (words (given .line .now)) (c .before .before .before .before .before .before .before .before .before .before .pre .0) (c .before .before .before .before .before .before .before .before .before .before .pre .1) (c .before .before .before .before .before .before .before .before .before .before .pre .2) (c .before .before .before .before .before .before .before .if1 .left) value (c .before .gate-cause .ensures) (c .if2 .taken) refl refl refl refl refl refl refl refl refl
 
-put-clauses-requires : tie.Need-put-clauses-requires
-put-clauses-requires c κs = let z = c .before .before .before .before .before .before .before .before .before .before .before .before .pre .0 in (c .before .before .before .before .before .before .before .before .before .before .before .before .pre .3, c .before .before .before .gate-cause .ensures .room (c .before .before .if2 .left) .0, z .made, z .entries, z .literals)
+cast-put-line : tie.Need-cast-put-line
+cast-put-line c = omega (arith, c .before .gate-cause .ensures .room (c .if2 .left) .0)
+
+put-line-requires : tie.Need-put-line-requires
+put-line-requires c κs = tt
 
 returns-3 : tie.Need-returns-3
 returns-3 c =
     let given = c .before .before .before .before .before .before .before .before .before .before .before .before .before .before .before .args in
     let q0 = taken-word {ws = words (given .line .now)} (c .before .before .before .before .before .before .before .before .before .before .before .next .ensures) refl in
     let value = c .before .before .before .before .before .before .before .before .number .ensures ∙ ap number (taken-word (c .before .before .before .before .before .before .before .before .before .before .next2 .ensures) (q0 .1) .0) in
-    clauses-faulty (given .c) _ (given .kinds .now) (given .names .now) (given .places .now) (given .literals .now) (c .before .before .put-clauses .last .1 .1 .1 .1 .1 .0) (given .line .now) (c .before .before .before .before .before .before .before .before .before .before .before .before .before .before .before .pre .0) (c .before .before .before .before .before .before .before .before .before .before .before .before .before .before .before .pre .1) (c .before .before .before .before .before .before .before .before .before .before .before .before .before .before .before .pre .2) (c .before .before .before .before .before .before .before .before .before .before .before .before .if1 .left) value (c .before .before .before .before .before .before .gate-cause .ensures) (c .before .before .before .before .before .if2 .left) (c .before .before .put-clauses .ensures) (c .if3 .taken) refl refl refl refl refl refl refl refl refl
+    clauses-faulty (given .c) _ (given .kinds .now) (given .names .now) (given .places .now) (given .literals .now) (c .before .before .put-line .last .1 .1 .1 .1 .1 .0) (given .line .now) (c .before .before .before .before .before .before .before .before .before .before .before .before .before .before .before .pre .0) (c .before .before .before .before .before .before .before .before .before .before .before .before .before .before .before .pre .1) (c .before .before .before .before .before .before .before .before .before .before .before .before .before .before .before .pre .2) (c .before .before .before .before .before .before .before .before .before .before .before .before .if1 .left) value (c .before .before .before .before .before .before .gate-cause .ensures) (c .before .before .before .before .before .if2 .left) (line-put (given .line .now) (c .before .before .before .before .before .before .before .before .number .result) (given .c .made) (given .c .entries) (given .places .now) (given .literals .now) (c .before .before .before .before .before .before .before .before .before .before .before .before .before .before .before .pre .3) (c .before .before .before .before .before .before .before .before .before .before .before .before .before .before .before .pre .0 .literals) (c .before .before .before .before .before .before .before .before .before .before .before .before .before .before .before .pre .0 .entries) (c .before .before .before .before .before .before .before .before .before .before .before .before .before .before .before .pre .0 .made) (c .before .before .put-line .ensures)) (c .if3 .taken) refl refl refl refl refl refl refl refl refl
 
 bind-requires : tie.Need-bind-requires
 bind-requires c κs = let z = c .before .before .before .before .before .before .before .before .before .before .before .before .before .before .before .before .before .before .pre .0 in let room = c .before .before .before .before .before .before .before .before .before .gate-cause .ensures .room (c .before .before .before .before .before .before .before .before .if2 .left) in (room .0, room .1, z .kinds, z .names)
@@ -69,7 +73,7 @@ returns-4 c =
     let given = c .before .before .before .before .before .before .before .before .before .before .before .before .before .before .before .before .before .before .before .before .before .args in
     let q0 = taken-word {ws = words (given .line .now)} (c .before .before .before .before .before .before .before .before .before .before .before .before .before .before .before .before .before .next .ensures) refl in
     let value = c .before .before .before .before .before .before .before .before .before .before .before .before .before .before .number .ensures ∙ ap number (taken-word (c .before .before .before .before .before .before .before .before .before .before .before .before .before .before .before .before .next2 .ensures) (q0 .1) .0) in
-    gate-read (given .c) _ (given .kinds .now) (given .names .now) (given .places .now) (given .literals .now) (c .before .before .bind .last .1 .1 .0) (c .before .before .bind .last .1 .1 .1 .0) (c .before .before .bind .last .1 .1 .1 .1 .0) (c .before .before .before .before .before .before .before .before .put-clauses .last .1 .1 .1 .1 .1 .0) (given .line .now) (c .before .before .before .before .before .before .before .before .before .before .before .before .before .before .before .before .before .before .before .before .before .pre .0) (c .before .before .before .before .before .before .before .before .before .before .before .before .before .before .before .before .before .before .before .before .before .pre .1) (c .before .before .before .before .before .before .before .before .before .before .before .before .before .before .before .before .before .before .before .before .before .pre .2) (c .before .before .before .before .before .before .before .before .before .before .before .before .before .before .before .before .before .before .if1 .left) value (c .before .before .before .before .before .before .before .before .before .before .before .before .gate-cause .ensures) (c .before .before .before .before .before .before .before .before .before .before .before .if2 .left) (c .before .before .before .before .before .before .before .before .put-clauses .ensures) (c .before .before .before .before .before .before .if3 .left) (c .before .before .bind .ensures) refl refl refl refl refl refl refl refl refl
+    gate-read (given .c) _ (given .kinds .now) (given .names .now) (given .places .now) (given .literals .now) (c .before .before .bind .last .1 .1 .0) (c .before .before .bind .last .1 .1 .1 .0) (c .before .before .bind .last .1 .1 .1 .1 .0) (c .before .before .before .before .before .before .before .before .put-line .last .1 .1 .1 .1 .1 .0) (given .line .now) (c .before .before .before .before .before .before .before .before .before .before .before .before .before .before .before .before .before .before .before .before .before .pre .0) (c .before .before .before .before .before .before .before .before .before .before .before .before .before .before .before .before .before .before .before .before .before .pre .1) (c .before .before .before .before .before .before .before .before .before .before .before .before .before .before .before .before .before .before .before .before .before .pre .2) (c .before .before .before .before .before .before .before .before .before .before .before .before .before .before .before .before .before .before .if1 .left) value (c .before .before .before .before .before .before .before .before .before .before .before .before .gate-cause .ensures) (c .before .before .before .before .before .before .before .before .before .before .before .if2 .left) (line-put (given .line .now) (c .before .before .before .before .before .before .before .before .before .before .before .before .before .before .number .result) (given .c .made) (given .c .entries) (given .places .now) (given .literals .now) (c .before .before .before .before .before .before .before .before .before .before .before .before .before .before .before .before .before .before .before .before .before .pre .3) (c .before .before .before .before .before .before .before .before .before .before .before .before .before .before .before .before .before .before .before .before .before .pre .0 .literals) (c .before .before .before .before .before .before .before .before .before .before .before .before .before .before .before .before .before .before .before .before .before .pre .0 .entries) (c .before .before .before .before .before .before .before .before .before .before .before .before .before .before .before .before .before .before .before .before .before .pre .0 .made) (c .before .before .before .before .before .before .before .before .put-line .ensures)) (c .before .before .before .before .before .before .if3 .left) (c .before .before .bind .ensures) refl refl refl refl refl refl refl refl refl
 
 pub gate-line-spec : {M : Type 1} → statement M
 gate-line-spec =
@@ -84,7 +88,8 @@ gate-line-spec =
     number-requires
     gate-cause-requires
     returns-2
-    put-clauses-requires
+    cast-put-line
+    put-line-requires
     returns-3
     bind-requires
     add-s

@@ -8,6 +8,7 @@ use lib.ListN.{length, take, drop, length-set, length-drop, length-append}
 use lib.Seq.{length-take-le}
 use mir.Syntax.{w32}
 use mir.ValLaws.{toZ-ofZ}
+use Rattle.formula.specs.Formula.{max-unknowns, max-entries}
 use Rattle.lines.specs.Lines.{words}
 use Rattle.lines.proofs.Pieces.{words-none}
 use Rattle.named.specs.Closing.{closed-names}
@@ -19,7 +20,7 @@ use Rattle.text.proofs.names.add_entries.Statement.{statement}
 use Rattle.text.proofs.names.add_entries.Tie as tie
 
 abbrev Inv-loop : tie.InvT-loop
-Inv-loop line variables bound free m names₀ places₀ literals₀ more₀ count₀ at₀ names places literals more count at = (at ≤ length line) × (bound + more ≤ 128) × (count ≤ 8192) × (length names ≡ 128) × (length literals ≡ 8192) × ((s : State) → s .variables ≡ variables → s .names ≡ take bound names₀ → add-entries (with-entries s (free-in bound free names₀) (take m literals₀)) (words line) ≡ add-entries (with-entries s (free-in bound more names) (take count literals)) (words (drop at line))) × (take bound names ≡ take bound names₀) × Marked (placed-in bound more names) places
+Inv-loop line variables bound free m names₀ places₀ literals₀ more₀ count₀ at₀ names places literals more count at = (at ≤ length line) × (bound + more ≤ max-unknowns) × (count ≤ max-entries) × (length names ≡ max-unknowns) × (length literals ≡ max-entries) × ((s : State) → s .variables ≡ variables → s .names ≡ take bound names₀ → add-entries (with-entries s (free-in bound free names₀) (take m literals₀)) (words line) ≡ add-entries (with-entries s (free-in bound more names) (take count literals)) (words (drop at line))) × (take bound names ≡ take bound names₀) × Marked (placed-in bound more names) places
 
 abbrev μ-loop : tie.MeasureT-loop
 μ-loop line variables bound free m names₀ places₀ literals₀ more₀ count₀ at₀ names places literals more count at = length line - at

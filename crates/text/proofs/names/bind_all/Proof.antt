@@ -5,6 +5,7 @@ use native.Mathlib.Omega.{arith}
 use borrow.Author.Needs.{needs}
 use lib.ListN.{length, take, drop, length-set}
 use lib.Seq.{length-take-le}
+use Rattle.formula.specs.Formula.{max-unknowns}
 use Rattle.lines.specs.Lines.{words}
 use Rattle.text.specs.Reading.{State, went, with-prefix, bind-all}
 use Rattle.text.specs.Steps.{Marked}
@@ -15,7 +16,7 @@ use Rattle.text.proofs.names.bind_all.Statement.{statement}
 use Rattle.text.proofs.names.bind_all.Tie as tie
 
 abbrev Inv-loop : tie.InvT-loop
-Inv-loop line i kind variables n kinds₀ names₀ places₀ count₀ at₀ kinds names places count at = (at ≤ length line) × (count ≤ 128) × (length kinds ≡ length kinds₀) × (length names ≡ length names₀) × ((s : State) → s .variables ≡ variables → bind-all kind (with-prefix s (take n kinds₀) (take n names₀)) (words (drop i line)) ≡ bind-all kind (with-prefix s (take count kinds) (take count names)) (words (drop at line))) × Marked (take count names) places
+Inv-loop line i kind variables n kinds₀ names₀ places₀ count₀ at₀ kinds names places count at = (at ≤ length line) × (count ≤ max-unknowns) × (length kinds ≡ length kinds₀) × (length names ≡ length names₀) × ((s : State) → s .variables ≡ variables → bind-all kind (with-prefix s (take n kinds₀) (take n names₀)) (words (drop i line)) ≡ bind-all kind (with-prefix s (take count kinds) (take count names)) (words (drop at line))) × Marked (take count names) places
 
 abbrev μ-loop : tie.MeasureT-loop
 μ-loop line i kind variables n kinds₀ names₀ places₀ count₀ at₀ kinds names places count at = length line - at

@@ -32,8 +32,11 @@ place-cause-requires c κs = search needs
 negative-requires : tie.Need-negative-requires
 negative-requires c κs = search needs
 
+cast-signed : tie.Need-cast-signed
+cast-signed c = search needs
+
 signed-requires : tie.Need-signed-requires
-signed-requires c κs = search needs
+signed-requires c κs = tt
 
 returns-3 : tie.Need-returns-3
 returns-3 c = word-literal (c .before .before .before .before .before .before .before .before .before .args .variables) (c .before .before .before .before .before .before .before .before .before .args .places .now) (c .before .before .before .before .before .before .before .before .before .args .n) (c .before .before .before .before .before .before .before .before .before .args .m) (c .before .before .before .before .before .before .before .before .before .args .word .now) (sym (c .before .before .before .before .before .before .before .is-zero .ensures) ∙ c .before .before .before .before .before .before .if1 .left) (c .before .before .before .before .before .magnitude .ensures) (c .before .before .before .before .if2 .left) (c .before .before .before .before .before .before .before .before .before .pre) refl (c .before .before .place-cause .ensures) (rw (← c .before .negative .ensures, toZ-ofZ w32 (c .signed .result) (record { sfits = c .signed .ok })) (c .signed .ensures))
@@ -50,5 +53,6 @@ entry-spec =
     element-copy-out-new
     place-cause-requires
     negative-requires
+    cast-signed
     signed-requires
     returns-3)

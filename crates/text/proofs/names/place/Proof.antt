@@ -13,7 +13,7 @@ cast-insert : tie.Need-cast-insert
 cast-insert c = search needs
 
 insert-requires : tie.Need-insert-requires
-insert-requires c κs = (c .before .before .pre .1 (c .before .if1 .taken), c .before .before .pre .3)
+insert-requires c κs = tt
 
 element-write-places : tie.Need-element-write-places
 element-write-places c = search needs

@@ -2,6 +2,7 @@
 use mathlib.Core.Path.{refl}
 use borrow.Author.Tests.{lt-ltb, le-ltb}
 use borrow.Author.Needs.{needs}
+use Rattle.formula.specs.Formula.{max-unknowns}
 use Rattle.text.proofs.names.place_cause.Statement.{statement}
 use Rattle.text.proofs.names.place_cause.Tie as tie
 
@@ -15,10 +16,10 @@ room-cause-requires-2 : tie.Need-room-cause-requires-2
 room-cause-requires-2 c κs = search needs
 
 returns-2 : tie.Need-returns-2
-returns-2 c = rw (c .before .before .if1 .taken, lt-ltb (c .before .before .before .args .placed) 128 (c .before .if2 .taken)) (c .room-cause2 .ensures)
+returns-2 c = rw (c .before .before .if1 .taken, lt-ltb (c .before .before .before .args .placed) max-unknowns (c .before .if2 .taken)) (c .room-cause2 .ensures)
 
 returns-3 : tie.Need-returns-3
-returns-3 c = rw (c .before .if1 .taken, le-ltb (c .before .before .args .placed) 128 (c .if2 .left)) refl
+returns-3 c = rw (c .before .if1 .taken, le-ltb (c .before .before .args .placed) max-unknowns (c .if2 .left)) refl
 
 pub place-cause-spec : {M : Type 1} → statement M
 place-cause-spec =

@@ -2,7 +2,7 @@
 use mathlib.Core.Path.{refl}
 use native.Mathlib.Omega.{arith}
 use borrow.Author.Tests.{lt-ltb, le-ltb}
-use Rattle.text.specs.Reading.{max-items}
+use Rattle.text.specs.Reading.{max-variables, max-items}
 use Rattle.text.specs.Steps.{range-cause}
 use borrow.Author.Needs.{needs}
 use Rattle.text.proofs.opening.range_cause.Statement.{statement}
@@ -14,26 +14,26 @@ returns c = rw (c .if1 .left) refl
 
 returns-2 : tie.Need-returns-2
 unfolding range-cause
-returns-2 c = rw (c .before .if1 .taken, lt-ltb 32767 (c .before .before .args .variables) (c .if2 .taken)) refl
+returns-2 c = rw (c .before .if1 .taken, lt-ltb max-variables (c .before .before .args .variables) (c .if2 .taken)) refl
 
 items-requires : tie.Need-items-requires
 items-requires c κs = search needs
 
 returns-3 : tie.Need-returns-3
 unfolding range-cause
-returns-3 c = rw (c .before .before .before .if1 .taken, le-ltb 32767 (c .before .before .before .before .args .variables) (c .before .before .if2 .left), lt-ltb (max-items (c .before .before .before .before .args .gates)) (c .before .before .before .before .args .clauses) (omega (arith, c .before .items .ensures, c .if3 .taken))) refl
+returns-3 c = rw (c .before .before .before .if1 .taken, le-ltb max-variables (c .before .before .before .before .args .variables) (c .before .before .if2 .left), lt-ltb (max-items (c .before .before .before .before .args .gates)) (c .before .before .before .before .args .clauses) (omega (arith, c .before .items .ensures, c .if3 .taken))) refl
 
 returns-4 : tie.Need-returns-4
 unfolding range-cause
-returns-4 c = rw (c .before .before .before .before .if1 .taken, le-ltb 32767 (c .before .before .before .before .before .args .variables) (c .before .before .before .if2 .left), le-ltb (max-items (c .before .before .before .before .before .args .gates)) (c .before .before .before .before .before .args .clauses) (omega (arith, c .before .before .items .ensures, c .before .if3 .left)), c .if4 .left) refl
+returns-4 c = rw (c .before .before .before .before .if1 .taken, le-ltb max-variables (c .before .before .before .before .before .args .variables) (c .before .before .before .if2 .left), le-ltb (max-items (c .before .before .before .before .before .args .gates)) (c .before .before .before .before .before .args .clauses) (omega (arith, c .before .before .items .ensures, c .before .if3 .left)), c .if4 .left) refl
 
 returns-5 : tie.Need-returns-5
 unfolding range-cause
-returns-5 c = rw (c .before .before .before .before .before .if1 .taken, le-ltb 32767 (c .before .before .before .before .before .before .args .variables) (c .before .before .before .before .if2 .left), le-ltb (max-items (c .before .before .before .before .before .before .args .gates)) (c .before .before .before .before .before .before .args .clauses) (omega (arith, c .before .before .before .items .ensures, c .before .before .if3 .left)), c .before .if4 .taken, lt-ltb 32767 (c .before .before .before .before .before .before .args .output) (c .if5 .taken)) refl
+returns-5 c = rw (c .before .before .before .before .before .if1 .taken, le-ltb max-variables (c .before .before .before .before .before .before .args .variables) (c .before .before .before .before .if2 .left), le-ltb (max-items (c .before .before .before .before .before .before .args .gates)) (c .before .before .before .before .before .before .args .clauses) (omega (arith, c .before .before .before .items .ensures, c .before .before .if3 .left)), c .before .if4 .taken, lt-ltb max-variables (c .before .before .before .before .before .before .args .output) (c .if5 .taken)) refl
 
 returns-6 : tie.Need-returns-6
 unfolding range-cause
-returns-6 c = rw (c .before .before .before .before .before .if1 .taken, le-ltb 32767 (c .before .before .before .before .before .before .args .variables) (c .before .before .before .before .if2 .left), le-ltb (max-items (c .before .before .before .before .before .before .args .gates)) (c .before .before .before .before .before .before .args .clauses) (omega (arith, c .before .before .before .items .ensures, c .before .before .if3 .left)), c .before .if4 .taken, le-ltb 32767 (c .before .before .before .before .before .before .args .output) (c .if5 .left)) refl
+returns-6 c = rw (c .before .before .before .before .before .if1 .taken, le-ltb max-variables (c .before .before .before .before .before .before .args .variables) (c .before .before .before .before .if2 .left), le-ltb (max-items (c .before .before .before .before .before .before .args .gates)) (c .before .before .before .before .before .before .args .clauses) (omega (arith, c .before .before .before .items .ensures, c .before .before .if3 .left)), c .before .if4 .taken, le-ltb max-variables (c .before .before .before .before .before .before .args .output) (c .if5 .left)) refl
 
 pub range-cause-spec : {M : Type 1} → statement M
 range-cause-spec =

@@ -1,0 +1,3 @@
+-- What a gate line's words say, and what is put of them (GateLine); Steps has only what private functions promise.
+pub mod GateLine
+pub mod Steps
