@@ -17,6 +17,17 @@ made=$root/target/command
 # No program here takes a text of so many bytes, so the rest of a longer one need not be read for it to be refused.
 MOST_BYTES=1048576
 
+# The status for 01's lines.
+status_of_answer() { # LINE
+    case $1 in
+    's cnf 1 '*) echo 10 ;;
+    's cnf 0 '*) echo 20 ;;
+    's cnf -1 '*) echo 0 ;;
+    'c refused '*) echo 1 ;;
+    *) echo 2 ;;
+    esac
+}
+
 say() { printf '%s: %s\n' "$name" "$*" >&2; }
 
 # A sentence on standard error, and the status for wrong use, unreadable input, a failed build, and output that could not be written.

@@ -21,27 +21,6 @@ use std::time::Instant;
 
 const SEED: u64 = 1;
 
-extern "C" {
-    fn probe_read_gates(
-        text: *const u8,
-        text_length: usize,
-        kinds: *mut u8,
-        kinds_length: usize,
-        literals: *mut i32,
-        literals_length: usize,
-        names: *mut u16,
-        names_length: usize,
-        unknowns: &mut usize,
-        entries: &mut usize,
-        variables: &mut usize,
-        clauses: &mut usize,
-        line: &mut usize,
-    ) -> u64;
-}
-
-/// The lengths of the tables.
-const SIZES: [usize; 3] = [128, 8_192, 128];
-
 /// What is compared, and how often each number came.
 struct Player {
     random: Random,
@@ -50,74 +29,25 @@ struct Player {
 }
 
 impl Player {
-    /// Reads a text, now and then into a table of another length, and compares all that is left.
+    /// Reads a text, and compares all that is left.
     fn play(&mut self, text: &[u8]) -> Option<GateList> {
         let list = gates::read(text);
-        let mut sizes = SIZES;
-        if self.random.chance(1, 40) {
-            let which = self.random.below(3);
-            sizes[which] = self.random.pick(&[0, 1, sizes[which] - 1, sizes[which] + 1, 2 * sizes[which]]);
-        }
-        let read = match &list {
-            _ if sizes != SIZES => Err(Refusal { number: 9, line: 0 }),
-            Ok(list) => Ok(list.read.clone()),
-            Err(refusal) => Err(*refusal),
-        };
-        let wrong = self.compare(text, sizes, &read);
-        self.tally.case(wrong.map(|words| format!("{}\n{}", words, String::from_utf8_lossy(&text[..text.len().min(400)]))));
+        let read = list.as_ref().map(|list| list.read.clone()).map_err(|refusal| *refusal);
+        let (number, wrong) = tables::compare(true, &mut self.random, text, &read);
+        *self.seen.entry(number).or_insert(0) += 1;
+        self.tally.case(wrong.map(|words| described(&words, text)));
         list.ok()
     }
 
-    fn compare(&mut self, text: &[u8], sizes: [usize; 3], read: &Result<Read, Refusal>) -> Option<String> {
-        let mut kinds = self.random.bytes(sizes[0]);
-        let mut literals: Vec<i32> = self.random.bytes(sizes[1]).into_iter().map(|byte| i32::from(byte) - 99).collect();
-        let mut names: Vec<u16> = self.random.bytes(sizes[2]).into_iter().map(|byte| u16::from(byte) << 7).collect();
-        let lent_text = Lent::new(text);
-        let (mut lent_kinds, mut lent_literals, mut lent_names) = (Lent::new(&kinds), Lent::new(&literals), Lent::new(&names));
-        let mut told = [7; 5];
-        let [unknowns, entries, variables, clauses, line] = &mut told;
-        let number = unsafe {
-            probe_read_gates(
-                lent_text.address(),
-                lent_text.length(),
-                lent_kinds.address_mut(),
-                lent_kinds.length(),
-                lent_literals.address_mut(),
-                lent_literals.length(),
-                lent_names.address_mut(),
-                lent_names.length(),
-                unknowns,
-                entries,
-                variables,
-                clauses,
-                line,
-            )
-        };
-        *self.seen.entry(number).or_insert(0) += 1;
-        let wanted = match read {
-            Ok(read) => (0, [read.kinds.len(), read.literals.len(), read.v as usize, read.c as usize, 0]),
-            Err(refusal) => (100 + u64::from(refusal.number), [0, 0, 0, 0, refusal.line]),
-        };
-        if let Ok(read) = read {
-            kinds[..read.kinds.len()].copy_from_slice(&read.kinds);
-            literals[..read.literals.len()].copy_from_slice(&read.literals);
-            for (entry, &name) in names.iter_mut().zip(&read.names) {
-                *entry = name as u16;
+    /// Asks the program, and compares all that it prints.
+    fn ask(&mut self, text: &[u8]) {
+        let read = gates::read(text).map(|list| list.read);
+        match program::compare(&program::GATES, &mut self.random, text, &read, LOOKS) {
+            Ok((lines, wrong)) => {
+                *self.printed.entry(lines.split_whitespace().take(3).collect::<Vec<_>>().join(" ")).or_insert(0) += 1;
+                self.tally.case(wrong.map(|words| described(&words, text)));
             }
-        }
-        let mut faults = Vec::new();
-        if (number, told) != wanted {
-            faults.push(format!("the reader returned {} and {:?}, wanted {:?}", number, told, wanted));
-        }
-        for (name, holds) in [("kinds", lent_kinds.holds(&kinds)), ("literals", lent_literals.holds(&literals)), ("names", lent_names.holds(&names)), ("text", lent_text.holds(text))] {
-            if !holds {
-                faults.push(format!("the {} or an entry around them are not as wanted", name));
-            }
-        }
-        if faults.is_empty() {
-            None
-        } else {
-            Some(faults.join("; "))
+            Err(TooLong) => self.left_out += 1,
         }
     }
 
