@@ -14,8 +14,8 @@
 root=$(dirname "$(dirname "$(readlink -f "${BASH_SOURCE[0]}")")")
 made=$root/target/command
 
-# No program here takes a text of so many bytes, so the rest of a longer one need not be read for it to be refused.
-MOST_BYTES=1048576
+# No program here takes a text or a file of so many bytes, so the rest of a longer one need not be read for it to be refused.
+MOST_BYTES=4194304
 
 # The status for 01's lines.
 status_of_answer() { # LINE

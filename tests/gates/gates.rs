@@ -1,6 +1,7 @@
 //! Gate lists through the reader alone: its number, what it reports, every entry of the three tables and the guards around them are compared with 02's
 //! rules written apart. The lists of the published papers must give the clauses of their published translation, entry by entry, and their
-//! verdict. The value of a list, asked of its gates, must be the meaning of what is written, and DepQBF's. Cases are drawn from a seed.
+//! verdict. The value of a list, asked of its gates, must be the meaning of what is written, and DepQBF's. Of some lists the program is asked too, and
+//! all that it prints is compared. Cases are drawn from a seed.
 //!
 //! usage: gates [TIMES [SEED]]
 
@@ -9,11 +10,11 @@ mod independent;
 mod lists;
 
 use independent::gates::{self, GateList};
-use independent::lent::Lent;
+use independent::model::TooLong;
 use independent::random::Random;
-use independent::reader::{self, Read, Refusal};
+use independent::reader::{self, Read};
 use independent::tally::{self, Tally};
-use independent::{formula, meaning};
+use independent::{formula, meaning, program, tables};
 use std::collections::BTreeMap;
 use std::io::Write;
 use std::process::{Command, Stdio};
@@ -21,11 +22,21 @@ use std::time::Instant;
 
 const SEED: u64 = 1;
 
-/// What is compared, and how often each number came.
+/// So many looks at a row the reference may take in one search; a list that takes more is left out.
+const LOOKS: usize = 5_000;
+
+/// What is compared, and how often each number and each answer came.
 struct Player {
     random: Random,
     tally: Tally,
     seen: BTreeMap<u64, usize>,
+    printed: BTreeMap<String, usize>,
+    left_out: usize,
+}
+
+/// A fault with its text.
+fn described(words: &str, text: &[u8]) -> String {
+    format!("{}\n{}", words, String::from_utf8_lossy(&text[..text.len().min(400)]))
 }
 
 impl Player {
@@ -89,12 +100,17 @@ fn published(player: &mut Player) {
     let mut count = 0;
     for path in paths.iter().filter(|path| path.extension() == Some("gate".as_ref())) {
         let name = path.file_stem().unwrap().to_str().unwrap().to_string();
-        player.play(&std::fs::read(path).unwrap());
-        let list = gates::read(&std::fs::read(path).unwrap()).unwrap_or_else(|refusal| panic!("{}: {:?}", name, refusal));
+        let text = std::fs::read(path).unwrap();
+        player.play(&text);
+        player.ask(&text);
+        let list = gates::read(&text).unwrap_or_else(|refusal| panic!("{}: {:?}", name, refusal));
         let translated = reader::read(&std::fs::read(format!("examples/published/{}.qdimacs", name)).unwrap()).unwrap();
         player.case(list.read.kinds == translated.kinds && list.read.literals == translated.literals, format!("{}: not the published clauses", name));
         let verdict = verdicts[&name] == "1";
         player.case(depqbf(&list.read) == verdict, format!("{}: DepQBF has another verdict", name));
+        let printed = program::run(&program::GATES, &mut player.random, &text).unwrap_or_else(|words| words);
+        let fits = [format!("s cnf {} ", u8::from(verdict)), "s cnf -1 ".to_string()].iter().any(|start| printed.starts_with(start));
+        player.case(fits, format!("{}: the program printed {:?}", name, printed));
         if list.bound.len() <= 20 {
             player.case(list.value() == verdict, format!("{}: the circuit has another value", name));
         }
@@ -107,8 +123,10 @@ fn published(player: &mut Player) {
 fn main() {
     let (times, seed) = tally::asked(SEED);
     let start = Instant::now();
-    let mut player = Player { random: Random::new(seed), tally: Tally::new(), seen: BTreeMap::new() };
+    let mut player = Player { random: Random::new(seed), tally: Tally::new(), seen: BTreeMap::new(), printed: BTreeMap::new(), left_out: 0 };
     published(&mut player);
+    let printed = program::run(&program::GATES, &mut player.random, lists::undecided().as_bytes());
+    player.case(printed.as_deref().map_or(false, |lines| lines.starts_with("s cnf -1 18 47\nc rounds ")), format!("for want of rows: {:?}", printed));
     let mut values = [0; 2];
     for i in 0..20_000 * times {
         let text = lists::draw(&mut player.random, 6);
@@ -121,19 +139,24 @@ fn main() {
             }
             if i % 50 == 0 {
                 player.case(depqbf(&list.read) == value, format!("DepQBF has another verdict than\n{}", text));
+                player.ask(text.as_bytes());
             }
         }
     }
     println!("values of the circuits: {:?}", values);
     player.case(values[0] > 1_000 && values[1] > 1_000, format!("values {:?}", values));
-    for _ in 0..60_000 * times {
+    for i in 0..60_000 * times {
         let text = lists::draw(&mut player.random, 5);
         let damaged = lists::damage(&mut player.random, text.as_bytes());
         player.play(&damaged);
+        if i % 100 == 0 {
+            player.ask(&damaged);
+        }
     }
     let limits = lists::limits();
     for text in &limits {
         player.play(text.as_bytes());
+        player.ask(text.as_bytes());
     }
     for _ in 0..3_000 * times {
         let chosen = player.random.below(limits.len());
@@ -147,5 +170,10 @@ fn main() {
     }
     let known = player.seen.keys().all(|number| [0, 109, 110, 111, 112, 114, 119, 120].contains(number));
     player.case(known, "a number that no list has".to_string());
+    println!("printed: {:?}, {} left out", player.printed, player.left_out);
+    for start in ["s cnf 0", "s cnf 1", "c refused 9", "c refused 10", "c refused 11", "c refused 12", "c refused 14", "c refused 19", "c refused 20"] {
+        let came = player.printed.contains_key(start);
+        player.case(came, format!("the program never came to '{}'", start));
+    }
     player.tally.end(start)
 }

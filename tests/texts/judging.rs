@@ -3,7 +3,7 @@
 
 use crate::formula::{count_of, Side, WORK};
 use crate::formulas;
-use crate::independent::finding::{found, settled, Finding};
+use crate::independent::finding::{found, settled};
 use crate::independent::witness::{self, Record};
 use crate::lent::Lent;
 use crate::model::TooLong;
@@ -129,17 +129,14 @@ impl Player {
                 }
             }
         }
-        record.map = if self.random.chance(1, 2) { record.map | 1 } else { self.random.below(if self.random_is_odd() { 32 } else { 40 }) as u8 };
+        let maps = self.random.pick(&[32, 32, 32, 40]);
+        record.map = if self.random.chance(1, 2) { record.map | 1 } else { self.random.below(maps) as u8 };
         record.claim = self.random.pick(&[record.claim, record.claim, 0, 1, 1, 2]);
         record.unknowns = self.near(read.kinds.len());
         record.clauses = self.near(read.c as usize);
         record.universal = self.counted(rows[0].len() / 16);
         record.existential = self.counted(rows[1].len() / 16);
         witness::bytes(&record, &rows[0], &rows[1])
-    }
-
-    fn random_is_odd(&mut self) -> bool {
-        self.random.chance(9, 10)
     }
 
     /// Mostly the number itself.
