@@ -153,6 +153,9 @@ fn main() {
             player.ask(&damaged);
         }
     }
+    for length in [reader::LONGEST, reader::LONGEST + 1] {
+        player.ask(&vec![b'c'; length]);
+    }
     let limits = lists::limits();
     for text in &limits {
         player.play(text.as_bytes());
