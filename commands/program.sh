@@ -14,8 +14,19 @@
 root=$(dirname "$(dirname "$(readlink -f "${BASH_SOURCE[0]}")")")
 made=$root/target/command
 
-# No program here takes a text of so many bytes, so the rest of a longer one need not be read for it to be refused.
-MOST_BYTES=1048576
+# No program here takes a text or a file of so many bytes, so the rest of a longer one need not be read for it to be refused.
+MOST_BYTES=4194304
+
+# The status for 01's lines.
+status_of_answer() { # LINE
+    case $1 in
+    's cnf 1 '*) echo 10 ;;
+    's cnf 0 '*) echo 20 ;;
+    's cnf -1 '*) echo 0 ;;
+    'c refused '*) echo 1 ;;
+    *) echo 2 ;;
+    esac
+}
 
 say() { printf '%s: %s\n' "$name" "$*" >&2; }
 

@@ -1,6 +1,7 @@
 //! Gate lists through the reader alone: its number, what it reports, every entry of the three tables and the guards around them are compared with 02's
 //! rules written apart. The lists of the published papers must give the clauses of their published translation, entry by entry, and their
-//! verdict. The value of a list, asked of its gates, must be the meaning of what is written, and DepQBF's. Cases are drawn from a seed.
+//! verdict. The value of a list, asked of its gates, must be the meaning of what is written, and DepQBF's. Of some lists the program is asked too, and
+//! all that it prints is compared. Cases are drawn from a seed.
 //!
 //! usage: gates [TIMES [SEED]]
 
@@ -9,11 +10,11 @@ mod independent;
 mod lists;
 
 use independent::gates::{self, GateList};
-use independent::lent::Lent;
+use independent::model::TooLong;
 use independent::random::Random;
-use independent::reader::{self, Read, Refusal};
+use independent::reader::{self, Read};
 use independent::tally::{self, Tally};
-use independent::{formula, meaning};
+use independent::{formula, meaning, program, tables};
 use std::collections::BTreeMap;
 use std::io::Write;
 use std::process::{Command, Stdio};
@@ -21,103 +22,43 @@ use std::time::Instant;
 
 const SEED: u64 = 1;
 
-extern "C" {
-    fn probe_read_gates(
-        text: *const u8,
-        text_length: usize,
-        kinds: *mut u8,
-        kinds_length: usize,
-        literals: *mut i32,
-        literals_length: usize,
-        names: *mut u16,
-        names_length: usize,
-        unknowns: &mut usize,
-        entries: &mut usize,
-        variables: &mut usize,
-        clauses: &mut usize,
-        line: &mut usize,
-    ) -> u64;
-}
+/// So many looks at a row the reference may take in one search; a list that takes more is left out.
+const LOOKS: usize = 5_000;
 
-/// The lengths of the tables.
-const SIZES: [usize; 3] = [128, 8_192, 128];
-
-/// What is compared, and how often each number came.
+/// What is compared, and how often each number and each answer came.
 struct Player {
     random: Random,
     tally: Tally,
     seen: BTreeMap<u64, usize>,
+    printed: BTreeMap<String, usize>,
+    left_out: usize,
+}
+
+/// A fault with its text.
+fn described(words: &str, text: &[u8]) -> String {
+    format!("{}\n{}", words, String::from_utf8_lossy(&text[..text.len().min(400)]))
 }
 
 impl Player {
-    /// Reads a text, now and then into a table of another length, and compares all that is left.
+    /// Reads a text, and compares all that is left.
     fn play(&mut self, text: &[u8]) -> Option<GateList> {
         let list = gates::read(text);
-        let mut sizes = SIZES;
-        if self.random.chance(1, 40) {
-            let which = self.random.below(3);
-            sizes[which] = self.random.pick(&[0, 1, sizes[which] - 1, sizes[which] + 1, 2 * sizes[which]]);
-        }
-        let read = match &list {
-            _ if sizes != SIZES => Err(Refusal { number: 9, line: 0 }),
-            Ok(list) => Ok(list.read.clone()),
-            Err(refusal) => Err(*refusal),
-        };
-        let wrong = self.compare(text, sizes, &read);
-        self.tally.case(wrong.map(|words| format!("{}\n{}", words, String::from_utf8_lossy(&text[..text.len().min(400)]))));
+        let read = list.as_ref().map(|list| list.read.clone()).map_err(|refusal| *refusal);
+        let (number, wrong) = tables::compare(true, &mut self.random, text, &read);
+        *self.seen.entry(number).or_insert(0) += 1;
+        self.tally.case(wrong.map(|words| described(&words, text)));
         list.ok()
     }
 
-    fn compare(&mut self, text: &[u8], sizes: [usize; 3], read: &Result<Read, Refusal>) -> Option<String> {
-        let mut kinds = self.random.bytes(sizes[0]);
-        let mut literals: Vec<i32> = self.random.bytes(sizes[1]).into_iter().map(|byte| i32::from(byte) - 99).collect();
-        let mut names: Vec<u16> = self.random.bytes(sizes[2]).into_iter().map(|byte| u16::from(byte) << 7).collect();
-        let lent_text = Lent::new(text);
-        let (mut lent_kinds, mut lent_literals, mut lent_names) = (Lent::new(&kinds), Lent::new(&literals), Lent::new(&names));
-        let mut told = [7; 5];
-        let [unknowns, entries, variables, clauses, line] = &mut told;
-        let number = unsafe {
-            probe_read_gates(
-                lent_text.address(),
-                lent_text.length(),
-                lent_kinds.address_mut(),
-                lent_kinds.length(),
-                lent_literals.address_mut(),
-                lent_literals.length(),
-                lent_names.address_mut(),
-                lent_names.length(),
-                unknowns,
-                entries,
-                variables,
-                clauses,
-                line,
-            )
-        };
-        *self.seen.entry(number).or_insert(0) += 1;
-        let wanted = match read {
-            Ok(read) => (0, [read.kinds.len(), read.literals.len(), read.v as usize, read.c as usize, 0]),
-            Err(refusal) => (100 + u64::from(refusal.number), [0, 0, 0, 0, refusal.line]),
-        };
-        if let Ok(read) = read {
-            kinds[..read.kinds.len()].copy_from_slice(&read.kinds);
-            literals[..read.literals.len()].copy_from_slice(&read.literals);
-            for (entry, &name) in names.iter_mut().zip(&read.names) {
-                *entry = name as u16;
+    /// Asks the program, and compares all that it prints.
+    fn ask(&mut self, text: &[u8]) {
+        let read = gates::read(text).map(|list| list.read);
+        match program::compare(&program::GATES, &mut self.random, text, &read, LOOKS) {
+            Ok((lines, wrong)) => {
+                *self.printed.entry(lines.split_whitespace().take(3).collect::<Vec<_>>().join(" ")).or_insert(0) += 1;
+                self.tally.case(wrong.map(|words| described(&words, text)));
             }
-        }
-        let mut faults = Vec::new();
-        if (number, told) != wanted {
-            faults.push(format!("the reader returned {} and {:?}, wanted {:?}", number, told, wanted));
-        }
-        for (name, holds) in [("kinds", lent_kinds.holds(&kinds)), ("literals", lent_literals.holds(&literals)), ("names", lent_names.holds(&names)), ("text", lent_text.holds(text))] {
-            if !holds {
-                faults.push(format!("the {} or an entry around them are not as wanted", name));
-            }
-        }
-        if faults.is_empty() {
-            None
-        } else {
-            Some(faults.join("; "))
+            Err(TooLong) => self.left_out += 1,
         }
     }
 
@@ -159,12 +100,17 @@ fn published(player: &mut Player) {
     let mut count = 0;
     for path in paths.iter().filter(|path| path.extension() == Some("gate".as_ref())) {
         let name = path.file_stem().unwrap().to_str().unwrap().to_string();
-        player.play(&std::fs::read(path).unwrap());
-        let list = gates::read(&std::fs::read(path).unwrap()).unwrap_or_else(|refusal| panic!("{}: {:?}", name, refusal));
+        let text = std::fs::read(path).unwrap();
+        player.play(&text);
+        player.ask(&text);
+        let list = gates::read(&text).unwrap_or_else(|refusal| panic!("{}: {:?}", name, refusal));
         let translated = reader::read(&std::fs::read(format!("examples/published/{}.qdimacs", name)).unwrap()).unwrap();
         player.case(list.read.kinds == translated.kinds && list.read.literals == translated.literals, format!("{}: not the published clauses", name));
         let verdict = verdicts[&name] == "1";
         player.case(depqbf(&list.read) == verdict, format!("{}: DepQBF has another verdict", name));
+        let printed = program::run(&program::GATES, &mut player.random, &text).unwrap_or_else(|words| words);
+        let fits = [format!("s cnf {} ", u8::from(verdict)), "s cnf -1 ".to_string()].iter().any(|start| printed.starts_with(start));
+        player.case(fits, format!("{}: the program printed {:?}", name, printed));
         if list.bound.len() <= 20 {
             player.case(list.value() == verdict, format!("{}: the circuit has another value", name));
         }
@@ -177,8 +123,10 @@ fn published(player: &mut Player) {
 fn main() {
     let (times, seed) = tally::asked(SEED);
     let start = Instant::now();
-    let mut player = Player { random: Random::new(seed), tally: Tally::new(), seen: BTreeMap::new() };
+    let mut player = Player { random: Random::new(seed), tally: Tally::new(), seen: BTreeMap::new(), printed: BTreeMap::new(), left_out: 0 };
     published(&mut player);
+    let printed = program::run(&program::GATES, &mut player.random, lists::undecided().as_bytes());
+    player.case(printed.as_deref().map_or(false, |lines| lines.starts_with("s cnf -1 18 47\nc rounds ")), format!("for want of rows: {:?}", printed));
     let mut values = [0; 2];
     for i in 0..20_000 * times {
         let text = lists::draw(&mut player.random, 6);
@@ -191,19 +139,27 @@ fn main() {
             }
             if i % 50 == 0 {
                 player.case(depqbf(&list.read) == value, format!("DepQBF has another verdict than\n{}", text));
+                player.ask(text.as_bytes());
             }
         }
     }
     println!("values of the circuits: {:?}", values);
     player.case(values[0] > 1_000 && values[1] > 1_000, format!("values {:?}", values));
-    for _ in 0..60_000 * times {
+    for i in 0..60_000 * times {
         let text = lists::draw(&mut player.random, 5);
         let damaged = lists::damage(&mut player.random, text.as_bytes());
         player.play(&damaged);
+        if i % 100 == 0 {
+            player.ask(&damaged);
+        }
+    }
+    for length in [reader::LONGEST, reader::LONGEST + 1] {
+        player.ask(&vec![b'c'; length]);
     }
     let limits = lists::limits();
     for text in &limits {
         player.play(text.as_bytes());
+        player.ask(text.as_bytes());
     }
     for _ in 0..3_000 * times {
         let chosen = player.random.below(limits.len());
@@ -217,5 +173,10 @@ fn main() {
     }
     let known = player.seen.keys().all(|number| [0, 109, 110, 111, 112, 114, 119, 120].contains(number));
     player.case(known, "a number that no list has".to_string());
+    println!("printed: {:?}, {} left out", player.printed, player.left_out);
+    for start in ["s cnf 0", "s cnf 1", "c refused 9", "c refused 10", "c refused 11", "c refused 12", "c refused 14", "c refused 19", "c refused 20"] {
+        let came = player.printed.contains_key(start);
+        player.case(came, format!("the program never came to '{}'", start));
+    }
     player.tally.end(start)
 }

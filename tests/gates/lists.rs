@@ -153,3 +153,15 @@ pub fn limits() -> Vec<String> {
     lists.push(format!("{}p gate 0 1 5\n& 5 0\n", "c\n".repeat(32_758)));
     lists
 }
+
+/// Nine pairs of a universal and an existential unknown that must differ: true, but the universal unknowns have more values than there are rows.
+pub fn undecided() -> String {
+    let mut text = "p gate 18 10 28\n".to_string();
+    for i in 1..=9 {
+        text += &format!("a {} 0\ne {} 0\n", i, 9 + i);
+    }
+    for i in 1..=9 {
+        text += &format!("^ {} {} {} 0\n", 18 + i, i, 9 + i);
+    }
+    text + "& 28 19 20 21 22 23 24 25 26 27 0\n"
+}

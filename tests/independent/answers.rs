@@ -26,6 +26,11 @@ fn outcome(read: &Read, limit: u32, looks: usize) -> Result<Outcome, TooLong> {
     Ok(outcome)
 }
 
+/// The program's run of a text's formula.
+pub fn outcome_of(read: &Read, looks: usize) -> Result<Outcome, TooLong> {
+    outcome(read, LIMIT, looks)
+}
+
 /// No more rows than there are, and no more rounds than rows allow: each finished round adds to both sides.
 fn is_within_bounds(read: &Read, outcome: &Outcome) -> bool {
     let universal = 1 << count_of(&read.kinds, Side::Universal);
@@ -41,7 +46,7 @@ pub fn printed(read: &Result<Read, Refusal>, looks: usize) -> Result<String, Too
         Ok(read) => read,
         Err(refusal) => return Ok(format!("c refused {} {}\n", refusal.number, refusal.line)),
     };
-    let outcome = outcome(read, LIMIT, looks)?;
+    let outcome = outcome_of(read, looks)?;
     let t = match outcome.answer {
         0 => "0",
         1 => "1",

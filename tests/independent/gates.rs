@@ -1,7 +1,8 @@
 //! The reader of gate lists, from 02's words: shapes, causes, the clauses of each gate. The value of a list goes another way: under the prefix O's
 //! value is asked of the gates, each of its inputs.
 
-use super::reader::{each, literal, name, number, Read, Refusal, LONGEST};
+use super::meaning::under;
+use super::reader::{each, literal, name, number, tokens, Read, Refusal, LONGEST};
 
 const MOST_NAMES: usize = 128;
 const MOST_CLAUSES: usize = 2_048;
@@ -158,13 +159,6 @@ fn clauses_of(gate: &Gate) -> Vec<Vec<i32>> {
     clauses
 }
 
-fn tokens(line: &[u8]) -> Option<Vec<&[u8]>> {
-    if line.first() == Some(&b' ') || line.last() == Some(&b' ') {
-        return None;
-    }
-    Some(line.split(|&byte| byte == b' ').filter(|token| !token.is_empty()).collect())
-}
-
 fn problem(line: &[u8]) -> Option<(u32, u32, i32)> {
     match tokens(line)?.as_slice() {
         [b"p", b"gate", v, g, o] => Some((number(v)?, number(g)?, literal(o)?)),
@@ -185,31 +179,14 @@ fn shape(line: &[u8]) -> Option<Line> {
 impl GateList {
     /// The value of O under the prefix.
     pub fn value(&self) -> bool {
-        self.under(&mut Vec::new())
+        let kinds: Vec<u8> = self.bound.iter().map(|&(kind, _)| kind).collect();
+        under(&kinds, &mut Vec::new(), &|play| self.literal(self.output, play))
     }
 
-    fn under(&self, play: &mut Vec<bool>) -> bool {
-        if play.len() == self.bound.len() {
-            return self.literal(self.output, play);
-        }
-        let is_universal = self.bound[play.len()].0 == 1;
-        let [low, high] = [false, true].map(|value| {
-            play.push(value);
-            let result = self.under(play);
-            play.pop();
-            result
-        });
-        if is_universal {
-            low && high
-        } else {
-            low || high
-        }
-    }
-
-    fn literal(&self, literal: i32, play: &[bool]) -> bool {
+    fn literal(&self, literal: i32, play: &[Option<bool>]) -> bool {
         let name = literal.unsigned_abs();
         let value = match self.bound.iter().position(|&(_, other)| other == name) {
-            Some(place) => play[place],
+            Some(place) => play[place] == Some(true),
             None => {
                 let gate = self.gates.iter().find(|gate| gate.name == name).unwrap();
                 let mut inputs = gate.inputs.iter().map(|&input| self.literal(input, play));

@@ -9,18 +9,18 @@ pub fn meaning(kinds: &[u8], clauses: &[Vec<i32>]) -> bool {
 
 /// The value of the formula with its first unknowns set.
 pub fn meaning_behind(kinds: &[u8], clauses: &[Vec<i32>], first: &[bool]) -> bool {
-    holds(kinds, clauses, &mut first.iter().map(|&value| Some(value)).collect())
+    under(kinds, &mut first.iter().map(|&value| Some(value)).collect(), &|play| matrix(clauses, play))
 }
 
-/// The value of the formula whose first unknowns have the values of the play.
-fn holds(kinds: &[u8], clauses: &[Vec<i32>], play: &mut Vec<Option<bool>>) -> bool {
+/// The value of a matrix under a prefix whose first unknowns have the values of the play.
+pub fn under(kinds: &[u8], play: &mut Vec<Option<bool>>, matrix: &dyn Fn(&[Option<bool>]) -> bool) -> bool {
     if play.len() == kinds.len() {
-        return matrix(clauses, play);
+        return matrix(play);
     }
     let is_universal = kinds[play.len()] == 1;
     let [low, high] = [false, true].map(|value| {
         play.push(Some(value));
-        let result = holds(kinds, clauses, play);
+        let result = under(kinds, play, matrix);
         play.pop();
         result
     });

@@ -166,17 +166,21 @@ fn shape(line: &[u8]) -> Option<Line> {
     if line.first() == Some(&b'c') {
         return Some(Line::Comment);
     }
-    if line.first() == Some(&b' ') || line.last() == Some(&b' ') {
-        return None;
-    }
-    let tokens: Vec<&[u8]> = line.split(|&byte| byte == b' ').filter(|token| !token.is_empty()).collect();
-    match tokens.as_slice() {
+    match tokens(line)?.as_slice() {
         [b"p", b"cnf", v, c] => Some(Line::Problem(number(v)?, number(c)?)),
         [b"a", names @ .., b"0"] if !names.is_empty() => Some(Line::Prefix(1, each(names, name)?)),
         [b"e", names @ .., b"0"] if !names.is_empty() => Some(Line::Prefix(0, each(names, name)?)),
         [literals @ .., b"0"] => Some(Line::Clause(each(literals, literal)?)),
         _ => None,
     }
+}
+
+/// The tokens of a line with no space at either end.
+pub fn tokens(line: &[u8]) -> Option<Vec<&[u8]>> {
+    if line.first() == Some(&b' ') || line.last() == Some(&b' ') {
+        return None;
+    }
+    Some(line.split(|&byte| byte == b' ').filter(|token| !token.is_empty()).collect())
 }
 
 /// What the tokens are, if each is one.

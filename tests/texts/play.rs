@@ -68,10 +68,10 @@ impl Player {
     /// What is other with the closed text: its tables, its lines; or the answer's verdict is not the meaning of the closed formula.
     fn closed_otherwise(&mut self, written: &Written) -> Option<String> {
         if self.way == Way::Door {
-            return tables::compare(&mut self.random, &written.closed, &Ok(written.read.clone()));
+            return tables::compare(false, &mut self.random, &written.closed, &Ok(written.read.clone())).1;
         }
-        let printed = program::printed(&mut self.random, &written.text);
-        let closed = program::printed(&mut self.random, &written.closed);
+        let printed = program::run(&program::VULZHENN, &mut self.random, &written.text);
+        let closed = program::run(&program::VULZHENN, &mut self.random, &written.closed);
         if printed != closed {
             return Some(format!("printed {:?}, for the closed text {:?}", printed, closed));
         }
@@ -91,13 +91,13 @@ impl Player {
     fn play_read(&mut self, text: &[u8], read: &Result<Read, Refusal>) {
         match self.way {
             Way::Door => {
-                let wrong = tables::compare(&mut self.random, text, read).map(|words| self.described(text, &words));
+                let wrong = tables::compare(false, &mut self.random, text, read).1.map(|words| self.described(text, &words));
                 self.tally.case(wrong);
                 let (work, limit) = (door::work(&mut self.random), door::limit(&mut self.random));
                 self.play_door(text, read, work, limit);
             }
             Way::Program => {
-                let compared = program::compare(&mut self.random, text, read, LOOKS);
+                let compared = program::compare(&program::VULZHENN, &mut self.random, text, read, LOOKS);
                 // The answer or the cause: the first three words.
                 self.count(text, compared.map(|(lines, wrong)| (lines.split_whitespace().take(3).collect::<Vec<_>>().join(" "), wrong)));
             }

@@ -1,5 +1,5 @@
-//! Texts through the C function, linked from its static library, and through the built programs: numbers, printed lines and lent bytes are
-//! compared with 01's rules, and 02's for the season sheet, written apart. Cases are drawn from a seed.
+//! Texts, and witness files about them, through the C functions, linked from their static library, and through the built programs: numbers, printed
+//! lines and lent bytes are compared with 01's rules, and 02's for the witness file and the season sheet, written apart. Cases are drawn from a seed.
 //!
 //! usage: texts [TIMES [SEED]]
 
@@ -9,15 +9,14 @@ mod formulas;
 #[path = "../independent/mod.rs"]
 mod independent;
 mod limits;
+mod judging;
 mod play;
-mod program;
 mod sheets;
-mod tables;
 mod write;
 
 use formulas::Formula;
 use independent::jobs::{self, Job};
-use independent::{answers, draw, formula, lent, meaning, model, random, reader, season, seasons, tally};
+use independent::{answers, draw, formula, lent, meaning, model, program, random, reader, season, seasons, tables, tally};
 use play::{Player, Seen, Way};
 use random::Random;
 use std::collections::BTreeMap;
@@ -187,6 +186,7 @@ fn main() {
     look_for_all(Way::Door, &players, &mut found);
     look_for_all(Way::Program, &players, &mut found);
     sheets::compare_all(seed, times, &mut found);
+    judging::compare_all(seed, times, &mut found);
     let tally = Tally::sum(players.into_iter().map(|player| player.tally).chain([found]).collect());
     tally.end(start)
 }

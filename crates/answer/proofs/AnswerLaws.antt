@@ -2,7 +2,7 @@
 use Prim.Native.Nat.{ℕ, _≤_}
 use native.Mathlib.Omega.{arith}
 use mathlib.Core.Path.{_≡_, refl, sym, ap, subst, _∙_}
-use mathlib.Core.Bool.{true}
+use mathlib.Core.Bool.{Bool, true, false}
 use mathlib.Core.List.{List}
 use lib.Dec.{eqb}
 use lib.IntN.{ℤ}
@@ -14,13 +14,14 @@ use Rattle.rounds.proofs.Bounds.{count-in-room}
 use Rattle.run.specs.declared.Outcome.{Outcome}
 use Rattle.run.specs.Outcome.{number-of, reported, returned}
 use Rattle.run.proofs.OutcomeLaws.{number-named}
-use Rattle.text.specs.Reading.{max-variables, max-bytes, Result, taken, refused, text-read}
-use Rattle.text.proofs.TextLaws.{Results, Passes, read-passes, refused-line}
+use Rattle.text.specs.Reading.{Read, taken, refused, read, read-gates}
+use Rattle.text.proofs.TextLaws.{Results, Passes, read-passes, refused-line, gates-refused-line}
+use Rattle.text.proofs.GatesPass.{GatesResults, gates-pass}
 use Rattle.text.proofs.FrontLaws.{Front}
 use Rattle.report.specs.Report.{result-lines, refusal-line}
 use Rattle.decision.specs.Decision.{handed-on, own-lent}
 use Rattle.decision.proofs.DecisionLaws.{returned-so}
-use Rattle.answer.specs.Printed.{round-limit, settled, result-of, shown, printed}
+use Rattle.answer.specs.Printed.{round-limit, settled, result-of, shown, reading, printed-as}
 
 -- A formula that passes: what the run returns, and the lines of it.
 module _ (kinds : List ℕ) (literals : List ℤ) (passes : checked kinds literals ≡ Accepted (sizes kinds literals)) where
@@ -46,19 +47,30 @@ module _ (kinds : List ℕ) (literals : List ℤ) (passes : checked kinds litera
         ∙ ap (λ (k : ℕ). result-lines k variables clauses (settled kinds literals .round) (length (settled kinds literals .A)) (length (settled kinds literals .S)))
         (number-named (settled kinds literals .answer))
 
-module _ (text : List ℕ) where
+-- What was read of a text of clauses or of gates.
+pub reading-passes : (gates : Bool) (text : List ℕ) (r : Read) → reading gates text ≡ taken r → Passes r
+unfolding read read-gates
+reading-passes false text r e = subst (Results Passes) e (read-passes text 128 8192 128)
+reading-passes true text r e = subst GatesResults e (gates-pass text 128 8192 128) .passes
+
+pub reading-line : (gates : Bool) (text : List ℕ) (n line : ℕ) → reading gates text ≡ refused n line → line ≤ 65538
+unfolding read read-gates
+reading-line false text n line e = refused-line text 128 8192 128 n line e
+reading-line true text n line e = gates-refused-line text 128 8192 128 n line e
+
+module _ (gates : Bool) (text : List ℕ) where
   -- A text that is refused.
-  pub refused-printed : {n line : ℕ} → text-read text ≡ refused n line → refusal-line n line ≡ printed text
-  unfolding printed
+  pub refused-printed : {n line : ℕ} → reading gates text ≡ refused n line → refusal-line n line ≡ printed-as gates text
+  unfolding printed-as
   refused-printed e = ap shown (sym e)
 
-  pub line-small : {n line : ℕ} → text-read text ≡ refused n line → line ≤ 65538
-  line-small {n} {line} e = refused-line text max-unknowns max-entries max-unknowns n line e
+  pub line-small : {n line : ℕ} → reading gates text ≡ refused n line → line ≤ 65538
+  line-small {n} {line} e = reading-line gates text n line e
 
   -- A text that is taken: its formula stands at the front of the tables.
-  module _ {u e v c : ℕ} {kinds : List ℕ} {literals : List ℤ} (f : Front (text-read text) u e v c kinds literals) where
+  module _ {u e v c : ℕ} {kinds : List ℕ} {literals : List ℤ} (f : Front (reading gates text) u e v c kinds literals) where
     passes-so : Passes (f .formula)
-    passes-so = subst (Results Passes) (f .whole) (read-passes text max-unknowns max-entries max-unknowns)
+    passes-so = reading-passes gates text (f .formula) (f .whole)
 
     pub front-passes : checked (take u kinds) (take e literals) ≡ Accepted (sizes (take u kinds) (take e literals))
     front-passes = rw (f .kinds-front, f .literals-front) (passes-so .accepted)
@@ -69,6 +81,6 @@ module _ (text : List ℕ) where
     pub clauses-small : c ≤ max-clauses
     clauses-small = omega (arith, f .clauses-so, passes-so .few-clauses)
 
-    pub taken-printed : result-of (take u kinds) (take e literals) v c ≡ printed text
-    unfolding printed
+    pub taken-printed : result-of (take u kinds) (take e literals) v c ≡ printed-as gates text
+    unfolding printed-as
     taken-printed = rw (f .kinds-front, f .literals-front, f .variables-so, f .clauses-so) (ap shown (sym (f .whole)))

@@ -2,4 +2,5 @@
 pub mod PrintedLaws
 pub mod AnswerLaws
 pub mod AnswerRight
+pub mod GatesAnswerRight
 pub mod Example

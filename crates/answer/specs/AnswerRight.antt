@@ -1,4 +1,4 @@
--- What a printed text says of the text that was read. Assumes nothing.
+-- What printed lines say of the text that was read. Assumes nothing.
 use Prim.Native.Nat.{ℕ, _≤_}
 use Prim.Native.String.{String}
 use mathlib.Core.Path.{_≡_}
@@ -8,7 +8,8 @@ use mathlib.Core.Logic.{_⊎_}
 use lib.ListN.{length, take}
 use Rattle.formula.specs.Meaning.{verdict}
 use Rattle.rounds.specs.Run.{Answer, no-room-universal, no-room-existential, number}
-use Rattle.text.specs.Reading.{Read, taken, refused, text-read}
+use Rattle.named.specs.Names.{In}
+use Rattle.text.specs.Reading.{Read, Result as Reading, taken, refused, text-read, text-causes}
 use Rattle.report.specs.Report.{ascii, result-lines, refusal-line}
 use Rattle.answer.specs.Printed.{settled, printed}
 
@@ -16,37 +17,37 @@ use Rattle.answer.specs.Printed.{settled, printed}
 abbrev pub Begins : List ℕ → String → Type 0
 Begins bytes s = take (length (ascii s)) bytes ≡ ascii s
 
--- The text was refused with number n at this line, and that is what is printed.
-pub record Refusal (text : List ℕ) : Type 0 where
+-- The text was refused with number n, one of these, at this line, and that is what is printed.
+pub record Refusal (numbers : List ℕ) (reading : Reading) (bytes : List ℕ) : Type 0 where
   pub n : ℕ
   pub line : ℕ
-  pub read-so : text-read text ≡ refused n line
-  pub from-9 : 9 ≤ n
-  pub to-14 : n ≤ 14
-  pub not-13 : n ≡ 13 → ⊥
-  pub printed-so : printed text ≡ refusal-line n line
+  pub read-so : reading ≡ refused n line
+  pub known : In n numbers
+  pub printed-so : bytes ≡ refusal-line n line
 
--- The text was taken, and the run of its formula is what is printed, with V and C of the p line.
-pub record Result (text : List ℕ) : Type 0 where
+-- The text was taken, and the run of its formula is what is printed, with V and C that were read.
+pub record Result (reading : Reading) (bytes : List ℕ) : Type 0 where
   pub formula : Read
-  pub read-so : text-read text ≡ taken formula
+  pub read-so : reading ≡ taken formula
   pub printed-so : let o = settled (formula .kinds) (formula .literals) in
-      printed text ≡ result-lines (number (o .answer)) (formula .variables) (formula .clauses) (o .round) (length (o .A)) (length (o .S))
+      bytes ≡ result-lines (number (o .answer)) (formula .variables) (formula .clauses) (o .round) (length (o .A)) (length (o .S))
 
-abbrev pub value : {text : List ℕ} → Result text → Bool
-value r = verdict (r .formula .kinds) (r .formula .literals)
-
-abbrev pub ended : {text : List ℕ} → Result text → Answer
+abbrev pub ended : {reading : Reading} {bytes : List ℕ} → Result reading bytes → Answer
 ended r = settled (r .formula .kinds) (r .formula .literals) .answer
 
-pub record AnswerRight (text : List ℕ) : Type 0 where
+-- The bytes printed of a text that is read so: the numbers are those of its causes, and Means says what it means that what was read is true, or false.
+pub record LinesRight (numbers : List ℕ) (reading : Reading) (Means : Read → Bool → Type 0) (bytes : List ℕ) : Type 0 where
   -- What is printed has one of these beginnings, no two of which agree, and fits 128 bytes.
-  pub one-form : Begins (printed text) "c refused " ⊎ Begins (printed text) "s cnf 1 " ⊎ Begins (printed text) "s cnf 0 " ⊎ Begins (printed text) "s cnf -1 "
-  pub short : length (printed text) ≤ 128
-  -- `c refused N L` exactly for the reader's refusal, N one of 9 to 12 and 14.
-  pub refusal : Begins (printed text) "c refused " → Refusal text
-  -- `s cnf 1 V C` only if the formula's meaning is true, `s cnf 0 V C` only if it is false.
-  pub only-true : Begins (printed text) "s cnf 1 " → (r : Result text) × (value r ≡ true)
-  pub only-false : Begins (printed text) "s cnf 0 " → (r : Result text) × (value r ≡ false)
+  pub one-form : Begins bytes "c refused " ⊎ Begins bytes "s cnf 1 " ⊎ Begins bytes "s cnf 0 " ⊎ Begins bytes "s cnf -1 "
+  pub short : length bytes ≤ 128
+  -- `c refused N L` exactly for the reader's refusal.
+  pub refusal : Begins bytes "c refused " → Refusal numbers reading bytes
+  -- `s cnf 1 V C` only if the meaning is true, `s cnf 0 V C` only if it is false.
+  pub only-true : Begins bytes "s cnf 1 " → (r : Result reading bytes) × Means (r .formula) true
+  pub only-false : Begins bytes "s cnf 0 " → (r : Result reading bytes) × Means (r .formula) false
   -- `s cnf -1 V C` only for want of rows: with 256 rows a side the limit of 1,000 rounds is not reached.
-  pub undecided : Begins (printed text) "s cnf -1 " → (r : Result text) × ((ended r ≡ no-room-universal) ⊎ (ended r ≡ no-room-existential))
+  pub undecided : Begins bytes "s cnf -1 " → (r : Result reading bytes) × ((ended r ≡ no-room-universal) ⊎ (ended r ≡ no-room-existential))
+
+-- Of a text of clauses: N is one of 9 to 12 and 14, and the meaning is the formula's verdict.
+abbrev pub AnswerRight : List ℕ → Type 0
+AnswerRight text = LinesRight text-causes (text-read text) (λ r value. verdict (r .kinds) (r .literals) ≡ value) (printed text)

@@ -1,3 +1,4 @@
--- What the program prints for a text, and what a printed text says.
+-- What the programs print for a text or a gate list, and what the printed lines say.
 pub mod Printed
 pub mod AnswerRight
+pub mod GatesAnswerRight

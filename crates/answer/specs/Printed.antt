@@ -1,11 +1,13 @@
--- 01's program: 'The program reads standard input, lends no preferences, 256 rows a side and limit 1,000.'
+-- 01's program: 'The program reads standard input, lends no preferences, 256 rows a side and limit 1,000.' A gate list has the same lines.
 -- Assumes nothing.
 use Prim.Native.Nat.{ℕ}
+use mathlib.Core.Bool.{Bool}
 use mathlib.Core.List.{List}
 use lib.IntN.{ℤ}
 use lib.ListN.{length}
+use Rattle.formula.specs.Formula.{max-unknowns, max-entries}
 use Rattle.rounds.specs.Run.{Outcome, run, number}
-use Rattle.text.specs.Reading.{Result, taken, refused, text-read}
+use Rattle.text.specs.Reading.{Result, taken, refused, text-read, gates-read, scan, result-of as reading-of}
 use Rattle.report.specs.Report.{result-lines, refusal-line}
 use Rattle.decision.specs.Decision.{own-lent}
 
@@ -30,3 +32,13 @@ shown (taken r) = result-of (r .kinds) (r .literals) (r .variables) (r .clauses)
 
 unfoldable pub printed : List ℕ → List ℕ
 printed text = shown (text-read text)
+
+unfoldable pub gates-printed : List ℕ → List ℕ
+gates-printed text = shown (gates-read text)
+
+-- Both, told by a flag whether the text is a gate list.
+abbrev pub reading : Bool → List ℕ → Result
+reading gates text = reading-of (scan gates text max-unknowns max-entries max-unknowns)
+
+unfoldable pub printed-as : Bool → List ℕ → List ℕ
+printed-as gates text = shown (reading gates text)

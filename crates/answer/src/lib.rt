@@ -1,14 +1,17 @@
-// The program's answer (01, 'Text'): from a text's bytes to the printed ones.
-// `answer` promises, for every text and buffer, the bytes that the definition (specs/Printed.antt) gives, and what they say of the formula.
-// Reading belongs to `text`, the run to `decision`, the lines to `report`; here what one returns is handed to the next.
+// The programs' answers (01, 'Text', and the same for gate lists): from a text's bytes to the printed ones.
+// `answer` and `answer_gates` promise, for every text and buffer, the bytes that the definition (specs/Printed.antt) gives, and what they say of the
+// formula, or of the circuit. Reading belongs to `text`, the run to `decision`, the lines to `report`; here what one returns is handed to the next.
 use formula::Formula;
 use text::Reading;
 ghost use mathlib.Core.Path.{_≡_};
+ghost use lib.ListN.{length};
 ghost use Rattle.formula.specs.Causes.{checked, sizes};
 ghost use Rattle.formula.specs.declared.Check.the-variants.{Accepted};
+ghost use Rattle.text.specs.Reading.{scan, result-of as reading-of, Read-so};
 ghost use Rattle.report.specs.Report.{put, put-count};
-ghost use Rattle.answer.specs.Printed.{result-of, printed};
+ghost use Rattle.answer.specs.Printed.{result-of, printed, gates-printed, printed-as};
 ghost use Rattle.answer.specs.AnswerRight.{AnswerRight};
+ghost use Rattle.answer.specs.GatesAnswerRight.{GatesAnswerRight};
 
 // Room for every answer.
 pub const LONGEST: usize = 128;
@@ -21,10 +24,27 @@ pub fn answer(text: &[u8], out: &mut [u8]) -> usize
     ensures written { λ _. ⌜ now (out .exit) ≡ put (printed (now (text .entry))) (now (out .entry)) ⌝ }
     ensures proved { λ _. ⌜ AnswerRight (now (text .entry)) ⌝ }
 {
+    answer_as(text, false, out)
+}
+
+// The same for a gate list.
+pub fn answer_gates(text: &[u8], out: &mut [u8]) -> usize
+    ensures counted { λ r. ⌜ r ≡ put-count (gates-printed (now (text .entry))) (now (out .entry)) ⌝ }
+    ensures written { λ _. ⌜ now (out .exit) ≡ put (gates-printed (now (text .entry))) (now (out .entry)) ⌝ }
+    ensures proved { λ _. ⌜ GatesAnswerRight (now (text .entry)) ⌝ }
+{
+    answer_as(text, true, out)
+}
+
+// The lines of a text of clauses or of gates.
+fn answer_as(text: &[u8], gates: bool, out: &mut [u8]) -> usize
+    ensures { λ r. ⌜ r ≡ put-count (printed-as gates (now (text .entry))) (now (out .entry)) ⌝ }
+    ensures { λ _. ⌜ now (out .exit) ≡ put (printed-as gates (now (text .entry))) (now (out .entry)) ⌝ }
+{
     let mut kinds = [0u8; Formula::UNKNOWNS];
     let mut literals = [0i32; Formula::ENTRIES];
     let mut names = [0u16; Formula::UNKNOWNS];
-    match text::read(text, &mut kinds, &mut literals, &mut names) {
+    match read(text, gates, &mut kinds, &mut literals, &mut names) {
         Reading::Refused { number, line } => report::refusal(out, number, line as u32),
         Reading::Taken {
             unknowns,
@@ -39,6 +59,22 @@ pub fn answer(text: &[u8], out: &mut [u8]) -> usize
             out,
         ),
     }
+}
+
+// Reads a text of clauses or of gates.
+fn read(
+    text: &[u8],
+    gates: bool,
+    kinds: &mut [u8],
+    literals: &mut [i32],
+    names: &mut [u16],
+) -> Reading
+    ensures { λ r. ⌜ Read-so (reading-of (scan gates (now (text .entry)) (length (now (kinds .entry))) (length (now (literals .entry))) (length (now (names .entry))))) r (now (kinds .entry)) (now (literals .entry)) (now (names .entry)) (now (kinds .exit)) (now (literals .exit)) (now (names .exit)) ⌝ }
+{
+    if gates {
+        return text::read_gates(text, kinds, literals, names);
+    }
+    text::read(text, kinds, literals, names)
 }
 
 // The lines of a formula that is accepted.

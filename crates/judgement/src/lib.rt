@@ -25,8 +25,8 @@ pub enum Finding {
 // Room for every line.
 pub const LONGEST: usize = 64;
 
-// One byte more than a file has that is read: a longer one is then refused, and not cut.
-pub const FILE: usize = 8_205;
+// One byte more than a map and two counts of 16 bits can ask for: a longer file goes on after its fields, wherever it is cut.
+pub const FILE: usize = 2_097_133;
 
 // Puts the finding's line at the start of `out`, if it fits: how many bytes it is. A buffer of `LONGEST` bytes is long enough for all.
 pub fn print(text: &[u8], file: &[u8], out: &mut [u8]) -> usize

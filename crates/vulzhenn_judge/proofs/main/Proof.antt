@@ -1,40 +1,42 @@
--- `main` hands on what fits: `print` says how many bytes of the buffer it wrote. Assumes nothing.
+-- `main` hands on what fits: `print` says how many bytes of the buffer it wrote. No answer is searched for, since a search would write out the two million
+-- zeros of the file's buffer. Assumes nothing.
+use Prim.Native.Nat.{ℕ}
 use mathlib.Core.Path.{sym}
+use lib.ListN.{length-replicate}
 use lib.Seq.{length-take-le}
-use borrow.Author.Needs.{needs}
 use Rattle.report.proofs.Lengths.{within}
 use Rattle.vulzhenn_judge.proofs.main.Statement.{statement}
 use Rattle.vulzhenn_judge.proofs.main.Tie as tie
 
 slice-aggregate-read-full : tie.Need-slice-aggregate-read-full
-slice-aggregate-read-full c = search needs
+slice-aggregate-read-full c = sym (length-replicate {A = ℕ} 65537 0)
 
 read-full-requires : tie.Need-read-full-requires
-read-full-requires c κs = search needs
+read-full-requires c κs = tt
 
 slice-aggregate-read-full-2 : tie.Need-slice-aggregate-read-full-2
-slice-aggregate-read-full-2 c = search needs
+slice-aggregate-read-full-2 c = sym (length-replicate {A = ℕ} 2097133 0)
 
 read-full-requires-2 : tie.Need-read-full-requires-2
-read-full-requires-2 c κs = search needs
+read-full-requires-2 c κs = tt
 
 array-share-prefix-input : tie.Need-array-share-prefix-input
-array-share-prefix-input c = search needs
+array-share-prefix-input c = c .before .before .before .before .read-full .ensures .0
 
 slice-aggregate-print : tie.Need-slice-aggregate-print
-slice-aggregate-print c = search needs
+slice-aggregate-print c = sym (length-take-le _ _ (c .before .before .before .before .before .read-full .ensures .0))
 
 array-share-prefix-file : tie.Need-array-share-prefix-file
-array-share-prefix-file c = search needs
+array-share-prefix-file c = c .before .before .read-full2 .ensures .0
 
 slice-aggregate-print-2 : tie.Need-slice-aggregate-print-2
-slice-aggregate-print-2 c = search needs
+slice-aggregate-print-2 c = sym (length-take-le _ _ (c .before .before .before .read-full2 .ensures .0))
 
 slice-aggregate-print-3 : tie.Need-slice-aggregate-print-3
-slice-aggregate-print-3 c = search needs
+slice-aggregate-print-3 c = sym (length-replicate {A = ℕ} 64 0)
 
 print-requires : tie.Need-print-requires
-print-requires c κs = search needs
+print-requires c κs = tt
 
 array-share-prefix-out : tie.Need-array-share-prefix-out
 array-share-prefix-out c = within _ _ (c .before .print .ensures .0) (c .before .print .ensures .1 .0)
@@ -43,10 +45,10 @@ slice-aggregate-write-all : tie.Need-slice-aggregate-write-all
 slice-aggregate-write-all c = sym (length-take-le _ _ (within _ _ (c .before .before .print .ensures .0) (c .before .before .print .ensures .1 .0)))
 
 write-all-requires : tie.Need-write-all-requires
-write-all-requires c κs = search needs
+write-all-requires c κs = tt
 
 returns : tie.Need-returns
-returns c = search needs
+returns c = tt
 
 pub main-spec : {M : Type 1} → statement M
 main-spec =

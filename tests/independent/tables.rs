@@ -1,26 +1,33 @@
-//! The reader alone, on lent tables: its number, what it reports, every entry of the three tables and the guards around them.
+//! The reader of a text or of a gate list on lent tables: its number, what it reports, every entry of the three tables and the guards around them.
 
-use crate::lent::Lent;
-use crate::random::Random;
-use crate::reader::{Read, Refusal};
+use super::lent::Lent;
+use super::random::Random;
+use super::reader::{Read, Refusal};
 
-extern "C" {
-    fn probe_read_text(
-        text: *const u8,
-        text_length: usize,
-        kinds: *mut u8,
-        kinds_length: usize,
-        literals: *mut i32,
-        literals_length: usize,
-        names: *mut u16,
-        names_length: usize,
-        unknowns: &mut usize,
-        entries: &mut usize,
-        variables: &mut usize,
-        clauses: &mut usize,
-        line: &mut usize,
-    ) -> u64;
+/// Functions of the static library that read a text.
+macro_rules! readers {
+    ($($name:ident)*) => {
+        extern "C" {
+            $(pub fn $name(
+                text: *const u8,
+                text_length: usize,
+                kinds: *mut u8,
+                kinds_length: usize,
+                literals: *mut i32,
+                literals_length: usize,
+                names: *mut u16,
+                names_length: usize,
+                unknowns: &mut usize,
+                entries: &mut usize,
+                variables: &mut usize,
+                clauses: &mut usize,
+                line: &mut usize,
+            ) -> u64;)*
+        }
+    };
 }
+
+readers! { probe_read_text probe_read_gates }
 
 /// The lengths of the tables.
 const SIZES: [usize; 3] = [128, 8_192, 128];
@@ -43,8 +50,8 @@ fn wanted(read: &Result<Read, Refusal>) -> (u64, [usize; 5]) {
     }
 }
 
-/// Calls it and says what is not as wanted, if anything.
-pub fn compare(random: &mut Random, text: &[u8], read: &Result<Read, Refusal>) -> Option<String> {
+/// Calls the reader of gate lists or of texts. Its number, and what is not as wanted, if anything.
+pub fn compare(gates: bool, random: &mut Random, text: &[u8], read: &Result<Read, Refusal>) -> (u64, Option<String>) {
     let sizes = sizes(random);
     let read = if sizes == SIZES { read.clone() } else { Err(Refusal { number: 9, line: 0 }) };
     let mut kinds = random.bytes(sizes[0]);
@@ -54,8 +61,9 @@ pub fn compare(random: &mut Random, text: &[u8], read: &Result<Read, Refusal>) -
     let (mut lent_kinds, mut lent_literals, mut lent_names) = (Lent::new(&kinds), Lent::new(&literals), Lent::new(&names));
     let mut told = [7; 5];
     let [unknowns, entries, variables, clauses, line] = &mut told;
+    let reader = if gates { probe_read_gates } else { probe_read_text };
     let number = unsafe {
-        probe_read_text(
+        reader(
             lent_text.address(),
             lent_text.length(),
             lent_kinds.address_mut(),
@@ -87,9 +95,5 @@ pub fn compare(random: &mut Random, text: &[u8], read: &Result<Read, Refusal>) -
             faults.push(format!("the {} or an entry around them are not as wanted", name));
         }
     }
-    if faults.is_empty() {
-        None
-    } else {
-        Some(faults.join("; "))
-    }
+    (number, if faults.is_empty() { None } else { Some(faults.join("; ")) })
 }

@@ -1,0 +1,38 @@
+-- What the printed lines of a gate list say, for every list. Assumes nothing.
+use Prim.Native.Nat.{ℕ, _≤_}
+use native.Mathlib.Omega.{arith}
+use mathlib.Core.Path.{_≡_, refl, sym, subst, _∙_}
+use mathlib.Core.List.{List}
+use mathlib.Core.Logic.{_⊎_, inl, inr}
+use Rattle.named.specs.Names.{In}
+use Rattle.text.specs.Reading.{gates-read, gates-causes}
+use Rattle.text.proofs.TextLaws.{gates-refused-line}
+use Rattle.text.proofs.GatesPass.{GatesResults, gates-pass}
+use Rattle.text.proofs.GatesRight.{gates-right}
+use Rattle.answer.specs.Printed.{gates-printed}
+use Rattle.answer.specs.GatesAnswerRight.{CircuitIs, GatesAnswerRight}
+use Rattle.answer.proofs.AnswerRight.{lines-right}
+
+gates-small : (n : ℕ) → In n gates-causes → n ≤ 20
+gates-small n (inl e) = omega (arith, e)
+gates-small n (inr (inl e)) = omega (arith, e)
+gates-small n (inr (inr (inl e))) = omega (arith, e)
+gates-small n (inr (inr (inr (inl e)))) = omega (arith, e)
+gates-small n (inr (inr (inr (inr (inl e))))) = omega (arith, e)
+gates-small n (inr (inr (inr (inr (inr (inl e)))))) = omega (arith, e)
+gates-small n (inr (inr (inr (inr (inr (inr (inl e))))))) = omega (arith, e)
+gates-small n (inr (inr (inr (inr (inr (inr (inr i))))))) = absurd i
+
+pub gates-answer-right : (text : List ℕ) → GatesAnswerRight text
+unfolding gates-printed
+gates-answer-right text =
+    record {
+      lines =
+          lines-right gates-causes (gates-read text) (λ _ value. CircuitIs text value) (gates-printed text) refl
+          (λ n line e.
+          let known : In n gates-causes = subst GatesResults e (gates-pass text 128 8192 128) in
+          (known, gates-small n known, gates-refused-line text 128 8192 128 n line e))
+          (λ s e. subst GatesResults e (gates-pass text 128 8192 128) .passes)
+          (λ s e value v g. sym (gates-right text s e g) ∙ v);
+      made = λ s e. subst GatesResults e (gates-pass text 128 8192 128) .counted;
+    }

@@ -1,0 +1,2 @@
+-- That the program takes in enough of a file.
+pub mod Cut
