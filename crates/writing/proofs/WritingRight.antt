@@ -135,7 +135,7 @@ module _ (kinds : List ℕ) (literals : List ℤ) (names : List ℕ) (variables 
   unfolding written
   bytes = append-assoc (p-line variables (zeros literals)) (prefix-lines kinds names) (clause-lines names literals) ∙ p-bytes variables (zeros literals) (w .few-variables) (fine .few-clauses) (prefix-lines kinds names ++ clause-lines names literals)
 
-  short : length (written kinds literals names variables) ≤ 58676
+  short : length (written kinds literals names variables) ≤ 58651
   unfolding written
   short =
       let small = range-small variables names few (w .in-range) in

@@ -1,4 +1,4 @@
--- The text that is written of a formula is read as that formula, for all that can be read of a text; and it fits 58,676 bytes. Assumes nothing.
+-- The text that is written of a formula is read as that formula, for all that can be read of a text; and it fits 58,651 bytes. Assumes nothing.
 use Prim.Native.Nat.{ℕ, _≤_}
 use mathlib.Core.Path.{_≡_}
 use mathlib.Core.List.{List, [], _∷_}
@@ -29,7 +29,7 @@ again kinds literals names variables = record { kinds = kinds; names = names; li
 
 pub record WritingRight (kinds : List ℕ) (literals : List ℤ) (names : List ℕ) (variables : ℕ) : Type 0 where
   pub read-again : Writable kinds literals names variables → text-read (written kinds literals names variables) ≡ taken (again kinds literals names variables)
-  pub short : Writable kinds literals names variables → length (written kinds literals names variables) ≤ 58676
+  pub short : Writable kinds literals names variables → length (written kinds literals names variables) ≤ 58651
 
 -- Whatever is read of a text has one.
 abbrev pub ReadWritable : Bytes → Type 0
