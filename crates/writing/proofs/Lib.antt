@@ -1,4 +1,6 @@
--- Numbers, then words and lines, as they are written and read again; then the reading of a written text; the names that are read of any text.
+-- A text written by hand. Numbers, words and lines, as they are written and read again; the reading of a written text; the names that are read of
+-- any text.
+pub mod ByHand
 pub mod DigitLaws
 pub mod LineLaws
 pub mod Lengths
