@@ -2,10 +2,9 @@
 use Prim.Native.Nat.{ℕ, _≤_}
 use native.Mathlib.Omega.{arith}
 use mathlib.Core.Path.{_≡_, refl, sym, ap, subst, _∙_}
-use mathlib.Core.Bool.{cond, true}
 use mathlib.Core.List.{List, [], _++_}
 use borrow.Author.Tests.{eq-eqb, le-ltb}
-use lib.Dec.{eqb, leb·zero}
+use lib.Dec.{leb·zero}
 use lib.IntN.{ℤ}
 use lib.ListN.{length, take, drop, length-append}
 use lib.Seq.{take-at}
@@ -77,8 +76,7 @@ module _ (kinds : List ℕ) (literals left : List ℤ) (fine : number (checked k
     pub trimmed-entries : (n : ℕ) → r ≡ Entries n → (n ≤ length after) × (take n after ≡ trimmed kinds literals)
     trimmed-entries n e =
         let many : n ≡ length (trimmed kinds literals) = cc entries-so in
-        let whole = leaves ∙ left-so in
-        (
+        let whole = leaves ∙ left-so in (
           omega (arith, ap length whole, length-append (trimmed kinds literals) (drop (length (trimmed kinds literals)) left)),
           ap (take n) whole ∙ take-at (trimmed kinds literals) (drop (length (trimmed kinds literals)) left) n (sym many),
         )

@@ -1,5 +1,5 @@
 -- The trimmed text is read as the trimmed formula, and trimming twice is trimming once. Assumes nothing.
-use Prim.Native.Nat.{ℕ, _≤_, _<_}
+use Prim.Native.Nat.{ℕ, _≤_}
 use native.Mathlib.Omega.{arith}
 use mathlib.Core.Path.{_≡_, refl, sym, ap, subst, _∙_}
 use mathlib.Core.List.{List, []}
@@ -9,7 +9,7 @@ use Rattle.lines.specs.Lines.{Bytes, lines}
 use Rattle.report.specs.Report.{refusal-line}
 use Rattle.report.proofs.Lengths.{refusal-most}
 use Rattle.text.specs.Reading.{scan, Read, Result, taken, refused, read, text-read}
-use Rattle.text.proofs.TextLaws.{OfText, Results, Passes, read-passes, refused-line}
+use Rattle.text.proofs.TextLaws.{Results, Passes, read-passes, refused-line}
 use Rattle.trimming_rules.specs.Trimming.{trimmed}
 use Rattle.trimming_rules.specs.Proved.{Proved}
 use Rattle.trimming_rules.proofs.Carried.{proved}
@@ -17,7 +17,7 @@ use Rattle.writing.specs.Writing.{written}
 use Rattle.writing.specs.WritingRight.{Writable, again}
 use Rattle.writing.proofs.WritingRight.{accepted-so, writing-right, read-writable}
 use Rattle.trimmed_text.specs.TrimmedText.{text-of, lines-of, trimmed-text, said}
-use Rattle.trimmed_text.specs.TrimmedTextRight.{Trimmed, Refusal, TrimmedTextRight}
+use Rattle.trimmed_text.specs.TrimmedTextRight.{Trimmed, TrimmedTextRight}
 
 module _ (kinds : List ℕ) (literals : List ℤ) (names : List ℕ) (variables : ℕ) (w : Writable kinds literals names variables) where
   pub holds : Proved kinds literals

@@ -1,8 +1,7 @@
 -- The trimmed formula of a text, written as a text with the kinds, names and V that were read; a text that is refused has none, and 01's refusal
 -- line is said. Assumes nothing.
-use Prim.Native.Nat.{ℕ}
 use mathlib.Core.Path.{_≡_}
-use mathlib.Core.List.{List, []}
+use mathlib.Core.List.{[]}
 use Rattle.lines.specs.Lines.{Bytes}
 use Rattle.report.specs.Report.{refusal-line, put, put-count}
 use Rattle.text.specs.Reading.{Result, taken, refused, text-read}

@@ -1,7 +1,7 @@
 -- The trimmed text is read as the trimmed formula, with the same kinds, names and V, and has the same verdict. Assumes nothing.
 use Prim.Native.Nat.{ℕ, _≤_}
 use mathlib.Core.Path.{_≡_}
-use mathlib.Core.List.{List, []}
+use mathlib.Core.List.{[]}
 use lib.ListN.{length}
 use Rattle.formula.specs.Meaning.{verdict}
 use Rattle.lines.specs.Lines.{Bytes}

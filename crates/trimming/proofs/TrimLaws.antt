@@ -1,15 +1,14 @@
 -- From the lent literals to what is left of them: the table as it is filled, and the table at the end.
 -- Assumes nothing.
-use Prim.Native.Nat.{ℕ, zero, suc, _+_, _%_, _≤_, _<_}
+use Prim.Native.Nat.{ℕ, suc, _+_, _%_, _≤_, _<_}
 use native.Mathlib.Omega.{arith}
-use native.Mathlib.Numerals.{sub-one}
 use mathlib.Core.Path.{_≡_, refl, sym, _∙_, ap, ap₂}
-use mathlib.Core.Bool.{Bool, true, cond, false≢true}
+use mathlib.Core.Bool.{Bool, true, cond}
 use mathlib.Core.List.{List, [], _∷_, _++_, map, append-nil, append-assoc}
 use borrow.Author.Tests.{lt-ltb}
 use lib.IntN.{ℤ, pos, negsuc, natAbs}
 use lib.ListN.{length, getD, drop, length-map, drop-of-length-le}
-use Rattle.formula.specs.Formula.{prefix, Clause, onto, clauses}
+use Rattle.formula.specs.Formula.{prefix, Clause, clauses}
 use Rattle.formula.specs.Causes.{is-zero, ended}
 use Rattle.formula.proofs.Accepted.{Accepted}
 use Rattle.codes.specs.Codes.{code-of, entry-by-entry}

@@ -1,13 +1,13 @@
 -- The whole text: that it fits, and what is written of what can be lent. Assumes nothing.
-use Prim.Native.Nat.{ℕ, _+_, _*_, _≤_, _<_}
+use Prim.Native.Nat.{ℕ, _+_, _≤_, _<_}
 use native.Mathlib.Omega.{arith}
-use mathlib.Core.Path.{_≡_, refl, sym, ap, ap₂, _∙_}
-use mathlib.Core.Bool.{Bool, true, false, cond, _&&_}
-use mathlib.Core.List.{List, [], _∷_, _++_}
+use mathlib.Core.Path.{_≡_, refl, sym, ap, _∙_}
+use mathlib.Core.Bool.{Bool, true, false, _&&_, and-false}
+use mathlib.Core.List.{List, []}
 use borrow.Author.Tests.{eq-eqb, ne-eqb}
-use lib.Dec.{eqb, leb, leb·zero}
+use lib.Dec.{eqb, leb·zero}
 use lib.IntN.{ℤ}
-use lib.ListN.{length, take, drop}
+use lib.ListN.{length, take}
 use Rattle.formula.specs.Causes.{zeros, checked, number, cause-1, cause-2, cause-3, sizes, refused-if}
 use Rattle.formula.specs.declared.Check.{Check}
 use Rattle.formula.specs.declared.Check.the-variants.{Accepted as Passed, Refused}
@@ -15,7 +15,7 @@ use Rattle.formula.specs.declared.Formula.{Formula}
 use Rattle.formula.proofs.Accepted.{Accepted, accepted-sizes}
 use Rattle.buffer.specs.Buffer.{appended, place-behind}
 use Rattle.lines.specs.Lines.{Bytes}
-use Rattle.report.specs.Report.{decimal, put, put-count}
+use Rattle.report.specs.Report.{put, put-count}
 use Rattle.report.proofs.Lengths.{decimal-short}
 use Rattle.writing.specs.Writing.{p-line, prefix-lines, clause-lines, written}
 use Rattle.writing.specs.WritingRight.{WritingRight}
@@ -44,10 +44,6 @@ refused-not-zero true b c f n e = let same : 1 ≡ n = cc in ne-eqb n 0 (λ z. o
 refused-not-zero false true c f n e = let same : 2 ≡ n = cc in ne-eqb n 0 (λ z. omega arith)
 refused-not-zero false false true f n e = let same : 3 ≡ n = cc in ne-eqb n 0 (λ z. omega arith)
 refused-not-zero false false false f n e = absurd (let z : _≡_ {A = ℕ} 0 1 = cc in omega arith)
-
-and-false : (a : Bool) → (a && false) ≡ false
-and-false true = refl
-and-false false = refl
 
 module _ (kinds : List ℕ) (literals : List ℤ) (names : List ℕ) (variables : ℕ) where
   pub no-names : (length names ≡ length kinds → ⊥) → output kinds literals names variables ≡ []
@@ -81,8 +77,7 @@ module _ (kinds : List ℕ) (literals : List ℤ) (names : List ℕ) (variables 
   unfolding put put-count appended place-behind
   wrote out {end} {r} {text} {before} {after} e p counted placed =
       let whole : take end text ≡ output kinds literals names variables = p .stands ∙ sym e in
-      let from-zero : 0 + length (output kinds literals names variables) ≡ length (output kinds literals names variables) = omega arith in
-      (
+      let from-zero : 0 + length (output kinds literals names variables) ≡ length (output kinds literals names variables) = omega arith in (
         counted ∙ rw (whole, from-zero) refl,
         (placed ∙ rw (whole, from-zero) refl, writing-right kinds literals names variables),
       )

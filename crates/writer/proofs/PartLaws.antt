@@ -2,7 +2,7 @@
 use Prim.Native.Nat.{ℕ, zero, suc, _+_, _-_, _≤_, _<_}
 use native.Mathlib.Numerals.{sub-one}
 use native.Mathlib.Omega.{arith}
-use mathlib.Core.Path.{_≡_, refl, ap, _∙_}
+use mathlib.Core.Path.{_≡_, refl, ap}
 use mathlib.Core.Bool.{Bool, true, false}
 use mathlib.Core.List.{List, [], _∷_, _++_, append-assoc}
 use borrow.Author.Tests.{eq-eqb, ne-eqb}
@@ -10,7 +10,6 @@ use lib.IntN.{ℤ, pos, negsuc, natAbs}
 use lib.ListN.{length, getD, drop, length-append, drop-of-length-le}
 use Rattle.formula.specs.Literal.{negative, magnitude-at, negative-at}
 use Rattle.formula.proofs.Places.{drop-front}
-use Rattle.lines.specs.Lines.{Bytes}
 use Rattle.named.specs.Named.{signed}
 use Rattle.report.specs.Report.{ascii, decimal}
 use Rattle.writing.specs.Writing.{p-line, letter, unknown, blocks, prefix-lines, clause-lines}
@@ -21,9 +20,13 @@ use Rattle.writer.specs.Steps.{entry}
 pub p-line-length : (variables clauses : ℕ) → length (p-line variables clauses) ≡ 6 + (length (decimal variables) + (1 + (length (decimal clauses) + 1)))
 unfolding p-line
 p-line-length variables clauses =
-    omega (arith, length-append (ascii "p cnf " ++ decimal variables ++ ascii " " ++ decimal clauses) (ascii "\n"),
-        length-append (ascii "p cnf " ++ decimal variables ++ ascii " ") (decimal clauses), length-append (ascii "p cnf " ++ decimal variables) (ascii " "),
-        length-append (ascii "p cnf ") (decimal variables))
+    omega (
+      arith,
+      length-append (ascii "p cnf " ++ decimal variables ++ ascii " " ++ decimal clauses) (ascii "\n"),
+      length-append (ascii "p cnf " ++ decimal variables ++ ascii " ") (decimal clauses),
+      length-append (ascii "p cnf " ++ decimal variables) (ascii " "),
+      length-append (ascii "p cnf ") (decimal variables),
+    )
 
 -- ---- the prefix
 

@@ -20,13 +20,7 @@ ghost use Rattle.writer.specs.Steps.{Put, entry, Known};
 pub const LONGEST: usize = 27 + 10 * Formula::UNKNOWNS + 7 * Formula::ENTRIES;
 
 // Puts the text at the start of `out`, if it fits: how many bytes it is. A formula that is refused, or has not one name for each unknown, has none.
-pub fn write(
-    kinds: &[u8],
-    literals: &[i32],
-    names: &[u16],
-    variables: u32,
-    out: &mut [u8],
-) -> usize
+pub fn write(kinds: &[u8], literals: &[i32], names: &[u16], variables: u32, out: &mut [u8]) -> usize
     ensures counted { λ r. ⌜ r ≡ put-count (output (now (kinds .entry)) (now (literals .entry)) (now (names .entry)) variables) (now (out .entry)) ⌝ }
     ensures written { λ _. ⌜ now (out .exit) ≡ put (output (now (kinds .entry)) (now (literals .entry)) (now (names .entry)) variables) (now (out .entry)) ⌝ }
     ensures proved { λ _. ⌜ WritingRight (now (kinds .entry)) (now (literals .entry)) (now (names .entry)) variables ⌝ }
@@ -38,14 +32,7 @@ pub fn write(
         Check::Refused(_) => 0,
         Check::Accepted(sizes) => {
             let mut text = [0u8; LONGEST];
-            let end = fill(
-                kinds,
-                literals,
-                names,
-                variables,
-                sizes.clauses,
-                &mut text,
-            );
+            let end = fill(kinds, literals, names, variables, sizes.clauses, &mut text);
             buffer::append(out, 0, &text[..end])
         }
     }

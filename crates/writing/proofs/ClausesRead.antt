@@ -3,29 +3,29 @@ use Prim.Native.Nat.{ℕ, zero, suc, _+_, _≤_, _<_}
 use native.Mathlib.Nat.{add-zero}
 use native.Mathlib.Omega.{arith}
 use mathlib.Core.Path.{_≡_, refl, sym, ap, subst, _∙_}
-use mathlib.Core.Bool.{Bool, true, false, cond, _&&_, _||_}
+use mathlib.Core.Bool.{Bool, true, false, _&&_, _||_, and-false}
 use mathlib.Core.List.{List, [], _∷_, _++_, map, append-nil, append-assoc}
 use mathlib.Core.Logic.{inl, inr}
 use borrow.Author.Tests.{leb-true, le-ltb, lt-ltb, ne-eqb, eq-eqb}
-use lib.Dec.{leb, ltb, eqb}
+use lib.Dec.{leb, eqb}
 use lib.IntN.{ℤ, pos, negsuc, natAbs}
-use lib.ListN.{length, getD, drop, length-append}
+use lib.ListN.{length, getD, length-append}
 use Rattle.named.proofs.CauseLaws.{length-map}
-use Rattle.formula.specs.Formula.{Clause, max-entries, max-unknowns}
+use Rattle.formula.specs.Formula.{Clause, max-entries}
 use Rattle.lines.specs.Lines.{Bytes, same, lines, words}
 use Rattle.lines.specs.Numbers.{is-digit, all-digits, number-shape, number-within, number, is-zero, negative, unsigned, is-literal}
-use Rattle.lines.specs.Shapes.{is-trimmed, closed-by-zero, is-prefix, is-led, is-clause, leads, a-word, e-word}
-use Rattle.named.specs.Named.{among, signed, place-from, position, placed}
+use Rattle.lines.specs.Shapes.{is-trimmed, closed-by-zero, is-prefix, is-led, is-clause, leads}
+use Rattle.named.specs.Named.{signed, place-from, position, placed}
 use Rattle.named.specs.Names.{In, Distinct}
 use Rattle.named.proofs.NameLaws.{in-among}
-use Rattle.report.specs.Report.{ascii, decimal}
-use Rattle.text.specs.Reading.{State, Step, went, room-cause, has-place, literal-cause, entry, free-with, add-entries, clause-read, clause-line, body-line, clause-list}
+use Rattle.report.specs.Report.{decimal}
+use Rattle.text.specs.Reading.{State, went, literal-cause, entry, free-with, add-entries, clause-read, clause-line, body-line}
 use Rattle.text.proofs.KeptLaws.{and-both}
 use Rattle.text.proofs.BodyLaws.{body-item}
 use Rattle.trimming_rules.specs.Trimming.{entries}
 use Rattle.trimming_rules.proofs.ClauseLaws.{Named, Every}
 use Rattle.trimming_rules.proofs.RuleLaws.{Within}
-use Rattle.writing.specs.Writing.{literal-word, word-end, clause-lines}
+use Rattle.writing.specs.Writing.{literal-word, clause-lines}
 use Rattle.writing.specs.WritingRight.{Range}
 use Rattle.writing.proofs.DigitLaws.{and-so, decimal-digits, decimal-front, number-decimal, zero-word}
 use Rattle.writing.proofs.LineLaws.{Word, Words, decimal-word, zero-is-word, line-of, words-line, line-no-end, line-trimmed}
@@ -120,10 +120,6 @@ literal-read variables names w minus v short good some low sign rest from to the
       none-free = rw (some, value, among-them) refl;
       entry-so = rw (some, sign, value) refl;
     }
-
-and-false : (a : Bool) → (a && false) ≡ false
-and-false true = refl
-and-false false = refl
 
 minus-not-zero : (w : Bytes) → is-zero (45 ∷ w) ≡ false
 unfolding number-within number-shape
@@ -240,7 +236,7 @@ module _ (variables : ℕ) (names : List ℕ) (few : variables < 100000) (ranged
       let E₂ = E ++ map (named names) (c ++ (pos 0 ∷ [])) in
       let longer : length E₂ ≡ length E + (length c + 1) = length-append E (map (named names) (c ++ (pos 0 ∷ []))) ∙ ap (λ (n : ℕ). length E + n) (length-map (named names) (c ++ (pos 0 ∷ [])) ∙ length-append c (pos 0 ∷ [])) in
       let last : E₂ ++ map (named names) (entries cs) ≡ E ++ map (named names) (entries (c ∷ cs)) =
-          append-assoc E (map (named names) (c ++ (pos 0 ∷ []))) (map (named names) (entries cs)) ∙ ap (λ (l : List ℤ). E ++ l) (sym (map-clause (named names) c (entries cs))) in
+      append-assoc E (map (named names) (c ++ (pos 0 ∷ []))) (map (named names) (entries cs)) ∙ ap (λ (l : List ℤ). E ++ l) (sym (map-clause (named names) c (entries cs))) in
       let end : List ℤ → State = λ F. at variables clauses kinds names F clauses in
       subst (λ (x : Bytes). Reads (at variables clauses kinds names E done) x (end (E ++ map (named names) (entries (c ∷ cs))))) (sym (clause-bytes c (entries cs) (h .0)))
       (one-line (at variables clauses kinds names E done) (at variables clauses kinds names E₂ (suc done)) (end (E ++ map (named names) (entries (c ∷ cs)))) (line-of (map (literal-word names) c) zero-word) (clause-lines names (entries cs))

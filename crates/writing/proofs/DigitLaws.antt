@@ -3,13 +3,13 @@ use Prim.Native.Nat.{ℕ, zero, suc, _+_, _-_, _*_, _/_, _%_, _^_, _≤_, _<_}
 use native.Mathlib.Nat.{pow-suc}
 use native.Mathlib.Omega.{arith}
 use mathlib.Core.Path.{_≡_, refl, _∙_}
-use mathlib.Core.Bool.{Bool, true, false, cond, not, _&&_, _||_, true≢false, false≢true}
-use mathlib.Core.List.{List, [], _∷_, _++_}
-use borrow.Author.Tests.{ltb-true, ltb-false, leb-true, le-leb, lt-ltb, ne-eqb}
+use mathlib.Core.Bool.{Bool, true, false, cond, not, _&&_, _||_}
+use mathlib.Core.List.{[], _∷_, _++_}
+use borrow.Author.Tests.{ltb-true, ltb-false, le-leb, ne-eqb}
 use lib.Dec.{leb, ltb, eqb}
 use lib.ListN.{length, getD, length-append, List·getD-append}
 use Rattle.lines.specs.Lines.{Bytes}
-use Rattle.lines.specs.Numbers.{is-digit, all-digits, number-shape, value, number-within, no-number, number, is-zero, is-name, negative, unsigned}
+use Rattle.lines.specs.Numbers.{is-digit, all-digits, number-shape, value, number-within, number}
 use Rattle.report.specs.Report.{decimal, decimal-within}
 use Rattle.report.proofs.Lengths.{digits-most}
 use Rattle.text.proofs.KeptLaws.{and-both}
@@ -113,9 +113,9 @@ pub number-decimal : (n : ℕ) → n < 100000 → number (decimal n) ≡ n
 unfolding number-within number-shape
 number-decimal n small =
     rw (and-so (leb 1 (length (decimal n)) && leb (length (decimal n)) 5 && (eqb (length (decimal n)) 1 || not (eqb (getD (decimal n) 0 0) 48))) (all-digits (decimal n))
-        (and-so (leb 1 (length (decimal n)) && leb (length (decimal n)) 5) (eqb (length (decimal n)) 1 || not (eqb (getD (decimal n) 0 0) 48))
-        (and-so (leb 1 (length (decimal n))) (leb (length (decimal n)) 5) (le-leb 1 (length (decimal n)) (decimal-some n small)) (le-leb (length (decimal n)) 5 (decimal-most n small)))
-        (no-leading-zero n small)) (decimal-digits n small)) (decimal-value n small)
+    (and-so (leb 1 (length (decimal n)) && leb (length (decimal n)) 5) (eqb (length (decimal n)) 1 || not (eqb (getD (decimal n) 0 0) 48))
+    (and-so (leb 1 (length (decimal n))) (leb (length (decimal n)) 5) (le-leb 1 (length (decimal n)) (decimal-some n small)) (le-leb (length (decimal n)) 5 (decimal-most n small)))
+    (no-leading-zero n small)) (decimal-digits n small)) (decimal-value n small)
 
 -- The word `0`.
 abbrev pub zero-word : Bytes

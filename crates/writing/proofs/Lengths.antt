@@ -1,14 +1,13 @@
 -- How long a written text is at most. Assumes nothing.
 use Prim.Native.Nat.{ℕ, zero, suc, _+_, _*_, _≤_, _<_}
 use native.Mathlib.Omega.{arith}
-use mathlib.Core.Path.{_≡_, refl}
 use mathlib.Core.Bool.{Bool, true, false, cond}
 use mathlib.Core.List.{List, [], _∷_, _++_}
 use lib.Dec.{eqb}
 use lib.IntN.{ℤ, pos, negsuc}
 use lib.ListN.{length, getD, length-append}
 use Rattle.report.specs.Report.{ascii, decimal}
-use Rattle.writing.specs.Writing.{p-line, letter, block-change, unknown, blocks, prefix-lines, literal-word, word-end, clause-lines}
+use Rattle.writing.specs.Writing.{p-line, letter, unknown, blocks, prefix-lines, literal-word, word-end, clause-lines}
 use Rattle.writing.proofs.DigitLaws.{decimal-most}
 
 -- Every name has at most five digits.
@@ -52,6 +51,12 @@ clauses-most names (z ∷ zs) small =
 pub p-line-most : (variables clauses : ℕ) → variables < 100000 → clauses < 100000 → length (p-line variables clauses) ≤ 18
 unfolding p-line
 p-line-most variables clauses a b =
-    omega (arith, length-append (ascii "p cnf " ++ decimal variables ++ ascii " " ++ decimal clauses) (ascii "\n"),
-        length-append (ascii "p cnf " ++ decimal variables ++ ascii " ") (decimal clauses), length-append (ascii "p cnf " ++ decimal variables) (ascii " "),
-        length-append (ascii "p cnf ") (decimal variables), decimal-most variables a, decimal-most clauses b)
+    omega (
+      arith,
+      length-append (ascii "p cnf " ++ decimal variables ++ ascii " " ++ decimal clauses) (ascii "\n"),
+      length-append (ascii "p cnf " ++ decimal variables ++ ascii " ") (decimal clauses),
+      length-append (ascii "p cnf " ++ decimal variables) (ascii " "),
+      length-append (ascii "p cnf ") (decimal variables),
+      decimal-most variables a,
+      decimal-most clauses b,
+    )

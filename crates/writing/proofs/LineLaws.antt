@@ -1,9 +1,9 @@
 -- Words parted by single spaces, and lines: what the reader's definitions make of them. Assumes nothing.
-use Prim.Native.Nat.{ℕ, zero, suc, _+_, _-_, _≤_, _<_}
+use Prim.Native.Nat.{ℕ, zero, suc, _+_, _-_, _<_}
 use native.Mathlib.Omega.{arith}
-use mathlib.Core.Path.{_≡_, refl, sym, ap, _∙_}
-use mathlib.Core.Bool.{Bool, true, false, not, _&&_, true≢false}
-use mathlib.Core.List.{List, [], _∷_, _++_, append-assoc}
+use mathlib.Core.Path.{_≡_, refl, ap, _∙_}
+use mathlib.Core.Bool.{Bool, true, false, true≢false}
+use mathlib.Core.List.{List, [], _∷_, _++_}
 use borrow.Author.Tests.{leb-true, eq-eqb, ne-eqb}
 use lib.Dec.{leb, eqb}
 use lib.ListN.{length, getD, length-append}
@@ -14,7 +14,7 @@ use Rattle.lines.specs.Shapes.{is-trimmed}
 use Rattle.lines.proofs.Pieces.{pieces-first}
 use Rattle.report.specs.Report.{decimal}
 use Rattle.text.proofs.KeptLaws.{and-both}
-use Rattle.writing.proofs.DigitLaws.{and-so, decimal-some, decimal-digits, zero-word}
+use Rattle.writing.proofs.DigitLaws.{decimal-some, decimal-digits, zero-word}
 
 -- The byte b is none of these.
 abbrev pub No : ℕ → Bytes → Type 0
@@ -125,7 +125,7 @@ line-back : (ws : List Bytes) (last : Bytes) → Word last → eqb (getD (line-o
 line-back [] last l = no-at 32 last (length last - 1) (let some = l .some in omega arith) (l .no-space)
 line-back (w ∷ ws) last l =
     let same : getD (w ++ (32 ∷ line-of ws last)) (length (w ++ (32 ∷ line-of ws last)) - 1) 0 ≡ getD (line-of ws last) (length (line-of ws last) - 1) 0 =
-        last-byte w (32 ∷ line-of ws last) (omega arith) ∙ last-byte (32 ∷ []) (line-of ws last) (line-some ws last l) in
+    last-byte w (32 ∷ line-of ws last) (omega arith) ∙ last-byte (32 ∷ []) (line-of ws last) (line-some ws last l) in
     rw same (line-back ws last l)
 
 pub line-trimmed : (ws : List Bytes) (last : Bytes) → Words ws → Word last → is-trimmed (line-of ws last) ≡ true

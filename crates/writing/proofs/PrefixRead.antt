@@ -2,24 +2,24 @@
 use Prim.Native.Nat.{ℕ, zero, suc, _+_, _≤_, _<_}
 use native.Mathlib.Omega.{arith}
 use mathlib.Core.Path.{_≡_, refl, sym, ap, ap₂, subst, _∙_}
-use mathlib.Core.Bool.{Bool, true, false, cond, _&&_, true≢false}
+use mathlib.Core.Bool.{Bool, true, false}
 use mathlib.Core.List.{List, [], _∷_, _++_, map, append-nil, append-assoc}
 use borrow.Author.Tests.{le-ltb, lt-ltb, ne-eqb, eq-eqb, eqb-true}
-use lib.Dec.{ltb, eqb}
+use lib.Dec.{eqb}
 use lib.IntN.{ℤ}
 use lib.ListN.{length, replicate, getD, length-append, length-replicate}
 use lib.Seq.{getD-append-add}
 use Rattle.formula.specs.Formula.{max-unknowns}
 use Rattle.lines.specs.Lines.{Bytes, words}
-use Rattle.lines.specs.Numbers.{number, is-zero, is-name}
+use Rattle.lines.specs.Numbers.{is-name}
 use Rattle.lines.specs.Shapes.{is-trimmed, leads, good-word, closed-by-zero, is-led, is-prefix, a-word, e-word}
 use Rattle.named.specs.Named.{among}
 use Rattle.named.specs.Names.{In, Distinct}
 use Rattle.named.proofs.NameLaws.{among-in, distinct-front, distinct-last}
-use Rattle.report.specs.Report.{ascii, decimal}
-use Rattle.text.specs.Reading.{State, Step, went, unless, name-cause, bind-all, kind-of-word, prefix-line, body-line, clause-list}
+use Rattle.report.specs.Report.{decimal}
+use Rattle.text.specs.Reading.{State, went, name-cause, bind-all, kind-of-word, prefix-line, body-line}
 use Rattle.text.proofs.BodyLaws.{body-prefix}
-use Rattle.writing.specs.Writing.{letter, unknown, blocks, prefix-lines}
+use Rattle.writing.specs.Writing.{letter, blocks, prefix-lines}
 use Rattle.writing.specs.WritingRight.{Range}
 use Rattle.writing.proofs.DigitLaws.{and-so, number-decimal, zero-word}
 use Rattle.writing.proofs.LineLaws.{Word, Words, line-of, words-line, line-no-end, line-trimmed, zero-is-word}
@@ -166,7 +166,7 @@ module _ (variables clauses : ℕ) (few : variables < 100000) where
       let ranged = subst (Range variables) same-names r in
       let apart = subst Distinct all-names d in
       let bytes : prefix-lines (k ∷ ks) (v ∷ vs) ++ more ≡ line-of (kind-word k ∷ map decimal own) zero-word ++ (10 ∷ (prefix-lines (b .kinds) (b .names) ++ more)) =
-          rw (eq-eqb k k refl, b .bytes-so, letter-line k) (simp append-assoc) in
+      rw (eq-eqb k k refl, b .bytes-so, letter-line k) (simp append-assoc) in
       let kinds-many = ap length same-kinds ∙ length-append (replicate (length own) k) (b .kinds) in
       let names-many = ap length same-names ∙ length-append own (b .names) in
       let block-many = length-replicate (length own) k in

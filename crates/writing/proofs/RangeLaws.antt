@@ -1,20 +1,18 @@
 -- Every name that is read of a text is one of 1 to V. Assumes nothing.
-use Prim.Native.Nat.{ℕ, zero, suc, _≤_, _<_, min, max}
+use Prim.Native.Nat.{ℕ, zero, suc, _≤_, max}
 use native.Mathlib.Omega.{arith}
-use mathlib.Core.Path.{_≡_, refl, sym, subst, _∙_}
-use mathlib.Core.Bool.{Bool, true, false, cond, _&&_, _||_, true≢false, false≢true}
+use mathlib.Core.Path.{_≡_, refl, subst}
+use mathlib.Core.Bool.{Bool, true, false, cond, _&&_, _||_, false≢true}
 use mathlib.Core.List.{List, [], _∷_, _++_, append-assoc}
-use borrow.Author.Tests.{leb-true, eqb-true, eqb-false}
+use borrow.Author.Tests.{leb-true, eqb-false}
 use lib.Dec.{leb, ltb, eqb}
 use lib.ListN.{length}
-use Rattle.formula.specs.Formula.{max-unknowns, max-entries}
-use Rattle.formula.proofs.Any.{or-none}
-use Rattle.lines.specs.Lines.{Bytes, Line, ended, unended, lines, words, first, rest}
+use Rattle.lines.specs.Lines.{Bytes, Line, ended, unended, words, first, rest}
 use Rattle.lines.specs.Numbers.{number, unsigned, no-number, is-zero, is-literal}
 use Rattle.lines.specs.Shapes.{is-prefix, is-clause, is-trimmed, is-empty, closed-by-zero}
 use Rattle.named.specs.Named.{among}
 use Rattle.named.specs.Closing.{insert, closed-names}
-use Rattle.text.specs.Reading.{State, Step, went, fault, unless, name-cause, bind, kind-of-word, prefix-line, literal-cause, free-with, add-entry, add-entries, clause-read, clause-line, body-line, step, whole, stopped, finish, body, problem-cause, opened, scan, clause-list, text-scan}
+use Rattle.text.specs.Reading.{State, Step, went, fault, unless, bind, kind-of-word, prefix-line, literal-cause, free-with, add-entry, add-entries, clause-read, clause-line, body-line, step, whole, stopped, body, problem-cause, opened, clause-list, text-scan}
 use Rattle.text.proofs.NameLaws.{name-cause-zero}
 use Rattle.text.proofs.ScanLaws.{cond-so, Steps, Scans, unless-so, go-on-so, bind-all-so, body-so, scan-so}
 use Rattle.text.proofs.KeptLaws.{and-both, literal-facts}

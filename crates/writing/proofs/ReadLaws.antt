@@ -1,14 +1,14 @@
 -- A text that begins with a line, read from a state on; the states of a written text, in which no name is free. Assumes nothing.
-use Prim.Native.Nat.{ℕ, zero, suc, _+_, _≤_, _<_}
+use Prim.Native.Nat.{ℕ, suc, _≤_, _<_}
 use native.Mathlib.Omega.{arith}
 use mathlib.Core.Path.{_≡_, refl, ap, _∙_}
-use mathlib.Core.Bool.{Bool, true, false, cond, _&&_}
+use mathlib.Core.Bool.{true, false}
 use mathlib.Core.List.{List, [], _∷_, _++_, map}
-use borrow.Author.Tests.{le-ltb, lt-ltb, le-leb, ne-eqb}
-use lib.Dec.{leb, ltb, eqb}
+use borrow.Author.Tests.{lt-ltb, le-leb, ne-eqb}
+use lib.Dec.{leb, ltb}
 use lib.IntN.{ℤ}
 use Rattle.lines.specs.Lines.{Bytes, lines}
-use Rattle.lines.specs.Numbers.{number-shape, number-within, no-number, number, is-zero, is-number, is-name}
+use Rattle.lines.specs.Numbers.{number-shape, number-within, no-number, is-zero, is-number, is-name}
 use Rattle.report.specs.Report.{decimal}
 use Rattle.text.specs.Reading.{State, Step, went, body-line, whole, go-on, clause-list, body}
 use Rattle.writing.specs.WritingRight.{Range}

@@ -1,30 +1,26 @@
 -- The text that is written of a formula is read as that formula; and what is read of a text can be written. Assumes nothing.
-use Prim.Native.Nat.{ℕ, zero, suc, _+_, _*_, _≤_, _<_}
+use Prim.Native.Nat.{ℕ, zero, suc, _≤_, _<_}
 use native.Mathlib.Omega.{arith}
 use mathlib.Core.Path.{_≡_, refl, sym, ap, subst, _∙_}
-use mathlib.Core.Bool.{Bool, true, false, cond, _&&_}
+use mathlib.Core.Bool.{Bool, true, false}
 use mathlib.Core.List.{List, [], _∷_, _++_, map, append-assoc}
-use borrow.Author.Tests.{le-ltb, lt-ltb, le-leb}
-use lib.Dec.{leb, ltb, eqb}
+use borrow.Author.Tests.{le-ltb, le-leb}
 use lib.IntN.{ℤ, pos, natAbs}
 use lib.ListN.{length, getD, length-append}
-use Rattle.formula.specs.Formula.{max-unknowns, max-clauses, max-entries, clauses}
+use Rattle.formula.specs.Formula.{max-clauses, clauses}
 use Rattle.formula.specs.declared.Check.the-variants.{Accepted as Passed}
 use Rattle.formula.specs.declared.Formula.{Formula}
-use Rattle.formula.specs.Causes.{zeros, ended, is-zero as is-end, cause-1, cause-2, cause-3, sizes, refused-if, checked, number as number-of}
+use Rattle.formula.specs.Causes.{zeros, is-zero as is-end, cause-1, cause-2, cause-3, sizes, refused-if, checked, number as number-of}
 use Rattle.formula.proofs.Accepted.{Accepted, accepted}
-use Rattle.lines.specs.Lines.{Bytes, Line, ended as line-ended, lines, words, third, fourth}
-use Rattle.lines.specs.Numbers.{number, is-number}
-use Rattle.lines.specs.Shapes.{is-comment, is-problem, is-trimmed, p-word, cnf-word}
+use Rattle.lines.specs.Lines.{Bytes, Line, ended as line-ended, lines, words}
+use Rattle.lines.specs.Shapes.{is-comment, is-problem, p-word, cnf-word}
 use Rattle.named.specs.Names.{Distinct}
-use Rattle.named.specs.Named.{placed}
 use Rattle.named.proofs.CauseLaws.{as-many-closed}
-use Rattle.report.specs.Report.{ascii, decimal}
-use Rattle.text.specs.Reading.{max-bytes, max-variables, State, Step, went, unless, Scan, whole, stopped, go-on, clause-list, body, problem-cause, opened, problem, after-comments, scan, Read, closed, Result, taken, refused, result-of, read, text-scan, text-read}
+use Rattle.report.specs.Report.{decimal}
+use Rattle.text.specs.Reading.{max-bytes, max-variables, State, Scan, whole, stopped, clause-list, body, problem-cause, opened, after-comments, scan, Read, closed, taken, result-of, read, text-scan, text-read}
 use Rattle.text.proofs.ScanLaws.{Scans}
 use Rattle.text.proofs.KeptLaws.{Whole}
 use Rattle.text.proofs.TextLaws.{OfText, scan-whole, Passes, read-passes, Results}
-use Rattle.trimming_rules.specs.Trimming.{entries}
 use Rattle.trimming_rules.proofs.Trimmed.{entries-clauses, within-clauses}
 use Rattle.writing.specs.Writing.{p-line, prefix-lines, clause-lines, written}
 use Rattle.writing.specs.WritingRight.{Range, Writable, again, WritingRight, ReadWritable}
@@ -142,8 +138,14 @@ module _ (kinds : List ℕ) (literals : List ℤ) (names : List ℕ) (variables 
       let a = fine .few-unknowns in
       let b = fine .few-entries in
       let c = fine .few-clauses in
-      omega (arith, length-append (p-line variables (zeros literals) ++ prefix-lines kinds names) (clause-lines names literals), length-append (p-line variables (zeros literals)) (prefix-lines kinds names),
-          p-line-most variables (zeros literals) few (omega arith), prefix-most kinds names small, clauses-most names literals small)
+      omega (
+        arith,
+        length-append (p-line variables (zeros literals) ++ prefix-lines kinds names) (clause-lines names literals),
+        length-append (p-line variables (zeros literals)) (prefix-lines kinds names),
+        p-line-most variables (zeros literals) few (omega arith),
+        prefix-most kinds names small,
+        clauses-most names literals small,
+      )
 
   scanned : text-scan (written kinds literals names variables) ≡ whole end
   unfolding scan

@@ -1,9 +1,8 @@
 -- `writer::put_entry` meets its contract: the definition's three cases are those that the code tests. Assumes nothing.
 use borrow.Author.Needs.{needs}
-use lib.ListN.{length, length-append}
-use mathlib.Core.Path.{sym, ap, _∙_}
+use lib.ListN.{length}
+use mathlib.Core.Path.{sym, ap}
 use native.Mathlib.Omega.{arith}
-use Rattle.report.specs.Report.{ascii, decimal}
 use Rattle.writer.proofs.PartLaws.{entry-end, entry-positive, entry-negative}
 use Rattle.writer.proofs.PutLaws.{put-then, put-as}
 use Rattle.writer.proofs.put_entry.Statement.{statement}

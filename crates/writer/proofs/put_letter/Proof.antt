@@ -1,7 +1,7 @@
 -- `writer::put_letter` meets its contract. Assumes nothing.
 use borrow.Author.Needs.{needs}
 use lib.ListN.{length}
-use mathlib.Core.Path.{sym, ap, _∙_}
+use mathlib.Core.Path.{sym, ap}
 use native.Mathlib.Omega.{arith}
 use Rattle.writer.proofs.PartLaws.{letter-zero, letter-other}
 use Rattle.writer.proofs.PutLaws.{put-as}

@@ -1,7 +1,7 @@
 -- `writer::put_number` meets its contract: what `io::decimal` makes is the number's decimal form. Assumes nothing.
 use borrow.Author.Needs.{needs}
 use lib.ListN.{length}
-use mathlib.Core.Path.{sym, ap, _∙_}
+use mathlib.Core.Path.{ap, _∙_}
 use native.Mathlib.Omega.{arith}
 use Rattle.report.proofs.Decimal.{digits-decimal}
 use Rattle.writer.proofs.PutLaws.{put-as}

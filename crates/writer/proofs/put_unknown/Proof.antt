@@ -1,7 +1,7 @@
 -- `writer::put_unknown` meets its contract: the definition's two cases are those that the code tests. Assumes nothing.
 use borrow.Author.Needs.{needs}
 use lib.ListN.{length}
-use mathlib.Core.Path.{sym, ap, _∙_}
+use mathlib.Core.Path.{sym, ap}
 use native.Mathlib.Omega.{arith}
 use Rattle.writer.proofs.PartLaws.{unknown-same, unknown-other, unknown-length}
 use Rattle.writer.proofs.PutLaws.{put-then, put-as}

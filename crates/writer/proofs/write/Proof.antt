@@ -1,8 +1,7 @@
 -- `writer::write` meets its contract. Assumes nothing.
 use borrow.Author.Needs.{needs}
-use lib.ListN.{length}
 use lib.Seq.{length-take-le}
-use mathlib.Core.Path.{sym, ap, _∙_}
+use mathlib.Core.Path.{sym, _∙_}
 use native.Mathlib.Omega.{arith}
 use Rattle.formula.proofs.Accepted.{accepted}
 use Rattle.writer.proofs.OutputLaws.{clauses-counted, no-names, no-formula, a-text, wrote-nothing, wrote}
