@@ -50,13 +50,13 @@ module _ (kinds : List ℕ) (literals : List ℤ) (passes : checked kinds litera
 -- What was read of a text of clauses or of gates.
 pub reading-passes : (gates : Bool) (text : List ℕ) (r : Read) → reading gates text ≡ taken r → Passes r
 unfolding read read-gates
-reading-passes false text r e = subst (Results Passes) e (read-passes text 128 8192 128)
-reading-passes true text r e = subst GatesResults e (gates-pass text 128 8192 128) .passes
+reading-passes false text r e = subst (Results Passes) e (read-passes text max-unknowns max-entries max-unknowns)
+reading-passes true text r e = subst GatesResults e (gates-pass text max-unknowns max-entries max-unknowns) .passes
 
 pub reading-line : (gates : Bool) (text : List ℕ) (n line : ℕ) → reading gates text ≡ refused n line → line ≤ 65538
 unfolding read read-gates
-reading-line false text n line e = refused-line text 128 8192 128 n line e
-reading-line true text n line e = gates-refused-line text 128 8192 128 n line e
+reading-line false text n line e = refused-line text max-unknowns max-entries max-unknowns n line e
+reading-line true text n line e = gates-refused-line text max-unknowns max-entries max-unknowns n line e
 
 module _ (gates : Bool) (text : List ℕ) where
   -- A text that is refused.

@@ -136,7 +136,7 @@ unfolding printed
 answer-right text =
     lines-right text-causes (text-read text) (λ r value. verdict (r .kinds) (r .literals) ≡ value) (printed text) refl
     (λ n line e.
-    let t = subst (Results Passes) e (read-passes text 128 8192 128) in
-    (of-text n t, omega (arith, t .to-14), refused-line text 128 8192 128 n line e))
-    (λ s e. subst (Results Passes) e (read-passes text 128 8192 128))
+    let t = subst (Results Passes) e (read-passes text max-unknowns max-entries max-unknowns) in
+    (of-text n t, omega (arith, t .to-14), refused-line text max-unknowns max-entries max-unknowns n line e))
+    (λ s e. subst (Results Passes) e (read-passes text max-unknowns max-entries max-unknowns))
     (λ s e value v. v)

@@ -4,6 +4,7 @@ use native.Mathlib.Omega.{arith}
 use mathlib.Core.Path.{_≡_, refl, sym, subst, _∙_}
 use mathlib.Core.List.{List}
 use mathlib.Core.Logic.{_⊎_, inl, inr}
+use Rattle.formula.specs.Formula.{max-unknowns, max-entries}
 use Rattle.named.specs.Names.{In}
 use Rattle.text.specs.Reading.{gates-read, gates-causes}
 use Rattle.text.proofs.TextLaws.{gates-refused-line}
@@ -30,9 +31,9 @@ gates-answer-right text =
       lines =
           lines-right gates-causes (gates-read text) (λ _ value. CircuitIs text value) (gates-printed text) refl
           (λ n line e.
-          let known : In n gates-causes = subst GatesResults e (gates-pass text 128 8192 128) in
-          (known, gates-small n known, gates-refused-line text 128 8192 128 n line e))
-          (λ s e. subst GatesResults e (gates-pass text 128 8192 128) .passes)
+          let known : In n gates-causes = subst GatesResults e (gates-pass text max-unknowns max-entries max-unknowns) in
+          (known, gates-small n known, gates-refused-line text max-unknowns max-entries max-unknowns n line e))
+          (λ s e. subst GatesResults e (gates-pass text max-unknowns max-entries max-unknowns) .passes)
           (λ s e value v g. sym (gates-right text s e g) ∙ v);
-      made = λ s e. subst GatesResults e (gates-pass text 128 8192 128) .counted;
+      made = λ s e. subst GatesResults e (gates-pass text max-unknowns max-entries max-unknowns) .counted;
     }

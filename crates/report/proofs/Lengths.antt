@@ -11,7 +11,7 @@ use lib.ListN.{length, drop, length-append}
 use Rattle.report.specs.Report.{ascii, decimal, decimal-within, pair-line, refusal-line, put, put-count}
 
 -- A number below a power of ten has no more digits than the exponent says.
-digits-most : (places k n : ℕ) → n < 10 ^ suc k → length (decimal-within places n) ≤ suc k
+pub digits-most : (places k n : ℕ) → n < 10 ^ suc k → length (decimal-within places n) ≤ suc k
 digits-most zero k n small = omega arith
 digits-most (suc places) k n small = go (ltb n 10) k refl small (λ k. digits-most places k (n / 10))
   where

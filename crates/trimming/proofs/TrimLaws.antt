@@ -1,15 +1,14 @@
 -- From the lent literals to what is left of them: the table as it is filled, and the table at the end.
 -- Assumes nothing.
-use Prim.Native.Nat.{ℕ, zero, suc, _+_, _%_, _≤_, _<_}
+use Prim.Native.Nat.{ℕ, suc, _+_, _%_, _≤_, _<_}
 use native.Mathlib.Omega.{arith}
-use native.Mathlib.Numerals.{sub-one}
 use mathlib.Core.Path.{_≡_, refl, sym, _∙_, ap, ap₂}
-use mathlib.Core.Bool.{Bool, true, cond, false≢true}
+use mathlib.Core.Bool.{Bool, true, cond}
 use mathlib.Core.List.{List, [], _∷_, _++_, map, append-nil, append-assoc}
 use borrow.Author.Tests.{lt-ltb}
 use lib.IntN.{ℤ, pos, negsuc, natAbs}
 use lib.ListN.{length, getD, drop, length-map, drop-of-length-le}
-use Rattle.formula.specs.Formula.{prefix, Clause, onto, clauses}
+use Rattle.formula.specs.Formula.{prefix, Clause, clauses}
 use Rattle.formula.specs.Causes.{is-zero, ended}
 use Rattle.formula.proofs.Accepted.{Accepted}
 use Rattle.codes.specs.Codes.{code-of, entry-by-entry}
@@ -18,45 +17,11 @@ use Rattle.trimming_rules.specs.Trimming.{entries, steps, trimmed}
 use Rattle.trimming_rules.specs.Rounds.{untrue, rounds}
 use Rattle.trimming_rules.proofs.ClauseLaws.{Every, Named}
 use Rattle.trimming_rules.proofs.RuleLaws.{Within}
-use Rattle.trimming_rules.proofs.Trimmed.{size-clauses, within-clauses}
+use Rattle.trimming_rules.proofs.Trimmed.{size-clauses, entries-clauses, within-clauses}
 use Rattle.trimming_rules.proofs.InRounds.{in-rounds}
 use Rattle.trimming.specs.Table.{left, codes, clauses-left, Entry, Block, standing, Fine, laid, Laid, Passed}
 use Rattle.trimming.proofs.CodeLaws.{literal-code}
 use Rattle.trimming.proofs.BlockLaws.{map-append, left-entries, laid-clauses}
-
--- ---- entries and their clauses
-
-ended-behind : (z y : ℤ) (zs : List ℤ) → ended (z ∷ y ∷ zs) ≡ ended (y ∷ zs)
-ended-behind z y zs = simp sub-one
-
--- A literal in front of entries that end in 0.
-onto-entries : (z : ℤ) (cs : List Clause) → 0 < length cs → entries (onto z cs) ≡ z ∷ entries cs
-onto-entries z [] some-clause = absurd (omega arith)
-onto-entries z (c ∷ cs) some-clause = refl
-
-started : (z : ℤ) (zs : List ℤ) → 0 < length (clauses (z ∷ zs))
-started (pos zero) zs = omega arith
-started (pos (suc v)) zs = go (clauses zs)
-  where
-    go : (cs : List Clause) → 0 < length (onto (pos (suc v)) cs)
-    go [] = omega arith
-    go (c ∷ cs) = omega arith
-started (negsuc v) zs = go (clauses zs)
-  where
-    go : (cs : List Clause) → 0 < length (onto (negsuc v) cs)
-    go [] = omega arith
-    go (c ∷ cs) = omega arith
-
-entries-clauses : (zs : List ℤ) → ended zs ≡ true → entries (clauses zs) ≡ zs
-entries-clauses [] e = refl
-entries-clauses (pos zero ∷ []) e = refl
-entries-clauses (pos (suc v) ∷ []) e = absurd (false≢true e)
-entries-clauses (negsuc v ∷ []) e = absurd (false≢true e)
-entries-clauses (pos zero ∷ y ∷ zs) e = ap (λ (l : List ℤ). pos 0 ∷ l) (entries-clauses (y ∷ zs) (sym (ended-behind (pos zero) y zs) ∙ e))
-entries-clauses (pos (suc v) ∷ y ∷ zs) e =
-    onto-entries (pos (suc v)) (clauses (y ∷ zs)) (started y zs) ∙ ap (λ (l : List ℤ). pos (suc v) ∷ l) (entries-clauses (y ∷ zs) (sym (ended-behind (pos (suc v)) y zs) ∙ e))
-entries-clauses (negsuc v ∷ y ∷ zs) e =
-    onto-entries (negsuc v) (clauses (y ∷ zs)) (started y zs) ∙ ap (λ (l : List ℤ). negsuc v ∷ l) (entries-clauses (y ∷ zs) (sym (ended-behind (negsuc v) y zs) ∙ e))
 
 -- ---- rule 1, then the rounds
 

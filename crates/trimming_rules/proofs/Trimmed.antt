@@ -71,6 +71,22 @@ size-clauses (pos zero ∷ y ∷ zs) e = let h = size-clauses (y ∷ zs) (sym (e
 size-clauses (pos (suc v) ∷ y ∷ zs) e = size-onto (pos (suc v)) (clauses (y ∷ zs)) (started y zs) ∙ ap suc (size-clauses (y ∷ zs) (sym (ended-behind (pos (suc v)) y zs) ∙ e))
 size-clauses (negsuc v ∷ y ∷ zs) e = size-onto (negsuc v) (clauses (y ∷ zs)) (started y zs) ∙ ap suc (size-clauses (y ∷ zs) (sym (ended-behind (negsuc v) y zs) ∙ e))
 
+-- Entries that end in 0 are those of their clauses.
+onto-entries : (z : ℤ) (cs : List Clause) → Started cs → entries (onto z cs) ≡ z ∷ entries cs
+onto-entries z [] s = absurd (omega arith)
+onto-entries z (c ∷ cs) s = refl
+
+pub entries-clauses : (zs : List ℤ) → ended zs ≡ true → entries (clauses zs) ≡ zs
+entries-clauses [] e = refl
+entries-clauses (pos zero ∷ []) e = refl
+entries-clauses (pos (suc v) ∷ []) e = absurd (false≢true e)
+entries-clauses (negsuc v ∷ []) e = absurd (false≢true e)
+entries-clauses (pos zero ∷ y ∷ zs) e = ap (λ (l : List ℤ). pos 0 ∷ l) (entries-clauses (y ∷ zs) (sym (ended-behind (pos zero) y zs) ∙ e))
+entries-clauses (pos (suc v) ∷ y ∷ zs) e =
+    onto-entries (pos (suc v)) (clauses (y ∷ zs)) (started y zs) ∙ ap (λ (l : List ℤ). pos (suc v) ∷ l) (entries-clauses (y ∷ zs) (sym (ended-behind (pos (suc v)) y zs) ∙ e))
+entries-clauses (negsuc v ∷ y ∷ zs) e =
+    onto-entries (negsuc v) (clauses (y ∷ zs)) (started y zs) ∙ ap (λ (l : List ℤ). negsuc v ∷ l) (entries-clauses (y ∷ zs) (sym (ended-behind (negsuc v) y zs) ∙ e))
+
 pub within-clauses : (n : ℕ) (zs : List ℤ) → ((i : ℕ) → natAbs (getD zs i (pos 0)) ≤ n) → Within n (clauses zs)
 within-clauses n [] h = tt
 within-clauses n (pos zero ∷ zs) h = (tt, within-clauses n zs (λ i. h (suc i)))

@@ -1,0 +1,3 @@
+-- The theorem, and what the proofs of the functions cite.
+pub mod TrimmedTextRight
+pub mod CallLaws

@@ -1,0 +1,19 @@
+-- `writer::append` meets its contract: the part fits. Assumes nothing.
+use borrow.Author.Needs.{needs}
+use Rattle.writer.proofs.PutLaws.{put-part}
+use Rattle.writer.proofs.append.Statement.{statement}
+use Rattle.writer.proofs.append.Tie as tie
+
+append-requires : tie.Need-append-requires
+append-requires c κs = tt
+
+same-length : tie.Need-same-length
+same-length c = search needs
+
+returns : tie.Need-returns
+returns c =
+    let start = c .before .before .before .before .before .before in
+    put-part (start .args .text .now) (start .args .at) (start .args .part .now) (start .pre) (c .before .before .append .ensures .0) (c .before .before .append .ensures .1)
+
+pub append-spec : {M : Type 1} → statement M
+append-spec = tie.close (tie.spec append-requires same-length returns)

@@ -1,0 +1,3 @@
+-- The text of a formula, and that it is read as that formula.
+pub mod Writing
+pub mod WritingRight
