@@ -18,7 +18,7 @@ use Rattle.trimming_rules.specs.Proved.{Proved}
 use Rattle.trimming_rules.proofs.Carried.{proved}
 use Rattle.run.specs.Outcome.{Areas, Given, given, tables-fit, tables-counted, cause as run-cause}
 use Rattle.study.specs.declared.Setting.{Setting}
-use Rattle.study.specs.Study.{settings-of, formula-of, given-of, unknown, no-limit, cause-26, list-cause, cause}
+use Rattle.study.specs.Study.{settings-of, formula-of, given-of, unknown, no-round, cause-26, list-cause, cause}
 
 -- ---- a run's causes
 
@@ -137,7 +137,7 @@ module _ (kinds : List ℕ) (literals : List ℤ) (settings : List ℕ) (found :
 
 -- By the list's tests.
 pub by-list-tests : (l : List ℕ) {empty long fours strange unlimited : Bool} → eqb (length l) 0 ≡ empty → ltb 32 (length l) ≡ long
-    → eqb (length l % 4) 0 ≡ fours → any unknown (settings-of l) ≡ strange → any no-limit (settings-of l) ≡ unlimited
+    → eqb (length l % 4) 0 ≡ fours → any unknown (settings-of l) ≡ strange → any no-round (settings-of l) ≡ unlimited
     → list-cause l ≡ cond (empty || (long || (not fours || strange))) 26 (cond unlimited 6 0)
 unfolding list-cause cause-26
 by-list-tests l e1 e2 e3 e4 e5 = λ d. cond (e1 d || (e2 d || (not (e3 d) || e4 d))) 26 (cond (e5 d) 6 0)
@@ -173,11 +173,11 @@ module _ (kinds : List ℕ) (literals : List ℤ) (settings : List ℕ) (found :
   pub passes : Passes kinds literals found
   passes = passes-if-none (given kinds literals [] found 1 0) (both .0)
 
-  list-told : (eqb (length settings) 0 ≡ false) × (eqb (length settings % 4) 0 ≡ true) × (any no-limit (settings-of settings) ≡ false)
+  list-told : (eqb (length settings) 0 ≡ false) × (eqb (length settings % 4) 0 ≡ true) × (any no-round (settings-of settings) ≡ false)
   unfolding list-cause cause-26
   list-told =
       none-of-list (eqb (length settings) 0) (ltb 32 (length settings)) (eqb (length settings % 4) 0) (any unknown (settings-of settings))
-      (any no-limit (settings-of settings)) (both .1)
+      (any no-round (settings-of settings)) (both .1)
 
   pub some-setting : 1 ≤ length settings / 4
   some-setting =
@@ -210,4 +210,4 @@ module _ (kinds : List ℕ) (literals : List ℤ) (settings : List ℕ) (found :
   pub each-accepted : (i : ℕ) (s : Setting) → getElem? (settings-of settings) i ≡ some s → run-cause (given-of kinds literals s found) ≡ 0
   each-accepted i s there =
       none-if-passes (given-of kinds literals s found) (record { formula = formula-passes (s .trim); fits = passes .fits })
-      (any-none no-limit (settings-of settings) i s (list-told .2) there)
+      (any-none no-round (settings-of settings) i s (list-told .2) there)

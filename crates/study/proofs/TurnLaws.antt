@@ -17,6 +17,7 @@ use Rattle.trimming.specs.Outcome.{cause as trim-cause, outcome, output-after, 
 use Rattle.trimming.specs.declared.Trimmed.{Trimmed}
 use Rattle.trimming.specs.declared.Trimmed.the-variants.{Entries, Refused}
 use Rattle.rounds.specs.Run.{number}
+use Rattle.run.specs.declared.Answer.{Answer}
 use Rattle.run.specs.declared.Outcome.{Outcome}
 use Rattle.run.specs.Outcome.{Areas, Given, given, cause as run-cause, number-of, reached, refusal, returned, after, left}
 use Rattle.run.specs.Ended.{Ended}
@@ -31,6 +32,10 @@ use Rattle.study.proofs.SizeLaws.{same-cause}
 use Rattle.study.proofs.StudyRight.{study-right}
 
 -- ---- the runs in turn
+
+-- Without a verdict a study is over where no setting is left.
+pub over-if-last : (a : Answer) (b : Bool) → is-verdict a ≡ false → b ≡ (is-verdict a || b)
+over-if-last a b none = ap (λ (v : Bool). v || b) (sym none)
 
 -- The runs made so far have ended in no verdict: what is left of the study is that from this place on, over the areas as they are.
 pub record Going (kinds : List ℕ) (literals : List ℤ) (settings : List ℕ) (found present : Areas) (at : ℕ) : Type 0 where
@@ -129,10 +134,11 @@ module _ (kinds : List ℕ) (literals : List ℤ) (s : Setting) (found : Areas) 
       let same : literals ≡ formula-of (s .trim) kinds literals = ap (λ (n : ℕ). formula-of n kinds literals) (sym untrimmed) in
       subst (λ (g : Given). Ended g o exit) (λ d. given kinds (same d) (on-preferences d) found (s .limit) (s .clearing))
 
-  pub trimmed-run : (preferences : List ℕ) (entries : List ℤ) → preferences ≡ preferences-of (s .preference) → entries ≡ trimmed kinds literals → (s .trim ≡ 0 → ⊥)
-      → Ended (given kinds entries preferences found (s .limit) (s .clearing)) o exit → Ended (given-of kinds literals s found) o exit
-  trimmed-run preferences entries on-preferences on-entries trims =
-      let same : entries ≡ formula-of (s .trim) kinds literals = on-entries ∙ chosen (s .trim) trims in
+  pub trimmed-run : (preferences : List ℕ) (table : List ℤ) (n : ℕ) → preferences ≡ preferences-of (s .preference) → Holds kinds literals table n → (s .trim ≡ 0 → ⊥)
+      → Ended (given kinds (take (n - 0) table) preferences found (s .limit) (s .clearing)) o exit → Ended (given-of kinds literals s found) o exit
+  trimmed-run preferences table n on-preferences holds trims =
+      let whole : n - 0 ≡ n = omega arith in
+      let same : take (n - 0) table ≡ formula-of (s .trim) kinds literals = ap (λ (k : ℕ). take k table) whole ∙ holds .held ∙ chosen (s .trim) trims in
       subst (λ (g : Given). Ended g o exit) (λ d. given kinds (same d) (on-preferences d) found (s .limit) (s .clearing))
     where
       chosen : (n : ℕ) → (n ≡ 0 → ⊥) → trimmed kinds literals ≡ formula-of n kinds literals
@@ -140,13 +146,21 @@ module _ (kinds : List ℕ) (literals : List ℤ) (s : Setting) (found : Areas) 
       chosen (suc n) h = refl
 
 -- One byte or none.
-pub lent-bytes : (p byte : ℕ) (n : ℕ) → (p < 256 → byte ≡ p) → n ≡ length (preferences-of p) → take n (byte ∷ []) ≡ preferences-of p
+pub lent-bytes : (p byte : ℕ) (n : ℕ) → (p < 256 → byte ≡ p) → n ≡ length (preferences-of p) → take (n - 0) (byte ∷ []) ≡ preferences-of p
 unfolding preferences-of
-lent-bytes p byte n on-byte on-length = by-test (ltb p 256) refl on-length
+lent-bytes p byte n on-byte on-length = by-test (ltb p 256) refl (omega (arith, on-length))
   where
-    by-test : (b : Bool) → ltb p 256 ≡ b → n ≡ length (cond b (p ∷ []) []) → take n (byte ∷ []) ≡ cond b (p ∷ []) []
+    by-test : (b : Bool) → ltb p 256 ≡ b → n - 0 ≡ length (cond b (p ∷ []) []) → take (n - 0) (byte ∷ []) ≡ cond b (p ∷ []) []
     by-test true t e = ap (λ (k : ℕ). take k (byte ∷ [])) e ∙ ap (λ (x : ℕ). x ∷ []) (on-byte (ltb-true p 256 t))
     by-test false t e = ap (λ (k : ℕ). take k (byte ∷ [])) e
+
+pub few-bytes : (p : ℕ) → length (preferences-of p) ≤ 1
+unfolding preferences-of
+few-bytes p = by-test (ltb p 256)
+  where
+    by-test : (b : Bool) → length (cond b (p ∷ []) []) ≤ 1
+    by-test true = omega arith
+    by-test false = omega arith
 
 -- ---- the whole
 

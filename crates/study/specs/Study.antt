@@ -60,11 +60,11 @@ cause-26 settings =
     || (ltb (max-settings * 4) (length settings) || (not (eqb (length settings % 4) 0) || any unknown (settings-of settings)))
 
 -- Cause 6, 'limit 0', of any setting.
-abbrev pub no-limit : Setting → Bool
-no-limit s = eqb (s .limit) 0
+abbrev pub no-round : Setting → Bool
+no-round s = eqb (s .limit) 0
 
 unfoldable pub list-cause : List ℕ → ℕ
-list-cause settings = cond (cause-26 settings) 26 (cond (any no-limit (settings-of settings)) 6 0)
+list-cause settings = cond (cause-26 settings) 26 (cond (any no-round (settings-of settings)) 6 0)
 
 -- The first of the causes that applies, or 0: those of a run over what is lent, whatever its limit, then those of the list.
 unfoldable pub cause : List ℕ → List ℤ → List ℕ → Areas → ℕ

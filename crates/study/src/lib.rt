@@ -17,7 +17,7 @@ ghost use Rattle.formula.specs.Causes.{any};
 ghost use Rattle.trimming.specs.Outcome.{outcome, output-after, used};
 ghost use Rattle.run.specs.Outcome.{areas, refusal};
 ghost use Rattle.run.specs.Ended.{Ended};
-ghost use Rattle.study.specs.Study.{settings-of, preferences-of, given-of, unknown, no-limit, list-cause, is-verdict};
+ghost use Rattle.study.specs.Study.{settings-of, preferences-of, given-of, unknown, no-round, list-cause, is-verdict};
 ghost use Rattle.study.specs.StudyRight.{Studies};
 ghost use Rattle.study.specs.Turns.{setting-at, Holds, Turned};
 
@@ -151,7 +151,7 @@ fn list_cause(settings: &[u32]) -> u32
     if has_unknown(settings) {
         return 26;
     }
-    if has_no_limit(settings) {
+    if has_no_round(settings) {
         return NO_LIMIT;
     }
     0
@@ -173,13 +173,13 @@ fn has_unknown(settings: &[u32]) -> bool
 }
 
 // Whether a setting permits no round.
-fn has_no_limit(settings: &[u32]) -> bool
-    ensures { λ r. ⌜ r ≡ any no-limit (settings-of (now (settings .entry))) ⌝ }
+fn has_no_round(settings: &[u32]) -> bool
+    ensures { λ r. ⌜ r ≡ any no-round (settings-of (now (settings .entry))) ⌝ }
 {
     let count = settings.len() / FIELDS;
     let mut at = 0;
     while at < count {
-        if has_limit(setting_at(settings, at)) {} else {
+        if permits_no_round(setting_at(settings, at)) {
             return true;
         }
         at += 1;
@@ -196,10 +196,10 @@ fn is_unknown(setting: Setting) -> bool
     setting.preference > HOUSE
 }
 
-fn has_limit(setting: Setting) -> bool
-    ensures { λ r. ⌜ r ≡ not (no-limit setting) ⌝ }
+fn permits_no_round(setting: Setting) -> bool
+    ensures { λ r. ⌜ r ≡ no-round setting ⌝ }
 {
-    setting.limit != 0
+    setting.limit == 0
 }
 
 fn setting_at(settings: &[u32], at: usize) -> Setting
