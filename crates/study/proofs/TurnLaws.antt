@@ -25,7 +25,7 @@ use Rattle.study.specs.declared.Setting.{Setting}
 use Rattle.study.specs.declared.Studied.{Studied}
 use Rattle.study.specs.Study.{settings-of, formula-of, preferences-of, given-of, list-cause, cause, Ending, ending, is-verdict, in-turn, studied}
 use Rattle.study.specs.StudyRight.{Studies}
-use Rattle.study.specs.Turns.{setting-at, Holds, SameSizes, Turned}
+use Rattle.study.specs.Turns.{setting-at, formula-from, Holds, SameSizes, Turned}
 use Rattle.study.proofs.SettingLaws.{length-settings, next-setting, setting-there}
 use Rattle.study.proofs.CauseLaws.{tested, never-accepted, cause-tested, each-accepted, formula-accepted, trimming-proved, passes}
 use Rattle.study.proofs.SizeLaws.{same-cause}
@@ -127,23 +127,24 @@ module _ (kinds : List ℕ) (literals : List ℤ) (settings : List ℕ) (found :
 
 -- ---- a setting's run
 
-module _ (kinds : List ℕ) (literals : List ℤ) (s : Setting) (found : Areas) (o : Outcome) (exit : Areas) where
-  pub lent-run : (preferences : List ℕ) → preferences ≡ preferences-of (s .preference) → s .trim ≡ 0
-      → Ended (given kinds literals preferences found (s .limit) (s .clearing)) o exit → Ended (given-of kinds literals s found) o exit
-  lent-run preferences on-preferences untrimmed =
-      let same : literals ≡ formula-of (s .trim) kinds literals = ap (λ (n : ℕ). formula-of n kinds literals) (sym untrimmed) in
-      subst (λ (g : Given). Ended g o exit) (λ d. given kinds (same d) (on-preferences d) found (s .limit) (s .clearing))
+pub lent-chosen : (n : ℕ) (literals trimmed-ones : List ℤ) → n ≡ 0 → literals ≡ formula-from n literals trimmed-ones
+lent-chosen n literals trimmed-ones e = ap (λ (k : ℕ). formula-from k literals trimmed-ones) (sym e)
 
-  pub trimmed-run : (preferences : List ℕ) (table : List ℤ) (n : ℕ) → preferences ≡ preferences-of (s .preference) → Holds kinds literals table n → (s .trim ≡ 0 → ⊥)
-      → Ended (given kinds (take (n - 0) table) preferences found (s .limit) (s .clearing)) o exit → Ended (given-of kinds literals s found) o exit
-  trimmed-run preferences table n on-preferences holds trims =
-      let whole : n - 0 ≡ n = omega arith in
-      let same : take (n - 0) table ≡ formula-of (s .trim) kinds literals = ap (λ (k : ℕ). take k table) whole ∙ holds .held ∙ chosen (s .trim) trims in
-      subst (λ (g : Given). Ended g o exit) (λ d. given kinds (same d) (on-preferences d) found (s .limit) (s .clearing))
-    where
-      chosen : (n : ℕ) → (n ≡ 0 → ⊥) → trimmed kinds literals ≡ formula-of n kinds literals
-      chosen zero h = absurd (h refl)
-      chosen (suc n) h = refl
+pub trimmed-chosen : (n : ℕ) (literals table : List ℤ) (entries : ℕ) → (n ≡ 0 → ⊥) → take (entries - 0) table ≡ formula-from n literals (take entries table)
+trimmed-chosen zero literals table entries h = absurd (h refl)
+trimmed-chosen (suc n) literals table entries h = let whole : entries - 0 ≡ entries = omega arith in ap (λ (k : ℕ). take k table) whole
+
+chosen-formula : (n : ℕ) (kinds : List ℕ) (literals : List ℤ) → formula-from n literals (trimmed kinds literals) ≡ formula-of n kinds literals
+chosen-formula zero kinds literals = refl
+chosen-formula (suc n) kinds literals = refl
+
+pub setting-run : (kinds : List ℕ) (literals : List ℤ) (s : Setting) (found : Areas) (o : Outcome) (exit : Areas) (preferences : List ℕ) (formula table : List ℤ) (entries : ℕ)
+    → preferences ≡ preferences-of (s .preference) → Holds kinds literals table entries → formula ≡ formula-from (s .trim) literals (take entries table)
+    → Ended (given kinds formula preferences found (s .limit) (s .clearing)) o exit → Ended (given-of kinds literals s found) o exit
+setting-run kinds literals s found o exit preferences formula table entries on-preferences holds on-formula =
+    let same : formula ≡ formula-of (s .trim) kinds literals =
+    on-formula ∙ ap (formula-from (s .trim) literals) (holds .held) ∙ chosen-formula (s .trim) kinds literals in
+    subst (λ (g : Given). Ended g o exit) (λ d. given kinds (same d) (on-preferences d) found (s .limit) (s .clearing))
 
 -- One byte or none.
 pub lent-bytes : (p byte : ℕ) (n : ℕ) → (p < 256 → byte ≡ p) → n ≡ length (preferences-of p) → take (n - 0) (byte ∷ []) ≡ preferences-of p

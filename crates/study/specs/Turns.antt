@@ -1,6 +1,6 @@
 -- What the runs in turn ask for and make. Cited by contracts of private functions alone.
 -- Assumes nothing.
-use Prim.Native.Nat.{ℕ, _*_, _/_, _≤_, _<_}
+use Prim.Native.Nat.{ℕ, zero, suc, _*_, _≤_}
 use mathlib.Core.Path.{_≡_}
 use mathlib.Core.List.{List}
 use mathlib.Core.Option.{some}
@@ -16,6 +16,11 @@ use Rattle.study.specs.Study.{setting-from, settings-of, given-of, endin
 -- The setting at a place of a table.
 abbrev pub setting-at : List ℕ → ℕ → Setting
 setting-at settings i = setting-from (drop (4 * i) settings)
+
+-- The lent literals, or those that are trimmed.
+abbrev pub formula-from : ℕ → List ℤ → List ℤ → List ℤ
+formula-from zero literals trimmed-ones = literals
+formula-from (suc n) literals trimmed-ones = trimmed-ones
 
 -- The first entries of a table are the trimmed literals.
 pub record Holds (kinds : List ℕ) (literals table : List ℤ) (entries : ℕ) : Type 0 where

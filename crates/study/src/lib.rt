@@ -19,7 +19,7 @@ ghost use Rattle.run.specs.Outcome.{areas, refusal};
 ghost use Rattle.run.specs.Ended.{Ended};
 ghost use Rattle.study.specs.Study.{settings-of, preferences-of, given-of, unknown, no-round, list-cause, is-verdict};
 ghost use Rattle.study.specs.StudyRight.{Studies};
-ghost use Rattle.study.specs.Turns.{setting-at, Holds, Turned};
+ghost use Rattle.study.specs.Turns.{setting-at, formula-from, Holds, Turned};
 
 // How a run of a study is made: over the trimmed formula (1) or the lent one (0), with a preference byte or `HOUSE`, the universal table cleared in
 // each round that `clearing` divides, and never if it is 0, within the limit of rounds.
@@ -227,10 +227,10 @@ fn trim_into(kinds: &[u8], literals: &[i32], table: &mut [i32]) -> usize
 }
 
 // One run after the other, each over what the one before it has left.
-fn in_turn(
+fn in_turn<'a>(
     kinds: &[u8],
-    literals: &[i32],
-    table: &[i32],
+    literals: &'a [i32],
+    table: &'a [i32],
     entries: usize,
     settings: &[u32],
     universal_rows: &mut [u8],
@@ -293,10 +293,10 @@ fn is_over(answer: Answer, next: usize, length: usize) -> bool
 }
 
 // The run of one setting.
-fn with_setting(
+fn with_setting<'a>(
     kinds: &[u8],
-    literals: &[i32],
-    table: &[i32],
+    literals: &'a [i32],
+    table: &'a [i32],
     entries: usize,
     setting: Setting,
     universal_rows: &mut [u8],
@@ -319,25 +319,10 @@ fn with_setting(
     let preference = setting.preference;
     let byte = [byte_of(preference); 1];
     let lent = lent_of(preference);
-    if setting.trim == 0 {
-        return run::run(
-            kinds,
-            literals,
-            &byte[0..lent],
-            universal_rows,
-            universal_marks,
-            universal_counts,
-            existential_rows,
-            existential_marks,
-            existential_counts,
-            work,
-            limit,
-            clearing,
-        );
-    }
+    let formula = chosen(setting.trim, literals, table, entries);
     run::run(
         kinds,
-        &table[0..entries],
+        formula,
         &byte[0..lent],
         universal_rows,
         universal_marks,
@@ -349,6 +334,17 @@ fn with_setting(
         limit,
         clearing,
     )
+}
+
+// The lent literals, or the first entries of the table.
+fn chosen<'a>(trim: u32, literals: &'a [i32], table: &'a [i32], entries: usize) -> &'a [i32]
+    requires { ⌜ entries ≤ length (now table) ⌝ }
+    ensures { λ r. ⌜ now r ≡ formula-from trim (now (literals .entry)) (take entries (now (table .entry))) ⌝ }
+{
+    if trim == 0 {
+        return literals;
+    }
+    &table[0..entries]
 }
 
 // The preference byte, and how many are lent: one, or none for house preferences.
