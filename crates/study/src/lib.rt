@@ -42,7 +42,7 @@ pub const FIELDS: usize = 4;
 // The most settings of a study.
 pub const SETTINGS: usize = 8;
 
-const ENTRIES: usize = 32;
+const ENTRIES: usize = SETTINGS * FIELDS;
 
 // The preference for which no byte is lent.
 pub const HOUSE: u32 = 256;
