@@ -1,0 +1,6 @@
+-- The laws behind a study.
+pub mod SettingLaws
+pub mod CauseLaws
+pub mod SizeLaws
+pub mod StudyRight
+pub mod TurnLaws
