@@ -8,6 +8,7 @@ use lib.IntN.{ℤ, pos, negsuc, negℤ}
 use lib.ListN.{length, length-append}
 use Rattle.formula.specs.Formula.{Kind, existential, kind-of, prefix, Clause, clauses}
 use Rattle.formula.specs.Meaning.{meaning, matrix, verdict}
+use Rattle.formula.specs.Causes.{zeros}
 use Rattle.gates.specs.declared.Function.{Function}
 use Rattle.gates.specs.declared.Function.the-variants.{And, Or, Xor}
 use Rattle.gates.specs.Clauses.{with-each, negated, gate-clauses, flat}
@@ -42,8 +43,19 @@ module _ (F : List ℕ) where
   known-flat [] k = tt
   known-flat (c ∷ cs) k = known-one c (flat cs) (k .0) (known-flat cs (k .1))
 
+  -- As many clauses as zeros.
+  zeros-one : (c : Clause) (zs : List ℤ) → InAll F c → zeros (c ++ (pos 0 ∷ zs)) ≡ suc (zeros zs)
+  zeros-one [] zs k = refl
+  zeros-one (pos zero ∷ c) zs k = absurd k
+  zeros-one (pos (suc v) ∷ c) zs k = zeros-one c zs (k .1)
+  zeros-one (negsuc v ∷ c) zs k = zeros-one c zs (k .1)
+
+  pub zeros-flat : (cs : List Clause) → AllIn F cs → zeros (flat cs) ≡ length cs
+  zeros-flat [] k = refl
+  zeros-flat (c ∷ cs) k = zeros-one c (flat cs) (k .0) ∙ ap suc (zeros-flat cs (k .1))
+
   -- One literal, and its opposite.
-  abbrev Here : ℤ → Type 0
+  abbrev pub Here : ℤ → Type 0
   Here z = InAll F (z ∷ [])
 
   opposite-here : (z : ℤ) → Here z → Here (negℤ z)
@@ -78,7 +90,7 @@ module _ (F : List ℕ) where
   append-in [] ds k m = m
   append-in (c ∷ cs) ds k m = (k .0, append-in cs ds (k .1) m)
 
-  gate-in : (f : Function) (z : ℤ) (is : List ℤ) → Here z → InAll F is → AllIn F (gate-clauses f z is)
+  pub gate-in : (f : Function) (z : ℤ) (is : List ℤ) → Here z → InAll F is → AllIn F (gate-clauses f z is)
   gate-in And z is h k = each-in (negℤ z) is _ (opposite-here z h) k (cons z (negated is) h (negated-in is k), tt)
   gate-in Or z is h k = each-in z (negated is) _ h (negated-in is k) (cons (negℤ z) is (opposite-here z h) k, tt)
   gate-in Xor z [] h k = tt
@@ -106,7 +118,7 @@ module _ (F : List ℕ) where
   wider known sub (pos (suc v) ∷ c) k = (sub (suc v) (k .0), wider known sub c (k .1))
   wider known sub (negsuc v ∷ c) k = (sub (suc v) (k .0), wider known sub c (k .1))
 
-  name-here : (n : ℕ) → Some (pos n) → In n F → Here (pos n)
+  pub name-here : (n : ℕ) → Some (pos n) → In n F → Here (pos n)
   name-here zero s i = absurd s
   name-here (suc n) s i = (i, tt)
 

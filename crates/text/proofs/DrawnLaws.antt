@@ -46,7 +46,7 @@ pub record Drawn (s : State) (d : Drawing) : Type 0 where
 abbrev pub blocks : List ℕ → List ℕ → Drawing
 blocks kinds names = record { kinds = kinds; names = names; gates = [] }
 
-zero-behind : (xs : List ℕ) (v : ℕ) → (In 0 xs → ⊥) → (v ≡ 0 → ⊥) → In 0 (xs ++ (v ∷ [])) → ⊥
+pub zero-behind : (xs : List ℕ) (v : ℕ) → (In 0 xs → ⊥) → (v ≡ 0 → ⊥) → In 0 (xs ++ (v ∷ [])) → ⊥
 zero-behind xs v none some i = go (in-append 0 xs (v ∷ []) i)
   where
     go : In 0 xs ⊎ In 0 (v ∷ []) → ⊥
@@ -131,7 +131,7 @@ ordered-behind known (g ∷ gs) gate ord new some ins fits = (
       (wider ((g .name ∷ known) ++ names-of gs) (known ++ (g .name ∷ names-of gs)) (λ v i. moved known (g .name) (names-of gs) v i) (gate .inputs) ins) fits,
 )
 
-some-name : (v : ℕ) → (v ≡ 0 → ⊥) → Some (pos v)
+pub some-name : (v : ℕ) → (v ≡ 0 → ⊥) → Some (pos v)
 some-name zero some = absurd (some refl)
 some-name (suc v) some = tt
 

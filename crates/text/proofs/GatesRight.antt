@@ -147,7 +147,7 @@ pub record Ended (d : Drawing) (o : ℤ) (t : State) : Type 0 where
   pub placeable : Placeable (closed-names (t .free) (t .names)) (t .entries)
   pub right : (g : Values) → verdict (closed t .kinds) (closed t .literals) ≡ named-meaning (prefix (d .kinds)) (d .names) (circuit (d .gates) o) g
 
-output-known : (s : State) (o : ℤ) → output-cause s o ≡ 0 → In (natAbs o) (s .names)
+pub output-known : (s : State) (o : ℤ) → output-cause s o ≡ 0 → In (natAbs o) (s .names)
 unfolding output-cause
 output-known s o e = go (among (natAbs o) (s .names)) refl e
   where
@@ -155,7 +155,7 @@ output-known s o e = go (among (natAbs o) (s .names)) refl e
     go true q e = among-in (natAbs o) (s .names) q
     go false q e = absurd (omega arith)
 
-literal-known : (names : List ℕ) (o : ℤ) → (In 0 names → ⊥) → In (natAbs o) names → InAll names (o ∷ [])
+pub literal-known : (names : List ℕ) (o : ℤ) → (In 0 names → ⊥) → In (natAbs o) names → InAll names (o ∷ [])
 literal-known names (pos zero) none i = absurd (none i)
 literal-known names (pos (suc v)) none i = (i, tt)
 literal-known names (negsuc v) none i = (i, tt)
@@ -217,7 +217,7 @@ body-ended all o line ls s k p =
     ls s k p
 
 -- The p line.
-few-variables : (line : Bytes) → problem-cause true line ≡ 0 → number (third (words line)) ≤ max-variables
+pub few-variables : (line : Bytes) → problem-cause true line ≡ 0 → number (third (words line)) ≤ max-variables
 unfolding problem-cause
 few-variables line e =
     go (is-problem true line) (ltb max-variables (number (third (words line)))) (ltb (max-items true) (number (fourth (words line)))) (output-range true (number (unsigned (fifth (words line))))) refl e

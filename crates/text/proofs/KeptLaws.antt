@@ -58,7 +58,7 @@ and-both true b e = (refl, e)
 and-both false b e = absurd (false≢true e)
 
 -- Lists with one more behind.
-any-behind : {A : Type 0} (test : A → Bool) (l : List A) (x : A) → any test l ≡ false → test x ≡ false → any test (l ++ (x ∷ [])) ≡ false
+pub any-behind : {A : Type 0} (test : A → Bool) (l : List A) (x : A) → any test l ≡ false → test x ≡ false → any test (l ++ (x ∷ [])) ≡ false
 any-behind test [] x none last = rw last refl
 any-behind test (y ∷ ys) x none last =
     let both = or-none (test y) (any test ys) none in
@@ -81,7 +81,7 @@ zeros-closed (negsuc v ∷ l) = zeros-closed l
 length-behind : {A : Type 0} (l : List A) (x : A) → length (l ++ (x ∷ [])) ≡ length l + 1
 length-behind l x = length-append l (x ∷ [])
 
-ended-closed : (l : List ℤ) → ended (l ++ (pos 0 ∷ [])) ≡ true
+pub ended-closed : (l : List ℤ) → ended (l ++ (pos 0 ∷ [])) ≡ true
 ended-closed l =
     let last : length (l ++ (pos 0 ∷ [])) - 1 ≡ length l = omega (arith, length-behind l (pos 0)) in
     rw (last, getD-append-seam l (pos 0) [] (pos 0)) refl

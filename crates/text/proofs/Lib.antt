@@ -17,5 +17,6 @@ pub mod TextLaws
 pub mod ClosedRight
 pub mod DrawnLaws
 pub mod GatesRight
+pub mod GatesPass
 pub mod ReadingLaws
 pub mod FrontLaws

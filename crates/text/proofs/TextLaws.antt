@@ -1,5 +1,5 @@
--- What holds of every text: a cause's number is one of 9 to 12 and 14, and its line is within the text's lines or right behind them; of a text that
--- is taken causes 1 to 3 don't apply, V and C are within their limits, and its names have positions.
+-- What holds of every text: a cause's number is one of 9 to 12 and 14, and its line is within the text's lines or right behind them, of a gate list
+-- too; of a text that is taken causes 1 to 3 don't apply, V and C are within their limits, and its names have positions.
 -- Assumes nothing.
 use Prim.Native.Nat.{ℕ, zero, suc, _+_, _≤_}
 use native.Mathlib.Omega.{arith}
@@ -12,15 +12,16 @@ use lib.IntN.{ℤ}
 use lib.ListN.{length}
 use Rattle.formula.specs.Formula.{max-unknowns, max-clauses, max-entries}
 use Rattle.formula.specs.declared.Check.the-variants.{Accepted}
-use Rattle.formula.specs.Causes.{other-kind, checked, sizes, cause-3}
+use Rattle.formula.specs.Causes.{any, other-kind, zeros, ended, checked, sizes, cause-3}
 use Rattle.formula.proofs.Order.{no-cause-1, no-cause-2}
 use Rattle.lines.specs.Lines.{Bytes, Line, ended as line-ended, unended, in-front, pieces, as-lines, lines, words, fourth, third, first, rest, same}
 use Rattle.lines.specs.Numbers.{number, unsigned, is-zero, is-literal}
 use Rattle.lines.specs.Shapes.{is-comment, is-problem, is-prefix, is-clause, is-trimmed, is-empty, closed-by-zero, a-word}
 use Rattle.named.specs.Named.{among, placed}
+use Rattle.named.specs.Names.{Known}
 use Rattle.named.specs.Closing.{closed-names, closed-kinds, closed-literals}
 use Rattle.named.proofs.CauseLaws.{length-map, kinds-known, as-many-closed, zeros-placed, ended-placed, placed-within}
-use Rattle.text.specs.Reading.{max-bytes, max-variables, State, Step, went, fault, unless, name-cause, kind-of-word, prefix-line, has-place, literal-cause, add-entry, add-entries, clause-read, clause-line, body-line, step, Scan, whole, stopped, go-on, finish, body, problem-cause, opened, problem, after-comments, lent-well, scan, Read, closed, Result, taken, refused, result-of, read, clause-list}
+use Rattle.text.specs.Reading.{max-bytes, max-variables, State, Step, went, fault, unless, name-cause, kind-of-word, prefix-line, has-place, literal-cause, add-entry, add-entries, clause-read, clause-line, body-line, step, Scan, whole, stopped, go-on, Form, clause-list, gate-list, is-gates, with-output, output-cause, ending, finish, body, problem-cause, form-of, opened, problem, after-comments, lent-well, scan, Read, closed, Result, taken, refused, result-of, read, read-gates}
 use Rattle.text.proofs.NameLaws.{name-cause-zero, literal-cause-zero}
 use Rattle.text.proofs.ScanLaws.{cond-so, NoneOr, Steps, Scans, unless-so, go-on-so, bind-all-so, body-so, scan-so}
 use Rattle.text.proofs.KeptLaws.{Whole, Open, Closed, and-both, bind-whole, add-zero, add-literal}
@@ -53,7 +54,7 @@ name-cause-of-text variables names v = go (ltb variables v) (among v names) (ltb
     go false false true = (λ some. omega arith, omega arith, λ e. omega arith)
     go false false false = (λ some. omega arith, omega arith, λ e. omega arith)
 
-kind-known : (b : Bool) → other-kind (cond b 1 0) ≡ false
+pub kind-known : (b : Bool) → other-kind (cond b 1 0) ≡ false
 kind-known true = refl
 kind-known false = refl
 
@@ -226,25 +227,52 @@ pub record Passes (r : Read) : Type 0 where
   pub few-variables : r .variables ≤ max-variables
   pub few-clauses : r .clauses ≤ max-clauses
 
-whole-passes : (s : State) → Whole s → Passes (closed s)
+-- A state whose sizes, kinds, names and entries are as causes 1 to 3 want them.
+pub record Within (s : State) : Type 0 where
+  pub kinds-known : any other-kind (s .kinds) ≡ false
+  pub as-many : length (s .kinds) ≡ length (s .names)
+  pub few-names : length (closed-names (s .free) (s .names)) ≤ max-unknowns
+  pub few-entries : length (s .entries) ≤ max-entries
+  pub few-zeros : zeros (s .entries) ≤ max-clauses
+  pub last-ended : ended (s .entries) ≡ true
+  pub names-known : Known (closed-names (s .free) (s .names)) (s .entries)
+  pub few-variables : s .variables ≤ max-variables
+  pub few-clauses : s .clauses ≤ max-clauses
+
+pub within-passes : (s : State) → Within s → Passes (closed s)
 unfolding closed checked cause-3
-whole-passes s w =
-    let K = w .kept in
+within-passes s w =
     let names = closed-names (s .free) (s .names) in
-    let known = K .placeable .known in
-    let many = as-many-closed (s .free) (s .kinds) (s .names) (K .as-many) in
+    let known = w .names-known in
+    let many = as-many-closed (s .free) (s .kinds) (s .names) (w .as-many) in
     record {
       accepted =
           rw (
-            no-cause-1 (closed-kinds (s .free) (s .kinds)) (omega (arith, many, K .few-names)) (kinds-known (s .free) (s .kinds) (K .known)),
-            no-cause-2 (closed-literals (s .free) (s .names) (s .entries)) (omega (arith, length-map {A = ℤ} {B = ℤ} (placed names) (s .entries), K .few-entries))
-                (omega (arith, zeros-placed names (s .entries) known, K .counted, w .in-count, K .few-clauses)) (ended-placed names (s .entries) known ∙ w .closed),
+            no-cause-1 (closed-kinds (s .free) (s .kinds)) (omega (arith, many, w .few-names)) (kinds-known (s .free) (s .kinds) (w .kinds-known)),
+            no-cause-2 (closed-literals (s .free) (s .names) (s .entries)) (omega (arith, length-map {A = ℤ} {B = ℤ} (placed names) (s .entries), w .few-entries))
+                (omega (arith, zeros-placed names (s .entries) known, w .few-zeros)) (ended-placed names (s .entries) known ∙ w .last-ended),
             many,
             placed-within names (s .entries),
           ) refl;
+      few-variables = w .few-variables;
+      few-clauses = w .few-clauses;
+    }
+
+whole-passes : (s : State) → Whole s → Passes (closed s)
+whole-passes s w =
+    let K = w .kept in
+    within-passes s
+    (record {
+      kinds-known = K .known;
+      as-many = K .as-many;
+      few-names = K .few-names;
+      few-entries = K .few-entries;
+      few-zeros = omega (arith, K .counted, w .in-count, K .few-clauses);
+      last-ended = w .closed;
+      names-known = K .placeable .known;
       few-variables = K .few-variables;
       few-clauses = K .few-clauses;
-    }
+    })
 
 pub read-passes : (text : Bytes) (kinds literals names : ℕ) → Results Passes (read text kinds literals names)
 unfolding read
@@ -259,23 +287,38 @@ go-on-to : (m : ℕ) (t : Step) (k : ℕ) (more : State → Scan) → k ≤ m �
 go-on-to m (fault n) k more small then = small
 go-on-to m (went s) k more small then = then s
 
-body-to : (ls : List Line) (s : State) (k m : ℕ) → k + length ls ≤ m → To m (body clause-list s k ls)
-body-to [] s k m small = cond-so (To m) (eqb (s .clauses-read) (s .clauses)) (whole s) (stopped 14 k) (λ _. tt) (λ _. omega arith)
-body-to (l ∷ ls) s k m small = go-on-to m (step false s l) k (λ t. body clause-list t (suc k) ls) (omega arith) (λ t. body-to ls t (suc k) m (omega arith))
+-- O's causes are reported at the p line.
+abbrev FormTo : ℕ → Form → Type 0
+FormTo m clause-list = Unit {0}
+FormTo m (gate-list o line) = line ≤ m
 
-problem-to : (ls : List Line) (k m : ℕ) → k + length ls ≤ m → To m (problem false k ls)
-problem-to [] k m small = omega arith
-problem-to (unended line ∷ ls) k m small = omega arith
-problem-to (line-ended line ∷ ls) k m small =
-    go-on-to m (unless (problem-cause false line) (went (opened (words line)))) k (λ t. body clause-list t (suc k) ls) (omega arith)
-    (λ t. body-to ls t (suc k) m (omega arith))
+ending-to : (m : ℕ) (form : Form) (s : State) (k : ℕ) → FormTo m form → To m (ending form s k)
+ending-to m clause-list s k small = tt
+ending-to m (gate-list o line) s k small = go-on-to m (unless (output-cause s o) (went (with-output s o))) line whole small (λ t. tt)
 
-comments-to : (ls : List Line) (k m : ℕ) → k + length ls ≤ m → To m (after-comments false k ls)
-comments-to [] k m small = problem-to [] k m small
-comments-to (unended line ∷ ls) k m small = problem-to (unended line ∷ ls) k m small
-comments-to (line-ended line ∷ ls) k m small =
-    cond-so (To m) (is-comment line) (after-comments false (suc k) ls) (problem false k (line-ended line ∷ ls)) (λ _. comments-to ls (suc k) m (omega arith))
-    (λ _. problem-to (line-ended line ∷ ls) k m small)
+body-to : (form : Form) (ls : List Line) (s : State) (k m : ℕ) → FormTo m form → k + length ls ≤ m → To m (body form s k ls)
+body-to form [] s k m top small =
+    cond-so (To m) (eqb (s .clauses-read) (s .clauses)) (ending form s k) (stopped 14 k) (λ _. ending-to m form s k top) (λ _. omega arith)
+body-to form (l ∷ ls) s k m top small =
+    go-on-to m (step (is-gates form) s l) k (λ t. body form t (suc k) ls) (omega arith) (λ t. body-to form ls t (suc k) m top (omega arith))
+
+form-to : (gates : Bool) (ws : List Bytes) (k m : ℕ) → k ≤ m → FormTo m (form-of gates ws k)
+form-to false ws k m small = tt
+form-to true ws k m small = small
+
+problem-to : (gates : Bool) (ls : List Line) (k m : ℕ) → k + length ls ≤ m → To m (problem gates k ls)
+problem-to gates [] k m small = omega arith
+problem-to gates (unended line ∷ ls) k m small = omega arith
+problem-to gates (line-ended line ∷ ls) k m small =
+    go-on-to m (unless (problem-cause gates line) (went (opened (words line)))) k (λ t. body (form-of gates (words line) k) t (suc k) ls) (omega arith)
+    (λ t. body-to (form-of gates (words line) k) ls t (suc k) m (form-to gates (words line) k m (omega arith)) (omega arith))
+
+comments-to : (gates : Bool) (ls : List Line) (k m : ℕ) → k + length ls ≤ m → To m (after-comments gates k ls)
+comments-to gates [] k m small = problem-to gates [] k m small
+comments-to gates (unended line ∷ ls) k m small = problem-to gates (unended line ∷ ls) k m small
+comments-to gates (line-ended line ∷ ls) k m small =
+    cond-so (To m) (is-comment line) (after-comments gates (suc k) ls) (problem gates k (line-ended line ∷ ls)) (λ _. comments-to gates ls (suc k) m (omega arith))
+    (λ _. problem-to gates (line-ended line ∷ ls) k m small)
 
 -- A text has no more lines than bytes.
 in-front-more : (b : Bool) (x : ℕ) (ps : List Bytes) → length (in-front b x ps) ≤ 1 + length ps
@@ -305,11 +348,11 @@ short-if-lent-well text kinds literals names well = go (leb (length text) max-by
     go true e w = leb-true (length text) max-bytes e
     go false e w = absurd (false≢true w)
 
-scan-to : (text : Bytes) (kinds literals names : ℕ) → To (2 + max-bytes) (scan false text kinds literals names)
+scan-to : (gates : Bool) (text : Bytes) (kinds literals names : ℕ) → To (2 + max-bytes) (scan gates text kinds literals names)
 unfolding scan
-scan-to text kinds literals names =
-    cond-so (To (2 + max-bytes)) (lent-well text kinds literals names) (after-comments false 1 (lines text)) (stopped 9 0)
-    (λ well. comments-to (lines text) 1 (2 + max-bytes) (omega (arith, lines-many text, short-if-lent-well text kinds literals names well)))
+scan-to gates text kinds literals names =
+    cond-so (To (2 + max-bytes)) (lent-well text kinds literals names) (after-comments gates 1 (lines text)) (stopped 9 0)
+    (λ well. comments-to gates (lines text) 1 (2 + max-bytes) (omega (arith, lines-many text, short-if-lent-well text kinds literals names well)))
     (λ _. omega arith)
 
 stopped-if-refused : (x : Scan) (n line : ℕ) → result-of x ≡ refused n line → x ≡ stopped n line
@@ -319,4 +362,9 @@ stopped-if-refused (stopped m k) n line e = cc
 pub refused-line : (text : Bytes) (kinds literals names n line : ℕ) → read text kinds literals names ≡ refused n line → line ≤ 2 + max-bytes
 unfolding read
 refused-line text kinds literals names n line e =
-    subst (To (2 + max-bytes)) (stopped-if-refused (scan false text kinds literals names) n line e) (scan-to text kinds literals names)
+    subst (To (2 + max-bytes)) (stopped-if-refused (scan false text kinds literals names) n line e) (scan-to false text kinds literals names)
+
+pub gates-refused-line : (text : Bytes) (kinds literals names n line : ℕ) → read-gates text kinds literals names ≡ refused n line → line ≤ 2 + max-bytes
+unfolding read-gates
+gates-refused-line text kinds literals names n line e =
+    subst (To (2 + max-bytes)) (stopped-if-refused (scan true text kinds literals names) n line e) (scan-to true text kinds literals names)

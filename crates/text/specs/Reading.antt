@@ -415,3 +415,10 @@ text-scan text = scan false text max-unknowns max-entries max-unknowns
 
 abbrev pub gates-read : Bytes → Result
 gates-read text = read-gates text max-unknowns max-entries max-unknowns
+
+-- The numbers with which a text, and a gate list, is refused.
+abbrev pub text-causes : List ℕ
+text-causes = 9 ∷ 10 ∷ 11 ∷ 12 ∷ 14 ∷ []
+
+abbrev pub gates-causes : List ℕ
+gates-causes = 9 ∷ 10 ∷ 11 ∷ 12 ∷ 14 ∷ 19 ∷ 20 ∷ []
