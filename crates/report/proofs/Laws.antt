@@ -5,6 +5,7 @@ use Prim.Native.Nat.{ℕ, zero, suc, _≤_, _<_}
 use lib.ListN.{length, drop}
 use borrow.Author.Tests.{le-leb, lt-leb}
 use Rattle.report.specs.Report.{ascii, decimal, truth, line-two, pair-line, put, put-count}
+use Rattle.report.specs.Studied.{setting-line}
 use Rattle.report.specs.Page.{answers-line, most-line, fees-line, page-lines}
 
 pub truth-other : (answer : ℕ) → (answer ≡ 0 → ⊥) → (answer ≡ 1 → ⊥) → truth answer ≡ "-1"
@@ -19,7 +20,12 @@ pub line-two-behind : (front : List ℕ) (rounds universal existential : ℕ)
 unfolding line-two
 line-two-behind front rounds universal existential = simp append-assoc
 
--- So are those of a line of two numbers, and those of a page.
+-- So are those of a setting's line, of a line of two numbers, and of a page.
+pub setting-behind : (front : List ℕ) (setting : ℕ)
+    → front ++ ascii "c setting " ++ decimal setting ++ ascii "\n" ≡ front ++ setting-line setting
+unfolding setting-line
+setting-behind front setting = simp append-assoc
+
 pub pair-behind : (front label : List ℕ) (first second : ℕ)
     → front ++ label ++ decimal first ++ ascii " " ++ decimal second ++ ascii "\n" ≡ front ++ pair-line label first second
 unfolding pair-line

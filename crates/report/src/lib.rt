@@ -1,4 +1,4 @@
-// The lines that the programs print, as bytes in a lent buffer: two for a result, one for a refusal, four for a season's page. Each writer promises, for all
+// The lines that the programs print, as bytes in a lent buffer: two for a result, three for a study's, one for a refusal, four for a season's page. Each writer promises, for all
 // numbers and buffers, the definition's bytes at the start of the buffer, the bytes past them as found, and how many were written; a
 // buffer that is too short is left as found.
 ghost use mathlib.Core.Path.{_≡_};
@@ -6,6 +6,7 @@ ghost use mathlib.Core.List.{_++_};
 ghost use Prim.Native.Nat.{_+_, _≤_};
 ghost use lib.ListN.{length, take, drop};
 ghost use Rattle.report.specs.Report.{ascii, decimal, truth as Report·truth, line-one, line-two, result-lines, pair-line, refusal-line, put, put-count};
+ghost use Rattle.report.specs.Studied.{setting-line, study-lines};
 ghost use Rattle.report.specs.Page.{answers-line, most-line, page-lines};
 
 // The two lines of a result: the answer's number and the text's V and C, then the rounds and the counts of A and S.
@@ -25,6 +26,27 @@ pub fn result(
     let one = line_one(&mut text, answer, variables, clauses);
     let two = line_two(&mut text, one, rounds, universal, existential);
     deliver(out, &text[..two])
+}
+
+// The three lines of a study's result: the setting stands between the two lines of its run.
+pub fn study_result(
+    out: &mut [u8],
+    answer: u32,
+    variables: u32,
+    clauses: u32,
+    setting: u32,
+    rounds: u32,
+    universal: u32,
+    existential: u32,
+) -> usize
+    ensures { λ r. ⌜ r ≡ put-count (study-lines answer variables clauses setting rounds universal existential) (now (out .entry)) ⌝ }
+    ensures { λ _. ⌜ now (out .exit) ≡ put (study-lines answer variables clauses setting rounds universal existential) (now (out .entry)) ⌝ }
+{
+    let mut text = [0u8; 192];
+    let one = line_one(&mut text, answer, variables, clauses);
+    let two = line_setting(&mut text, one, setting);
+    let three = line_two(&mut text, two, rounds, universal, existential);
+    deliver(out, &text[..three])
 }
 
 // The line of a refusal: its number and the text's line.
@@ -120,6 +142,16 @@ fn line_two(text: &mut [u8], at: usize, rounds: u32, universal: u32, existential
     let b = field(text, a, b" universal ", universal as u64);
     let c = field(text, b, b" existential ", existential as u64);
     append(text, c, b"\n")
+}
+
+// The line of a setting, never over 31 bytes, behind the first `at` bytes.
+fn line_setting(text: &mut [u8], at: usize, setting: u32) -> usize
+    requires { ⌜ at + 31 ≤ length (now text) ⌝ }
+    ensures { λ r. ⌜ r ≤ at + 31 ⌝ }
+    ensures { λ r. ⌜ take r (now (text .exit)) ≡ take at (now (text .entry)) ++ setting-line setting ⌝ }
+{
+    let a = field(text, at, b"c setting ", setting as u64);
+    append(text, a, b"\n")
 }
 
 // T behind the first `at` bytes.

@@ -1,0 +1,37 @@
+-- `report::line_setting` meets its contract: the parts stand one behind the other. Assumes nothing.
+use native.Mathlib.Omega.{arith}
+use lib.ListN.{take}
+use Rattle.report.proofs.Laws.{setting-behind}
+use borrow.Author.Needs.{needs}
+use Rattle.report.proofs.line_setting.Statement.{statement}
+use Rattle.report.proofs.line_setting.Tie as tie
+
+slice-aggregate-field : tie.Need-slice-aggregate-field
+slice-aggregate-field c = search needs
+
+field-requires : tie.Need-field-requires
+field-requires c κs = search needs
+
+slice-aggregate-append : tie.Need-slice-aggregate-append
+slice-aggregate-append c = search needs
+
+append-requires : tie.Need-append-requires
+append-requires c κs = search needs
+
+same-length : tie.Need-same-length
+same-length c = search needs
+
+returns : tie.Need-returns
+returns c =
+    (omega arith, rw (c .before .before .append .ensures .1 .1, c .before .before .before .before .before .before .before .field .ensures .1) (setting-behind (take (c .before .before .before .before .before .before .before .before .before .before .before .args .at) (c .before .before .before .before .before .before .before .before .before .before .before .args .text .now)) (c .before .before .before .before .before .before .before .before .before .before .before .args .setting)))
+
+pub line-setting-spec : {M : Type 1} → statement M
+line-setting-spec =
+    tie.close
+    (tie.spec
+    slice-aggregate-field
+    field-requires
+    slice-aggregate-append
+    append-requires
+    same-length
+    returns)
