@@ -1,0 +1,101 @@
+-- What an account says, for every text and gate list. Assumes nothing.
+use Prim.Native.Nat.{ℕ}
+use native.Mathlib.Omega.{arith}
+use mathlib.Core.Path.{_≡_, refl, sym, ap, subst, _∙_}
+use mathlib.Core.List.{List, _++_, append-assoc}
+use mathlib.Core.Logic.{_⊎_, inl, inr}
+use lib.ListN.{length, take}
+use lib.Seq.{take-length, take-append-seam}
+use Rattle.formula.specs.Meaning.{verdict}
+use Rattle.formula.specs.Causes.{checked}
+use Rattle.formula.specs.declared.Check.{Check}
+use Rattle.formula.specs.declared.Check.the-variants.{Accepted, Refused}
+use Rattle.rounds.proofs.Verdict.{verdict-right}
+use Rattle.rounds.proofs.Claim.{claim}
+use Rattle.rounds.proofs.Opening.{opening-right}
+use Rattle.rounds.proofs.CountsLaws.{counts-right}
+use Rattle.text.specs.Reading.{Read, Result, taken, refused, text-read, gates-read}
+use Rattle.text.proofs.TextLaws.{Results, Passes, read-passes}
+use Rattle.text.proofs.GatesRight.{gates-right}
+use Rattle.report.specs.Report.{refusal-line}
+use Rattle.decision.specs.Decision.{own-lent}
+use Rattle.answer.specs.Printed.{round-limit, result-of, shown as shown-answer, printed}
+use Rattle.account.specs.Account.{head-lines, lines, facts, by-check, formula-lines, shown, account, account-of-gates}
+use Rattle.account.specs.AccountRight.{RunRight, Told, a-refusal, a-run, AccountRight, Caused, GatesAccountRight}
+
+-- One list goes on where another ends.
+record Starts (front whole : List ℕ) : Type 0 where
+  rest : List ℕ
+  is : whole ≡ front ++ rest
+
+longer : {front whole : List ℕ} → Starts front whole → (more : List ℕ) → Starts front (whole ++ more)
+longer {front} s more = record { rest = s .rest ++ more; is = ap (λ (l : List ℕ). l ++ more) (s .is) ∙ append-assoc front (s .rest) more }
+
+starts-taken : {front whole : List ℕ} → Starts front whole → take (length front) whole ≡ front
+starts-taken {front} s = ap (take (length front)) (s .is) ∙ take-append-seam front (s .rest)
+
+run-right : (r : Read) → RunRight r
+unfolding verdict
+run-right r =
+    let l = own-lent (r .kinds) (r .literals) in
+    record {
+      only-true = verdict-right l round-limit .only-true;
+      only-false = verdict-right l round-limit .only-false;
+      claim = claim l round-limit (omega arith);
+      opened = opening-right l round-limit;
+      counted = counts-right l round-limit;
+    }
+
+-- The account of a formula begins with the program's two lines.
+lines-start : (r : Read) → Starts (result-of (r .kinds) (r .literals) (r .variables) (r .clauses)) (lines (facts (r .kinds) (r .literals) (r .names) (r .variables) (r .clauses)))
+unfolding lines head-lines result-of
+lines-start r =
+    let self : Starts (result-of (r .kinds) (r .literals) (r .variables) (r .clauses)) (result-of (r .kinds) (r .literals) (r .variables) (r .clauses) ++ _) = record { rest = _; is = refl } in
+    longer (longer (longer (longer (longer (longer self _) _) _) _) _) _
+
+accepted-so : (r : Read) {sizes : _} → checked (r .kinds) (r .literals) ≡ Accepted sizes
+    → formula-lines (r .kinds) (r .literals) (r .names) (r .variables) (r .clauses) ≡ lines (facts (r .kinds) (r .literals) (r .names) (r .variables) (r .clauses))
+unfolding formula-lines
+accepted-so r e = ap (λ (x : Check). by-check x (lines (facts (r .kinds) (r .literals) (r .names) (r .variables) (r .clauses)))) e
+
+refused-so : (r : Read) (n : ℕ) → checked (r .kinds) (r .literals) ≡ Refused n
+    → formula-lines (r .kinds) (r .literals) (r .names) (r .variables) (r .clauses) ≡ refusal-line n 0
+unfolding formula-lines
+refused-so r n e = ap (λ (x : Check). by-check x (lines (facts (r .kinds) (r .literals) (r .names) (r .variables) (r .clauses)))) e
+
+module _ (text : List ℕ) where
+  pub account-right : AccountRight text
+  unfolding account printed
+  account-right = go (text-read text) refl
+    where
+      go : (result : Result) → text-read text ≡ result → AccountRight text
+      go (refused n line) e =
+          let told = ap shown e in
+          record {
+            begins = ap (λ (x : Result). take (length (shown-answer x)) (shown x)) e ∙ take-length (refusal-line n line) ∙ sym (ap shown-answer e);
+            tells = a-refusal n line e told;
+          }
+      go (taken r) e =
+          let passes : Passes r = subst (Results Passes) e (read-passes text 128 8192 128) in
+          let all = accepted-so r (passes .accepted) in
+          record {
+            begins =
+                ap (λ (x : Result). take (length (shown-answer x)) (shown x)) e
+                ∙ ap (take (length (result-of (r .kinds) (r .literals) (r .variables) (r .clauses)))) all
+                ∙ starts-taken (lines-start r)
+                ∙ sym (ap shown-answer e);
+            tells = a-run r e (ap shown e ∙ all) (run-right r);
+          }
+
+  pub gates-account-right : GatesAccountRight text
+  unfolding account-of-gates
+  gates-account-right = record { tells = go (gates-read text) refl; meaning = gates-right text }
+    where
+      by : (r : Read) → gates-read text ≡ taken r → (x : Check) → checked (r .kinds) (r .literals) ≡ x
+          → Told (gates-read text) (account-of-gates text) ⊎ Caused (gates-read text) (account-of-gates text)
+      by r e (Accepted sizes) is = inl (a-run r e (ap shown e ∙ accepted-so r is) (run-right r))
+      by r e (Refused n) is = inr (record { r = r; n = n; read-so = e; found = is; told-so = ap shown e ∙ refused-so r n is })
+
+      go : (result : Result) → gates-read text ≡ result → Told (gates-read text) (account-of-gates text) ⊎ Caused (gates-read text) (account-of-gates text)
+      go (refused n line) e = inl (a-refusal n line e (ap shown e))
+      go (taken r) e = by r e (checked (r .kinds) (r .literals)) refl

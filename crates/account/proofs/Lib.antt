@@ -1,0 +1,5 @@
+-- What holds of every account.
+pub mod ListLaws
+pub mod LineLaws
+pub mod AccountLaws
+pub mod AccountRight

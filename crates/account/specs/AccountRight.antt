@@ -1,0 +1,55 @@
+-- What an account says of the text that was read. Assumes nothing.
+use Prim.Native.Nat.{ℕ}
+use mathlib.Core.Path.{_≡_}
+use mathlib.Core.Bool.{true, false}
+use mathlib.Core.List.{List}
+use mathlib.Core.Logic.{_⊎_}
+use lib.ListN.{length, take}
+use Rattle.formula.specs.Meaning.{verdict}
+use Rattle.formula.specs.Causes.{checked}
+use Rattle.formula.specs.declared.Check.the-variants.{Refused}
+use Rattle.rounds.specs.Run.{is-true, is-false}
+use Rattle.rounds.specs.Claim.{Claim}
+use Rattle.rounds.specs.Opening.{OpeningRight}
+use Rattle.rounds.specs.Counts.{CountsRight}
+use Rattle.text.specs.Reading.{Read, Result, taken, refused, text-read, gates-read}
+use Rattle.text.specs.GatesRight.{GatesRight}
+use Rattle.report.specs.Report.{refusal-line}
+use Rattle.decision.specs.Decision.{own-lent}
+use Rattle.answer.specs.Printed.{round-limit, settled, printed}
+use Rattle.account.specs.Account.{facts, lines, account, account-of-gates}
+
+-- The run whose facts are told.
+pub record RunRight (r : Read) : Type 0 where
+  -- The answer is the formula's meaning.
+  pub only-true : settled (r .kinds) (r .literals) .answer ≡ is-true → verdict (r .kinds) (r .literals) ≡ true
+  pub only-false : settled (r .kinds) (r .literals) .answer ≡ is-false → verdict (r .kinds) (r .literals) ≡ false
+  -- Each finished round added a row with its mark to both tables, and no two rows of a table are equal.
+  pub claim : Claim (own-lent (r .kinds) (r .literals)) round-limit
+  -- The formula with the first block set to the opening has the same verdict.
+  pub opened : OpeningRight (own-lent (r .kinds) (r .literals)) round-limit
+  -- How often a row came back.
+  pub counted : CountsRight (own-lent (r .kinds) (r .literals)) round-limit
+
+-- The text is refused, and that is all that is told; or it is taken, and the lines are those of its run.
+pub data Told (result : Result) (told : List ℕ) : Type 0 where
+  a-refusal : (n line : ℕ) → result ≡ refused n line → told ≡ refusal-line n line → Told result told
+  a-run : (r : Read) → result ≡ taken r → told ≡ lines (facts (r .kinds) (r .literals) (r .names) (r .variables) (r .clauses)) → RunRight r → Told result told
+
+-- Of a text: the account begins with what the program prints, and is no more where that is a refusal.
+pub record AccountRight (text : List ℕ) : Type 0 where
+  pub begins : take (length (printed text)) (account text) ≡ printed text
+  pub tells : Told (text-read text) (account text)
+
+-- One of 01's causes 1 to 3 applies to what was read.
+pub record Caused (result : Result) (told : List ℕ) : Type 0 where
+  pub r : Read
+  pub n : ℕ
+  pub read-so : result ≡ taken r
+  pub found : checked (r .kinds) (r .literals) ≡ Refused n
+  pub told-so : told ≡ refusal-line n 0
+
+-- Of a gate list: the verdict of its clauses is the circuit's value.
+pub record GatesAccountRight (text : List ℕ) : Type 0 where
+  pub tells : Told (gates-read text) (account-of-gates text) ⊎ Caused (gates-read text) (account-of-gates text)
+  pub meaning : GatesRight text
