@@ -1,33 +1,33 @@
 -- What the calls of each function leave, by what is held. Assumes nothing.
-use Prim.Native.Nat.{ℕ, zero, suc, _+_, _*_, _/_, _%_, _≤_, _<_}
+use Prim.Native.Nat.{ℕ, zero, suc, _+_, _*_, _%_, _≤_, _<_}
 use mathlib.Core.Path.{_≡_, refl, sym, _∙_, ap, subst}
-use mathlib.Core.Logic.{_≢_, inl, inr}
+use mathlib.Core.Logic.{_≢_, _⊎_, inl, inr, ⊎-elim}
 use mathlib.Core.Bool.{Bool, true, false, not, cond, _&&_}
-use mathlib.Core.List.{List}
+use mathlib.Core.List.{List, _∷_}
 use native.Mathlib.Omega.{arith}
 use native.Mathlib.Decide.{ℕ-discrete}
+use native.Mathlib.Numerals.{add-one}
+use borrow.Author.Tests.{eq-eqb, ne-eqb, eqb-true}
 use lib.Dec.{eqb, ltb}
 use lib.ListN.{length, getD, set, drop}
+use lib.Seq.{drop-cons, getD-set-same, getD-set-other}
+use Rattle.preference.specs.Preference.{odd}
+use Rattle.rows.specs.Row.{weight}
 use Rattle.expansion.proofs.Booleans.{never-both}
 use Rattle.expansion.proofs.Cuts.{Mask}
+use Rattle.expansion.proofs.ClauseCuts.{Every}
 use Rattle.codes.specs.Codes.{row-position}
-use Rattle.codes.specs.Clauses.{position, clause-of, Begins, Coded}
-use Rattle.codes.proofs.CodeLaws.{row-position-is}
+use Rattle.codes.specs.Clauses.{position, clause-of, HasEnd, Begins, Coded}
+use Rattle.codes.proofs.CodeLaws.{row-position-is, clause-step, clause-stop}
 use Rattle.search_cells.specs.Cells.{cells}
-use Rattle.search_cells.specs.Changes.{CellsSet, CellsOpened}
-use Rattle.search_cells.specs.Steps.{rows-set, rows-opened}
-use Rattle.search_cells.proofs.SetLaws.{rows-are-set}
-use Rattle.search_cells.proofs.OpenLaws.{rows-are-opened}
 use Rattle.search_sets.specs.Sets.{added, has, emptied, blamed}
-use Rattle.search_sets.specs.Masks.{words, set-at, SetGrown, SetsKept, Put, Blamed}
+use Rattle.search_sets.specs.Masks.{set-at, SetGrown, SetsKept, Put, Blamed}
 use Rattle.search_sets.proofs.SetLaws.{add-grows, add-adds, has-is, empty-empties, empty-keeps, blame-blames}
-use Rattle.search_sets.proofs.MaskLaws.{store-elsewhere, set-grown-keeps}
-use Rattle.search_evaluation.specs.Evaluation.{has-row, look-at, level-in}
-use Rattle.search_evaluation.specs.Looked.{Looked}
-use Rattle.search_evaluation.proofs.LookLaws.{look-looked}
+use Rattle.search_sets.proofs.MaskLaws.{store-elsewhere}
+use Rattle.search_evaluation.specs.Evaluation.{has-row, level-in}
 use Rattle.search_reasons.specs.Reasons.{Fixed, IsReason, Shorter}
-use Rattle.search_reasons.specs.Held.{Implied, Held, Moved, Moves, StepsOn, SetsBut, Inheriting, Inherited, Same}
-use Rattle.search_reasons.proofs.HeldLaws.{held-same, held-store, held-open, held-none, denied-false, implied-open, implied-fixed, implied-decided, implied-turned, denied-reason}
+use Rattle.search_reasons.specs.Held.{LineSet, LineOpened, IsFalse, FalseBut, Held, Moved, Moves, StepsOn, SetsBut, Inheriting, Inherited, Same}
+use Rattle.search_reasons.proofs.HeldLaws.{held-same, held-store, held-open, denied-false, implied-open, implied-fixed, implied-decided, implied-turned, denied-reason}
 
 -- ---- sets that stay
 
@@ -54,13 +54,6 @@ level-set w i k e h = go (has-row w i && ltb k 128) (subst (λ (x : ℕ). 0 < x)
     go false p = absurd (omega arith)
 
 -- ---- the calls, as relations
-
-module _ {a b : List ℕ} (area : length a ≡ 65536) where
-  pub cell-set : (p mark : ℕ) (y : Bool) → p < 128 → b ≡ rows-set p 0 1 mark y a → CellsSet p 0 1 mark y a b
-  cell-set p mark y small e = subst (λ (x : List ℕ). CellsSet p 0 1 mark y a x) (sym e) (rows-are-set p 0 1 mark y a area small (omega arith) (omega arith))
-
-  pub cells-opened : (bound : ℕ) → b ≡ rows-opened 0 1 bound a → CellsOpened 0 1 bound a b
-  cells-opened bound e = subst (λ (x : List ℕ). CellsOpened 0 1 bound a x) (sym e) (rows-are-opened 0 1 bound a area (omega arith) (omega arith))
 
 module _ (o : List ℕ) {q : List ℕ} (size : length o ≡ 524) where
   pub but-emptied : (p : ℕ) → p < 128 → q ≡ emptied o p → SetsBut p o q
@@ -89,28 +82,99 @@ none-more o k l none here j low high = go (ℕ-discrete j l)
     go (yes e) = subst (λ (x : ℕ). set-at o 128 x ≡ false) (sym e) here
     go (no n) = none j low (omega arith)
 
-pub looks : (codes a : List ℕ) (start : ℕ) {r : ℕ} → length a ≡ 65536 → r ≡ look-at codes a 0 start → Coded 128 codes → Looked codes a 0 start r
-looks codes a start area e coded = subst (λ (x : ℕ). Looked codes a 0 start x) (sym e) (look-looked codes a 0 start area (omega arith) coded)
+-- ---- the line
+
+odd-weight : (m : ℕ) (y : Bool) → odd (2 * m + weight y) ≡ y
+odd-weight m true = eq-eqb ((2 * m + 1) % 2) 1 (omega arith)
+odd-weight m false = ne-eqb ((2 * m + 0) % 2) 1 (λ e. omega arith)
+
+pub line-set : (a : List ℕ) (p m r : ℕ) (y : Bool) → p < length a → r ≡ weight y → LineSet p y a (set a p (2 * m + r))
+line-set a p m r y inside e = record {
+  there = ap odd (getD-set-same a p (2 * m + r) 0 inside) ∙ ap (λ (x : ℕ). odd (2 * m + x)) e ∙ odd-weight m y;
+  elsewhere = λ j n. getD-set-other a p j (2 * m + r) 0 n;
+}
+
+pub opened-none : (a : List ℕ) → LineOpened a a
+opened-none a = record { each = λ j. inr refl }
+
+pub opened-more : {a b : List ℕ} (p r : ℕ) → LineOpened a b → p < length b → (r ≡ 0) ⊎ (r ≡ getD b p 0) → LineOpened a (set b p r)
+opened-more {a} {b} p r so-far inside within = record { each = λ j. go j (ℕ-discrete j p) }
+  where
+    go : (j : ℕ) → Dec (j ≡ p) → (getD (set b p r) j 0 ≡ 0) ⊎ (getD (set b p r) j 0 ≡ getD a j 0)
+    go j (yes e) =
+        let here = ap (λ (x : ℕ). getD (set b p r) x 0) e ∙ getD-set-same b p r 0 inside in
+        ⊎-elim
+        (λ z. inl (here ∙ z))
+        (λ z. ⊎-elim (λ q. inl (here ∙ z ∙ ap (λ (x : ℕ). getD b x 0) (sym e) ∙ q)) (λ q. inr (here ∙ z ∙ ap (λ (x : ℕ). getD b x 0) (sym e) ∙ q)) (so-far .each j))
+        within
+    go j (no n) =
+        let same = getD-set-other b p j r 0 n in
+        ⊎-elim (λ q. inl (same ∙ q)) (λ q. inr (same ∙ q)) (so-far .each j)
+
+pub zero-more : (b : List ℕ) (p : ℕ) → ((j : ℕ) → j < p → getD b j 0 ≡ 0) → p < length b → (j : ℕ) → j < p + 1 → getD (set b p 0) j 0 ≡ 0
+zero-more b p zeros inside j less = go (ℕ-discrete j p)
+  where
+    go : Dec (j ≡ p) → getD (set b p 0) j 0 ≡ 0
+    go (yes e) = ap (λ (x : ℕ). getD (set b p 0) x 0) e ∙ getD-set-same b p 0 0 inside
+    go (no n) = getD-set-other b p j 0 0 n ∙ zeros j (omega arith)
+
+-- ---- a clause read code by code: what holds of the rest gives the whole
+
+pub record Reading (codes a : List ℕ) (start but e : ℕ) : Type 0 where
+  pub ends : HasEnd (drop e codes) → HasEnd (drop start codes)
+  pub rest : Every (λ c. (c ≡ but) ⊎ IsFalse a c) (clause-of (drop e codes)) → Every (λ c. (c ≡ but) ⊎ IsFalse a c) (clause-of (drop start codes))
+
+pub reading-start : (codes a : List ℕ) (start but : ℕ) → Reading codes a start but start
+reading-start codes a start but = record { ends = λ h. h; rest = λ h. h }
+
+module _ {codes a : List ℕ} {start but e : ℕ} (so-far : Reading codes a start but e) (inside : e < length codes) (c : ℕ) (is : c ≡ getD codes e 0) where
+  here : drop e codes ≡ c ∷ drop (e + 1) codes
+  here = drop-cons codes e 0 inside ∙ ap (λ (n : ℕ). getD codes e 0 ∷ drop n codes) (sym (add-one e)) ∙ ap (λ (x : ℕ). x ∷ drop (e + 1) codes) (sym is)
+
+  pub reading-more : (c ≡ 0 → ⊥) → (c ≡ but) ⊎ IsFalse a c → Reading codes a start but (e + 1)
+  reading-more some fact = record {
+    ends = λ h. so-far .ends (subst HasEnd (sym here) (ends-later c h));
+    rest = λ h.
+        so-far .rest
+        (subst (λ (cs : List ℕ). Every (λ c. (c ≡ but) ⊎ IsFalse a c) cs) (sym (clause-step codes e inside (omega arith)))
+        (subst (λ (x : ℕ). (x ≡ but) ⊎ IsFalse a x) is fact, h));
+  }
+    where
+      ends-later : (x : ℕ) → HasEnd (drop (e + 1) codes) → HasEnd (x ∷ drop (e + 1) codes)
+      ends-later zero h = tt
+      ends-later (suc x) h = h
+
+  pub reading-end : c ≡ 0 → FalseBut codes a start but
+  reading-end z = record {
+    ends = so-far .ends (subst HasEnd (sym (here ∙ ap (λ (x : ℕ). x ∷ drop (e + 1) codes) z)) tt);
+    rest = so-far .rest (subst (λ (cs : List ℕ). Every (λ c. (c ≡ but) ⊎ IsFalse a c) cs) (sym (clause-stop codes e inside (sym is ∙ z))) tt);
+  }
+
+pub is-false : (a : List ℕ) (c p x : ℕ) → p ≡ row-position c → x ≡ getD a p 0 → (x ≡ 0 → ⊥) → eqb (x % 2) (c % 2) ≡ true → IsFalse a c
+is-false a c p x there is set same =
+    let value : x ≡ getD a (row-position c) 0 = is ∙ ap (λ (q : ℕ). getD a q 0) there in
+    let parity = eqb-true (x % 2) (c % 2) same in
+    record { set = omega arith; is = sym (ap (λ (q : ℕ). q % 2) value) ∙ parity }
 
 -- ---- values that are put
 
 -- the row's own value, as a decision
-pub put-held : (w a o b q1 q : List ℕ) (i p mark : ℕ) (y : Bool) → length a ≡ 65536 → length o ≡ 524 → length q1 ≡ 524 → p < 128
-    → q1 ≡ emptied o p → q ≡ added q1 p p → y ≡ cells w .value i p → b ≡ rows-set p 0 1 mark y a
+pub put-held : (w a o b q1 q : List ℕ) (i p : ℕ) (y : Bool) → length o ≡ 524 → length q1 ≡ 524 → p < 128
+    → q1 ≡ emptied o p → q ≡ added q1 p p → y ≡ cells w .value i p → LineSet p y a b
     → (codes s : List ℕ) → Held codes w s i a o → Held codes w s i b q
-put-held w a o b q1 q i p mark y area size size1 small e1 e2 ey es codes s held =
-    held-store codes w s i a o held b q p mark (cells w .value i p)
-    (cell-set area p mark (cells w .value i p) small (es ∙ ap (λ (v : Bool). rows-set p 0 1 mark v a) ey))
+put-held w a o b q1 q i p y size size1 small e1 e2 ey stored codes s held =
+    held-store codes w s i a o held b q p (cells w .value i p)
+    (subst (λ (v : Bool). LineSet p v a b) ey stored)
     (record { same = λ j lt n l. grown-added q1 size1 p p small small e2 .others j n l ∙ but-emptied o size p small e1 .same j lt n l })
     (implied-decided codes w s i (set-at q p) p small (adds q1 size1 p p small small e2))
 
 -- what is fixed
-pub fixed-held : (w s a o b q : List ℕ) (i p mark : ℕ) (y : Bool) → length a ≡ 65536 → length o ≡ 524 → p < 128 → Fixed w s i p
-    → q ≡ emptied o p → y ≡ cells w .value i p → b ≡ rows-set p 0 1 mark y a
+pub fixed-held : (w s a o b q : List ℕ) (i p : ℕ) (y : Bool) → length o ≡ 524 → p < 128 → Fixed w s i p
+    → q ≡ emptied o p → y ≡ cells w .value i p → LineSet p y a b
     → (codes : List ℕ) → Held codes w s i a o → Held codes w s i b q
-fixed-held w s a o b q i p mark y area size small fixed e1 ey es codes held =
-    held-store codes w s i a o held b q p mark (cells w .value i p)
-    (cell-set area p mark (cells w .value i p) small (es ∙ ap (λ (v : Bool). rows-set p 0 1 mark v a) ey))
+fixed-held w s a o b q i p y size small fixed e1 ey stored codes held =
+    held-store codes w s i a o held b q p (cells w .value i p)
+    (subst (λ (v : Bool). LineSet p v a b) ey stored)
     (but-emptied o size p small e1)
     (implied-fixed codes w s i (set-at q p) p small fixed)
 
@@ -131,47 +195,41 @@ pub moves-at : {codes a b o q : List ℕ} {r r′ : Bool} → r ≡ r′ → Mov
 moves-at {codes} {a} {b} {o} {q} e moves = subst (λ (x : Bool). Moves codes a b o q x) e moves
 
 -- a clause that is false
-pub false-moves : (codes a o q1 q : List ℕ) (start c : ℕ) → length a ≡ 65536 → length o ≡ 524 → length q1 ≡ 524 → Begins codes start → c ≡ look-at codes a 0 start → c ≡ 0
+pub false-moves : (codes a o q1 q : List ℕ) (start c : ℕ) → length o ≡ 524 → length q1 ≡ 524 → Begins codes start → FalseBut codes a start c → c ≡ 0
     → q1 ≡ emptied o 128 → q ≡ blamed codes q1 start 128 → Moves codes a a o q false
-false-moves codes a o q1 q start c area size size1 begins look none e1 e2 = record { on = moved }
+false-moves codes a o q1 q start c size size1 begins looked none e1 e2 = record { on = moved }
   where
     moved : (w s : List ℕ) (i : ℕ) → Coded 128 codes → Held codes w s i a o → Moved codes w s i a q false
     moved w s i coded held = record {
       held = held-same codes w s i a o held q (record { same = λ p lt l. blamed .grown .others p (λ e. omega arith) l ∙ kept-emptied o size e1 .same p lt l });
       denied = λ e.
-          denied-false codes w s i a o held coded start c begins (looks codes a start area look coded) (λ one. omega arith) none q1 q (kept-emptied o size e1) blamed;
+          denied-false codes w s i a o held coded start c begins looked none q1 q (kept-emptied o size e1) blamed;
     }
       where
         blamed : Blamed (clause-of (drop start codes)) 128 q1 q
         blamed = blames q1 size1 codes start 128 (omega arith) coded e2
 
 -- a clause with one open literal
-module _ (codes a o b q1 q2 q : List ℕ) (p mark start c : ℕ) (y : Bool) (area : length a ≡ 65536) (size : length o ≡ 524) (size1 : length q1 ≡ 524) (small : p < 128) (two : 2 ≤ c)
-    (ep : p ≡ row-position c) (e1 : q1 ≡ emptied o p) (e2 : q2 ≡ blamed codes q1 start p) (ey : y ≡ eqb (c % 2) 0) (es : b ≡ rows-set p 0 1 mark y a) (noted : SetsKept q2 q)
-    (begins : Begins codes start) (looked : Coded 128 codes → Looked codes a 0 start c) where
-  stored : CellsSet p 0 1 mark (eqb (c % 2) 0) a b
-  stored = cell-set area p mark (eqb (c % 2) 0) small (es ∙ ap (λ (v : Bool). rows-set p 0 1 mark v a) ey)
+module _ (codes a o b q1 q2 q : List ℕ) (p start c : ℕ) (size : length o ≡ 524) (size1 : length q1 ≡ 524) (small : p < 128) (two : 2 ≤ c) (last : c ≤ 257)
+    (ep : p ≡ row-position c) (unset : getD a p 0 ≡ 0) (e1 : q1 ≡ emptied o p) (e2 : q2 ≡ blamed codes q1 start p) (stored : LineSet p (eqb (c % 2) 0) a b) (noted : SetsKept q2 q)
+    (begins : Begins codes start) (looked : FalseBut codes a start c) where
+  there : position c ≡ p
+  there = sym (row-position-is c two (omega arith)) ∙ sym ep
 
   module _ (w s : List ℕ) (i : ℕ) (coded : Coded 128 codes) (held : Held codes w s i a o) where
-    there : position c ≡ p
-    there = sym (row-position-is c two (looked coded .fits two)) ∙ sym ep
-
     blamed-there : Blamed (clause-of (drop start codes)) p q1 q2
     blamed-there = blames q1 size1 codes start p (omega arith) coded e2
 
     others : SetsBut p o q2
     others = record { same = λ j lt n l. blamed-there .grown .others j n l ∙ but-emptied o size p small e1 .same j lt n l }
 
-    reached : Implied codes w s i (set-at q2 p) p (eqb (c % 2) 0)
-    reached =
-        subst (λ (x : ℕ). Implied codes w s i (set-at q2 x) x (eqb (c % 2) 0)) there
-        (implied-open codes w s i a o held coded start c begins (looked coded) (λ one. omega arith) two q1 q2
-        (subst (λ (x : ℕ). SetsBut x o q1) (sym there) (but-emptied o size p small e1))
-        (subst (λ (x : ℕ). Blamed (clause-of (drop start codes)) x q1 q2) (sym there) blamed-there))
-
     open-moved : Moved codes w s i b q true
     open-moved = record {
-      held = held-same codes w s i b q2 (held-store codes w s i a o held b q2 p mark (eqb (c % 2) 0) stored others reached) q noted;
+      held =
+          held-same codes w s i b q2
+          (held-store codes w s i a o held b q2 p (eqb (c % 2) 0) stored others
+          (implied-open codes w s i a o held coded start c begins looked p there unset q1 q2 (but-emptied o size p small e1) blamed-there))
+          q noted;
       denied = λ e. absurd (never-both refl e);
     }
 
@@ -187,18 +245,17 @@ decides codes w a b b′ o q1 q2 q3 q i r same put kept moves = record {
   on = λ s coded moved. moves .on w s i coded (held-same codes w s i b q2 (put codes s (held-same codes w s i a o (moved .held) q1 (same-kept same))) q3 kept);
 }
 
-pub turns : (codes w a a1 b b′ o q1 q2 q : List ℕ) (i p mark bound : ℕ) (y : Bool) (r : Bool) → length a ≡ 65536 → length a1 ≡ 65536 → p < 128
-    → a1 ≡ rows-opened 0 1 bound a → Inherited p o q1 → y ≡ not (cells w .value i p) → b ≡ rows-set p 0 1 mark y a1 → SetsKept q1 q2 → Moves codes b b′ q2 q r
-    → StepsOn codes w i a b′ o q false r
-turns codes w a a1 b b′ o q1 q2 q i p mark bound y r area area1 small ea inherited ey es kept moves = record {
+pub turns : (codes w a a1 b b′ o q1 q2 q : List ℕ) (i p : ℕ) (y r : Bool) → LineOpened a a1 → Inherited p o q1 → y ≡ not (cells w .value i p) → LineSet p y a1 b → SetsKept q1 q2
+    → Moves codes b b′ q2 q r → StepsOn codes w i a b′ o q false r
+turns codes w a a1 b b′ o q1 q2 q i p y r opened inherited ey stored kept moves = record {
   on = λ s coded moved.
-    moves .on w s i coded
-    (held-same codes w s i b q1
-    (held-store codes w s i a1 o (held-open codes w s i a o (moved .held) a1 bound (cells-opened area bound ea)) b q1 p mark (not (cells w .value i p))
-    (cell-set area1 p mark (not (cells w .value i p)) small (es ∙ ap (λ (v : Bool). rows-set p 0 1 mark v a1) ey))
-    (inherited .others)
-    (implied-turned codes w s i (set-at o 128) (set-at q1 p) p (moved .denied refl) (inherited .takes)))
-    q2 kept);
+      moves .on w s i coded
+      (held-same codes w s i b q1
+      (held-store codes w s i a1 o (held-open codes w s i a o (moved .held) a1 opened) b q1 p (not (cells w .value i p))
+      (subst (λ (v : Bool). LineSet p v a1 b) ey stored)
+      (inherited .others)
+      (implied-turned codes w s i (set-at o 128) (set-at q1 p) p (moved .denied refl) (inherited .takes)))
+      q2 kept);
 }
 
 pub steps-at : {codes w : List ℕ} {i : ℕ} {a b o q : List ℕ} {going going′ r : Bool} → going ≡ going′ → StepsOn codes w i a b o q going r → StepsOn codes w i a b o q going′ r

@@ -4,23 +4,25 @@
 // decision of its set round (unit propagation and backjumping). A number of steps bounds the work.
 // Promised is that a set that is found is a reason, for whatever is lent. When one is found is not: what is tried, and when it is given up, is
 // a hint, and so is the index. Which set the search goes on with is left to it.
+use codes::LAST_CODE;
 use formula::Formula;
 use search_cells::FLAGS;
 ghost use mathlib.Core.Path.{_≡_};
+ghost use mathlib.Core.Logic.{_⊎_};
 ghost use mathlib.Core.Bool.{true, false};
 ghost use mathlib.Core.List.{List};
 ghost use Prim.Native.Nat.{ℕ, _+_, _≤_, _<_};
-ghost use lib.ListN.{length};
+ghost use lib.ListN.{length, getD};
 ghost use Rattle.formula.specs.Formula.{max-unknowns, max-rows, work-size};
-ghost use Rattle.codes.specs.Codes.{last-code};
+ghost use Rattle.rows.specs.Row.{weight};
+ghost use Rattle.codes.specs.Codes.{last-code, row-position};
 ghost use Rattle.codes.specs.Clauses.{Begins, Coded};
 ghost use Rattle.index.specs.Index.{index-size};
 ghost use Rattle.search_cells.specs.Cells.{cells};
 ghost use Rattle.search_sets.specs.Sets.{sets-size};
 ghost use Rattle.search_sets.specs.Masks.{set-at, SetsKept};
-ghost use Rattle.search_evaluation.specs.Looked.{Looked};
 ghost use Rattle.search_reasons.specs.Reasons.{Fixed, IsReason, Shorter};
-ghost use Rattle.search_reasons.specs.Held.{Held, Moves, StepsOn, Same, Inheriting, Inherited, Lent};
+ghost use Rattle.search_reasons.specs.Held.{IsFalse, FalseBut, LineSet, LineOpened, Held, Moves, StepsOn, Same, Inheriting, Inherited, Lent};
 
 // A set of decisions, two words, if one was found, and the steps that are left.
 pub struct Reason {
@@ -73,11 +75,16 @@ pub fn shorter(
     ensures { λ r. ⌜ Shorter (now (codes .entry)) (now (work .entry)) (now (sets .entry)) i k (r .found) (r .low) (r .high) ⌝ }
 {
     if sizes_fit(index.len(), work.len(), sets.len(), i, k) {} else {
-        return Reason { found: false, low: 0, high: 0, left: steps };
+        return Reason {
+            found: false,
+            low: 0,
+            high: 0,
+            left: steps,
+        };
     }
-    let mut area = [0u8; Formula::WORK];
+    let mut line = [0u16; Formula::UNKNOWNS];
     let mut own = [0u64; search_sets::WORDS];
-    narrow(codes, index, work, sets, &mut area, &mut own, i, k, steps)
+    narrow(codes, index, work, sets, &mut line, &mut own, i, k, steps)
 }
 
 fn sizes_fit(index: usize, area: usize, sets: usize, i: usize, k: usize) -> bool
@@ -104,13 +111,13 @@ fn narrow(
     index: &[u16],
     work: &[u8],
     sets: &[u64],
-    area: &mut [u8],
+    line: &mut [u16],
     own: &mut [u64],
     i: usize,
     k: usize,
     steps: usize,
 ) -> Reason
-    requires { ⌜ Lent (now index) (now work) (now sets) (now area) (now own) i × (k ≤ max-unknowns) ⌝ }
+    requires { ⌜ Lent (now index) (now work) (now sets) (now line) (now own) i × (k ≤ max-unknowns) ⌝ }
     ensures { λ r. ⌜ Shorter (now (codes .entry)) (now (work .entry)) (now (sets .entry)) i k (r .found) (r .low) (r .high) ⌝ }
 {
     let mut found = false;
@@ -121,7 +128,7 @@ fn narrow(
     let mut to = k;
     while from < to {
         let m = middle(from, to);
-        let end = probe(codes, index, work, sets, area, own, i, m, left);
+        let end = probe(codes, index, work, sets, line, own, i, m, left);
         left = end.left;
         if end.refuted {
             found = true;
@@ -132,7 +139,12 @@ fn narrow(
             from = m + 1;
         }
     }
-    Reason { found, low, high, left }
+    Reason {
+        found,
+        low,
+        high,
+        left,
+    }
 }
 
 // None at first: a row may have no model at all.
@@ -152,56 +164,82 @@ fn probe(
     index: &[u16],
     work: &[u8],
     sets: &[u64],
-    area: &mut [u8],
+    line: &mut [u16],
     own: &mut [u64],
     i: usize,
     k: usize,
     steps: usize,
 ) -> End
-    requires { ⌜ Lent (now index) (now work) (now sets) (now area) (now own) i × (k ≤ max-unknowns) ⌝ }
+    requires { ⌜ Lent (now index) (now work) (now sets) (now line) (now own) i × (k ≤ max-unknowns) ⌝ }
     ensures { λ r. ⌜ (Coded max-unknowns (now (codes .entry)) → r .refuted ≡ true → IsReason (now (codes .entry)) (now (work .entry)) (now (sets .entry)) i k (set-at (now (own .exit)) max-unknowns)) ⌝ }
 {
-    begin(work, sets, area, own, i, k);
-    let mut going = survey(codes, index, area, own);
+    begin(work, sets, line, own, i, k);
+    let mut going = survey(codes, index, line, own);
     let mut left = steps;
     while left > 0 {
         left -= 1;
-        let p = next(index, area, own, going);
+        let p = next(index, line, own, going);
         if p < Formula::UNKNOWNS {} else {
-            return End { refuted: is_reason(own, going, k), left };
+            return End {
+                refuted: is_reason(own, going, k),
+                left,
+            };
         }
-        going = step(codes, index, work, area, own, i, going, p);
+        going = step(codes, index, work, line, own, i, going, p);
     }
-    End { refuted: false, left: 0 }
+    End {
+        refuted: false,
+        left: 0,
+    }
 }
 
-// Opens all positions, and sets those that are given and those that were decided before position k.
-fn begin(work: &[u8], sets: &[u64], area: &mut [u8], own: &mut [u64], i: usize, k: usize)
-    requires { ⌜ (length (now work) ≡ work-size) × (length (now sets) ≡ sets-size) × (length (now area) ≡ work-size) × (length (now own) ≡ sets-size) × (i < max-rows) ⌝ }
-    ensures { λ _. ⌜ ((codes : List ℕ) → Held codes (now (work .entry)) (now (sets .entry)) i (now (area .exit)) (now (own .exit))) ⌝ }
+// Opens all positions, and then sets those that are given and those that were decided before position k.
+fn begin(work: &[u8], sets: &[u64], line: &mut [u16], own: &mut [u64], i: usize, k: usize)
+    requires { ⌜ (length (now work) ≡ work-size) × (length (now sets) ≡ sets-size) × (length (now line) ≡ max-unknowns) × (length (now own) ≡ sets-size) × (i < max-rows) ⌝ }
+    ensures { λ _. ⌜ ((codes : List ℕ) → Held codes (now (work .entry)) (now (sets .entry)) i (now (line .exit)) (now (own .exit))) ⌝ }
 {
     own[WAITING] = 0;
     own[DEPTH] = 0;
-    search_cells::undo(area, 0, 1, 0);
+    clear(line);
     let mut p = 0;
     while p < Formula::UNKNOWNS {
-        assume(work, sets, area, own, i, k, p);
+        assume(work, sets, line, own, i, k, p);
         p += 1;
     }
 }
 
-fn assume(work: &[u8], sets: &[u64], area: &mut [u8], own: &mut [u64], i: usize, k: usize, p: usize)
-    requires { ⌜ (length (now work) ≡ work-size) × (length (now sets) ≡ sets-size) × (length (now area) ≡ work-size) × (length (now own) ≡ sets-size) × (i < max-rows) × (p < max-unknowns) ⌝ }
-    ensures { λ _. ⌜ ((codes : List ℕ) → Held codes (now (work .entry)) (now (sets .entry)) i (now (area .entry)) (now (own .entry)) → Held codes (now (work .entry)) (now (sets .entry)) i (now (area .exit)) (now (own .exit))) ⌝ }
+// Opens all positions.
+fn clear(line: &mut [u16])
+    requires { ⌜ length (now line) ≡ max-unknowns ⌝ }
+    ensures { λ _. ⌜ ((j : ℕ) → j < max-unknowns → getD (now (line .exit)) j 0 ≡ 0) ⌝ }
+{
+    let mut p = 0;
+    while p < Formula::UNKNOWNS {
+        line[p] = 0;
+        p += 1;
+    }
+}
+
+fn assume(
+    work: &[u8],
+    sets: &[u64],
+    line: &mut [u16],
+    own: &mut [u64],
+    i: usize,
+    k: usize,
+    p: usize,
+)
+    requires { ⌜ (length (now work) ≡ work-size) × (length (now sets) ≡ sets-size) × (length (now line) ≡ max-unknowns) × (length (now own) ≡ sets-size) × (i < max-rows) × (p < max-unknowns) ⌝ }
+    ensures { λ _. ⌜ ((codes : List ℕ) → Held codes (now (work .entry)) (now (sets .entry)) i (now (line .entry)) (now (own .entry)) → Held codes (now (work .entry)) (now (sets .entry)) i (now (line .exit)) (now (own .exit))) ⌝ }
 {
     if is_fixed(work, sets, i, p) {
         search_sets::empty(own, p);
-        search_cells::set_rows(area, p, 0, 1, 1, value(work, i, p));
+        set(line, p, 1, value(work, i, p));
         return;
     }
     if p < k {
         if is_decided(work, i, p) {
-            put(work, area, own, i, p, 1);
+            put(work, line, own, i, p, 1);
         }
     }
 }
@@ -226,13 +264,13 @@ fn is_decided(work: &[u8], i: usize, p: usize) -> bool
 }
 
 // Position p gets the row's value, as a decision.
-fn put(work: &[u8], area: &mut [u8], own: &mut [u64], i: usize, p: usize, mark: u8)
-    requires { ⌜ (length (now work) ≡ work-size) × (length (now area) ≡ work-size) × (length (now own) ≡ sets-size) × (i < max-rows) × (p < max-unknowns) ⌝ }
-    ensures { λ _. ⌜ ((codes s : List ℕ) → Held codes (now (work .entry)) s i (now (area .entry)) (now (own .entry)) → Held codes (now (work .entry)) s i (now (area .exit)) (now (own .exit))) ⌝ }
+fn put(work: &[u8], line: &mut [u16], own: &mut [u64], i: usize, p: usize, mark: u16)
+    requires { ⌜ (length (now work) ≡ work-size) × (length (now line) ≡ max-unknowns) × (length (now own) ≡ sets-size) × (i < max-rows) × (p < max-unknowns) ⌝ }
+    ensures { λ _. ⌜ ((codes s : List ℕ) → Held codes (now (work .entry)) s i (now (line .entry)) (now (own .entry)) → Held codes (now (work .entry)) s i (now (line .exit)) (now (own .exit))) ⌝ }
 {
     search_sets::empty(own, p);
     search_sets::add(own, p, p);
-    search_cells::set_rows(area, p, 0, 1, mark, value(work, i, p));
+    set(line, p, mark, value(work, i, p));
 }
 
 fn value(work: &[u8], i: usize, p: usize) -> bool
@@ -243,21 +281,21 @@ fn value(work: &[u8], i: usize, p: usize) -> bool
 }
 
 // Looks at every clause, and at what follows. False: one is false, and CUT says by which decisions.
-fn survey(codes: &[u16], index: &[u16], area: &mut [u8], own: &mut [u64]) -> bool
-    requires { ⌜ (length (now index) ≡ index-size) × (length (now area) ≡ work-size) × (length (now own) ≡ sets-size) ⌝ }
-    ensures { λ r. ⌜ Moves (now (codes .entry)) (now (area .entry)) (now (area .exit)) (now (own .entry)) (now (own .exit)) r ⌝ }
+fn survey(codes: &[u16], index: &[u16], line: &mut [u16], own: &mut [u64]) -> bool
+    requires { ⌜ (length (now index) ≡ index-size) × (length (now line) ≡ max-unknowns) × (length (now own) ≡ sets-size) ⌝ }
+    ensures { λ r. ⌜ Moves (now (codes .entry)) (now (line .entry)) (now (line .exit)) (now (own .entry)) (now (own .exit)) r ⌝ }
 {
-    if visit(codes, index, area, own, 1, ANY) {
-        settle(codes, index, area, own, 1)
+    if visit(codes, index, line, own, 1, ANY) {
+        settle(codes, index, line, own, 1)
     } else {
         false
     }
 }
 
 // Looks at the clauses of the positions that wait, and of those that follow.
-fn settle(codes: &[u16], index: &[u16], area: &mut [u8], own: &mut [u64], mark: u8) -> bool
-    requires { ⌜ (length (now index) ≡ index-size) × (length (now area) ≡ work-size) × (length (now own) ≡ sets-size) ⌝ }
-    ensures { λ r. ⌜ Moves (now (codes .entry)) (now (area .entry)) (now (area .exit)) (now (own .entry)) (now (own .exit)) r ⌝ }
+fn settle(codes: &[u16], index: &[u16], line: &mut [u16], own: &mut [u64], mark: u16) -> bool
+    requires { ⌜ (length (now index) ≡ index-size) × (length (now line) ≡ max-unknowns) × (length (now own) ≡ sets-size) ⌝ }
+    ensures { λ r. ⌜ Moves (now (codes .entry)) (now (line .entry)) (now (line .exit)) (now (own .entry)) (now (own .exit)) r ⌝ }
 {
     let mut h = 0;
     while h < Formula::UNKNOWNS {
@@ -266,7 +304,7 @@ fn settle(codes: &[u16], index: &[u16], area: &mut [u8], own: &mut [u64], mark: 
         }
         let p = own[QUEUE + h] as usize % Formula::UNKNOWNS;
         h += 1;
-        if visit(codes, index, area, own, mark, shortened(area, p)) {} else {
+        if visit(codes, index, line, own, mark, shortened(line, p)) {} else {
             return false;
         }
     }
@@ -274,24 +312,35 @@ fn settle(codes: &[u16], index: &[u16], area: &mut [u8], own: &mut [u64], mark: 
 }
 
 // The code of the literal that is false by the value at position p.
-fn shortened(area: &[u8], p: usize) -> usize
-    requires { ⌜ (length (now area) ≡ work-size) × (p < max-unknowns) ⌝ }
+fn shortened(line: &[u16], p: usize) -> usize
+    requires { ⌜ (length (now line) ≡ max-unknowns) × (p < max-unknowns) ⌝ }
     ensures { λ r. ⌜ r ≤ last-code ⌝ }
 {
-    if value(area, 0, p) { 2 * p + 3 } else { 2 * p + 2 }
+    if line[p] % 2 == 1 {
+        2 * p + 3
+    } else {
+        2 * p + 2
+    }
 }
 
 // Looks at the clauses with the code c.
-fn visit(codes: &[u16], index: &[u16], area: &mut [u8], own: &mut [u64], mark: u8, c: usize) -> bool
-    requires { ⌜ (length (now index) ≡ index-size) × (length (now area) ≡ work-size) × (length (now own) ≡ sets-size) × (c ≤ last-code) ⌝ }
-    ensures { λ r. ⌜ Moves (now (codes .entry)) (now (area .entry)) (now (area .exit)) (now (own .entry)) (now (own .exit)) r ⌝ }
+fn visit(
+    codes: &[u16],
+    index: &[u16],
+    line: &mut [u16],
+    own: &mut [u64],
+    mark: u16,
+    c: usize,
+) -> bool
+    requires { ⌜ (length (now index) ≡ index-size) × (length (now line) ≡ max-unknowns) × (length (now own) ≡ sets-size) × (c ≤ last-code) ⌝ }
+    ensures { λ r. ⌜ Moves (now (codes .entry)) (now (line .entry)) (now (line .exit)) (now (own .entry)) (now (own .exit)) r ⌝ }
 {
     let end = lower(wide16(index[index::CODES + c]), index.len());
     let mut at = wide16(index[c]);
     while at < end {
         let start = wide16(index[at]);
         at += 1;
-        if touch(codes, area, own, mark, start) {} else {
+        if touch(codes, line, own, mark, start) {} else {
             return false;
         }
     }
@@ -305,15 +354,15 @@ fn lower(a: usize, b: usize) -> usize
 }
 
 // Looks at the clause at `start`, if one begins there. False: it is false, and CUT says by which decisions.
-fn touch(codes: &[u16], area: &mut [u8], own: &mut [u64], mark: u8, start: usize) -> bool
-    requires { ⌜ (length (now area) ≡ work-size) × (length (now own) ≡ sets-size) ⌝ }
-    ensures { λ r. ⌜ Moves (now (codes .entry)) (now (area .entry)) (now (area .exit)) (now (own .entry)) (now (own .exit)) r ⌝ }
+fn touch(codes: &[u16], line: &mut [u16], own: &mut [u64], mark: u16, start: usize) -> bool
+    requires { ⌜ (length (now line) ≡ max-unknowns) × (length (now own) ≡ sets-size) ⌝ }
+    ensures { λ r. ⌜ Moves (now (codes .entry)) (now (line .entry)) (now (line .exit)) (now (own .entry)) (now (own .exit)) r ⌝ }
 {
     if begins(codes, start) {} else {
         return true;
     }
-    let c = search_evaluation::look(codes, area, 0, start);
-    if c == 1 {
+    let c = shown(codes, line, start);
+    if is_false_but(codes, line, start, c) {} else {
         return true;
     }
     if c == 0 {
@@ -321,8 +370,74 @@ fn touch(codes: &[u16], area: &mut [u8], own: &mut [u64], mark: u8, start: usize
         search_sets::blame(codes, own, start, CUT);
         return false;
     }
-    force(codes, area, own, mark, start, c);
+    force(codes, line, own, mark, start, c);
     true
+}
+
+// What the clause at `start` shows: 0 if its literals are all false, the code of its one open literal if all others are false, else 1. A hint.
+fn shown(codes: &[u16], line: &[u16], start: usize) -> usize
+    requires { ⌜ length (now line) ≡ max-unknowns ⌝ }
+{
+    let mut unit = 0;
+    let mut e = start;
+    while e < codes.len() {
+        let c = wide16(codes[e]);
+        e += 1;
+        if c == 0 {
+            return unit;
+        }
+        let x = wide16(line[position(c)]);
+        if x == 0 {
+            if unit != 0 {
+                return 1; // a second open literal
+            }
+            unit = c;
+        } else if x % 2 != c % 2 {
+            return 1; // a true literal
+        }
+    }
+    1
+}
+
+// Whether the clause at `start` has its end, and its literals are all false but those of code `but`.
+fn is_false_but(codes: &[u16], line: &[u16], start: usize, but: usize) -> bool
+    requires { ⌜ length (now line) ≡ max-unknowns ⌝ }
+    ensures { λ r. ⌜ (r ≡ true → FalseBut (now (codes .entry)) (now (line .entry)) start but) ⌝ }
+{
+    let mut e = start;
+    while e < codes.len() {
+        let c = wide16(codes[e]);
+        e += 1;
+        if c == 0 {
+            return true;
+        }
+        if is_false_or(line, c, but) {} else {
+            return false;
+        }
+    }
+    false
+}
+
+// Whether the literal of code c is false, or of code `but`.
+fn is_false_or(line: &[u16], c: usize, but: usize) -> bool
+    requires { ⌜ length (now line) ≡ max-unknowns ⌝ }
+    ensures { λ r. ⌜ (r ≡ true → (c ≡ but) ⊎ IsFalse (now (line .entry)) c) ⌝ }
+{
+    if c == but {
+        return true;
+    }
+    let x = wide16(line[position(c)]);
+    if x == 0 {
+        return false;
+    }
+    x % 2 == c % 2
+}
+
+// The position of a code's unknown: c / 2 - 1 for a literal, and inside the line for any number.
+fn position(c: usize) -> usize
+    ensures { λ r. ⌜ (r ≡ row-position c) × (r < max-unknowns) ⌝ }
+{
+    (c / 2 + LAST) % Formula::UNKNOWNS
 }
 
 fn begins(codes: &[u16], start: usize) -> bool
@@ -338,15 +453,56 @@ fn begins(codes: &[u16], start: usize) -> bool
 }
 
 // Sets the one open literal, of code c, of the clause at `start`.
-fn force(codes: &[u16], area: &mut [u8], own: &mut [u64], mark: u8, start: usize, c: usize)
-    requires { ⌜ (length (now area) ≡ work-size) × (length (now own) ≡ sets-size) × (2 ≤ c) ⌝ }
-    ensures { λ _. ⌜ (Begins (now (codes .entry)) start → (Coded max-unknowns (now (codes .entry)) → Looked (now (codes .entry)) (now (area .entry)) 0 start c) → Moves (now (codes .entry)) (now (area .entry)) (now (area .exit)) (now (own .entry)) (now (own .exit)) true) ⌝ }
+fn force(codes: &[u16], line: &mut [u16], own: &mut [u64], mark: u16, start: usize, c: usize)
+    requires { ⌜ (length (now line) ≡ max-unknowns) × (length (now own) ≡ sets-size) ⌝ }
+    ensures { λ _. ⌜ (Begins (now (codes .entry)) start → FalseBut (now (codes .entry)) (now (line .entry)) start c → Moves (now (codes .entry)) (now (line .entry)) (now (line .exit)) (now (own .entry)) (now (own .exit)) true) ⌝ }
 {
-    let p = (c / 2 + LAST) % Formula::UNKNOWNS;
+    if c < 2 {
+        return;
+    }
+    if LAST_CODE < c {
+        return;
+    }
+    let p = position(c);
+    if line[p] != 0 {
+        return;
+    }
     search_sets::empty(own, p);
     search_sets::blame(codes, own, start, p);
-    search_cells::set_rows(area, p, 0, 1, mark, c % 2 == 0);
+    set(line, p, mark, c % 2 == 0);
     wait(own, p);
+}
+
+// Sets position p: twice the mark, and one more for true.
+fn set(line: &mut [u16], p: usize, mark: u16, value: bool)
+    requires { ⌜ (length (now line) ≡ max-unknowns) × (p < max-unknowns) ⌝ }
+    ensures { λ _. ⌜ LineSet p value (now (line .entry)) (now (line .exit)) ⌝ }
+{
+    line[p] = 2 * (mark % 256) + bit(value);
+}
+
+fn bit(value: bool) -> u16
+    ensures { λ r. ⌜ (r ≡ weight value) × (r ≤ 1) ⌝ }
+{
+    if value { 1 } else { 0 }
+}
+
+// Opens the positions whose mark is over the bound.
+fn open_above(line: &mut [u16], bound: u16)
+    requires { ⌜ length (now line) ≡ max-unknowns ⌝ }
+    ensures { λ _. ⌜ LineOpened (now (line .entry)) (now (line .exit)) ⌝ }
+{
+    let mut p = 0;
+    while p < Formula::UNKNOWNS {
+        line[p] = within(line[p], bound);
+        p += 1;
+    }
+}
+
+fn within(x: u16, bound: u16) -> u16
+    ensures { λ r. ⌜ (r ≡ 0) ⊎ (r ≡ x) ⌝ }
+{
+    if x / 2 <= bound { x } else { 0 }
 }
 
 // Position p waits for its clauses to be looked at.
@@ -372,24 +528,24 @@ fn wait_alone(own: &mut [u64], p: usize)
 
 // The position of the next step: the last open one that a clause names, or after a failure the last decision that it was reached by. The
 // number of positions if there is none.
-fn next(index: &[u16], area: &[u8], own: &mut [u64], going: bool) -> usize
-    requires { ⌜ (length (now index) ≡ index-size) × (length (now own) ≡ sets-size) ⌝ }
+fn next(index: &[u16], line: &[u16], own: &mut [u64], going: bool) -> usize
+    requires { ⌜ (length (now index) ≡ index-size) × (length (now line) ≡ max-unknowns) × (length (now own) ≡ sets-size) ⌝ }
     ensures { λ _. ⌜ Same (now (own .entry)) (now (own .exit)) ⌝ }
 {
     if going {
-        open_position(index, area)
+        open_position(index, line)
     } else {
         culprit(own)
     }
 }
 
-fn open_position(index: &[u16], area: &[u8]) -> usize
-    requires { ⌜ length (now index) ≡ index-size ⌝ }
+fn open_position(index: &[u16], line: &[u16]) -> usize
+    requires { ⌜ (length (now index) ≡ index-size) × (length (now line) ≡ max-unknowns) ⌝ }
 {
     let mut p = Formula::UNKNOWNS;
     while p > 0 {
         p -= 1;
-        if search_evaluation::level(area, 0, p) == 0 {
+        if line[p] == 0 {
             if is_named(index, p) {
                 return p;
             }
@@ -445,49 +601,74 @@ fn is_reason(own: &[u64], going: bool, k: usize) -> bool
 }
 
 // Decides position p, or turns it round after a failure, and looks at what follows.
-fn step(codes: &[u16], index: &[u16], work: &[u8], area: &mut [u8], own: &mut [u64], i: usize, going: bool, p: usize) -> bool
-    requires { ⌜ (length (now index) ≡ index-size) × (length (now work) ≡ work-size) × (length (now area) ≡ work-size) × (length (now own) ≡ sets-size) × (i < max-rows) × (p < max-unknowns) ⌝ }
-    ensures { λ r. ⌜ StepsOn (now (codes .entry)) (now (work .entry)) i (now (area .entry)) (now (area .exit)) (now (own .entry)) (now (own .exit)) going r ⌝ }
+fn step(
+    codes: &[u16],
+    index: &[u16],
+    work: &[u8],
+    line: &mut [u16],
+    own: &mut [u64],
+    i: usize,
+    going: bool,
+    p: usize,
+) -> bool
+    requires { ⌜ (length (now index) ≡ index-size) × (length (now work) ≡ work-size) × (length (now line) ≡ max-unknowns) × (length (now own) ≡ sets-size) × (i < max-rows) × (p < max-unknowns) ⌝ }
+    ensures { λ r. ⌜ StepsOn (now (codes .entry)) (now (work .entry)) i (now (line .entry)) (now (line .exit)) (now (own .entry)) (now (own .exit)) going r ⌝ }
 {
     if going {
-        decide(codes, index, work, area, own, i, p)
+        decide(codes, index, work, line, own, i, p)
     } else {
-        turn(codes, index, work, area, own, i, p)
+        turn(codes, index, work, line, own, i, p)
     }
 }
 
-fn decide(codes: &[u16], index: &[u16], work: &[u8], area: &mut [u8], own: &mut [u64], i: usize, p: usize) -> bool
-    requires { ⌜ (length (now index) ≡ index-size) × (length (now work) ≡ work-size) × (length (now area) ≡ work-size) × (length (now own) ≡ sets-size) × (i < max-rows) × (p < max-unknowns) ⌝ }
-    ensures { λ r. ⌜ StepsOn (now (codes .entry)) (now (work .entry)) i (now (area .entry)) (now (area .exit)) (now (own .entry)) (now (own .exit)) true r ⌝ }
+fn decide(
+    codes: &[u16],
+    index: &[u16],
+    work: &[u8],
+    line: &mut [u16],
+    own: &mut [u64],
+    i: usize,
+    p: usize,
+) -> bool
+    requires { ⌜ (length (now index) ≡ index-size) × (length (now work) ≡ work-size) × (length (now line) ≡ max-unknowns) × (length (now own) ≡ sets-size) × (i < max-rows) × (p < max-unknowns) ⌝ }
+    ensures { λ r. ⌜ StepsOn (now (codes .entry)) (now (work .entry)) i (now (line .entry)) (now (line .exit)) (now (own .entry)) (now (own .exit)) true r ⌝ }
 {
     let mark = deepen(own, p);
-    put(work, area, own, i, p, mark);
+    put(work, line, own, i, p, mark);
     wait_alone(own, p);
-    settle(codes, index, area, own, mark)
+    settle(codes, index, line, own, mark)
 }
 
 // Notes the decision at position p; what is reached by it gets the mark.
-fn deepen(own: &mut [u64], p: usize) -> u8
+fn deepen(own: &mut [u64], p: usize) -> u16
     requires { ⌜ length (now own) ≡ sets-size ⌝ }
     ensures { λ _. ⌜ Same (now (own .entry)) (now (own .exit)) ⌝ }
 {
     let d = own[DEPTH] as usize % Formula::UNKNOWNS;
     own[DECISIONS + d] = p as u64;
     own[DEPTH] = d as u64 + 1;
-    d as u8 + 2
+    d as u16 + 2
 }
 
 // The other value at position p, reached by the decisions of CUT without it.
-fn turn(codes: &[u16], index: &[u16], work: &[u8], area: &mut [u8], own: &mut [u64], i: usize, p: usize) -> bool
-    requires { ⌜ (length (now index) ≡ index-size) × (length (now work) ≡ work-size) × (length (now area) ≡ work-size) × (length (now own) ≡ sets-size) × (i < max-rows) × (p < max-unknowns) ⌝ }
-    ensures { λ r. ⌜ StepsOn (now (codes .entry)) (now (work .entry)) i (now (area .entry)) (now (area .exit)) (now (own .entry)) (now (own .exit)) false r ⌝ }
+fn turn(
+    codes: &[u16],
+    index: &[u16],
+    work: &[u8],
+    line: &mut [u16],
+    own: &mut [u64],
+    i: usize,
+    p: usize,
+) -> bool
+    requires { ⌜ (length (now index) ≡ index-size) × (length (now work) ≡ work-size) × (length (now line) ≡ max-unknowns) × (length (now own) ≡ sets-size) × (i < max-rows) × (p < max-unknowns) ⌝ }
+    ensures { λ r. ⌜ StepsOn (now (codes .entry)) (now (work .entry)) i (now (line .entry)) (now (line .exit)) (now (own .entry)) (now (own .exit)) false r ⌝ }
 {
-    let mark = (own[DEPTH] % 128) as u8 + 1;
-    search_cells::undo(area, 0, 1, mark);
+    let mark = (own[DEPTH] % 128) as u16 + 1;
+    open_above(line, mark);
     inherit(own, p);
-    search_cells::set_rows(area, p, 0, 1, mark, !value(work, i, p));
+    set(line, p, mark, !value(work, i, p));
     wait_alone(own, p);
-    settle(codes, index, area, own, mark)
+    settle(codes, index, line, own, mark)
 }
 
 // The set at p becomes that at CUT without the position p.

@@ -6,17 +6,16 @@ use Prim.Native.Nat.{ℕ}
 use lib.ListN.{length, length-set}
 use Rattle.search_reasons.specs.Held.{Held}
 use Rattle.search_reasons.proofs.HeldLaws.{held-none}
-use Rattle.search_reasons.proofs.StepLaws.{cells-opened}
 use native.Mathlib.Omega.{arith}
 use Rattle.search_reasons.proofs.begin.Statement.{statement}
 use Rattle.search_reasons.proofs.begin.Tie as tie
 
 abbrev Inv-loop : tie.InvT-loop
-Inv-loop work sets area₀ own₀ i k p₀ area own p =
-    (p ≤ 128) × (length area ≡ 65536) × (length own ≡ 524) × ((codes : List ℕ) → Held codes work sets i area own)
+Inv-loop work sets line₀ own₀ i k p₀ line own p =
+    (p ≤ 128) × (length line ≡ 128) × (length own ≡ 524) × ((codes : List ℕ) → Held codes work sets i line own)
 
 abbrev μ-loop : tie.MeasureT-loop
-μ-loop work sets area₀ own₀ i k p₀ area own p = 128 - p
+μ-loop work sets line₀ own₀ i k p₀ line own p = 128 - p
 
 slice-write-own : tie.Need-slice-write-own Inv-loop μ-loop
 slice-write-own c = omega arith
@@ -24,15 +23,15 @@ slice-write-own c = omega arith
 slice-write-own-2 : tie.Need-slice-write-own-2 Inv-loop μ-loop
 slice-write-own-2 c = simp length-set (omega arith)
 
-undo-requires : tie.Need-undo-requires Inv-loop μ-loop
-undo-requires c κs = tt
+clear-requires : tie.Need-clear-requires Inv-loop μ-loop
+clear-requires c κs = omega arith
 
 loop-holds : tie.Need-loop-holds Inv-loop μ-loop
 loop-holds c = (
   omega arith,
   omega arith,
   simp length-set (omega arith),
-  λ codes. held-none codes (c .before .before .before .before .before .before .before .before .args .work .now) (c .before .before .before .before .before .before .before .before .args .sets .now) (c .before .before .before .before .before .before .before .before .args .i) (c .before .before .before .before .before .before .before .before .args .area .now) (c .before .before .undo .last .0) _ (cells-opened (omega arith) 0 (c .before .before .undo .ensures)),
+  λ codes. held-none codes (c .before .before .before .before .before .before .before .before .args .work .now) (c .before .before .before .before .before .before .before .before .args .sets .now) (c .before .before .before .before .before .before .before .before .args .i) (c .before .before .clear .last .0) _ (c .before .before .clear .ensures),
 )
 
 assume-requires : tie.Need-assume-requires Inv-loop μ-loop
@@ -64,7 +63,7 @@ begin-spec =
     μ-loop
     slice-write-own
     slice-write-own-2
-    undo-requires
+    clear-requires
     loop-holds
     assume-requires
     add-p

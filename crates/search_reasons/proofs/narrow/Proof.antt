@@ -13,20 +13,20 @@ use Rattle.search_reasons.proofs.narrow.Statement.{statement}
 use Rattle.search_reasons.proofs.narrow.Tie as tie
 
 abbrev Inv-loop : tie.InvT-loop
-Inv-loop codes index work sets area₀ own₀ i k steps found₀ low₀ high₀ left₀ from₀ to₀ area own found low high left from to =
-    (to ≤ k) × (length area ≡ 65536) × (length own ≡ 524) × (Coded 128 codes → found ≡ true → IsReason codes work sets i k (words low high))
+Inv-loop codes index work sets line₀ own₀ i k steps found₀ low₀ high₀ left₀ from₀ to₀ line own found low high left from to =
+    (to ≤ k) × (length line ≡ 128) × (length own ≡ 524) × (Coded 128 codes → found ≡ true → IsReason codes work sets i k (words low high))
 
 abbrev μ-loop : tie.MeasureT-loop
-μ-loop codes index work sets area₀ own₀ i k steps found₀ low₀ high₀ left₀ from₀ to₀ area own found low high left from to = to - from
+μ-loop codes index work sets line₀ own₀ i k steps found₀ low₀ high₀ left₀ from₀ to₀ line own found low high left from to = to - from
 
 loop-holds : tie.Need-loop-holds Inv-loop μ-loop
-loop-holds c = (omega arith, c .before .before .before .before .before .before .pre .0 .own-area, c .before .before .before .before .before .before .pre .0 .own-sets, λ coded e. absurd (never-both e refl))
+loop-holds c = (omega arith, c .before .before .before .before .before .before .pre .0 .own-line, c .before .before .before .before .before .before .pre .0 .own-sets, λ coded e. absurd (never-both e refl))
 
 middle-requires : tie.Need-middle-requires Inv-loop μ-loop
 middle-requires c κs = omega arith
 
 probe-requires : tie.Need-probe-requires Inv-loop μ-loop
-probe-requires c κs = (record { index-lent = c .before .before .before .before .before .before .before .before .before .before .before .pre .0 .index-lent; area = c .before .before .before .before .before .before .before .before .before .before .before .pre .0 .area; sets-lent = c .before .before .before .before .before .before .before .before .before .before .before .pre .0 .sets-lent; own-area = c .before .before .before .before .loop .inv .1; own-sets = c .before .before .before .before .loop .inv .2; row = c .before .before .before .before .before .before .before .before .before .before .before .pre .0 .row }, omega (arith, c .before .before .middle .ensures .1))
+probe-requires c κs = (record { index-lent = c .before .before .before .before .before .before .before .before .before .before .before .pre .0 .index-lent; area = c .before .before .before .before .before .before .before .before .before .before .before .pre .0 .area; sets-lent = c .before .before .before .before .before .before .before .before .before .before .before .pre .0 .sets-lent; own-line = c .before .before .before .before .loop .inv .1; own-sets = c .before .before .before .before .loop .inv .2; row = c .before .before .before .before .before .before .before .before .before .before .before .pre .0 .row }, omega (arith, c .before .before .middle .ensures .1))
 
 slice-read-low : tie.Need-slice-read-low Inv-loop μ-loop
 slice-read-low c = omega (arith, c .before .before .before .before .before .before .probe .kept .1 .1 .1 .1 .1 .0, c .before .before .before .before .before .before .before .before .before .before .before .loop .inv .2)
@@ -50,7 +50,7 @@ loop-again-2 : tie.Need-loop-again-2 Inv-loop μ-loop
 loop-again-2 c = (omega arith, c .before .before .before .before .before .probe .kept .1 .1 .1 .1 .0 ∙ c .before .before .before .before .before .before .before .before .before .before .loop .inv .1, c .before .before .before .before .before .probe .kept .1 .1 .1 .1 .1 .0 ∙ c .before .before .before .before .before .before .before .before .before .before .loop .inv .2, c .before .before .before .before .before .before .before .before .before .before .loop .inv .3)
 
 same-length : tie.Need-same-length Inv-loop μ-loop
-same-length c = c .before .loop .inv .1 ∙ sym (c .before .before .before .before .before .before .before .before .pre .0 .own-area)
+same-length c = c .before .loop .inv .1 ∙ sym (c .before .before .before .before .before .before .before .before .pre .0 .own-line)
 
 same-length-2 : tie.Need-same-length-2 Inv-loop μ-loop
 same-length-2 c = c .before .loop .inv .2 ∙ sym (c .before .before .before .before .before .before .before .before .pre .0 .own-sets)

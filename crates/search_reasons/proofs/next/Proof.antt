@@ -5,7 +5,7 @@ use Rattle.search_reasons.proofs.next.Statement.{statement}
 use Rattle.search_reasons.proofs.next.Tie as tie
 
 open-position-requires : tie.Need-open-position-requires
-open-position-requires c κs = omega arith
+open-position-requires c κs = (omega arith, omega arith)
 
 culprit-requires : tie.Need-culprit-requires
 culprit-requires c κs = omega arith

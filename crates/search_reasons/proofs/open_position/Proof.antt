@@ -5,11 +5,11 @@ use Rattle.search_reasons.proofs.open_position.Statement.{statement}
 use Rattle.search_reasons.proofs.open_position.Tie as tie
 
 abbrev Inv-loop : tie.InvT-loop
-Inv-loop index area p₀ p =
+Inv-loop index line p₀ p =
     p ≤ 128
 
 abbrev μ-loop : tie.MeasureT-loop
-μ-loop index area p₀ p = p
+μ-loop index line p₀ p = p
 
 loop-holds : tie.Need-loop-holds Inv-loop μ-loop
 loop-holds c = omega arith
@@ -17,8 +17,11 @@ loop-holds c = omega arith
 sub-p : tie.Need-sub-p Inv-loop μ-loop
 sub-p c = omega arith
 
-level-requires : tie.Need-level-requires Inv-loop μ-loop
-level-requires c κs = tt
+mul-if1 : tie.Need-mul-if1 Inv-loop μ-loop
+mul-if1 c = omega arith
+
+shared-slice-read-if1 : tie.Need-shared-slice-read-if1 Inv-loop μ-loop
+shared-slice-read-if1 c = omega arith
 
 is-named-requires : tie.Need-is-named-requires Inv-loop μ-loop
 is-named-requires c κs = (omega arith, omega arith)
@@ -49,7 +52,8 @@ open-position-spec =
     μ-loop
     loop-holds
     sub-p
-    level-requires
+    mul-if1
+    shared-slice-read-if1
     is-named-requires
     returns
     loop-less

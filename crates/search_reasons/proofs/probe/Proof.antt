@@ -12,32 +12,32 @@ use Rattle.search_reasons.proofs.probe.Statement.{statement}
 use Rattle.search_reasons.proofs.probe.Tie as tie
 
 abbrev Inv-loop : tie.InvT-loop
-Inv-loop codes index work sets area₀ own₀ i k steps going₀ left₀ area own going left =
-    (length area ≡ 65536) × (length own ≡ 524) × (Coded 128 codes → Moved codes work sets i area own going)
+Inv-loop codes index work sets line₀ own₀ i k steps going₀ left₀ line own going left =
+    (length line ≡ 128) × (length own ≡ 524) × (Coded 128 codes → Moved codes work sets i line own going)
 
 abbrev μ-loop : tie.MeasureT-loop
-μ-loop codes index work sets area₀ own₀ i k steps going₀ left₀ area own going left = left
+μ-loop codes index work sets line₀ own₀ i k steps going₀ left₀ line own going left = left
 
 begin-requires : tie.Need-begin-requires Inv-loop μ-loop
-begin-requires c κs = (c .before .before .before .before .before .before .before .before .pre .0 .area, c .before .before .before .before .before .before .before .before .pre .0 .sets-lent, c .before .before .before .before .before .before .before .before .pre .0 .own-area, c .before .before .before .before .before .before .before .before .pre .0 .own-sets, c .before .before .before .before .before .before .before .before .pre .0 .row)
+begin-requires c κs = (c .before .before .before .before .before .before .before .before .pre .0 .area, c .before .before .before .before .before .before .before .before .pre .0 .sets-lent, c .before .before .before .before .before .before .before .before .pre .0 .own-line, c .before .before .before .before .before .before .before .before .pre .0 .own-sets, c .before .before .before .before .before .before .before .before .pre .0 .row)
 
 survey-requires : tie.Need-survey-requires Inv-loop μ-loop
-survey-requires c κs = (c .before .before .before .before .before .before .before .before .before .before .before .before .before .before .before .pre .0 .index-lent, c .before .before .before .before .before .before .begin .kept .1 .1 .0 ∙ c .before .before .before .before .before .before .before .before .before .before .before .before .before .before .before .pre .0 .own-area, c .before .before .before .before .before .before .begin .kept .1 .1 .1 .0 ∙ c .before .before .before .before .before .before .before .before .before .before .before .before .before .before .before .pre .0 .own-sets)
+survey-requires c κs = (c .before .before .before .before .before .before .before .before .before .before .before .before .before .before .before .pre .0 .index-lent, c .before .before .before .before .before .before .begin .kept .1 .1 .0 ∙ c .before .before .before .before .before .before .before .before .before .before .before .before .before .before .before .pre .0 .own-line, c .before .before .before .before .before .before .begin .kept .1 .1 .1 .0 ∙ c .before .before .before .before .before .before .before .before .before .before .before .before .before .before .before .pre .0 .own-sets)
 
 loop-holds : tie.Need-loop-holds Inv-loop μ-loop
-loop-holds c = (c .before .before .before .before .survey .kept .1 .1 .0 ∙ c .before .before .before .before .before .before .before .before .before .before .before .begin .kept .1 .1 .0 ∙ c .before .before .before .before .before .before .before .before .before .before .before .before .before .before .before .before .before .before .before .before .pre .0 .own-area, c .before .before .before .before .survey .kept .1 .1 .1 .0 ∙ c .before .before .before .before .before .before .before .before .before .before .before .begin .kept .1 .1 .1 .0 ∙ c .before .before .before .before .before .before .before .before .before .before .before .before .before .before .before .before .before .before .before .before .pre .0 .own-sets, λ coded. c .before .before .before .before .survey .ensures .on _ _ _ coded (c .before .before .before .before .before .before .before .before .before .before .before .begin .ensures _))
+loop-holds c = (c .before .before .before .before .survey .kept .1 .1 .0 ∙ c .before .before .before .before .before .before .before .before .before .before .before .begin .kept .1 .1 .0 ∙ c .before .before .before .before .before .before .before .before .before .before .before .before .before .before .before .before .before .before .before .before .pre .0 .own-line, c .before .before .before .before .survey .kept .1 .1 .1 .0 ∙ c .before .before .before .before .before .before .before .before .before .before .before .begin .kept .1 .1 .1 .0 ∙ c .before .before .before .before .before .before .before .before .before .before .before .before .before .before .before .before .before .before .before .before .pre .0 .own-sets, λ coded. c .before .before .before .before .survey .ensures .on _ _ _ coded (c .before .before .before .before .before .before .before .before .before .before .before .begin .ensures _))
 
 sub-left : tie.Need-sub-left Inv-loop μ-loop
 sub-left c = omega arith
 
 next-requires : tie.Need-next-requires Inv-loop μ-loop
-next-requires c κs = (c .before .before .before .before .before .before .before .before .before .before .before .before .before .before .before .before .before .before .before .before .before .before .before .before .pre .0 .index-lent, c .before .before .before .loop .inv .1)
+next-requires c κs = (c .before .before .before .before .before .before .before .before .before .before .before .before .before .before .before .before .before .before .before .before .before .before .before .before .pre .0 .index-lent, c .before .before .before .loop .inv .0, c .before .before .before .loop .inv .1)
 
 is-reason-requires : tie.Need-is-reason-requires Inv-loop μ-loop
 is-reason-requires c κs = c .before .before .before .before .next .kept .1 .1 .0 ∙ c .before .before .before .before .before .before .before .before .loop .inv .1
 
 same-length : tie.Need-same-length Inv-loop μ-loop
-same-length c = c .before .before .before .before .before .before .before .before .before .loop .inv .0 ∙ sym (c .before .before .before .before .before .before .before .before .before .before .before .before .before .before .before .before .before .before .before .before .before .before .before .before .before .before .before .before .before .before .pre .0 .own-area)
+same-length c = c .before .before .before .before .before .before .before .before .before .loop .inv .0 ∙ sym (c .before .before .before .before .before .before .before .before .before .before .before .before .before .before .before .before .before .before .before .before .before .before .before .before .before .before .before .before .before .before .pre .0 .own-line)
 
 same-length-2 : tie.Need-same-length-2 Inv-loop μ-loop
 same-length-2 c = c .before .before .before .before .before .next .kept .1 .1 .0 ∙ c .before .before .before .before .before .before .before .before .before .loop .inv .1 ∙ sym (c .before .before .before .before .before .before .before .before .before .before .before .before .before .before .before .before .before .before .before .before .before .before .before .before .before .before .before .before .before .before .pre .0 .own-sets)
@@ -55,7 +55,7 @@ loop-again : tie.Need-loop-again Inv-loop μ-loop
 loop-again c = (c .before .before .before .before .step .kept .1 .1 .1 .0 ∙ c .before .before .before .before .before .before .before .before .before .before .before .before .before .before .loop .inv .0, c .before .before .before .before .step .kept .1 .1 .1 .1 .0 ∙ c .before .before .before .before .before .before .before .before .before .before .next .kept .1 .1 .0 ∙ c .before .before .before .before .before .before .before .before .before .before .before .before .before .before .loop .inv .1, λ coded. c .before .before .before .before .step .ensures .on _ coded (moved-same (c .before .before .before .before .before .before .before .before .before .before .next .ensures) (c .before .before .before .before .before .before .before .before .before .before .before .before .before .before .loop .inv .2 coded)))
 
 same-length-3 : tie.Need-same-length-3 Inv-loop μ-loop
-same-length-3 c = c .before .loop .inv .0 ∙ sym (c .before .before .before .before .before .before .before .before .before .before .before .before .before .before .before .before .before .before .before .before .before .before .pre .0 .own-area)
+same-length-3 c = c .before .loop .inv .0 ∙ sym (c .before .before .before .before .before .before .before .before .before .before .before .before .before .before .before .before .before .before .before .before .before .before .pre .0 .own-line)
 
 same-length-4 : tie.Need-same-length-4 Inv-loop μ-loop
 same-length-4 c = c .before .loop .inv .1 ∙ sym (c .before .before .before .before .before .before .before .before .before .before .before .before .before .before .before .before .before .before .before .before .before .before .pre .0 .own-sets)

@@ -13,8 +13,8 @@ add-requires c κs = tt
 value-requires : tie.Need-value-requires
 value-requires c κs = (omega arith, omega arith, omega arith)
 
-set-rows-requires : tie.Need-set-rows-requires
-set-rows-requires c κs = tt
+set-requires : tie.Need-set-requires
+set-requires c κs = (omega arith, omega arith)
 
 same-length : tie.Need-same-length
 same-length c = omega arith
@@ -24,8 +24,8 @@ same-length-2 c = omega arith
 
 returns : tie.Need-returns
 returns c =
-    put-held (c .before .before .before .before .before .before .before .before .before .before .before .before .before .before .before .before .args .work .now) (c .before .before .before .before .before .before .before .before .before .before .before .before .before .before .before .before .args .area .now) (c .before .before .before .before .before .before .before .before .before .before .before .before .before .before .before .before .args .own .now) (c .before .before .set-rows .last .0) (c .before .before .before .before .before .before .before .before .before .before .before .empty .last .0) (c .before .before .before .before .before .before .before .add .last .0) (c .before .before .before .before .before .before .before .before .before .before .before .before .before .before .before .before .args .i) (c .before .before .before .before .before .before .before .before .before .before .before .before .before .before .before .before .args .p) (c .before .before .before .before .before .before .before .before .before .before .before .before .before .before .before .before .args .mark) (c .before .before .before .value .result)
-    (omega arith) (omega arith) (omega arith) (omega arith) (c .before .before .before .before .before .before .before .before .before .before .before .empty .ensures) (c .before .before .before .before .before .before .before .add .ensures) (c .before .before .before .value .ensures) (c .before .before .set-rows .ensures)
+    put-held (c .before .before .before .before .before .before .before .before .before .before .before .before .before .before .before .before .args .work .now) (c .before .before .before .before .before .before .before .before .before .before .before .before .before .before .before .before .args .line .now) (c .before .before .before .before .before .before .before .before .before .before .before .before .before .before .before .before .args .own .now) (c .before .before .set .last .0) (c .before .before .before .before .before .before .before .before .before .before .before .empty .last .0) (c .before .before .before .before .before .before .before .add .last .0) (c .before .before .before .before .before .before .before .before .before .before .before .before .before .before .before .before .args .i) (c .before .before .before .before .before .before .before .before .before .before .before .before .before .before .before .before .args .p) (c .before .before .before .value .result)
+    (omega arith) (omega arith) (omega arith) (c .before .before .before .before .before .before .before .before .before .before .before .empty .ensures) (c .before .before .before .before .before .before .before .add .ensures) (c .before .before .before .value .ensures) (c .before .before .set .ensures)
 
 pub put-spec : {M : Type 1} → statement M
 put-spec =
@@ -34,7 +34,7 @@ put-spec =
     empty-requires
     add-requires
     value-requires
-    set-rows-requires
+    set-requires
     same-length
     same-length-2
     returns)

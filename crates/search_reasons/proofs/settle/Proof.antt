@@ -11,11 +11,11 @@ use Rattle.search_reasons.proofs.settle.Statement.{statement}
 use Rattle.search_reasons.proofs.settle.Tie as tie
 
 abbrev Inv-loop : tie.InvT-loop
-Inv-loop codes index area₀ own₀ mark h₀ area own h =
-    (h ≤ 128) × (length area ≡ 65536) × (length own ≡ 524) × Moves codes area₀ area own₀ own true
+Inv-loop codes index line₀ own₀ mark h₀ line own h =
+    (h ≤ 128) × (length line ≡ 128) × (length own ≡ 524) × Moves codes line₀ line own₀ own true
 
 abbrev μ-loop : tie.MeasureT-loop
-μ-loop codes index area₀ own₀ mark h₀ area own h = 128 - h
+μ-loop codes index line₀ own₀ mark h₀ line own h = 128 - h
 
 loop-holds : tie.Need-loop-holds Inv-loop μ-loop
 loop-holds c = (omega arith, omega arith, omega arith, moves-nothing _ _ _)

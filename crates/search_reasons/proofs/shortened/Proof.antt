@@ -3,8 +3,11 @@ use native.Mathlib.Omega.{arith}
 use Rattle.search_reasons.proofs.shortened.Statement.{statement}
 use Rattle.search_reasons.proofs.shortened.Tie as tie
 
-value-requires : tie.Need-value-requires
-value-requires c κs = (omega arith, omega arith, omega arith)
+mul-if1 : tie.Need-mul-if1
+mul-if1 c = omega arith
+
+shared-slice-read-if1 : tie.Need-shared-slice-read-if1
+shared-slice-read-if1 c = omega arith
 
 mul-result : tie.Need-mul-result
 mul-result c = omega arith
@@ -28,7 +31,8 @@ pub shortened-spec : {M : Type 1} → statement M
 shortened-spec =
     tie.close
     (tie.spec
-    value-requires
+    mul-if1
+    shared-slice-read-if1
     mul-result
     add-result
     mul-result-2

@@ -20,7 +20,7 @@ slice-aggregate-narrow-2 c = search needs
 narrow-requires : tie.Need-narrow-requires
 narrow-requires c κs =
     let fit = c .before .before .before .sizes-fit .ensures (c .before .before .if1 .taken) in
-    (record { index-lent = fit .0; area = fit .1; sets-lent = fit .2; own-area = refl; own-sets = refl; row = fit .3 }, fit .4)
+    (record { index-lent = fit .0; area = fit .1; sets-lent = fit .2; own-line = refl; own-sets = refl; row = fit .3 }, fit .4)
 
 returns-2 : tie.Need-returns-2
 returns-2 c = c .before .before .narrow .ensures

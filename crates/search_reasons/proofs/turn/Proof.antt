@@ -16,8 +16,8 @@ cast-mark c = search needs
 add-mark : tie.Need-add-mark
 add-mark c = search needs
 
-undo-requires : tie.Need-undo-requires
-undo-requires c κs = tt
+open-above-requires : tie.Need-open-above-requires
+open-above-requires c κs = omega arith
 
 inherit-requires : tie.Need-inherit-requires
 inherit-requires c κs = (omega arith, omega arith)
@@ -25,8 +25,8 @@ inherit-requires c κs = (omega arith, omega arith)
 value-requires : tie.Need-value-requires
 value-requires c κs = (omega arith, omega arith, omega arith)
 
-set-rows-requires : tie.Need-set-rows-requires
-set-rows-requires c κs = tt
+set-requires : tie.Need-set-requires
+set-requires c κs = (omega arith, omega arith)
 
 wait-alone-requires : tie.Need-wait-alone-requires
 wait-alone-requires c κs = omega arith
@@ -42,8 +42,8 @@ same-length-2 c = omega arith
 
 returns : tie.Need-returns
 returns c =
-    turns (c .before .before .before .before .before .before .before .before .before .before .before .before .before .before .before .before .before .before .before .before .before .before .before .before .before .before .before .before .before .before .args .codes .now) (c .before .before .before .before .before .before .before .before .before .before .before .before .before .before .before .before .before .before .before .before .before .before .before .before .before .before .before .before .before .before .args .work .now) (c .before .before .before .before .before .before .before .before .before .before .before .before .before .before .before .before .before .before .before .before .before .before .before .before .before .before .before .before .before .before .args .area .now) (c .before .before .before .before .before .before .before .before .before .before .before .before .before .before .before .before .before .before .before .before .before .before .undo .last .0) (c .before .before .before .before .before .before .before .before .before .before .before .before .before .set-rows .last .0) (c .before .before .before .before .settle .last .1 .1 .0) (c .before .before .before .before .before .before .before .before .before .before .before .before .before .before .before .before .before .before .before .before .before .before .before .before .before .before .before .before .before .before .args .own .now) (c .before .before .before .before .before .before .before .before .before .before .before .before .before .before .before .before .before .before .inherit .last .0) (c .before .before .before .before .before .before .before .before .before .wait-alone .last .0) (c .before .before .before .before .settle .last .1 .1 .1 .0)
-    (c .before .before .before .before .before .before .before .before .before .before .before .before .before .before .before .before .before .before .before .before .before .before .before .before .before .before .before .before .before .before .args .i) (c .before .before .before .before .before .before .before .before .before .before .before .before .before .before .before .before .before .before .before .before .before .before .before .before .before .before .before .before .before .before .args .p) _ _ (not (c .before .before .before .before .before .before .before .before .before .before .before .before .before .before .value .result)) (c .before .before .before .before .settle .result) (omega arith) (omega arith) (omega arith) (c .before .before .before .before .before .before .before .before .before .before .before .before .before .before .before .before .before .before .before .before .before .before .undo .ensures) (c .before .before .before .before .before .before .before .before .before .before .before .before .before .before .before .before .before .before .inherit .ensures) (ap not (c .before .before .before .before .before .before .before .before .before .before .before .before .before .before .value .ensures)) (c .before .before .before .before .before .before .before .before .before .before .before .before .before .set-rows .ensures) (c .before .before .before .before .before .before .before .before .before .wait-alone .ensures) (c .before .before .before .before .settle .ensures)
+    turns (c .before .before .before .before .before .before .before .before .before .before .before .before .before .before .before .before .before .before .before .before .before .before .before .before .before .before .before .before .before .before .args .codes .now) (c .before .before .before .before .before .before .before .before .before .before .before .before .before .before .before .before .before .before .before .before .before .before .before .before .before .before .before .before .before .before .args .work .now) (c .before .before .before .before .before .before .before .before .before .before .before .before .before .before .before .before .before .before .before .before .before .before .before .before .before .before .before .before .before .before .args .line .now) (c .before .before .before .before .before .before .before .before .before .before .before .before .before .before .before .before .before .before .before .before .before .before .open-above .last .0) (c .before .before .before .before .before .before .before .before .before .before .before .before .before .set .last .0) (c .before .before .before .before .settle .last .1 .1 .0) (c .before .before .before .before .before .before .before .before .before .before .before .before .before .before .before .before .before .before .before .before .before .before .before .before .before .before .before .before .before .before .args .own .now) (c .before .before .before .before .before .before .before .before .before .before .before .before .before .before .before .before .before .before .inherit .last .0) (c .before .before .before .before .before .before .before .before .before .wait-alone .last .0) (c .before .before .before .before .settle .last .1 .1 .1 .0)
+    (c .before .before .before .before .before .before .before .before .before .before .before .before .before .before .before .before .before .before .before .before .before .before .before .before .before .before .before .before .before .before .args .i) (c .before .before .before .before .before .before .before .before .before .before .before .before .before .before .before .before .before .before .before .before .before .before .before .before .before .before .before .before .before .before .args .p) (not (c .before .before .before .before .before .before .before .before .before .before .before .before .before .before .value .result)) (c .before .before .before .before .settle .result) (c .before .before .before .before .before .before .before .before .before .before .before .before .before .before .before .before .before .before .before .before .before .before .open-above .ensures) (c .before .before .before .before .before .before .before .before .before .before .before .before .before .before .before .before .before .before .inherit .ensures) (ap not (c .before .before .before .before .before .before .before .before .before .before .before .before .before .before .value .ensures)) (c .before .before .before .before .before .before .before .before .before .before .before .before .before .set .ensures) (c .before .before .before .before .before .before .before .before .before .wait-alone .ensures) (c .before .before .before .before .settle .ensures)
 
 pub turn-spec : {M : Type 1} → statement M
 turn-spec =
@@ -52,10 +52,10 @@ turn-spec =
     slice-read-mark
     cast-mark
     add-mark
-    undo-requires
+    open-above-requires
     inherit-requires
     value-requires
-    set-rows-requires
+    set-requires
     wait-alone-requires
     settle-requires
     same-length

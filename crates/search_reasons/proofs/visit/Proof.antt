@@ -11,11 +11,11 @@ use Rattle.search_reasons.proofs.visit.Statement.{statement}
 use Rattle.search_reasons.proofs.visit.Tie as tie
 
 abbrev Inv-loop : tie.InvT-loop
-Inv-loop codes index area₀ own₀ mark c end at₀ area own at =
-    (end ≤ length index) × (length area ≡ 65536) × (length own ≡ 524) × Moves codes area₀ area own₀ own true
+Inv-loop codes index line₀ own₀ mark c end at₀ line own at =
+    (end ≤ length index) × (length line ≡ 128) × (length own ≡ 524) × Moves codes line₀ line own₀ own true
 
 abbrev μ-loop : tie.MeasureT-loop
-μ-loop codes index area₀ own₀ mark c end at₀ area own at = end - at
+μ-loop codes index line₀ own₀ mark c end at₀ line own at = end - at
 
 add-wide16 : tie.Need-add-wide16 Inv-loop μ-loop
 add-wide16 c = search needs
