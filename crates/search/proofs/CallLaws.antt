@@ -44,7 +44,7 @@ use Rattle.search_groups.proofs.PartLaws.{copy-start-from, copy-end-to, parting
 
 -- ---- sets of positions
 
-module _ (s : List ℕ) {t : List ℕ} (size : length s ≡ 516) where
+module _ (s : List ℕ) {t : List ℕ} (size : length s ≡ 524) where
   pub unites : (to from : ℕ) → to < 130 → from < 130 → t ≡ united s to from → United to from s t
   unites to from place other e = subst (λ (x : List ℕ). United to from s x) (sym e) (unite-unites s size to from place other)
 
@@ -76,7 +76,7 @@ module _ (s : List ℕ) {t : List ℕ} (size : length s ≡ 516) where
   blames codes start to place coded e =
       subst (λ (x : List ℕ). Blamed (clause-of (drop start codes)) to s x) (sym e) (blame-blames s size codes start to place coded)
 
-pub has-at : (s : List ℕ) → length s ≡ 516 → (of p : ℕ) {r : Bool} → of < 130 → p < 128 → r ≡ has s of p → r ≡ set-at s of p
+pub has-at : (s : List ℕ) → length s ≡ 524 → (of p : ℕ) {r : Bool} → of < 130 → p < 128 → r ≡ has s of p → r ≡ set-at s of p
 has-at s size of p place below e = e ∙ has-is s size of p place below
 
 -- ---- clauses in a row

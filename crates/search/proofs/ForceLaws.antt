@@ -42,11 +42,11 @@ abbrev Literal : ℕ → ℕ → Type 0
 Literal n c = ((2 ≤ c) × (position c < n)) × (position c < 128)
 
 -- the existential side's goal is the matrix
-goal-matrix : (P : Problem) (kinds splits codes : List ℕ) → Fits P kinds splits codes 0 → (f : ℕ → Bool) → P .goal f ≡ matrix-at code-true (code-clauses codes) f
+pub goal-matrix : (P : Problem) (kinds splits codes : List ℕ) → Fits P kinds splits codes 0 → (f : ℕ → Bool) → P .goal f ≡ matrix-at code-true (code-clauses codes) f
 unfolding code-goal
 goal-matrix P kinds splits codes F f = F .goal f
 
-cut-is : (t : List ℕ) → cut t ≡ set-at t 128
+pub cut-is : (t : List ℕ) → cut t ≡ set-at t 128
 unfolding cut
 cut-is t = refl
 

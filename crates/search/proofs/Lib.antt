@@ -5,6 +5,7 @@ pub mod SolveLaws
 pub mod SearchSteps
 pub mod Rows
 pub mod ForceLaws
+pub mod ReasonLaws
 pub mod TopLaws
 pub mod GoalLaws
 pub mod WholeLaws

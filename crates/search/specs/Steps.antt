@@ -2,7 +2,7 @@
 -- Assumes nothing.
 use Prim.Native.Nat.{ℕ, _+_, _-_, _≤_, _<_}
 use mathlib.Core.Path.{_≡_}
-use mathlib.Core.Logic.{_↔_}
+use mathlib.Core.Logic.{_↔_, _⊎_}
 use mathlib.Core.Bool.{Bool, true, false, cond}
 use mathlib.Core.List.{List}
 use lib.Dec.{eqb}
@@ -19,6 +19,7 @@ use Rattle.search_sets.specs.Masks.{set-at, masks, cut, SetGrown, SetsKept}
 use Rattle.codes.specs.Codes.{last-code}
 use Rattle.codes.specs.Clauses.{position, code-clauses, Ended, code-goal, Begins, Coded}
 use Rattle.search_evaluation.specs.Looked.{IsAt}
+use Rattle.search_reasons.specs.Reasons.{IsReason}
 use Rattle.search_groups.specs.Parts.{Parting, PartedAt}
 
 -- The sorted rows: entry i of `splits` is the first position where row i and the row before it have different values, or past the last.
@@ -138,6 +139,11 @@ pub record Lent (side : ℕ) (splits codes work sets index : List ℕ) : Type 0 
   pub sets-lent : length sets ≡ sets-size
   pub index-lent : length index ≡ index-size
   pub listed : Indexed side codes index
+
+-- After a failure in row i the sets of the positions stay, and the set by which it was reached stays or is that of a reason (search_reasons).
+pub record Shortened (codes w : List ℕ) (i mark : ℕ) (s t : List ℕ) : Type 0 where
+  pub kept : SetsKept s t
+  pub reason : ((l : ℕ) → cut t l ≡ cut s l) ⊎ ((u : List ℕ) × SetsKept s u × (Coded max-unknowns codes → IsReason codes w u i (mark - 1) (cut t)))
 
 -- In row i every clause has a true literal, whose position's set is taken in behind those of the positions.
 pub record RowBlamed (codes w : List ℕ) (i : ℕ) (s t : List ℕ) (r : Bool) : Type 0 where

@@ -17,6 +17,7 @@ use super::hints;
 use super::hints::CHANGED;
 use super::hints::CUT;
 use super::hints::HINTS;
+use super::reasons;
 use super::table;
 use super::width::wide16;
 
@@ -214,6 +215,7 @@ fn touch(
     if c == 0 {
         search_sets::empty(sets, CUT);
         search_sets::blame(codes, sets, start, CUT);
+        reasons::shorten(codes, work, sets, index, i, mark);
         return false;
     }
     force(splits, codes, work, sets, index, mark, lo, hi, i, start, c);

@@ -19,6 +19,7 @@ mod clauses;
 mod force;
 mod hints;
 mod live;
+mod reasons;
 mod solve;
 mod table;
 mod width;

@@ -5,7 +5,7 @@ use mathlib.Core.Logic.{_≢_}
 use mathlib.Core.Bool.{Bool, true, false, cond}
 use mathlib.Core.List.{List}
 use Prim.Native.Nat.{ℕ, suc, _+_, _-_, _*_, _/_, _%_, _^_, _≤_, _<_, min}
-use native.Mathlib.Nat.{one-mul, pow-succ'}
+use native.Mathlib.Nat.{zero-mul, one-mul, pow-succ'}
 use native.Mathlib.Decide.{decLt, ℕ-discrete}
 use native.Mathlib.Omega.{arith}
 use lib.Bits.{bitAnd, bitOr, or-step, or-shr, or-comm, and-mask}
@@ -77,6 +77,18 @@ words-full l h = go (ltb l 64) refl
     go : (t : Bool) → ltb l 64 ≡ t → cond t (odd ((2 ^ 64 - 1) / 2 ^ l)) (odd ((2 ^ 64 - 1) / 2 ^ (l - 64))) ≡ true
     go true e = odd-ones 64 l (ltb-true l 64 e)
     go false e = let above = ltb-false l 64 e in odd-ones 64 (l - 64) (omega arith)
+
+-- Two zeros are the empty set.
+pub words-none : (l : ℕ) → words 0 0 l ≡ false
+unfolding words
+words-none l = go (ltb l 64)
+  where
+    even-zero : (m : ℕ) → odd (0 / 2 ^ m) ≡ false
+    even-zero m = ap (λ (x : ℕ). odd (x / 2 ^ m)) (sym (zero-mul (2 ^ m))) ∙ ap odd (shl-shr 0 m)
+
+    go : (t : Bool) → cond t (odd (0 / 2 ^ l)) (odd (0 / 2 ^ (l - 64))) ≡ false
+    go true = even-zero l
+    go false = even-zero (l - 64)
 
 -- Position l is one bit of one word.
 pub set-bit : (s : List ℕ) (p l : ℕ) → l < 128 → set-at s p l ≡ odd (getD s (2 * p + l / 64) 0 / 2 ^ (l % 64))

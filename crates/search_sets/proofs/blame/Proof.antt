@@ -12,7 +12,7 @@ use Rattle.search_sets.proofs.blame.Statement.{statement}
 use Rattle.search_sets.proofs.blame.Tie as tie
 
 abbrev Inv-loop : tie.InvT-loop
-Inv-loop codes sets₀ start to e₀ sets e = (length sets ≡ 516) × (codes-joined to (clause-of (drop e codes)) sets ≡ codes-joined to (clause-of (drop start codes)) sets₀)
+Inv-loop codes sets₀ start to e₀ sets e = (length sets ≡ 524) × (codes-joined to (clause-of (drop e codes)) sets ≡ codes-joined to (clause-of (drop start codes)) sets₀)
 
 abbrev μ-loop : tie.MeasureT-loop
 μ-loop codes sets₀ start to e₀ sets e = length codes - e

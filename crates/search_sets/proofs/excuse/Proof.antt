@@ -10,7 +10,7 @@ use Rattle.search_sets.proofs.excuse.Statement.{statement}
 use Rattle.search_sets.proofs.excuse.Tie as tie
 
 abbrev Inv-loop : tie.InvT-loop
-Inv-loop sets₀ of k at p₀ sets p = (length sets ≡ 516) × (of < 130) × (at ≤ 128) × (k ≤ p) × (p - k ≤ at - k) × (sets ≡ each-from (followed of) k (p - k) sets₀)
+Inv-loop sets₀ of k at p₀ sets p = (length sets ≡ 524) × (of < 130) × (at ≤ 128) × (k ≤ p) × (p - k ≤ at - k) × (sets ≡ each-from (followed of) k (p - k) sets₀)
 
 abbrev μ-loop : tie.MeasureT-loop
 μ-loop sets₀ of k at p₀ sets p = at - p

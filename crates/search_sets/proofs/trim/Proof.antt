@@ -10,7 +10,7 @@ use Rattle.search_sets.proofs.trim.Statement.{statement}
 use Rattle.search_sets.proofs.trim.Tie as tie
 
 abbrev Inv-loop : tie.InvT-loop
-Inv-loop sets₀ k n low high p₀ sets p = (length sets ≡ 516) × (n ≤ 128) × (k ≤ p) × (p - k ≤ n - k) × (sets ≡ each-from (cut-at k) k (p - k) sets₀)
+Inv-loop sets₀ k n low high p₀ sets p = (length sets ≡ 524) × (n ≤ 128) × (k ≤ p) × (p - k ≤ n - k) × (sets ≡ each-from (cut-at k) k (p - k) sets₀)
 
 abbrev μ-loop : tie.MeasureT-loop
 μ-loop sets₀ k n low high p₀ sets p = n - p

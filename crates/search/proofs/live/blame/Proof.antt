@@ -9,7 +9,7 @@ use Rattle.search.proofs.live.blame.Statement.{statement}
 use Rattle.search.proofs.live.blame.Tie as tie
 
 abbrev Inv-loop : tie.InvT-loop
-Inv-loop codes work sets₀ i best₀ e₀ sets best e = (length sets ≡ 516) × (e ≤ length codes) × Blaming codes work i sets₀ e best sets
+Inv-loop codes work sets₀ i best₀ e₀ sets best e = (length sets ≡ 524) × (e ≤ length codes) × Blaming codes work i sets₀ e best sets
 
 abbrev μ-loop : tie.MeasureT-loop
 μ-loop codes work sets₀ i best₀ e₀ sets best e = length codes - e

@@ -10,7 +10,7 @@ use Rattle.search.proofs.live.check.Statement.{statement}
 use Rattle.search.proofs.live.check.Tie as tie
 
 abbrev Inv-loop : tie.InvT-loop
-Inv-loop codes work sets₀ lo hi i₀ sets i = (lo ≤ i) × (i ≤ hi) × (length sets ≡ 516) × SetsKept sets₀ sets
+Inv-loop codes work sets₀ lo hi i₀ sets i = (lo ≤ i) × (i ≤ hi) × (length sets ≡ 524) × SetsKept sets₀ sets
 
 abbrev μ-loop : tie.MeasureT-loop
 μ-loop codes work sets₀ lo hi i₀ sets i = hi - i

@@ -1,0 +1,55 @@
+-- `inherit` meets its contract. The invariant: so far the set at p has those of the other. Assumes nothing.
+use Prim.Native.Nat.{_≤_, _-_}
+use mathlib.Core.Path.{_≡_}
+use lib.ListN.{length}
+use Rattle.search_reasons.specs.Held.{Inheriting}
+use Rattle.search_reasons.proofs.StepLaws.{inheriting-none, inheriting-all}
+use native.Mathlib.Omega.{arith}
+use Rattle.search_reasons.proofs.inherit.Statement.{statement}
+use Rattle.search_reasons.proofs.inherit.Tie as tie
+
+abbrev Inv-loop : tie.InvT-loop
+Inv-loop own₀ p l₀ own l =
+    (l ≤ 128) × (length own ≡ 524) × Inheriting p l own₀ own
+
+abbrev μ-loop : tie.MeasureT-loop
+μ-loop own₀ p l₀ own l = 128 - l
+
+empty-requires : tie.Need-empty-requires Inv-loop μ-loop
+empty-requires c κs = tt
+
+loop-holds : tie.Need-loop-holds Inv-loop μ-loop
+loop-holds c = (omega arith, omega arith, inheriting-none _ _)
+
+take-requires : tie.Need-take-requires Inv-loop μ-loop
+take-requires c κs = (omega arith, omega arith, omega arith)
+
+add-l : tie.Need-add-l Inv-loop μ-loop
+add-l c = omega arith
+
+loop-less : tie.Need-loop-less Inv-loop μ-loop
+loop-less c = omega arith
+
+loop-again : tie.Need-loop-again Inv-loop μ-loop
+loop-again c = (omega arith, omega arith, c .before .before .take .ensures _ (c .before .before .before .before .before .loop .inv .2))
+
+same-length : tie.Need-same-length Inv-loop μ-loop
+same-length c = omega arith
+
+returns : tie.Need-returns Inv-loop μ-loop
+returns c = inheriting-all (omega arith) (c .before .loop .inv .2) (c .before .before .before .before .before .before .before .args .own .now) (omega arith) (c .before .before .before .before .empty .ensures) (omega arith)
+
+pub inherit-spec : {M : Type 1} → statement M
+inherit-spec =
+    tie.close
+    (tie.spec
+    Inv-loop
+    μ-loop
+    empty-requires
+    loop-holds
+    take-requires
+    add-l
+    loop-less
+    loop-again
+    same-length
+    returns)
