@@ -36,11 +36,22 @@ fn that_stay(mut literals: Vec<i32>, first: i32, last: i32) -> Vec<i32> {
     literals
 }
 
+/// A unit, and clauses that each make the next unknown one.
+fn chain(units: i32) -> Vec<i32> {
+    [1, 0].into_iter().chain((1..units).flat_map(|v| [-v, v + 1, 0])).collect()
+}
+
+/// One unknown in 2,047 clauses; a unit drops half of them, from the front or from the back.
+fn one_in_all(front: bool) -> Vec<i32> {
+    let last = CLAUSES as i32 - 1;
+    let clause = |i: i32| [128, if (i < last / 2) == front { 1 } else if i % 2 == 0 { -(3 + i % 60) } else { 3 + i % 60 }, 0];
+    (0..last).flat_map(clause).chain([1, 0]).collect()
+}
+
 fn cases() -> Vec<Case> {
     let existential = || vec![0; 128];
-    let units: Vec<i32> = [1, 0].into_iter().chain((1..100).flat_map(|v| [-v, v + 1, 0])).collect();
     let one_sign: Vec<i32> = [1, 2, 0].into_iter().chain((2..100).flat_map(|v| [-v, v + 1, 0])).collect();
-    let mut through: Vec<i32> = [1, 0].into_iter().chain((1..128).flat_map(|v| [-v, v + 1, 0])).collect();
+    let mut through = chain(128);
     for i in 0..CLAUSES as i32 - 128 {
         let name = |step: i32| (i + step) % 128 + 1;
         through.extend([-name(0), -name(43), name(85), 0]);
@@ -56,15 +67,29 @@ fn cases() -> Vec<Case> {
         i += 1;
     }
     let always_true = (0..CLAUSES as i32).flat_map(|i| [i % 128 + 1, (i + 5) % 128 + 1, -(i % 128 + 1), 0]);
+    let mut shrinking = chain(60);
+    for i in (0..20).cycle() {
+        if shrinking.len() + 62 > ENTRIES {
+            break;
+        }
+        shrinking.extend((1..=60).map(|v| -v).chain([if i % 2 == 0 { -(100 + i) } else { 100 + i }, 0]));
+    }
+    let mut long = chain(100);
+    let places = (ENTRIES - 1 - long.len()) as i32;
+    long.extend((0..places).map(|i| if i < 7700 { -(i % 100 + 1) } else { 101 + i % 20 }).chain([0]));
     vec![
         Case { name: "nothing to trim", kinds: existential(), literals: that_stay(Vec::new(), 1, 127) },
-        Case { name: "a chain of 100 units before clauses that stay", kinds: existential(), literals: that_stay(units, 101, 127) },
+        Case { name: "a chain of 100 units before clauses that stay", kinds: existential(), literals: that_stay(chain(100), 101, 127) },
         Case { name: "a chain of 128 units through all clauses", kinds: existential(), literals: through },
         Case { name: "a chain of 99 unknowns in one sign", kinds: existential(), literals: that_stay(one_sign, 101, 127) },
         Case { name: "8,188 universal literals in one clause", kinds: vec![1; 128], literals: universal.collect() },
         Case { name: "two literals of three reduced", kinds: halves, literals: reduced.collect() },
         Case { name: "units and reductions in turn", kinds: in_turn_kinds, literals: in_turn },
         Case { name: "2,048 always-true clauses", kinds: existential(), literals: always_true.collect() },
+        Case { name: "clauses of 61 that shrink to one", kinds: existential(), literals: shrinking },
+        Case { name: "one unknown in all, the front half dropped", kinds: existential(), literals: one_in_all(true) },
+        Case { name: "one unknown in all, the back half dropped", kinds: existential(), literals: one_in_all(false) },
+        Case { name: "a clause of 7,891 that loses literals 100 times", kinds: existential(), literals: long },
     ]
 }
 

@@ -20,7 +20,7 @@ use Rattle.named.specs.Names.{In, Distinct}
 use Rattle.named.proofs.NameLaws.{in-among}
 use Rattle.report.specs.Report.{decimal}
 use Rattle.text.specs.Reading.{State, went, literal-cause, entry, free-with, add-entries, clause-read, clause-line, body-line}
-use Rattle.text.proofs.KeptLaws.{and-both}
+use Rattle.named.proofs.NameLaws.{and-both}
 use Rattle.text.proofs.BodyLaws.{body-item}
 use Rattle.trimming_rules.specs.Trimming.{entries}
 use Rattle.trimming_rules.proofs.ClauseLaws.{Named, Every}

@@ -12,7 +12,7 @@ use Rattle.lines.specs.Lines.{Bytes}
 use Rattle.lines.specs.Numbers.{is-digit, all-digits, number-shape, value, number-within, number}
 use Rattle.report.specs.Report.{decimal, decimal-within}
 use Rattle.report.proofs.Lengths.{digits-most}
-use Rattle.text.proofs.KeptLaws.{and-both}
+use Rattle.named.proofs.NameLaws.{and-both}
 
 -- ---- tests
 

@@ -13,7 +13,7 @@ use Rattle.lines.specs.Numbers.{is-digit, all-digits}
 use Rattle.lines.specs.Shapes.{is-trimmed}
 use Rattle.lines.proofs.Pieces.{pieces-first}
 use Rattle.report.specs.Report.{decimal}
-use Rattle.text.proofs.KeptLaws.{and-both}
+use Rattle.named.proofs.NameLaws.{and-both}
 use Rattle.writing.proofs.DigitLaws.{decimal-some, decimal-digits, zero-word}
 
 -- The byte b is none of these.
