@@ -10,6 +10,7 @@ use native.Mathlib.Numerals.{add-one}
 use lib.Dec.{eqb}
 use lib.ListN.{length, getD, drop, length-drop}
 use lib.Seq.{drop-cons, getD-drop}
+use Rattle.formula.specs.Formula.{max-unknowns}
 use Rattle.expansion.proofs.ClauseCuts.{Every, Some}
 use Rattle.codes.specs.Codes.{row-position}
 use Rattle.codes.specs.Clauses.{position, code-true, code-onto, code-clauses, clause-of, HasEnd, Begins, Coded}
@@ -119,7 +120,7 @@ module _ {A : Type 0} where
 
 -- ---- positions and ends
 
-pub row-position-is : (c : ℕ) → 2 ≤ c → position c < 128 → row-position c ≡ position c
+pub row-position-is : (c : ℕ) → 2 ≤ c → position c < max-unknowns → row-position c ≡ position c
 row-position-is c two below = omega arith
 
 onto-some : (c : ℕ) (xs : List (List ℕ)) → code-onto c xs ≢ []

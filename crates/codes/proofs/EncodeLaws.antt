@@ -13,7 +13,7 @@ use lib.Dec.{eqb, ltb}
 use lib.IntN.{ℤ, pos, negsuc, natAbs}
 use lib.ListN.{length, getD, take, replicate, length-append}
 use lib.Seq.{take-at}
-use Rattle.formula.specs.Formula.{Clause, onto, clauses}
+use Rattle.formula.specs.Formula.{max-unknowns, Clause, onto, clauses}
 use Rattle.formula.specs.Causes.{any, beyond, ended}
 use Rattle.formula.proofs.Any.{or-none}
 use Rattle.expansion.proofs.ClauseCuts.{Every, every-map, clause-at, matrix-at}
@@ -337,16 +337,16 @@ pub refused-longer : (literals : List ℤ) (places : ℕ) → places < length li
 unfolding refused
 refused-longer literals places longer = rw (lt-ltb places (length literals) longer)
 
-pub refused-beyond : (literals : List ℤ) (places : ℕ) → any (beyond 128) literals ≡ true → refused literals places ≡ true
+pub refused-beyond : (literals : List ℤ) (places : ℕ) → any (beyond max-unknowns) literals ≡ true → refused literals places ≡ true
 unfolding refused
 refused-beyond literals places some = rw some (or-true (ltb places (length literals)))
 
-pub refused-neither : (literals : List ℤ) (places : ℕ) → length literals ≤ places → any (beyond 128) literals ≡ false → refused literals places ≡ false
+pub refused-neither : (literals : List ℤ) (places : ℕ) → length literals ≤ places → any (beyond max-unknowns) literals ≡ false → refused literals places ≡ false
 unfolding refused
 refused-neither literals places room none = rw (le-ltb places (length literals) room) none
 
-pub accepted : (literals : List ℤ) (places : ℕ) → length literals ≤ places → Names 128 literals → refused literals places ≡ false
-accepted literals places room names = refused-neither literals places room (none-beyond 128 literals names)
+pub accepted : (literals : List ℤ) (places : ℕ) → length literals ≤ places → Names max-unknowns literals → refused literals places ≡ false
+accepted literals places room names = refused-neither literals places room (none-beyond max-unknowns literals names)
 
 pub nothing-made : (literals : List ℤ) (codes : List ℕ) → refused literals (length codes) ≡ true → (0 ≡ used literals (length codes)) × (codes ≡ filled literals codes)
 nothing-made literals codes refuse = rw refuse (refl, refl)

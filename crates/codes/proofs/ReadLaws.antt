@@ -13,6 +13,7 @@ use lib.Dec.{eqb}
 use lib.IntN.{ℤ, pos, negsuc, natAbs}
 use lib.ListN.{length, getD, take, drop, set, replicate, length-append, length-set, length-replicate, replicate-append-replicate, drop-of-length-le}
 use lib.Seq.{take-at, take-take, take-all, take-suc-set, take-set-lt, set-at, getD-at, getD-take, length-take-le, getD-set-same, getD-set-other}
+use Rattle.formula.specs.Formula.{max-unknowns}
 use Rattle.formula.specs.Causes.{any, beyond}
 use Rattle.formula.proofs.Any.{any-none}
 use Rattle.formula.proofs.Places.{drop-front}
@@ -22,7 +23,7 @@ use Rattle.codes.proofs.EncodeLaws.{even-or-odd, or-swap, with-code-cas
 
 -- ---- codes as indices
 
-pub code-below : (z : ℤ) → natAbs z ≤ 128 → code-of z < 258
+pub code-below : (z : ℤ) → natAbs z ≤ max-unknowns → code-of z < 258
 code-below (pos v) small = omega arith
 code-below (negsuc v) small = omega arith
 

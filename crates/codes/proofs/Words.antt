@@ -10,6 +10,7 @@ use lib.Signed.{mag, ltZ}
 use mir.Facts.{toZ-ofZ}
 use mir.Syntax.{w32}
 use mir.Val.{SFits, ofZ, toZ}
+use Rattle.formula.specs.Formula.{max-unknowns}
 use Rattle.formula.specs.Causes.{beyond}
 use Rattle.formula.proofs.Opposite.{bits-opposite, opposite-fits, natAbs-opposite}
 use Rattle.codes.specs.Codes.{code-of}
@@ -29,7 +30,7 @@ code-of-other (pos zero) other e = other refl
 code-of-other (pos (suc v)) other e = omega arith
 code-of-other (negsuc v) other e = omega arith
 
-module _ (z : ℤ) (fits : SFits w32 z) (small : natAbs z ≤ 128) where
+module _ (z : ℤ) (fits : SFits w32 z) (small : natAbs z ≤ max-unknowns) where
   pub opposite-fits-word : SFits w32 (pos 0 -ℤ toZ w32 (ofZ w32 z))
   opposite-fits-word = rw (bits-opposite fits) (opposite-fits z (omega arith))
 
@@ -52,10 +53,10 @@ code-of-positive (negsuc n) above = absurd (true≢false above)
 
 -- ---- whether a literal names an unknown above the last, by its sign
 
-pub beyond-negative : (z : ℤ) → ltZ z (pos 0) ≡ true → ltZ z (negsuc 127) ≡ beyond 128 z
+pub beyond-negative : (z : ℤ) → ltZ z (pos 0) ≡ true → ltZ z (negsuc 127) ≡ beyond max-unknowns z
 beyond-negative (pos n) below = absurd (let h = ltb-true n 0 below in omega arith)
 beyond-negative (negsuc n) below = sym (leb·suc-suc 128 n)
 
-pub beyond-positive : (z : ℤ) → ltZ z (pos 0) ≡ false → ltZ (pos 128) z ≡ beyond 128 z
+pub beyond-positive : (z : ℤ) → ltZ z (pos 0) ≡ false → ltZ (pos 128) z ≡ beyond max-unknowns z
 beyond-positive (pos n) above = refl
 beyond-positive (negsuc n) above = absurd (true≢false above)

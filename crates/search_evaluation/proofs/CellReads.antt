@@ -6,18 +6,19 @@ use mathlib.Core.List.{List}
 use lib.Dec.{ltb, eqb}
 use lib.ListN.{length, getD}
 use borrow.Author.Tests.{ltb-true, eqb-true}
+use Rattle.formula.specs.Formula.{work-size, max-rows, max-unknowns}
 use Rattle.preference.specs.Preference.{odd}
 use Rattle.search_cells.specs.Cells.{cells}
 use Rattle.search_cells.proofs.CellLaws.{level-at, value-at}
 use Rattle.codes.specs.Codes.{row-position}
 use Rattle.search_evaluation.specs.Evaluation.{has-row, is-set}
 
-pub row-given : (w : List ℕ) (i : ℕ) → has-row w i ≡ true → (length w ≡ 65536) × (i < 256)
+pub row-given : (w : List ℕ) (i : ℕ) → has-row w i ≡ true → (length w ≡ work-size) × (i < max-rows)
 row-given w i e =
-    let both = and-eq-true-iff (eqb (length w) 65536) (ltb i 256) .0 e in
-    (eqb-true (length w) 65536 (both .0), ltb-true i 256 (both .1))
+    let both = and-eq-true-iff (eqb (length w) work-size) (ltb i max-rows) .0 e in
+    (eqb-true (length w) work-size (both .0), ltb-true i max-rows (both .1))
 
-module _ (w : List ℕ) (i c k : ℕ) (row : i < 256) (is : (k ≡ row-position c) × (k < 128)) where
+module _ (w : List ℕ) (i c k : ℕ) (row : i < max-rows) (is : (k ≡ row-position c) × (k < max-unknowns)) where
   pub set-by : ltb 0 (getD w (128 * i + k) 0) ≡ is-set w i c
   unfolding is-set
   set-by = ap (ltb 0) (sym (level-at i k row (is .1) w)) ∙ ap (λ (x : ℕ). ltb 0 (cells w .level i x)) (is .0)

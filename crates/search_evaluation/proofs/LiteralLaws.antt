@@ -7,6 +7,7 @@ use native.Mathlib.Omega.{arith}
 use borrow.Author.Tests.{lt-ltb, ltb-true, ltb-false, eq-eqb}
 use lib.Dec.{ltb, eqb}
 use lib.ListN.{length}
+use Rattle.formula.specs.Formula.{max-unknowns, work-size, max-rows}
 use Rattle.search_cells.specs.Cells.{cells}
 use Rattle.codes.specs.Clauses.{position, code-true}
 use Rattle.codes.specs.Codes.{row-position}
@@ -16,10 +17,10 @@ use Rattle.search_evaluation.specs.Looked.{IsAt}
 
 -- Each code of a literal: none but these stand in codes that are `Coded 128`.
 abbrev pub IsLiteral : ℕ → Type 0
-IsLiteral c = (2 ≤ c) × (position c < 128)
+IsLiteral c = (2 ≤ c) × (position c < max-unknowns)
 
-pub has-this-row : (w : List ℕ) (i : ℕ) → length w ≡ 65536 → i < 256 → has-row w i ≡ true
-has-this-row w i area row = rw (eq-eqb (length w) 65536 area, lt-ltb i 256 row)
+pub has-this-row : (w : List ℕ) (i : ℕ) → length w ≡ work-size → i < max-rows → has-row w i ≡ true
+has-this-row w i area row = rw (eq-eqb (length w) work-size area, lt-ltb i max-rows row)
 
 module _ (w : List ℕ) (i c : ℕ) (literal : IsLiteral c) where
   same-position : row-position c ≡ position c

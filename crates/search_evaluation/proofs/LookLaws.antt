@@ -6,6 +6,7 @@ use mathlib.Core.Bool.{Bool, true, false}
 use mathlib.Core.List.{List, [], _∷_}
 use native.Mathlib.Omega.{arith}
 use lib.ListN.{length, drop}
+use Rattle.formula.specs.Formula.{max-unknowns, work-size, max-rows}
 use Rattle.expansion.proofs.ClauseCuts.{Every, Some}
 use Rattle.search_cells.specs.Cells.{cells}
 use Rattle.codes.specs.Clauses.{position, clause-of, HasEnd, Coded}
@@ -25,7 +26,7 @@ module _ (w : List ℕ) (i : ℕ) where
     rest : (found ≡ 1 → ⊥) → Every (λ c. (c ≡ found) ⊎ IsAt w i false c) (clause-of cs)
     kept : (found ≡ 1 → ⊥) → 0 < shown → found ≡ shown
     named : 2 ≤ found → (found ≡ shown) ⊎ Some (λ c. c ≡ found) (clause-of cs)
-    unset : 2 ≤ found → (found ≡ shown) ⊎ ((cells w .level i (position found) ≡ 0) × (position found < 128))
+    unset : 2 ≤ found → (found ≡ shown) ⊎ ((cells w .level i (position found) ≡ 0) × (position found < max-unknowns))
 
   shows-nothing : (shown : ℕ) (cs : List ℕ) (found : ℕ) → found ≡ 1 → Shows shown cs found
   shows-nothing shown cs found one = record {
@@ -55,7 +56,7 @@ module _ (w : List ℕ) (i : ℕ) where
       unset = so .unset;
     }
 
-    shows-open : cells w .level i (position (suc c)) ≡ 0 → position (suc c) < 128 → Shows (suc c) cs found → Shows 0 (suc c ∷ cs) found
+    shows-open : cells w .level i (position (suc c)) ≡ 0 → position (suc c) < max-unknowns → Shows (suc c) cs found → Shows 0 (suc c ∷ cs) found
     shows-open level fits so = record {
       ends = so .ends;
       rest = λ n. (inl (sym (so .kept n (omega arith))), so .rest n);
@@ -63,7 +64,7 @@ module _ (w : List ℕ) (i : ℕ) where
       named = λ two. inr (⊎-elim (λ q. inl (sym q)) (λ s. inr s) (so .named two));
       unset = λ two.
           inr (⊎-elim
-          (λ q. subst (λ (x : ℕ). (cells w .level i (position x) ≡ 0) × (position x < 128)) (sym q) (level, fits))
+          (λ q. subst (λ (x : ℕ). (cells w .level i (position x) ≡ 0) × (position x < max-unknowns)) (sym q) (level, fits))
           (λ s. s)
           (so .unset two));
     }
@@ -85,7 +86,7 @@ module _ (w : List ℕ) (i : ℕ) where
       shows-literal c cs (all .0) (λ n. shows-all n cs (all .1)) (is-set w i (suc c)) (is-true w i (suc c)) refl refl shown
 
 -- What `look` returns is what a look at the clause finds.
-pub look-looked : (codes w : List ℕ) (i start : ℕ) → length w ≡ 65536 → i < 256 → Coded 128 codes → Looked codes w i start (look-at codes w i start)
+pub look-looked : (codes w : List ℕ) (i start : ℕ) → length w ≡ work-size → i < max-rows → Coded max-unknowns codes → Looked codes w i start (look-at codes w i start)
 unfolding look-at
 look-looked codes w i start area row coded =
     rw (has-this-row w i area row) (record {
@@ -97,4 +98,4 @@ look-looked codes w i start area row coded =
     })
   where
     so : Shows w i 0 (drop start codes) (look w i 0 (drop start codes))
-    so = shows-all w i 0 (drop start codes) (clause-coded 128 codes start coded)
+    so = shows-all w i 0 (drop start codes) (clause-coded max-unknowns codes start coded)

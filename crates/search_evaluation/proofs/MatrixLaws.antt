@@ -6,6 +6,7 @@ use mathlib.Core.Bool.{Bool, true, false, _&&_, _||_, or-assoc, or-false}
 use mathlib.Core.List.{List, [], _∷_}
 use native.Mathlib.Omega.{arith}
 use lib.ListN.{length}
+use Rattle.formula.specs.Formula.{max-unknowns, work-size, max-rows}
 use Rattle.expansion.proofs.ClauseCuts.{clause-at, matrix-at}
 use Rattle.search_cells.specs.Cells.{cells}
 use Rattle.codes.specs.Clauses.{code-true, code-onto, code-clauses, Ended, Coded}
@@ -31,7 +32,7 @@ module _ (w : List ℕ) (i : ℕ) where
   abbrev values : ℕ → Bool
   values = cells w .value i
 
-  matrix-read : (met : Bool) (cs : List ℕ) → Coded 128 cs → Ended cs → matrix-on (is-true w i) met cs ≡ matrix-from values met (code-clauses cs)
+  matrix-read : (met : Bool) (cs : List ℕ) → Coded max-unknowns cs → Ended cs → matrix-on (is-true w i) met cs ≡ matrix-from values met (code-clauses cs)
   matrix-read met [] coded ended = refl
   matrix-read met (zero ∷ cs) coded ended =
       ap (λ (b : Bool). met && b) (matrix-read false cs (λ e lt. coded (suc e) (suc-le-suc lt)) (ended .1) ∙ from-none values (code-clauses cs))
@@ -42,7 +43,7 @@ module _ (w : List ℕ) (i : ℕ) where
       ∙ from-onto values met (suc c) (code-clauses cs) (clauses-some cs (ended .0))
 
 -- What `matrix` returns is the matrix of the clauses by the values of row i.
-pub matrix-is : (codes w : List ℕ) (i : ℕ) → length w ≡ 65536 → i < 256 → Coded 128 codes → Ended codes
+pub matrix-is : (codes w : List ℕ) (i : ℕ) → length w ≡ work-size → i < max-rows → Coded max-unknowns codes → Ended codes
     → matrix-in codes w i ≡ matrix-at code-true (code-clauses codes) (cells w .value i)
 unfolding matrix-in
 matrix-is codes w i area row coded ended =

@@ -9,6 +9,7 @@ use native.Mathlib.Omega.{arith}
 use lib.Dec.{ltb, eqb}
 use lib.ListN.{length, getD}
 use borrow.Author.Tests.{ltb-true, ltb-false, eqb-true, eqb-false}
+use Rattle.formula.specs.Formula.{work-size, max-rows, max-unknowns}
 use Rattle.search_cells.specs.Cells.{cells}
 use Rattle.search_cells.specs.Steps.{first-from}
 use Rattle.search_groups.specs.Groups.{differ-before, last-behind, copy-start, copy-end, parts-at, parted-at, earliest, parting-row, is-open, open-position}
@@ -256,7 +257,7 @@ module _ (kinds w : List ℕ) (side lo : ℕ) where
   }
 
 module _ (kinds w : List ℕ) (side k lo until : ℕ) where
-  pub open-position-stands : length w ≡ 65536 → length kinds ≤ 128 → until ≤ length kinds → k ≤ length kinds → lo < 256
+  pub open-position-stands : length w ≡ work-size → length kinds ≤ max-unknowns → until ≤ length kinds → k ≤ length kinds → lo < max-rows
       → Stands kinds w side k lo until (open-position kinds w side k lo until)
   open-position-stands area few within known row =
       rw (open-position-is kinds w side k lo until area few within row)

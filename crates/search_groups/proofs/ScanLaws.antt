@@ -9,6 +9,7 @@ use native.Mathlib.Decide.{decLt}
 use lib.Dec.{leb, ltb, eqb}
 use lib.ListN.{length, getD}
 use borrow.Author.Tests.{ltb-true, leb-true, eqb-true, eqb-false, not-true, lt-ltb, le-ltb, le-leb, eq-eqb, ne-eqb}
+use Rattle.formula.specs.Formula.{work-size, max-rows, max-unknowns}
 use Rattle.expansion.proofs.Booleans.{never-both, false-if-not-true}
 use Rattle.search_cells.specs.Steps.{first-from}
 use Rattle.search_cells.proofs.CellLaws.{level-at}
@@ -73,20 +74,20 @@ module _ (splits : List ℕ) where
         sym (ap (λ (t : Bool). cond t (parts-at splits lo mid n) n) (le-ltb mid (length splits) past))
 
 module _ (kinds work : List ℕ) (side k i until : ℕ) where
-  pub open-position-none : (length work ≡ 65536 → length kinds ≤ 128 → until ≤ length kinds → i < 256 → ⊥)
+  pub open-position-none : (length work ≡ work-size → length kinds ≤ max-unknowns → until ≤ length kinds → i < max-rows → ⊥)
       → k ≡ open-position kinds work side k i until
   unfolding open-position
   open-position-none out = unless (have-cells kinds work i until) (first-from (is-open kinds work side i) k (until - k)) k (λ e.
-      let a = both (eqb (length work) 65536 && leb (length kinds) 128 && leb until (length kinds)) (ltb i 256) e in
-      let b = both (eqb (length work) 65536 && leb (length kinds) 128) (leb until (length kinds)) (a .0) in
-      let d = both (eqb (length work) 65536) (leb (length kinds) 128) (b .0) in
+      let a = both (eqb (length work) work-size && leb (length kinds) max-unknowns && leb until (length kinds)) (ltb i max-rows) e in
+      let b = both (eqb (length work) work-size && leb (length kinds) max-unknowns) (leb until (length kinds)) (a .0) in
+      let d = both (eqb (length work) work-size) (leb (length kinds) max-unknowns) (b .0) in
       out (eqb-true _ _ (d .0)) (leb-true _ _ (d .1)) (leb-true _ _ (b .1)) (ltb-true _ _ (a .1)))
 
-  pub open-position-is : length work ≡ 65536 → length kinds ≤ 128 → until ≤ length kinds → i < 256
+  pub open-position-is : length work ≡ work-size → length kinds ≤ max-unknowns → until ≤ length kinds → i < max-rows
       → open-position kinds work side k i until ≡ first-from (is-open kinds work side i) k (until - k)
   unfolding open-position
   open-position-is area few within row =
-      rw (eq-eqb (length work) 65536 area, le-leb (length kinds) 128 few, le-leb until (length kinds) within, lt-ltb i 256 row)
+      rw (eq-eqb (length work) work-size area, le-leb (length kinds) max-unknowns few, le-leb until (length kinds) within, lt-ltb i max-rows row)
 
 module _ (splits : List ℕ) (from i : ℕ) where
   pub agreement-none : (i < length splits → (i ≡ from → ⊥) → ⊥) → 0 ≡ agreement-of splits from i
@@ -109,7 +110,7 @@ module _ (codes : List ℕ) (start agreement : ℕ) where
   is-repeated-is high = rw (lt-ltb start (length codes) high)
 
 module _ (kinds work : List ℕ) (side i j : ℕ) where
-  pub is-open-own : getD kinds j 0 ≡ side → i < 256 → j < 128 → eqb (getD work (128 * i + j) 0) 0 ≡ is-open kinds work side i j
+  pub is-open-own : getD kinds j 0 ≡ side → i < max-rows → j < max-unknowns → eqb (getD work (128 * i + j) 0) 0 ≡ is-open kinds work side i j
   unfolding is-open
   is-open-own own row position =
       rw (eq-eqb (getD kinds j 0) side own) (sym (ap (λ (x : ℕ). eqb x 0) (level-at i j row position work)))

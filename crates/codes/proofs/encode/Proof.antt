@@ -2,6 +2,7 @@
 use native.Mathlib.Omega.{arith}
 use mathlib.Core.Path.{sym, _∙_}
 use lib.ListN.{length}
+use Rattle.formula.specs.Formula.{max-unknowns}
 use Rattle.codes.proofs.EncodeLaws.{encoding-length, refused-longer, refused-beyond, refused-neither, nothing-made, all-made}
 use Rattle.codes.proofs.ReadLaws.{names-all}
 use borrow.Author.Needs.{needs}
@@ -24,7 +25,7 @@ returns-2 c =
 
 encode-clauses-requires : tie.Need-encode-clauses-requires
 encode-clauses-requires c κs =
-    (c .before .before .before .if1 .left, names-all 128 (c .before .before .before .before .before .args .literals .now) (sym (c .before .before .has-beyond .ensures) ∙ c .before .if2 .left))
+    (c .before .before .before .if1 .left, names-all max-unknowns (c .before .before .before .before .before .args .literals .now) (sym (c .before .before .has-beyond .ensures) ∙ c .before .if2 .left))
 
 clear-behind-requires : tie.Need-clear-behind-requires
 clear-behind-requires c κs =

@@ -7,6 +7,7 @@ use lib.IntN.{pos, natAbs}
 use native.Mathlib.Omega.{arith}
 use borrow.Author.Needs.{needs}
 use lib.ListN.{length, getD, length-set}
+use Rattle.formula.specs.Formula.{max-unknowns}
 use Rattle.codes.specs.Codes.{code-of}
 use Rattle.codes.proofs.Words.{bits}
 use Rattle.codes.proofs.EncodeLaws.{code-literal}
@@ -32,7 +33,7 @@ is-code c =
     c .wide .ensures ∙ c .before .code-of .ensures
     ∙ bits code-of (getD (c .before .before .before .before .before .before .args .literals .now) (c .before .before .before .before .loop .i) (pos 0)) (c .before .before .code-of-arg .given)
 
-named : (c : tie.After-wide Inv-loop μ-loop) → natAbs (getD (c .before .before .before .before .before .before .args .literals .now) (c .before .before .before .before .loop .i) (pos 0)) ≤ 128
+named : (c : tie.After-wide Inv-loop μ-loop) → natAbs (getD (c .before .before .before .before .before .before .args .literals .now) (c .before .before .before .before .loop .i) (pos 0)) ≤ max-unknowns
 named c = c .before .before .before .before .before .before .pre .1 (c .before .before .before .before .loop .i) (c .before .before .before .loop-test .taken)
 
 small : (c : tie.After-wide Inv-loop μ-loop) → c .wide .result < 258
@@ -41,7 +42,7 @@ small c = rw (is-code c) (code-below (getD (c .before .before .before .before .b
 two : (c : tie.After-wide Inv-loop μ-loop) → (c .wide .result ≡ 0 → ⊥) → 2 ≤ c .wide .result
 two c other =
     rw (is-code c)
-    (code-literal 128 (getD (c .before .before .before .before .before .before .args .literals .now) (c .before .before .before .before .loop .i) (pos 0)) (λ e. other (is-code c ∙ e)) (named c) .0)
+    (code-literal max-unknowns (getD (c .before .before .before .before .before .before .args .literals .now) (c .before .before .before .before .loop .i) (pos 0)) (λ e. other (is-code c ∙ e)) (named c) .0)
 
 loop-holds : tie.Need-loop-holds Inv-loop μ-loop
 loop-holds c = none-so-far (c .before .args .literals .now) (c .before .args .from) (c .before .args .start) (c .before .args .codes .now) (c .before .pre .0 .1) (c .before .pre .0 .2)

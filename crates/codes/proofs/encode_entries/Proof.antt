@@ -3,6 +3,7 @@ use native.Mathlib.Omega.{arith}
 use borrow.Author.Needs.{needs}
 use mathlib.Core.Path.{sym, _∙_}
 use lib.ListN.{length}
+use Rattle.formula.specs.Formula.{max-unknowns}
 use Rattle.codes.proofs.EncodeLaws.{refused-longer, refused-beyond, refused-neither}
 use Rattle.codes.proofs.ReadLaws.{names-all}
 use Rattle.codes.proofs.encode_entries.Statement.{statement}
@@ -18,7 +19,7 @@ returns-2 : tie.Need-returns-2
 returns-2 c = rw (refused-beyond (c .before .before .before .before .args .literals .now) (length (c .before .before .before .before .args .codes .now)) (sym (c .before .has-beyond .ensures) ∙ c .if2 .taken))
 
 encode-each-requires : tie.Need-encode-each-requires
-encode-each-requires c κs = (c .before .before .before .if1 .left, names-all 128 (c .before .before .before .before .before .args .literals .now) (sym (c .before .before .has-beyond .ensures) ∙ c .before .if2 .left))
+encode-each-requires c κs = (c .before .before .before .if1 .left, names-all max-unknowns (c .before .before .before .before .before .args .literals .now) (sym (c .before .before .has-beyond .ensures) ∙ c .before .if2 .left))
 
 same-length : tie.Need-same-length
 same-length c = search needs

@@ -8,6 +8,7 @@ use mathlib.Core.Bool.{_||_}
 use mathlib.Core.Logic.{⊎-elim}
 use lib.IntN.{pos}
 use lib.ListN.{length, getD, drop}
+use Rattle.formula.specs.Formula.{max-unknowns}
 use Rattle.formula.specs.Causes.{any, beyond}
 use Rattle.formula.proofs.Any.{any-found, any-passed, any-all}
 use Rattle.codes.proofs.Words.{bits}
@@ -16,7 +17,7 @@ use Rattle.codes.proofs.has_beyond.Tie as tie
 
 abbrev Inv-loop : tie.InvT-loop
 Inv-loop literals found₀ i₀ found i =
-    (i ≤ length literals) × (any (beyond 128) literals ≡ (found || any (beyond 128) (drop i literals)))
+    (i ≤ length literals) × (any (beyond max-unknowns) literals ≡ (found || any (beyond max-unknowns) (drop i literals)))
 
 abbrev μ-loop : tie.MeasureT-loop
 μ-loop literals found₀ i₀ found i = length literals - i
@@ -43,16 +44,16 @@ loop-again : tie.Need-loop-again Inv-loop μ-loop
 loop-again c =
     let l = c .before .before .before .before .before .args .literals .now in
     let i = c .before .before .before .before .loop .i in
-    let told = sym (bits (beyond 128) (getD l i (pos 0)) (c .before .before .is-beyond-arg .given)) ∙ sym (c .before .is-beyond .ensures) in (
+    let told = sym (bits (beyond max-unknowns) (getD l i (pos 0)) (c .before .before .is-beyond-arg .given)) ∙ sym (c .before .is-beyond .ensures) in (
       omega arith,
       ⊎-elim
-          (λ w. any-found (beyond 128) l (c .before .before .before .before .loop .found) i (c .before .before .before .before .loop .inv .1) (pos 0) (c .if1 .found) (c .before .before .before .loop-test .taken) (told ∙ w .0 .taken) (w .1))
-          (λ w. any-passed (beyond 128) l (c .before .before .before .before .loop .found) i (c .before .before .before .before .loop .inv .1) (pos 0) (c .if1 .found) (c .before .before .before .loop-test .taken) (told ∙ w .0 .left) (w .1))
+          (λ w. any-found (beyond max-unknowns) l (c .before .before .before .before .loop .found) i (c .before .before .before .before .loop .inv .1) (pos 0) (c .if1 .found) (c .before .before .before .loop-test .taken) (told ∙ w .0 .taken) (w .1))
+          (λ w. any-passed (beyond max-unknowns) l (c .before .before .before .before .loop .found) i (c .before .before .before .before .loop .inv .1) (pos 0) (c .if1 .found) (c .before .before .before .loop-test .taken) (told ∙ w .0 .left) (w .1))
           (c .if1 .came),
     )
 
 returns : tie.Need-returns Inv-loop μ-loop
-returns c = any-all (beyond 128) (c .before .before .args .literals .now) (c .before .loop .found) (c .before .loop .i) (c .before .loop .inv .1) (c .loop-test .left)
+returns c = any-all (beyond max-unknowns) (c .before .before .args .literals .now) (c .before .loop .found) (c .before .loop .i) (c .before .loop .inv .1) (c .loop-test .left)
 
 pub has-beyond-spec : {M : Type 1} → statement M
 has-beyond-spec =
