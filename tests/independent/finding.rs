@@ -47,8 +47,8 @@ impl Finding {
     }
 }
 
-/// What is found: the causes of the text, those of the file, whether the file is about this formula and claims something, then the judgement. With what is left
-/// of the work area.
+/// What is found: the causes of the text, those of the file, whether the file is about this formula and claims something, then the judgement. With
+/// what is left of the work area.
 pub fn found(read: &Result<Read, Refusal>, file: &[u8], work: Vec<u8>, looks: usize) -> Result<(Finding, Vec<u8>), TooLong> {
     let read = match read {
         Ok(read) => read,

@@ -44,8 +44,8 @@ pub fn run(program: &Program, random: &mut Random, text: &[u8]) -> Result<String
     Ok(printed)
 }
 
-/// Runs a program with a text and perhaps a second file, once in eight times by its script, and says what is not as wanted: the script's status, standard output,
-/// standard error.
+/// Runs a program with a text and perhaps a second file, once in eight times by its script, and says what is not as wanted: the script's status,
+/// standard output, standard error.
 pub fn wrong_run(program: &Program, random: &mut Random, text: &[u8], second: Option<&[u8]>, status: i32, out: &[u8], said: &str) -> Option<String> {
     let by_script = random.chance(1, 8);
     let output = if by_script { from_files(program, random, text, second) } else { from_a_pipe(program, random, text, second) };

@@ -1,5 +1,5 @@
-//! Witness files: the C functions and the programs that write and judge them, held against the file and the finding by the rules written apart. Files are those
-//! of small formulas, damaged ones, and ones made of any fields.
+//! Witness files: the C functions and the programs that write and judge them, held against the file and the finding by the rules written apart. Files
+//! are those of small formulas, damaged ones, and ones made of any fields.
 
 use crate::formula::{count_of, Side, WORK};
 use crate::formulas;
@@ -102,8 +102,10 @@ impl Player {
             vulzhenn_judge(lent_text.address(), lent_text.length(), lent_file.address(), lent_file.length(), lent_work.address_mut(), lent_work.length())
         };
         let holds = number == finding.number() && lent_work.holds(&left) && lent_text.holds(text) && lent_file.holds(file);
-        let wrong = format!("vulzhenn_judge returned {}, wanted {:?}, or left other bytes; work of {}, file {:02x?}", number, finding, work, &file[..file.len().min(60)]);
-        self.case(finding.line(), if holds { None } else { Some(wrong) }, text);
+        let shown = &file[..file.len().min(60)];
+        let wrong = format!("vulzhenn_judge returned {}, wanted {:?}, or left other bytes; work of {}, file {:02x?}", number, finding, work, shown);
+        let came = if read.is_ok() { finding.line() } else { "a refused text".to_string() };
+        self.case(came, if holds { None } else { Some(wrong) }, text);
         if self.random.chance(1, BY_PROGRAM) {
             let (finding, _) = found(read, file, vec![0; WORK], LOOKS)?;
             let wrong = program::wrong_run(&program::JUDGE, &mut self.random, text, Some(file), finding.status(), finding.line().as_bytes(), "");
@@ -220,7 +222,7 @@ impl Player {
 }
 
 /// The findings that must have come.
-const WANTED: [&str; 13] = [
+const WANTED: [&str; 15] = [
     "accepted 1\n",
     "accepted 0\n",
     "not borne out\n",
@@ -231,8 +233,10 @@ const WANTED: [&str; 13] = [
     "c refused 8 0\n",
     "c refused 17 0\n",
     "c refused 18 0\n",
+    "a refused text",
     "a file",
     "no file",
+    "a file by the program",
     "a finding by the program",
 ];
 
@@ -248,7 +252,8 @@ pub fn compare_all(seed: u64, times: usize, tally: &mut Tally) {
         let came = player.seen.contains_key(name);
         player.tally.case(if came { None } else { Some(format!("no file came to {:?}", name)) });
     }
-    println!("witness files: {} compared, {} left out, {:.1} s: {:?}", player.tally.passed + player.tally.failed, player.left_out, start.elapsed().as_secs_f64(), player.seen);
+    let (compared, seconds) = (player.tally.passed + player.tally.failed, start.elapsed().as_secs_f64());
+    println!("witness files: {} compared, {} left out, {:.1} s: {:?}", compared, player.left_out, seconds, player.seen);
     tally.passed += player.tally.passed;
     tally.failed += player.tally.failed;
 }

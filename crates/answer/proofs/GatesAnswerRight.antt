@@ -11,7 +11,7 @@ use Rattle.text.proofs.TextLaws.{gates-refused-line}
 use Rattle.text.proofs.GatesPass.{GatesResults, gates-pass}
 use Rattle.text.proofs.GatesRight.{gates-right}
 use Rattle.answer.specs.Printed.{gates-printed}
-use Rattle.answer.specs.GatesAnswerRight.{CircuitIs, GatesAnswerRight}
+use Rattle.answer.specs.GatesAnswerRight.{GatesAnswerRight}
 use Rattle.answer.proofs.AnswerRight.{lines-right}
 
 gates-small : (n : ℕ) → In n gates-causes → n ≤ 20
@@ -29,7 +29,7 @@ unfolding gates-printed
 gates-answer-right text =
     record {
       lines =
-          lines-right gates-causes (gates-read text) (λ _ value. CircuitIs text value) (gates-printed text) refl
+          lines-right _ (gates-read text) _ (gates-printed text) refl
           (λ n line e.
           let known : In n gates-causes = subst GatesResults e (gates-pass text max-unknowns max-entries max-unknowns) in
           (known, gates-small n known, gates-refused-line text max-unknowns max-entries max-unknowns n line e))

@@ -94,7 +94,7 @@ impl Formula {
 }
 
 // The one number of its type that has no opposite there.
-const LOWEST: i32 = -2_147_483_648;
+pub const LOWEST: i32 = -2_147_483_648;
 
 // The magnitude of a literal: the name of its unknown.
 pub fn magnitude(literal: i32) -> u32
@@ -196,7 +196,7 @@ fn is_ended(literals: &[i32]) -> bool
 }
 
 // The lowest number is the one beyond 2,147,483,647.
-fn has_lowest(literals: &[i32]) -> bool
+pub fn has_lowest(literals: &[i32]) -> bool
     ensures { λ r. ⌜ r ≡ any (beyond 2147483647) (now (literals .entry)) ⌝ }
 {
     let mut found = false;

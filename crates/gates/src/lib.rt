@@ -12,9 +12,6 @@ ghost use Rattle.formula.specs.Causes.{any, beyond};
 ghost use Rattle.gates.specs.Put.{entries-of, place-behind, laid};
 ghost use Rattle.gates.specs.Steps.{turn, pair-entries, long-entries, gathered-entries, triple-entries, parity-entries};
 
-// The one number without an opposite.
-const LOWEST: i32 = -2_147_483_648;
-
 // What a gate computes: `&`, `|` and `^`.
 pub enum Function {
     And,
@@ -33,10 +30,10 @@ pub fn put(
     ensures { λ r. ⌜ r ≡ place-behind (length (now (entries .entry))) at (entries-of function literal (now (inputs .entry))) ⌝ }
     ensures { λ _. ⌜ now (entries .exit) ≡ laid (now (entries .entry)) at (entries-of function literal (now (inputs .entry))) ⌝ }
 {
-    if literal == LOWEST {
+    if literal == formula::LOWEST {
         return at;
     }
-    if has_lowest(inputs) {
+    if formula::has_lowest(inputs) {
         return at;
     }
     match function {
@@ -44,20 +41,6 @@ pub fn put(
         Function::Or => gather(literal, -literal, inputs, true, entries, at),
         Function::Xor => differ(literal, inputs, entries, at),
     }
-}
-
-fn has_lowest(literals: &[i32]) -> bool
-    ensures { λ r. ⌜ r ≡ any (beyond 2147483647) (now (literals .entry)) ⌝ }
-{
-    let mut found = false;
-    let mut i = 0;
-    while i < literals.len() {
-        if literals[i] == LOWEST {
-            found = true;
-        }
-        i += 1;
-    }
-    found
 }
 
 // `near` with each input, then `far` with all of them, the inputs of the one or of the other turned to their opposites.
