@@ -1,6 +1,6 @@
 //! 01's rules, written from its words apart from the engine: the formula, its meaning by brute force, preferences, rows, copies and the
 //! first model, the run, the judge, the reader; 02's opening, clearing, return counts, trimming, forecast, fee, witness file, gate lists and season
-//! sheet; and what the program prints and the C function returns. With them what the tests share: random cases, lent tables with guards, the count
+//! sheet; the study; and what the program prints and the C function returns. With them what the tests share: random cases, lent tables with guards, the count
 //! of cases, jobs on several threads.
 
 // No test uses all of it.
@@ -25,6 +25,7 @@ pub mod rounds;
 pub mod rows;
 pub mod season;
 pub mod seasons;
+pub mod study;
 pub mod tally;
 pub mod trimming;
 pub mod wanted;
