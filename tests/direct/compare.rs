@@ -8,6 +8,8 @@ use crate::model::TooLong;
 use crate::probe;
 use crate::rounds::{Given, Left};
 use crate::rows::decoded;
+use crate::study::Studied;
+use crate::study_probe;
 use crate::trimming;
 use crate::wanted::Lending;
 
@@ -32,6 +34,26 @@ impl Faults {
             let end = wanted.len().min(64);
             self.0.push(format!("{}: got {:?}.., wanted {:?}..", name, &lent.content()[..end], &wanted[..end]));
         }
+    }
+
+    /// What a run returns and leaves in every table.
+    fn left(&mut self, tables: &probe::Tables, given: &Given, number: u64, wanted: &Left) {
+        self.number("number", number, wanted.number);
+        self.table("round", &tables.round, &[wanted.round]);
+        self.table("universal count", &tables.universal, &[wanted.universal]);
+        self.table("existential count", &tables.existential, &[wanted.existential]);
+        self.table("opening", &tables.opening, &wanted.opening);
+        self.table("block", &tables.block, &[wanted.block]);
+        self.table("kinds", &tables.kinds, &given.kinds);
+        self.table("literals", &tables.literals, &given.literals);
+        self.table("preferences", &tables.preferences, &given.preferences);
+        self.table("universal rows", &tables.universal_rows, &wanted.universal_rows);
+        self.table("universal marks", &tables.universal_marks, &wanted.universal_marks);
+        self.table("universal counts", &tables.universal_counts, &wanted.universal_counts);
+        self.table("existential rows", &tables.existential_rows, &wanted.existential_rows);
+        self.table("existential marks", &tables.existential_marks, &wanted.existential_marks);
+        self.table("existential counts", &tables.existential_counts, &wanted.existential_counts);
+        self.table("work", &tables.work, &wanted.work);
     }
 
     fn words(self, call: String) -> Wrong {
@@ -130,29 +152,18 @@ pub fn run_with(given: &Given, wanted: Left) -> Wrong {
     let mut tables = tables(given);
     let number = probe::run(&mut tables, given.limit, given.clear_every);
     let mut faults = Faults(Vec::new());
-    faults.number("number", number, wanted.number);
-    faults.table("round", &tables.round, &[wanted.round]);
-    faults.table("universal count", &tables.universal, &[wanted.universal]);
-    faults.table("existential count", &tables.existential, &[wanted.existential]);
-    faults.table("opening", &tables.opening, &wanted.opening);
-    faults.table("block", &tables.block, &[wanted.block]);
+    faults.left(&tables, given, number, &wanted);
     if wanted.block > 0 && given.kinds.len() <= BRUTE_FORCE {
         let values = decoded(tables.opening.content(), 0, wanted.block);
         let clauses = clauses(&given.literals);
         faults.number("verdict behind the opening", meaning_behind(&given.kinds, &clauses, &values), meaning(&given.kinds, &clauses));
     }
-    faults.table("kinds", &tables.kinds, &given.kinds);
-    faults.table("literals", &tables.literals, &given.literals);
-    faults.table("preferences", &tables.preferences, &given.preferences);
-    faults.table("universal rows", &tables.universal_rows, &wanted.universal_rows);
-    faults.table("universal marks", &tables.universal_marks, &wanted.universal_marks);
-    faults.table("universal counts", &tables.universal_counts, &wanted.universal_counts);
-    faults.table("existential rows", &tables.existential_rows, &wanted.existential_rows);
-    faults.table("existential marks", &tables.existential_marks, &wanted.existential_marks);
-    faults.table("existential counts", &tables.existential_counts, &wanted.existential_counts);
-    faults.table("work", &tables.work, &wanted.work);
-    faults.words(format!(
-        "run, kinds {:?} literals {:?} preferences {:?} tables of {} ({} marks, {} counts) and {} ({} marks, {} counts) bytes, work of {}, limit {}, cleared every {}",
+    faults.words(format!("run, {}", shown_run(given)))
+}
+
+fn shown_run(given: &Given) -> String {
+    format!(
+        "kinds {:?} literals {:?} preferences {:?} tables of {} ({} marks, {} counts) and {} ({} marks, {} counts) bytes, work of {}, limit {}, cleared every {}",
         given.kinds,
         given.literals,
         given.preferences,
@@ -165,7 +176,23 @@ pub fn run_with(given: &Given, wanted: Left) -> Wrong {
         given.work.len(),
         given.limit,
         given.clear_every
-    ))
+    )
+}
+
+/// A study, where what it is to leave is known; of few unknowns its verdict is held against the meaning of the lent formula.
+pub fn study(given: &Given, settings: &[u32], wanted: &Studied) -> Wrong {
+    let mut tables = tables(given);
+    let lent_settings = Lent::new(settings);
+    let mut setting = Lent::new(&[7]);
+    let number = study_probe::study(&mut tables, &lent_settings, &mut setting);
+    let mut faults = Faults(Vec::new());
+    faults.left(&tables, given, number, &wanted.left);
+    faults.table("settings", &lent_settings, settings);
+    faults.table("setting", &setting, &[wanted.setting]);
+    if number < 2 && given.kinds.len() <= BRUTE_FORCE {
+        faults.number("verdict", number == 1, meaning(&given.kinds, &clauses(&given.literals)));
+    }
+    faults.words(format!("study, settings {:?}, {}", settings.chunks(4).collect::<Vec<_>>(), shown_run(given)))
 }
 
 /// The fee of a call, where what it is to answer is known.

@@ -18,6 +18,8 @@ mod refused;
 mod runs;
 mod searches;
 mod sheets;
+mod studies;
+mod study_probe;
 mod witness;
 mod witness_probe;
 mod trimmings;
@@ -25,7 +27,7 @@ mod trimmings;
 use independent::jobs::{self, Job};
 use independent::random::Random;
 use independent::tally::Tally;
-use independent::{draw, fee, formula, lent, meaning, model, preference, random, rounds, rows, season, seasons, tally, trimming, wanted};
+use independent::{draw, fee, formula, lent, meaning, model, preference, random, rounds, rows, season, seasons, study, tally, trimming, wanted};
 use std::time::Instant;
 
 const SEED: u64 = 1;
@@ -52,6 +54,8 @@ fn topics() -> Vec<Topic> {
     topics.push(Box::new(sheets::compare_all));
     topics.push(Box::new(forecasts::compare_all));
     topics.push(Box::new(trimmings::compare_listed));
+    topics.push(Box::new(studies::compare_all));
+    topics.push(Box::new(studies::compare_refused));
     topics
 }
 

@@ -38,13 +38,13 @@ pub fn spoil_literal(random: &mut Random, n: usize, literals: &mut Vec<i32>) {
     literals.push(0);
 }
 
-fn spoil_length(random: &mut Random, table: &mut Vec<u8>, lengths: &[usize]) {
+pub fn spoil_length(random: &mut Random, table: &mut Vec<u8>, lengths: &[usize]) {
     let length = random.pick(lengths);
     table.resize(length, 0x81);
 }
 
 const ROWS: [usize; 10] = [0, 1, 8, 15, 17, 31, 40, 4095, 4097, 4112];
-const WORKS: [usize; 7] = [0, 1, 16, WORK - 1, WORK + 1, WORK - 16, 2 * WORK];
+pub const WORKS: [usize; 7] = [0, 1, 16, WORK - 1, WORK + 1, WORK - 16, 2 * WORK];
 
 /// A search or a judgement with some of the causes 1 to 5, 7 and 8.
 fn search_or_judge(random: &mut Random, tally: &mut Tally) {
@@ -87,7 +87,7 @@ fn search_or_judge(random: &mut Random, tally: &mut Tally) {
 }
 
 /// A count table that isn't one entry a row: none, one too few, one too many, one a byte.
-fn spoil_counts(random: &mut Random, given: &mut Given) {
+pub fn spoil_counts(random: &mut Random, given: &mut Given) {
     let (rows, counts) = match random.below(2) {
         0 => (&given.universal_rows, &mut given.universal_counts),
         _ => (&given.existential_rows, &mut given.existential_counts),
@@ -119,7 +119,7 @@ fn orders(random: &mut Random, tally: &mut Tally) {
 }
 
 /// Cause 4, of one of the four tables.
-fn spoil_tables(random: &mut Random, given: &mut Given) {
+pub fn spoil_tables(random: &mut Random, given: &mut Given) {
     match random.below(4) {
         0 => spoil_length(random, &mut given.universal_rows, &ROWS),
         1 => spoil_length(random, &mut given.existential_rows, &ROWS),

@@ -155,7 +155,7 @@ pub struct Left {
 }
 
 impl Given {
-    fn cause(&self) -> Option<u32> {
+    pub fn cause(&self) -> Option<u32> {
         if let Some(cause) = formula_cause(&self.kinds, &self.literals) {
             return Some(cause);
         }
@@ -175,9 +175,10 @@ impl Given {
         None
     }
 
-    pub fn left(&self, looks: usize) -> Result<Left, TooLong> {
-        let mut left = Left {
-            number: 0,
+    /// A refusal: everything is left as found.
+    pub fn refused(&self, cause: u32) -> Left {
+        Left {
+            number: 100 + u64::from(cause),
             round: 0,
             universal: 0,
             existential: 0,
@@ -191,11 +192,14 @@ impl Given {
             existential_counts: self.existential_counts.clone(),
             work: self.work.clone(),
             given_up: 0,
-        };
-        if let Some(cause) = self.cause() {
-            left.number = 100 + u64::from(cause);
-            return Ok(left);
         }
+    }
+
+    pub fn left(&self, looks: usize) -> Result<Left, TooLong> {
+        if let Some(cause) = self.cause() {
+            return Ok(self.refused(cause));
+        }
+        let mut left = self.refused(0);
         let room = (self.universal_marks.len(), self.existential_marks.len());
         let outcome = rounds(&self.kinds, &clauses(&self.literals), &self.preferences, room, self.limit, self.clear_every, looks)?;
         left.number = outcome.answer;

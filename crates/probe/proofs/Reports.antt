@@ -3,13 +3,10 @@
 use Prim.Native.Nat.{ℕ}
 use mathlib.Core.Path.{_≡_, ap, _∙_}
 use Rattle.run.specs.declared.Outcome.{Outcome}
-use Rattle.run.specs.Outcome.{Given}
-use Rattle.run.specs.Outcome as run
 use Rattle.run.specs.Numbers.{one-number}
 use Rattle.probe.specs.Numbers.{Reported}
 
-pub reported : {g : Given} {o : Outcome} {r : ℕ} → r ≡ one-number (o .answer) → o ≡ run.returned g
-    → Reported g r (o .round) (o .universal) (o .existential) (o .opening) (o .block)
+pub reported : {o p : Outcome} {r : ℕ} → r ≡ one-number (o .answer) → o ≡ p → Reported p r (o .round) (o .universal) (o .existential) (o .opening) (o .block)
 reported numbered returned =
     record {
       numbered = numbered ∙ ap (λ (o : Outcome). one-number (o .answer)) returned;

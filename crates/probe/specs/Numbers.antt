@@ -9,7 +9,7 @@ use Rattle.search.specs.declared.Search.{Search}
 use Rattle.search.specs.declared.Search.the-variants.{Found, NoModel, Refused}
 use Rattle.judge.specs.declared.Judgement.{Judgement}
 use Rattle.judge.specs.declared.Judgement.the-variants.{NotBorneOut, Accepted, Refused as JudgeRefused}
-use Rattle.run.specs.Outcome.{Given, returned}
+use Rattle.run.specs.declared.Outcome.{Outcome}
 use Rattle.run.specs.Numbers.{one-number}
 use Rattle.fee.specs.declared.Charge.{Charge}
 use Rattle.fee.specs.declared.Charge.the-variants.{Cents, Refused as ChargeRefused}
@@ -47,13 +47,13 @@ value-number false = 0
 value-number true = 1
 
 -- What a run returns: the number of its answer, the round and the counts, the opening and the length of its block.
-pub record Reported (g : Given) (answer round universal existential : ℕ) (opening : List ℕ) (block : ℕ) : Type 0 where
-  pub numbered : answer ≡ one-number (returned g .answer)
-  pub round-reached : round ≡ returned g .round
-  pub universals : universal ≡ returned g .universal
-  pub existentials : existential ≡ returned g .existential
-  pub opened : opening ≡ returned g .opening
-  pub block-long : block ≡ returned g .block
+pub record Reported (o : Outcome) (answer round universal existential : ℕ) (opening : List ℕ) (block : ℕ) : Type 0 where
+  pub numbered : answer ≡ one-number (o .answer)
+  pub round-reached : round ≡ o .round
+  pub universals : universal ≡ o .universal
+  pub existentials : existential ≡ o .existential
+  pub opened : opening ≡ o .opening
+  pub block-long : block ≡ o .block
 
 -- A season's page by number: 1 the studies, 2 to 6 those with answers 0 to 4, 7 the rounds, 8 the fees, 9 the most rounds, 10 the first study
 -- that has them. Number 0 is 100 plus the number of a refusal. Whatever is not there is 0.

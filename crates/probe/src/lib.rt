@@ -2,6 +2,7 @@
 // and content. Each promises what the function that it calls promises. Of a row that is handed back the length and each byte are told, since
 // an exported function returns no reference.
 pub mod outlook;
+pub mod study_runs;
 pub mod text_reader;
 pub mod witness_file;
 
@@ -18,7 +19,7 @@ ghost use Rattle.preference.specs.Preference.{prefer};
 ghost use Rattle.rows.specs.Access.{handed-back};
 ghost use Rattle.search.specs.Search.{outcome, work-after};
 ghost use Rattle.judge.specs.Judge.{outcome as judge-outcome, work-after as judge-work-after};
-ghost use Rattle.run.specs.Outcome.{areas, given, left as run-left};
+ghost use Rattle.run.specs.Outcome.{areas, given, returned, left as run-left};
 ghost use Rattle.fee.specs.Fee.{charged, cents as cents-of};
 ghost use Rattle.fee.specs.Bands.{charged-with};
 ghost use Rattle.probe.specs.Numbers.{search-number, judge-number, charge-number, season-number, value-number, Reported, trim-number};
@@ -107,7 +108,7 @@ pub extern "C" fn probe_run(
     opening: &mut [u8; 16],
     block: &mut usize,
 ) -> u64
-    ensures reported { λ r. ⌜ Reported (given (now (kinds .entry)) (now (literals .entry)) (now (preferences .entry)) (areas (now («universal_rows» .entry)) (now («universal_marks» .entry)) (now («universal_counts» .entry)) (now («existential_rows» .entry)) (now («existential_marks» .entry)) (now («existential_counts» .entry)) (now (work .entry))) limit «clear_every») r (now (round .exit)) (now (universal .exit)) (now (existential .exit)) (now (opening .exit)) (now (block .exit)) ⌝ }
+    ensures reported { λ r. ⌜ Reported (returned (given (now (kinds .entry)) (now (literals .entry)) (now (preferences .entry)) (areas (now («universal_rows» .entry)) (now («universal_marks» .entry)) (now («universal_counts» .entry)) (now («existential_rows» .entry)) (now («existential_marks» .entry)) (now («existential_counts» .entry)) (now (work .entry))) limit «clear_every»)) r (now (round .exit)) (now (universal .exit)) (now (existential .exit)) (now (opening .exit)) (now (block .exit)) ⌝ }
     ensures left { λ _. ⌜ areas (now («universal_rows» .exit)) (now («universal_marks» .exit)) (now («universal_counts» .exit)) (now («existential_rows» .exit)) (now («existential_marks» .exit)) (now («existential_counts» .exit)) (now (work .exit)) ≡ run-left (given (now (kinds .entry)) (now (literals .entry)) (now (preferences .entry)) (areas (now («universal_rows» .entry)) (now («universal_marks» .entry)) (now («universal_counts» .entry)) (now («existential_rows» .entry)) (now («existential_marks» .entry)) (now («existential_counts» .entry)) (now (work .entry))) limit «clear_every») ⌝ }
 {
     let end = run::run(
