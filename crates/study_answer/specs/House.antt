@@ -14,12 +14,13 @@ use Rattle.study.specs.Study.{Ending, settings-of, cause, studied}
 use Rattle.study.specs.StudyRight.{StudyRight}
 
 -- The house list, four numbers a setting: trimmed or not, the preference byte (256 for house preferences), how often the universal table is cleared, the
--- limit of rounds.
+-- limit of rounds. The last is the program's own run.
 abbrev pub house-list : List ℕ
 house-list =
     1 ∷ 256 ∷ 1 ∷ 1000
     ∷ 1 ∷ 0 ∷ 0 ∷ 1000
     ∷ 0 ∷ 1 ∷ 1 ∷ 1000
+    ∷ 0 ∷ 256 ∷ 0 ∷ 1000
     ∷ []
 
 -- '256 rows a side', all zero when the study begins, and the work area lent.

@@ -20,7 +20,7 @@ ghost use Rattle.study_answer.specs.AnswerRight.{Settles, StudyAnswerRig
 pub const LONGEST: usize = 192;
 
 // The house list, four numbers a setting.
-const LIST: [u32; 12] = [
+const LIST: [u32; 16] = [
     1, // trimmed, house preferences, the universal table cleared in every round
     256,
     1,
@@ -32,6 +32,10 @@ const LIST: [u32; 12] = [
     0, // as lent, every preference 1, cleared in every round
     1,
     1,
+    1_000,
+    0, // the program's: as lent, house preferences, never cleared
+    256,
+    0,
     1_000,
 ];
 
