@@ -2,6 +2,7 @@
 use Prim.Native.Nat.{ℕ}
 use native.Mathlib.Omega.{arith}
 use mathlib.Core.Path.{_≡_, refl, sym, ap, subst, _∙_}
+use mathlib.Core.Bool.{true, false}
 use mathlib.Core.List.{List, _++_, append-assoc}
 use mathlib.Core.Logic.{_⊎_, inl, inr}
 use lib.ListN.{length, take}
@@ -19,6 +20,7 @@ use Rattle.text.proofs.TextLaws.{Results, Passes, read-passes}
 use Rattle.text.proofs.GatesRight.{gates-right}
 use Rattle.report.specs.Report.{refusal-line}
 use Rattle.decision.specs.Decision.{own-lent}
+use Rattle.certificate.proofs.Settled.{rows-accepted}
 use Rattle.answer.specs.Printed.{round-limit, result-of, shown as shown-answer, printed}
 use Rattle.account.specs.Account.{head-lines, lines, facts, by-check, formula-lines, shown, account, account-of-gates}
 use Rattle.account.specs.AccountRight.{RunRight, Told, a-refusal, a-run, AccountRight, Caused, GatesAccountRight}
@@ -41,6 +43,8 @@ run-right r =
     record {
       only-true = verdict-right l round-limit .only-true;
       only-false = verdict-right l round-limit .only-false;
+      true-borne = rows-accepted l round-limit true;
+      false-borne = rows-accepted l round-limit false;
       claim = claim l round-limit (omega arith);
       opened = opening-right l round-limit;
       counted = counts-right l round-limit;

@@ -5,10 +5,12 @@ use mathlib.Core.Bool.{true, false}
 use mathlib.Core.List.{List}
 use mathlib.Core.Logic.{_⊎_}
 use lib.ListN.{length, take}
-use Rattle.formula.specs.Meaning.{verdict}
+use Rattle.formula.specs.Formula.{prefix, clauses}
+use Rattle.formula.specs.Meaning.{verdict, matrix}
 use Rattle.formula.specs.Causes.{checked}
 use Rattle.formula.specs.declared.Check.the-variants.{Refused}
-use Rattle.rounds.specs.Run.{is-true, is-false}
+use Rattle.expansion.specs.Judge.{accepted}
+use Rattle.rounds.specs.Run.{rows, is-true, is-false}
 use Rattle.rounds.specs.Claim.{Claim}
 use Rattle.rounds.specs.Opening.{OpeningRight}
 use Rattle.rounds.specs.Counts.{CountsRight}
@@ -24,6 +26,11 @@ pub record RunRight (r : Read) : Type 0 where
   -- The answer is the formula's meaning.
   pub only-true : settled (r .kinds) (r .literals) .answer ≡ is-true → verdict (r .kinds) (r .literals) ≡ true
   pub only-false : settled (r .kinds) (r .literals) .answer ≡ is-false → verdict (r .kinds) (r .literals) ≡ false
+  -- The rows of the side that decided settle it: the judge accepts them.
+  pub true-borne : settled (r .kinds) (r .literals) .answer ≡ is-true
+      → accepted true (prefix (r .kinds)) (matrix (clauses (r .literals))) (rows (settled (r .kinds) (r .literals) .S)) ≡ true
+  pub false-borne : settled (r .kinds) (r .literals) .answer ≡ is-false
+      → accepted false (prefix (r .kinds)) (matrix (clauses (r .literals))) (rows (settled (r .kinds) (r .literals) .A)) ≡ true
   -- Each finished round added a row with its mark to both tables, and no two rows of a table are equal.
   pub claim : Claim (own-lent (r .kinds) (r .literals)) round-limit
   -- The formula with the first block set to the opening has the same verdict.
