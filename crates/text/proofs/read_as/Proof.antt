@@ -54,7 +54,7 @@ returns-3 c =
     let own-kinds = c .before .before .before .before .before .before .before .before .before .before .before .before .before .before .before .read-lines .last .1 .1 .1 .0 in
     let own-literals = c .before .before .before .before .before .before .before .before .before .before .before .before .before .before .before .read-lines .last .1 .1 .1 .1 .0 in
     let own-names = c .before .before .before .before .before .before .before .before .before .before .before .before .before .before .before .read-lines .last .1 .1 .1 .1 .1 .0 in
-    let e = c .before .before .before .before .before .before .before .before .before .before .before .before .before .before .before .before .before .before .before .before .before .read-opening .ensures .right (c .before .before .before .before .before .before .before .before .before .before .before .before .before .before .before .before .before .before .before .if1 .left) ∙ sym (c .before .before .before .before .before .before .before .before .before .before .before .before .before .before .before .read-lines .ensures .right) ∙ outcome-taken (c .before .before .before .before .before .before .before .before .before .before .before .before .before .before .before .read-lines .result) own-kinds own-names own-literals (c .before .before .before .before .before .before .before .before .before .before .before .before .before .if2 .left) in
+    let e = c .before .before .before .before .before .before .before .before .before .before .before .before .before .before .before .before .before .before .before .before .before .read-opening .ensures .right (c .before .before .before .before .before .before .before .before .before .before .before .before .before .before .before .before .before .before .before .if1 .left) ∙ sym (c .before .before .before .before .before .before .before .before .before .before .before .before .before .before .before .read-lines .ensures .right) ∙ outcome-taken (c .before .before .before .before .before .before .before .before .before .before .before .before .before .before .before .read-lines .result) own-kinds own-names own-literals (omega (arith, c .before .before .before .before .before .before .before .before .before .before .before .before .before .if2 .left)) in
     rw e
     (taken-whole (c .before .before .before .before .before .before .before .before .before .before .before .before .before .before .before .read-lines .result) own-kinds own-names own-literals (c .before .before .before .before .before .before .before .before .before .before .before .before .before .before .before .read-lines .ensures .sized) (given .kinds .now) (given .literals .now) (given .names .now) (z .0, z .1, z .2)
     (scan-placeable (given .gates) (given .text .now) (length (given .kinds .now)) (length (given .literals .now)) (length (given .names .now)) (c .before .before .before .before .before .before .before .before .before .before .before .before .before .before .before .read-lines .result) own-kinds own-names own-literals e)
