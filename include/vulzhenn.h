@@ -74,6 +74,17 @@ extern "C" {
  */
 uint32_t vulzhenn_decide(const uint8_t *text, size_t text_length, uint8_t *work, size_t work_length, uint32_t limit);
 
+/* Decides the formula of a text by a study: up to four runs with other settings, 256 rows a side each, one after the other, until one answers true or
+ * false. It decides most formulas that one run leaves undecided for want of rows.
+ *
+ * text, text_length   the text's bytes; they are read only
+ * work, work_length   the work area, of VULZHENN_WORK bytes, with any content
+ *
+ * Returns one of the answers 0 to 4, the last run's if none gives a verdict, or one of the refusals 105, 109 to 112 and 114, as vulzhenn_decide does, and
+ * what is said there of time, pointers, threads and the work area holds here too. A call needs VULZHENN_STACK bytes of stack at most.
+ */
+uint32_t vulzhenn_study(const uint8_t *text, size_t text_length, uint8_t *work, size_t work_length);
+
 /* A witness file that vulzhenn_witness writes has at most this many bytes. */
 #define VULZHENN_WITNESS 4106
 
@@ -113,7 +124,7 @@ size_t vulzhenn_witness(const uint8_t *text, size_t text_length, uint8_t *out, s
 uint32_t vulzhenn_judge(const uint8_t *text, size_t text_length, const uint8_t *witness, size_t witness_length, uint8_t *work, size_t work_length);
 
 /* The number of this interface. A library with another number than VULZHENN_VERSION is not the one of this header. */
-#define VULZHENN_VERSION 2
+#define VULZHENN_VERSION 3
 
 uint32_t vulzhenn_version(void);
 

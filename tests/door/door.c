@@ -58,6 +58,21 @@ static void call_text(const char *name, const char *text, size_t work_length, ui
     call(name, (const uint8_t *)text, strlen(text), work_length, limit, wanted);
 }
 
+/* The study of a text: the number, and the work area zero after an answer, as found after a refusal. */
+static void study(const char *name, const char *text, size_t work_length, uint32_t wanted)
+{
+    static uint8_t work[MOST];
+    int zero = 1, found = 1;
+    for (size_t i = 0; i < sizeof work; i++)
+        work[i] = pattern(i);
+    check(vulzhenn_study((const uint8_t *)text, strlen(text), work, work_length) == wanted, name, "another number of the study");
+    for (size_t i = 0; i < sizeof work; i++) {
+        zero &= i >= work_length || work[i] == 0;
+        found &= work[i] == pattern(i);
+    }
+    check(wanted < VULZHENN_REFUSED ? zero : found, name, "the work area of a study");
+}
+
 /* The texts of the list. */
 static void listed(const char *list)
 {
@@ -126,6 +141,7 @@ struct deep {
     size_t length;
     uint32_t number;
     uint32_t judged;
+    uint32_t studied;
     uint8_t *stack;
     size_t used;
 };
@@ -150,6 +166,7 @@ static void *measured(void *given)
     size_t low = 0;
     d->number = decide(d, work);
     d->judged = judge(d, work, file);
+    d->studied = vulzhenn_study(d->text, d->length, work, VULZHENN_WORK);
     while (d->stack[low] == PAINT)
         low++;
     d->used = (size_t)(here - (d->stack + low));
@@ -158,7 +175,7 @@ static void *measured(void *given)
 
 static void stack(const char *name, const uint8_t *text, size_t length, uint32_t wanted)
 {
-    struct deep d = {text, length, 0, 0, NULL, 0};
+    struct deep d = {text, length, 0, 0, 0, NULL, 0};
     pthread_attr_t with;
     pthread_t thread;
     char said[80];
@@ -172,6 +189,7 @@ static void stack(const char *name, const uint8_t *text, size_t length, uint32_t
     snprintf(said, sizeof said, "wanted %u, got %u", (unsigned)wanted, (unsigned)d.number);
     check(d.number == wanted, name, said);
     check(d.judged == VULZHENN_ACCEPTED, name, "its witness file is not accepted");
+    check(d.studied == wanted, name, "its study differs");
     check(d.used <= VULZHENN_STACK, name, "more stack than the header says");
     printf("%s: %zu bytes of stack\n", name, d.used);
 }
@@ -229,6 +247,12 @@ int main(int count, char **words)
     call("65,536 bytes", long_text(VULZHENN_TEXT), VULZHENN_TEXT, VULZHENN_WORK, 1000, 1);
     call("65,537 bytes", long_text(VULZHENN_TEXT + 1), VULZHENN_TEXT + 1, VULZHENN_WORK, 1000, 109);
     call("65,537 bytes, short work area and limit 0", long_text(VULZHENN_TEXT + 1), VULZHENN_TEXT + 1, VULZHENN_WORK - 1, 0, 109);
+
+    study("study of K1", K1, VULZHENN_WORK, 1);
+    study("study of K1, short work area", K1, VULZHENN_WORK - 1, 105);
+    study("study of a broken text, short work area", BROKEN, VULZHENN_WORK - 1, 111);
+    study("study of no text", "", VULZHENN_WORK, 110);
+    study("study of a false formula", "p cnf 1 1\na 1 0\n1 0\n", VULZHENN_WORK, 0);
 
     threads();
 

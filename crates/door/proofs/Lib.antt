@@ -3,3 +3,4 @@ pub mod NumberLaws
 pub mod DoorLaws
 pub mod Numbers
 pub mod WitnessLaws
+pub mod StudyLaws

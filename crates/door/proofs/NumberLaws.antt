@@ -14,7 +14,7 @@ use Rattle.run.specs.Outcome.{Given, tables-fit, tables-counted, cause, accepte
 use Rattle.run.specs.Numbers.{one-number}
 use Rattle.door.specs.Door.{run-number}
 
-number-named : (a : Answer) → one-number (named a) ≡ number a
+pub number-named : (a : Answer) → one-number (named a) ≡ number a
 number-named is-false = refl
 number-named is-true = refl
 number-named spent = refl
@@ -57,7 +57,7 @@ first-cause-small n few true false false false true = omega arith
 first-cause-small n few true false false false false = omega arith
 
 module _ (g : Given) where
-  cause-small : cause g ≤ 16
+  pub cause-small : cause g ≤ 16
   unfolding cause checked
   cause-small =
       first-cause-small (cause-number (checked (g .kinds) (g .literals)))

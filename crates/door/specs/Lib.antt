@@ -2,3 +2,4 @@
 pub mod Door
 pub mod Numbers
 pub mod Witness
+pub mod Study

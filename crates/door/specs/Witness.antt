@@ -11,7 +11,7 @@ use Rattle.judgement.specs.JudgementRight.{IsVerdict}
 
 -- The number of the interface.
 abbrev pub version : ℕ
-version = 2
+version = 3
 
 -- 1 accepted, 0 not borne out, 2 not of this formula, 100 plus the number of a refusal.
 abbrev pub number-of : Finding → ℕ

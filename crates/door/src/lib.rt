@@ -1,8 +1,8 @@
 // The C door (01, 'Text', last paragraph): from a text's bytes, a work area and a limit to one number; from a text and a witness file to the judge's
-// number; from a text to its witness file.
+// number; from a text to its witness file; from a text and a work area to the number of its study.
 // Each function promises, for every input, the number and every byte that the definitions (specs/Door.antt, specs/Witness.antt) give, and cites what
-// they say (specs/Numbers.antt, specs/Witness.antt, certificate's CertificateRight).
-// Reading belongs to `text`, the run to `decision`, the judge to `judgement`, the file to `certificate`; here what one returns is handed to the next.
+// they say (specs/Numbers.antt, specs/Witness.antt, specs/Study.antt, certificate's CertificateRight).
+// Reading belongs to `text`, the run to `decision`, the judge to `judgement`, the file to `certificate`, the study to `study_answer`; here what one returns is handed to the next.
 use formula::Formula;
 use judgement::Finding;
 use text::Reading;
@@ -16,9 +16,10 @@ ghost use Rattle.judgement.specs.Finding.{left as judge-left};
 ghost use Rattle.certificate.specs.Certificate.{output, left as witness-left};
 ghost use Rattle.certificate.specs.CertificateRight.{CertificateRight};
 ghost use Rattle.door.specs.Witness.{version, judged, JudgedRight};
+ghost use Rattle.door.specs.Study.{study-number, study-left, study-answer, study-work, StudyNumbersRight};
 
 // The number of this interface: it grows when a function comes or changes.
-const VERSION: u32 = 2;
+const VERSION: u32 = 3;
 
 #[no_mangle]
 pub extern "C" fn vulzhenn_version() -> u32
@@ -82,5 +83,36 @@ fn decide(kinds: &[u8], literals: &[i32], work: &mut [u8], limit: u32) -> u32
 {
     let end = decision::decide(kinds, literals, work, limit);
     let answer = end.answer;
+    run::one_number(answer) as u32
+}
+
+// The number of the study's answer, or 100 plus the number of the refusal.
+#[no_mangle]
+pub extern "C" fn vulzhenn_study(text: &[u8], work: &mut [u8]) -> u32
+    ensures answered { λ r. ⌜ r ≡ study-answer (now (text .entry)) (now (work .entry)) ⌝ }
+    ensures left { λ _. ⌜ now (work .exit) ≡ study-work (now (text .entry)) (now (work .entry)) ⌝ }
+    ensures right { λ _. ⌜ StudyNumbersRight (now (text .entry)) (now (work .entry)) ⌝ }
+{
+    let mut kinds = [0u8; Formula::UNKNOWNS];
+    let mut literals = [0i32; Formula::ENTRIES];
+    let mut names = [0u16; Formula::UNKNOWNS];
+    match text::read(text, &mut kinds, &mut literals, &mut names) {
+        Reading::Refused { number, .. } => 100 + number,
+        Reading::Taken {
+            unknowns,
+            entries,
+            ..
+        } => { study_formula(&kinds[..unknowns], &literals[..entries], work) }
+    }
+}
+
+// The study by the house list, over 256 rows a side.
+fn study_formula(kinds: &[u8], literals: &[i32], work: &mut [u8]) -> u32
+    ensures { λ r. ⌜ r ≡ study-number (now (kinds .entry)) (now (literals .entry)) (now (work .entry)) ⌝ }
+    ensures { λ _. ⌜ now (work .exit) ≡ study-left (now (kinds .entry)) (now (literals .entry)) (now (work .entry)) ⌝ }
+{
+    let end = study_answer::decide(kinds, literals, work);
+    let outcome = end.outcome;
+    let answer = outcome.answer;
     run::one_number(answer) as u32
 }
