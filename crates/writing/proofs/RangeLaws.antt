@@ -15,7 +15,8 @@ use Rattle.named.specs.Closing.{insert, closed-names}
 use Rattle.text.specs.Reading.{State, Step, went, fault, unless, bind, kind-of-word, prefix-line, literal-cause, free-with, add-entry, add-entries, clause-read, clause-line, body-line, step, whole, stopped, body, problem-cause, opened, clause-list, text-scan}
 use Rattle.text.proofs.NameLaws.{name-cause-zero}
 use Rattle.text.proofs.ScanLaws.{cond-so, Steps, Scans, unless-so, go-on-so, bind-all-so, body-so, scan-so}
-use Rattle.text.proofs.KeptLaws.{and-both, literal-facts}
+use Rattle.text.proofs.KeptLaws.{and-both}
+use Rattle.text.proofs.KeptLaws.{literal-facts}
 use Rattle.writing.specs.WritingRight.{Range}
 
 range-append : (variables : ℕ) (xs ys : List ℕ) → Range variables xs → Range variables ys → Range variables (xs ++ ys)
