@@ -2,8 +2,9 @@
 // the number of the first cause that applies; found leaves in the work area the rows that the model yields, none leaves zeros, and a
 // refusal leaves it as it was.
 // The crates below sort the rows (order), keep a table of cells in the work area (cells), number the copies (numbering), write the clauses
-// as codes (codes) and look them up (index, evaluation), and keep groups of rows and sets of positions (groups, sets). Here stand the steps
-// of the search: force and live (each side's consequences of a value), and solve.
+// as codes (codes) and look them up (index, evaluation), keep groups of rows and sets of positions (groups, sets), and look for shorter reasons of
+// failures (reasons). Here stand the steps of the search: force and live (each side's consequences of a value), reasons (when a shorter one is
+// looked for), and solve.
 ghost use mathlib.Core.Path.{_≡_};
 ghost use Rattle.formula.specs.Formula.{prefix, clauses};
 ghost use Rattle.formula.specs.Meaning.{matrix};
