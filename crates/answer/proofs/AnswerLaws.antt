@@ -14,7 +14,7 @@ use Rattle.rounds.proofs.Bounds.{count-in-room}
 use Rattle.run.specs.declared.Outcome.{Outcome}
 use Rattle.run.specs.Outcome.{number-of, reported, returned}
 use Rattle.run.proofs.OutcomeLaws.{number-named}
-use Rattle.text.specs.Reading.{Read, taken, refused, read, read-gates}
+use Rattle.text.specs.Reading.{Read, taken, refused, read, read-gates, max-variables}
 use Rattle.text.proofs.TextLaws.{Results, Passes, read-passes, refused-line, gates-refused-line}
 use Rattle.text.proofs.GatesPass.{GatesResults, gates-pass}
 use Rattle.text.proofs.FrontLaws.{Front}

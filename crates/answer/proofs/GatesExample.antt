@@ -15,7 +15,7 @@ use Rattle.lines.specs.Lines.{lines, words}
 use Rattle.lines.specs.Numbers as Numbers
 use Rattle.lines.specs.Shapes.{is-comment, is-trimmed, is-problem, is-led, is-gate}
 use Rattle.named.specs.Named.{position}
-use Rattle.text.specs.Reading.{Read, taken, read-gates, gates-read, scan, closed, problem-cause, opened, body-line, prefix-line, gate-line, name-cause, gate-cause, input-cause, limit-cause, output-cause}
+use Rattle.text.specs.Reading.{Read, taken, read-gates, gates-read, scan, closed, problem-cause, opened, body-line, prefix-line, gate-line, name-cause, gate-cause, output-cause}
 use Rattle.report.specs.Report.{ascii, decimal, line-one, line-two, result-lines}
 use Rattle.decision.specs.Decision.{own-lent}
 use Rattle.answer.specs.Printed.{round-limit, settled, result-of, shown, gates-printed}
@@ -31,7 +31,7 @@ abbrev literals : List ℤ
 literals = negsuc 1 ∷ pos 1 ∷ pos 0 ∷ pos 2 ∷ negsuc 0 ∷ pos 0 ∷ pos 2 ∷ pos 0 ∷ []
 
 read-so : gates-read text ≡ taken (record { kinds = kinds; names = 4 ∷ 9 ∷ []; literals = literals; variables = 7; clauses = 3 })
-unfolding read-gates scan closed lines words Numbers.number-within Numbers.number-shape Numbers.unsigned is-comment is-trimmed is-problem is-led is-gate problem-cause opened body-line prefix-line gate-line name-cause gate-cause input-cause limit-cause output-cause position
+unfolding read-gates scan closed lines words Numbers.number-within Numbers.number-shape Numbers.unsigned is-comment is-trimmed is-problem is-led is-gate problem-cause opened body-line prefix-line gate-line name-cause gate-cause output-cause position
 read-so = refl
 
 abbrev l : Lent
