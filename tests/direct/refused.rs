@@ -130,11 +130,8 @@ pub fn spoil_tables(random: &mut Random, given: &mut Given) {
     }
 }
 
-/// A run with some of the causes 1 to 6 and 16.
-fn run(random: &mut Random, tally: &mut Tally) {
-    let mut given = runs::given(random, 5, 4);
-    let single = random.below(8);
-    let spoils: Vec<bool> = (0..7).map(|i| i == single || random.chance(1, 4)).collect();
+/// What a run is lent, with the causes 1 to 4, 16 and 5 that are chosen, in that order.
+pub fn spoil_lent(random: &mut Random, given: &mut Given, spoils: &[bool]) {
     if spoils[0] {
         spoil_kinds(random, &mut given.kinds);
     }
@@ -145,14 +142,22 @@ fn run(random: &mut Random, tally: &mut Tally) {
         spoil_literal(random, given.kinds.len(), &mut given.literals);
     }
     if spoils[3] {
-        spoil_tables(random, &mut given);
+        spoil_tables(random, given);
     }
     if spoils[4] {
-        spoil_counts(random, &mut given);
+        spoil_counts(random, given);
     }
     if spoils[5] {
         spoil_length(random, &mut given.work, &WORKS);
     }
+}
+
+/// A run with some of the causes 1 to 6 and 16.
+fn run(random: &mut Random, tally: &mut Tally) {
+    let mut given = runs::given(random, 5, 4);
+    let single = random.below(8);
+    let spoils: Vec<bool> = (0..7).map(|i| i == single || random.chance(1, 4)).collect();
+    spoil_lent(random, &mut given, &spoils);
     if spoils[6] {
         given.limit = 0;
     }

@@ -3,7 +3,7 @@
 
 use crate::compare;
 use crate::random::Random;
-use crate::refused::{spoil_counts, spoil_kinds, spoil_length, spoil_literal, spoil_literals, spoil_tables, WORKS};
+use crate::refused::spoil_lent;
 use crate::rounds::Given;
 use crate::runs::{self, CLEARED};
 use crate::study::{self, FIELDS, HOUSE, SETTINGS};
@@ -76,24 +76,7 @@ fn spoil_limit(random: &mut Random, settings: &mut [u32]) {
 fn one(random: &mut Random, count: usize, spoils: [bool; 9], tally: &mut Tally) -> bool {
     let mut given = runs::given(random, 4, 3);
     let mut list = settings(random, count);
-    if spoils[0] {
-        spoil_kinds(random, &mut given.kinds);
-    }
-    if spoils[1] {
-        spoil_literals(random, &mut given.literals);
-    }
-    if spoils[2] {
-        spoil_literal(random, given.kinds.len(), &mut given.literals);
-    }
-    if spoils[3] {
-        spoil_tables(random, &mut given);
-    }
-    if spoils[4] {
-        spoil_counts(random, &mut given);
-    }
-    if spoils[5] {
-        spoil_length(random, &mut given.work, &WORKS);
-    }
+    spoil_lent(random, &mut given, &spoils);
     if spoils[6] && count > 0 {
         spoil_field(random, &mut list);
     }
