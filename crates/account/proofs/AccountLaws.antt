@@ -38,8 +38,8 @@ use Rattle.report.proofs.Laws.{line-two-behind}
 use Rattle.decision.specs.Decision.{handed-on, own-lent}
 use Rattle.decision.proofs.DecisionLaws.{cause-so, returned-so}
 use Rattle.answer.specs.Printed.{round-limit, settled}
-use Rattle.account.specs.Account.{each, prefix-line, value-line, row-lines, head-lines, lines, facts, by-check, formula-lines, shown}
-use Rattle.account.specs.Steps.{joined, Accepts, told, Tables, Delivered}
+use Rattle.account.specs.Account.{each, prefix-line, value-line, row-lines, head-lines, lines, facts, by-check, formula-lines, shown, Delivered}
+use Rattle.account.specs.Steps.{joined, Accepts, told, Tables}
 use Rattle.account.proofs.ListLaws.{length-joined, joined-back}
 
 -- Bytes put at the start of a buffer.

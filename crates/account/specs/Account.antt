@@ -2,7 +2,8 @@
 -- and the answer's number; the prefix as it was read; 02's opening (C-11); each row of both tables with its mark, 'the round it came in', and how often
 -- it came back (C-16).
 -- Assumes nothing.
-use Prim.Native.Nat.{ℕ, zero, suc}
+use Prim.Native.Nat.{ℕ, zero, suc, _≤_}
+use mathlib.Core.Path.{_≡_}
 use mathlib.Core.Bool.{Bool, true, false}
 use mathlib.Core.List.{List, [], _∷_, _++_, map}
 use lib.IntN.{ℤ}
@@ -15,7 +16,7 @@ use Rattle.rounds.specs.Run.{Entry, Table, number}
 use Rattle.rounds.specs.Opening.{opening}
 use Rattle.rounds.specs.Counts.{counts}
 use Rattle.text.specs.Reading.{Result, taken, refused, text-read, gates-read}
-use Rattle.report.specs.Report.{ascii, decimal, result-lines, refusal-line}
+use Rattle.report.specs.Report.{ascii, decimal, result-lines, refusal-line, put, put-count}
 use Rattle.decision.specs.Decision.{own-lent}
 use Rattle.answer.specs.Printed.{round-limit, settled}
 
@@ -115,3 +116,9 @@ account text = shown (text-read text)
 
 unfoldable pub account-of-gates : List ℕ → List ℕ
 account-of-gates text = shown (gates-read text)
+
+-- Bytes put at the start of a lent buffer; there are never more than 106,496.
+pub record Delivered (bytes out : List ℕ) (r : ℕ) (out-then : List ℕ) : Type 0 where
+  pub counted : r ≡ put-count bytes out
+  pub written : out-then ≡ put bytes out
+  pub short : length bytes ≤ 106496

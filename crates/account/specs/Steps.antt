@@ -13,7 +13,6 @@ use Rattle.expansion.specs.Play.{Row}
 use Rattle.rounds.specs.Run.{Entry, Table, under-mark}
 use Rattle.run.specs.Outcome.{number-of}
 use Rattle.run.specs.declared.Outcome.{Outcome}
-use Rattle.report.specs.Report.{put, put-count}
 use Rattle.account.specs.Account.{each, Facts}
 
 -- Rows with their marks.
@@ -65,9 +64,3 @@ pub record Side (text : List ℕ) (at : ℕ) (label : List ℕ) (m : ℕ) (rows 
   pub there : 16 * length marks ≤ length rows
   pub counted : length counts ≡ length marks
   pub fits : at + 192 * length marks ≤ length text
-
--- Bytes put at the start of a lent buffer; there are never more than 106,496.
-pub record Delivered (bytes out : List ℕ) (r : ℕ) (out-then : List ℕ) : Type 0 where
-  pub counted : r ≡ put-count bytes out
-  pub written : out-then ≡ put bytes out
-  pub short : length bytes ≤ 106496

@@ -15,9 +15,9 @@ ghost use Rattle.rows.specs.Row.{row-of};
 ghost use Rattle.rows.specs.Table.{row-at, rows-of};
 ghost use Rattle.run.specs.Outcome.{number-of};
 ghost use Rattle.report.specs.Report.{ascii, decimal, truth as T-of, refusal-line};
-ghost use Rattle.account.specs.Account.{each, digit, name-line, prefix-line, value-line, row-line, row-lines, head-lines, formula-lines, lines, account as account-lines, account-of-gates};
+ghost use Rattle.account.specs.Account.{each, digit, name-line, prefix-line, value-line, row-line, row-lines, head-lines, formula-lines, lines, account as account-lines, account-of-gates, Delivered};
 ghost use Rattle.account.specs.AccountRight.{AccountRight, GatesAccountRight};
-ghost use Rattle.account.specs.Steps.{joined, told, Tables, Accepts, Side, Delivered};
+ghost use Rattle.account.specs.Steps.{joined, told, Tables, Accepts, Side};
 
 // Room for every account.
 pub const LONGEST: usize = 106_496;
