@@ -9,6 +9,7 @@
 #                         output; 2 for a line that it never prints
 # and calls
 #     command_of CRATE WORDS..    with its own words
+#     command_or_gates CRATE WORDS..      so too, or CRATE_gates if the first word is --gates
 # What is kept lies in target/command: the program as it last passed its check, the log of its build, and a lock.
 
 root=$(dirname "$(dirname "$(readlink -f "${BASH_SOURCE[0]}")")")
@@ -74,6 +75,17 @@ command_of() {
     [ -z "${second-}" ] || { : 3<&8; } 2>/dev/null || fail "standard input is closed"
     is_current || build
     answer "$input" "$file"
+}
+
+# Two programs, since a program is given nothing but the bytes that it reads.
+command_or_gates() { # CRATE WORDS..
+    local reader=$1
+    shift
+    if [ "${1-}" = --gates ]; then
+        reader=${reader}_gates
+        shift
+    fi
+    command_of "$reader" "$@"
 }
 
 # A sentence for a name that is no file's.

@@ -1,7 +1,7 @@
 //! Gate lists through the reader alone: its number, what it reports, every entry of the three tables and the guards around them are compared with 02's
 //! rules written apart. The lists of the published papers must give the clauses of their published translation, entry by entry, and their
-//! verdict. The value of a list, asked of its gates, must be the meaning of what is written, and DepQBF's. Of some lists the program is asked too, and
-//! all that it prints is compared. Cases are drawn from a seed.
+//! verdict. The value of a list, asked of its gates, must be the meaning of what is written, and DepQBF's. Of some lists the programs are asked too: all
+//! that is printed, the witness file that is written, and what is found of files about the list are compared. Cases are drawn from a seed.
 //!
 //! usage: gates [TIMES [SEED]]
 
@@ -9,12 +9,14 @@
 mod independent;
 mod lists;
 
+use independent::finding::{found, settled};
+use independent::formula::WORK;
 use independent::gates::{self, GateList};
 use independent::model::TooLong;
 use independent::random::Random;
 use independent::reader::{self, Read};
 use independent::tally::{self, Tally};
-use independent::{formula, meaning, program, tables};
+use independent::{answers, files, formula, meaning, program, study, tables, witness};
 use std::collections::BTreeMap;
 use std::io::Write;
 use std::process::{Command, Stdio};
@@ -25,12 +27,31 @@ const SEED: u64 = 1;
 /// So many looks at a row the reference may take in one search; a list that takes more is left out.
 const LOOKS: usize = 5_000;
 
-/// What is compared, and how often each number and each answer came.
+/// The findings that must have come.
+const FOUND: [&str; 14] = [
+    "accepted 1\n",
+    "accepted 0\n",
+    "not borne out\n",
+    "not of this formula\n",
+    "c refused 4 0\n",
+    "c refused 7 0\n",
+    "c refused 8 0\n",
+    "c refused 17 0\n",
+    "c refused 18 0\n",
+    "a refused list",
+    "a file",
+    "a file of a study",
+    "no file of a study",
+    "no file",
+];
+
+/// What is compared, and how often each number, each answer and each finding came.
 struct Player {
     random: Random,
     tally: Tally,
     seen: BTreeMap<u64, usize>,
     printed: BTreeMap<String, usize>,
+    found: BTreeMap<String, usize>,
     left_out: usize,
 }
 
@@ -60,6 +81,42 @@ impl Player {
             }
             Err(TooLong) => self.left_out += 1,
         }
+    }
+
+    /// Asks for the witness file, and what is found of it and of files drawn from it: every byte that is written, and the line of each finding.
+    fn witness(&mut self, text: &[u8], drawn: usize) {
+        if self.witnessed(text, drawn).is_err() {
+            self.left_out += 1;
+        }
+    }
+
+    fn witnessed(&mut self, text: &[u8], drawn: usize) -> Result<(), TooLong> {
+        let read = gates::read(text).map(|list| list.read);
+        let printed = answers::printed(&read, LOOKS)?;
+        let file = match &read {
+            Ok(read) => settled(read, LOOKS)?.map_or(Vec::new(), |(record, rows)| witness::bytes(&record, &rows, &rows)),
+            Err(_) => Vec::new(),
+        };
+        let said = if file.is_empty() { printed.as_str() } else { "" };
+        let wrong = program::wrong_run(&program::WITNESS_GATES, &mut self.random, text, None, program::status(&printed), &file, said);
+        *self.found.entry(if file.is_empty() { "no file" } else { "a file" }.to_string()).or_insert(0) += 1;
+        self.tally.case(wrong.map(|words| described(&words, text)));
+        let studied = study::witnessed(&read, LOOKS)?;
+        let wrong = program::wrong_run(&program::STUDY_WITNESS_GATES, &mut self.random, text, None, studied.status(), &studied.file, &studied.said);
+        *self.found.entry(if studied.file.is_empty() { "no file of a study" } else { "a file of a study" }.to_string()).or_insert(0) += 1;
+        self.tally.case(wrong.map(|words| described(&words, text)));
+        let mut asked = vec![file.clone()];
+        if studied.file != file {
+            asked.push(studied.file);
+        }
+        asked.extend((0..drawn).map(|_| files::drawn(&mut self.random, &read, &file)));
+        for bytes in asked {
+            let (finding, _) = found(&read, &bytes, vec![0; WORK], LOOKS)?;
+            let wrong = program::wrong_run(&program::JUDGE_GATES, &mut self.random, text, Some(&bytes), finding.status(), finding.line().as_bytes(), "");
+            *self.found.entry(if read.is_ok() { finding.line() } else { "a refused list".to_string() }).or_insert(0) += 1;
+            self.tally.case(wrong.map(|words| described(&words, text)));
+        }
+        Ok(())
     }
 
     fn case(&mut self, holds: bool, words: String) {
@@ -103,6 +160,7 @@ fn published(player: &mut Player) {
         let text = std::fs::read(path).unwrap();
         player.play(&text);
         player.ask(&text);
+        player.witness(&text, 3);
         let list = gates::read(&text).unwrap_or_else(|refusal| panic!("{}: {:?}", name, refusal));
         let translated = reader::read(&std::fs::read(format!("examples/published/{}.qdimacs", name)).unwrap()).unwrap();
         player.case(list.read.kinds == translated.kinds && list.read.literals == translated.literals, format!("{}: not the published clauses", name));
@@ -123,7 +181,7 @@ fn published(player: &mut Player) {
 fn main() {
     let (times, seed) = tally::asked(SEED);
     let start = Instant::now();
-    let mut player = Player { random: Random::new(seed), tally: Tally::new(), seen: BTreeMap::new(), printed: BTreeMap::new(), left_out: 0 };
+    let mut player = Player { random: Random::new(seed), tally: Tally::new(), seen: BTreeMap::new(), printed: BTreeMap::new(), found: BTreeMap::new(), left_out: 0 };
     published(&mut player);
     let printed = program::run(&program::GATES, &mut player.random, lists::undecided().as_bytes());
     player.case(printed.as_deref().map_or(false, |lines| lines.starts_with("s cnf -1 18 47\nc rounds ")), format!("for want of rows: {:?}", printed));
@@ -140,6 +198,7 @@ fn main() {
             if i % 50 == 0 {
                 player.case(depqbf(&list.read) == value, format!("DepQBF has another verdict than\n{}", text));
                 player.ask(text.as_bytes());
+                player.witness(text.as_bytes(), 6);
             }
         }
     }
@@ -151,15 +210,18 @@ fn main() {
         player.play(&damaged);
         if i % 100 == 0 {
             player.ask(&damaged);
+            player.witness(&damaged, 1);
         }
     }
     for length in [reader::LONGEST, reader::LONGEST + 1] {
         player.ask(&vec![b'c'; length]);
+        player.witness(&vec![b'c'; length], 1);
     }
     let limits = lists::limits();
     for text in &limits {
         player.play(text.as_bytes());
         player.ask(text.as_bytes());
+        player.witness(text.as_bytes(), 1);
     }
     for _ in 0..3_000 * times {
         let chosen = player.random.below(limits.len());
@@ -177,6 +239,11 @@ fn main() {
     for start in ["s cnf 0", "s cnf 1", "c refused 9", "c refused 10", "c refused 11", "c refused 12", "c refused 14", "c refused 19", "c refused 20"] {
         let came = player.printed.contains_key(start);
         player.case(came, format!("the program never came to '{}'", start));
+    }
+    println!("found: {:?}", player.found);
+    for name in FOUND {
+        let came = player.found.contains_key(name);
+        player.case(came, format!("no file came to {:?}", name));
     }
     player.tally.end(start)
 }

@@ -3,6 +3,7 @@
 use super::answers::outcome_of;
 use super::model::TooLong;
 use super::reader::{Read, Refusal};
+use super::rounds::Outcome;
 use super::rows::table_of;
 use super::wanted::Lending;
 use super::witness::{self, Record};
@@ -76,13 +77,17 @@ pub fn found(read: &Result<Read, Refusal>, file: &[u8], work: Vec<u8>, looks: us
     Ok((finding, left))
 }
 
-/// The record of a text that is settled and the rows of its side: claim, n and clause count, rows, rounds.
+/// The record of a text that is settled and the rows of its side.
 pub fn settled(read: &Read, looks: usize) -> Result<Option<(Record, Vec<u8>)>, TooLong> {
-    let outcome = outcome_of(read, looks)?;
+    Ok(settled_by(read, &outcome_of(read, looks)?))
+}
+
+/// The same by the outcome of any run of the text's formula: claim, n and clause count, rows, rounds.
+pub fn settled_by(read: &Read, outcome: &Outcome) -> Option<(Record, Vec<u8>)> {
     let (table, bit) = match outcome.answer {
         0 => (&outcome.universal, 4),
         1 => (&outcome.existential, 8),
-        _ => return Ok(None),
+        _ => return None,
     };
     let count = table.rows.len() as u16;
     let record = Record {
@@ -94,5 +99,5 @@ pub fn settled(read: &Read, looks: usize) -> Result<Option<(Record, Vec<u8>)>, T
         existential: if bit == 8 { count } else { 0 },
         rounds: outcome.round as u16,
     };
-    Ok(Some((record, table_of(&table.rows))))
+    Some((record, table_of(&table.rows)))
 }

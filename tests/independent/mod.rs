@@ -10,6 +10,7 @@ pub mod answers;
 pub mod counts;
 pub mod draw;
 pub mod fee;
+pub mod files;
 pub mod finding;
 pub mod forecast;
 pub mod formula;

@@ -7,17 +7,23 @@ use super::reader::{Read, Refusal};
 use std::io::{self, Write};
 use std::process::{Command, Output, Stdio};
 
-/// A program, and the script of the repository that calls it.
+/// A program, and the script of the repository that calls it, with its options.
 pub struct Program {
     built: &'static str,
     script: &'static str,
+    options: &'static [&'static str],
 }
 
-pub const VULZHENN: Program = Program { built: "target/bin/vulzhenn", script: "./vulzhenn" };
-pub const GATES: Program = Program { built: "target/bin/vulzhenn_gates", script: "./gates" };
-pub const SHEET: Program = Program { built: "target/bin/sheet", script: "./sheet" };
-pub const WITNESS: Program = Program { built: "target/bin/vulzhenn_witness", script: "./witness" };
-pub const JUDGE: Program = Program { built: "target/bin/vulzhenn_judge", script: "./judge" };
+pub const VULZHENN: Program = Program { built: "target/bin/vulzhenn", script: "./vulzhenn", options: &[] };
+pub const GATES: Program = Program { built: "target/bin/vulzhenn_gates", script: "./gates", options: &[] };
+pub const SHEET: Program = Program { built: "target/bin/sheet", script: "./sheet", options: &[] };
+pub const WITNESS: Program = Program { built: "target/bin/vulzhenn_witness", script: "./witness", options: &[] };
+pub const JUDGE: Program = Program { built: "target/bin/vulzhenn_judge", script: "./judge", options: &[] };
+pub const WITNESS_GATES: Program = Program { built: "target/bin/vulzhenn_witness_gates", script: "./witness", options: &["--gates"] };
+pub const STUDY_WITNESS: Program = Program { built: "target/bin/vulzhenn_study_witness", script: "./study", options: &["--witness"] };
+pub const STUDY_WITNESS_GATES: Program =
+    Program { built: "target/bin/vulzhenn_study_witness_gates", script: "./study", options: &["--gates", "--witness"] };
+pub const JUDGE_GATES: Program = Program { built: "target/bin/vulzhenn_judge_gates", script: "./judge", options: &["--gates"] };
 
 /// Runs it and says what is not as wanted, if anything. Returned with the wanted lines.
 pub fn compare(program: &Program, random: &mut Random, text: &[u8], read: &Result<Read, Refusal>, looks: usize) -> Result<(String, Option<String>), TooLong> {
@@ -83,7 +89,7 @@ fn from_files(program: &Program, random: &mut Random, text: &[u8], second: Optio
     if let Some(bytes) = second {
         paths.push(stored(random, bytes)?);
     }
-    let output = Command::new(program.script).args(&paths).output();
+    let output = Command::new(program.script).args(program.options).args(&paths).output();
     for path in paths {
         std::fs::remove_file(path)?;
     }

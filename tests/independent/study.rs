@@ -1,8 +1,12 @@
 //! The study: runs of one formula under a list of settings, one after the other until one gives a verdict.
 
+use super::finding::settled_by;
+use super::formula::clauses;
 use super::model::TooLong;
-use super::rounds::{Given, Left};
+use super::reader::{Read, Refusal};
+use super::rounds::{rounds, Given, Left};
 use super::trimming::trimmed;
+use super::witness;
 
 /// The numbers of a setting: whether the formula is trimmed first, the preference byte, how often the universal table is cleared, the limit.
 pub const FIELDS: usize = 4;
@@ -68,4 +72,47 @@ pub fn studied(given: &Given, settings: &[u32], looks: usize) -> Result<Studied,
         found.work = left.work;
         setting += 1;
     }
+}
+
+/// The runs of which a witness file is written, none of them over the trimmed formula: preference byte, how often the universal table is cleared, limit.
+const WITNESS_RUNS: [(u32, u32, u32); 4] = [(HOUSE, 1, 1_000), (0, 0, 1_000), (1, 1, 1_000), (HOUSE, 0, 1_000)];
+
+/// Each run has this many rows a side.
+const ROOM: usize = 256;
+
+/// What a study writes of a text: a file, or the lines that are said of one that is undecided or refused; and the number of the last run, from 1.
+pub struct Witnessed {
+    pub file: Vec<u8>,
+    pub said: String,
+    pub setting: usize,
+}
+
+impl Witnessed {
+    /// The command's status.
+    pub fn status(&self) -> i32 {
+        match self.file.get(1) {
+            Some(0) => 20,
+            Some(_) => 10,
+            None => i32::from(self.setting == 0),
+        }
+    }
+}
+
+pub fn witnessed(read: &Result<Read, Refusal>, looks: usize) -> Result<Witnessed, TooLong> {
+    let read = match read {
+        Ok(read) => read,
+        Err(refusal) => return Ok(Witnessed { file: Vec::new(), said: format!("c refused {} {}\n", refusal.number, refusal.line), setting: 0 }),
+    };
+    let clauses = clauses(&read.literals);
+    let mut said = String::new();
+    for (i, (preference, clearing, limit)) in WITNESS_RUNS.into_iter().enumerate() {
+        let preferences = if preference == HOUSE { Vec::new() } else { vec![preference as u8] };
+        let outcome = rounds(&read.kinds, &clauses, &preferences, (ROOM, ROOM), limit, clearing, looks)?;
+        if let Some((record, rows)) = settled_by(read, &outcome) {
+            return Ok(Witnessed { file: witness::bytes(&record, &rows, &rows), said: String::new(), setting: i + 1 });
+        }
+        let (universal, existential) = (outcome.universal.rows.len(), outcome.existential.rows.len());
+        said = format!("s cnf -1 {} {}\nc setting {}\nc rounds {} universal {} existential {}\n", read.v, read.c, i + 1, outcome.round, universal, existential);
+    }
+    Ok(Witnessed { file: Vec::new(), said, setting: WITNESS_RUNS.len() })
 }

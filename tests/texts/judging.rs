@@ -1,10 +1,10 @@
 //! Witness files: the C functions and the programs that write and judge them, held against the file and the finding by the rules written apart. Files
 //! are those of small formulas, damaged ones, and ones made of any fields.
 
-use crate::formula::{count_of, Side, WORK};
+use crate::formula::WORK;
 use crate::formulas;
 use crate::independent::finding::{found, settled};
-use crate::independent::witness::{self, Record};
+use crate::independent::{files, study, witness};
 use crate::lent::Lent;
 use crate::model::TooLong;
 use crate::program;
@@ -29,6 +29,10 @@ const LOOKS: usize = 5_000;
 const FORMULAS: usize = 1_500;
 const FILES: usize = 12;
 const BY_PROGRAM: usize = 40;
+
+/// Formulas of which the file of a study is asked, and the looks that one search of them may take: enough for some that the first run leaves undecided.
+const STUDIES: usize = 300;
+const STUDY_LOOKS: usize = 100_000;
 
 /// The longest file that is written.
 const LONGEST: usize = 4_106;
@@ -114,92 +118,27 @@ impl Player {
         Ok(())
     }
 
-    /// A file that may be accepted: the settled one with other fields, other rows, other bytes.
-    fn drawn(&mut self, read: &Result<Read, Refusal>, file: &[u8]) -> Vec<u8> {
-        if self.random.chance(1, 3) && !file.is_empty() {
-            return self.damaged(file);
+    /// The file of a study, or its lines, by the program or the command, and what the judge says of that file.
+    fn studied(&mut self) -> Result<(), TooLong> {
+        let formula = match self.random.below(6) {
+            0 => formulas::pairs(&mut self.random),
+            1 => formulas::layers(&mut self.random),
+            _ => formulas::small(&mut self.random, 9),
+        };
+        let mut text = write(&mut self.random, &formula).text;
+        if self.random.chance(1, 12) {
+            text = damage::damage(&mut self.random, &text);
         }
-        let none = Read::default();
-        let read = read.as_ref().unwrap_or(&none);
-        let whole = witness::read(file).ok();
-        let mut record = whole.map_or(Record::default(), |(record, _, _)| record);
-        let mut rows = [Side::Universal, Side::Existential].map(|side| self.rows(count_of(&read.kinds, side)));
-        if let Some((_, universal, existential)) = whole {
-            for (own, given) in rows.iter_mut().zip([universal, existential]) {
-                if !given.is_empty() && self.random.chance(2, 3) {
-                    *own = self.shuffled(given);
-                }
-            }
+        let read = reader::read(&text);
+        let wanted = study::witnessed(&read, STUDY_LOOKS)?;
+        let wrong = program::wrong_run(&program::STUDY_WITNESS, &mut self.random, &text, None, wanted.status(), &wanted.file, &wanted.said);
+        let came = if wanted.file.is_empty() { "no file of a study, run" } else { "a file of a study, run" };
+        self.case(format!("{} {}", came, wanted.setting), wrong, &text);
+        if let Some(claim) = wanted.file.get(1) {
+            let wrong = program::wrong_run(&program::JUDGE, &mut self.random, &text, Some(&wanted.file), wanted.status(), format!("accepted {}\n", claim).as_bytes(), "");
+            self.case("a file of a study judged".to_string(), wrong, &text);
         }
-        let maps = self.random.pick(&[32, 32, 32, 40]);
-        record.map = if self.random.chance(1, 2) { record.map | 1 } else { self.random.below(maps) as u8 };
-        record.claim = self.random.pick(&[record.claim, record.claim, 0, 1, 1, 2]);
-        record.unknowns = self.near(read.kinds.len());
-        record.clauses = self.near(read.c as usize);
-        record.universal = self.counted(rows[0].len() / 16);
-        record.existential = self.counted(rows[1].len() / 16);
-        witness::bytes(&record, &rows[0], &rows[1])
-    }
-
-    /// Mostly the number itself.
-    fn near(&mut self, number: usize) -> u16 {
-        if self.random.chance(7, 8) {
-            number as u16
-        } else {
-            (number + 1).saturating_sub(2 * self.random.below(2)) as u16
-        }
-    }
-
-    fn counted(&mut self, rows: usize) -> u16 {
-        if self.random.chance(9, 10) {
-            rows as u16
-        } else {
-            self.random.pick(&[0, 1, rows as u16 + 1, 256, 257, 65_535])
-        }
-    }
-
-    /// Rows of so many unknowns; now and then a bit beyond them, and now and then far too many.
-    fn rows(&mut self, width: usize) -> Vec<u8> {
-        let most = self.random.pick(&[1, 2, 4, 8, 8, 20]);
-        let count = if self.random.chance(1, 60) { self.random.pick(&[255, 256, 257, 300, 513, 600, 4_000]) } else { self.random.between(0, most) };
-        let stray = self.random.chance(1, 10);
-        let width = if stray { (width + 1).min(128) } else { width };
-        let mut rows = vec![0; 16 * count];
-        for row in rows.chunks_mut(16) {
-            for k in 0..width {
-                row[k / 8] |= (self.random.below(2) as u8) << (k % 8);
-            }
-        }
-        rows
-    }
-
-    /// The rows in another order, some of them twice, or one left out.
-    fn shuffled(&mut self, rows: &[u8]) -> Vec<u8> {
-        let mut all: Vec<&[u8]> = rows.chunks(16).collect();
-        let (i, j) = (self.random.below(all.len()), self.random.below(all.len()));
-        match self.random.below(4) {
-            0 => all.swap(i, j),
-            1 => all.push(all[i]),
-            2 => drop(all.remove(i)),
-            _ => {}
-        }
-        all.concat()
-    }
-
-    fn damaged(&mut self, file: &[u8]) -> Vec<u8> {
-        let mut file = file.to_vec();
-        for _ in 0..self.random.pick(&[1, 1, 2]) {
-            let place = self.random.below(file.len().max(1));
-            match self.random.below(6) {
-                0 => file.truncate(place),
-                1 => file.extend(vec![0; self.random.pick(&[1, 2, 16, 9_000])]),
-                2 if place < file.len() => drop(file.remove(place)),
-                3 if place < file.len() => file[place] = self.random.below(256) as u8,
-                _ if place < file.len() => file[place] ^= 1 << self.random.below(8),
-                _ => {}
-            }
-        }
-        file
+        Ok(())
     }
 
     fn play(&mut self) -> Result<(), TooLong> {
@@ -214,7 +153,7 @@ impl Player {
             self.judged(&text, &read, &file)?;
         }
         for _ in 0..FILES {
-            let drawn = self.drawn(&read, &file);
+            let drawn = files::drawn(&mut self.random, &read, &file);
             self.judged(&text, &read, &drawn)?;
         }
         Ok(())
@@ -222,7 +161,7 @@ impl Player {
 }
 
 /// The findings that must have come.
-const WANTED: [&str; 15] = [
+const WANTED: [&str; 20] = [
     "accepted 1\n",
     "accepted 0\n",
     "not borne out\n",
@@ -238,6 +177,11 @@ const WANTED: [&str; 15] = [
     "no file",
     "a file by the program",
     "a finding by the program",
+    "a file of a study, run 1",
+    "a file of a study, run 2",
+    "a file of a study judged",
+    "no file of a study, run 4",
+    "no file of a study, run 0",
 ];
 
 pub fn compare_all(seed: u64, times: usize, tally: &mut Tally) {
@@ -245,6 +189,11 @@ pub fn compare_all(seed: u64, times: usize, tally: &mut Tally) {
     let mut player = Player { random: Random::new(seed.wrapping_add(0x7769)), tally: Tally::new(), left_out: 0, seen: BTreeMap::new() };
     for _ in 0..FORMULAS * times {
         if player.play().is_err() {
+            player.left_out += 1;
+        }
+    }
+    for _ in 0..STUDIES * times {
+        if player.studied().is_err() {
             player.left_out += 1;
         }
     }

@@ -7,14 +7,15 @@ use mathlib.Core.Bool.{Bool, true, cond, not}
 use mathlib.Core.List.{List, [], _∷_, _++_, map, append-assoc}
 use lib.Dec.{eqb, leb}
 use lib.IntN.{ℤ}
-use lib.ListN.{length, take, drop, replicate, length-replicate, length-map, length-append}
+use lib.ListN.{length, take, drop, replicate, length-replicate, length-take, length-map, length-append}
 use lib.Seq.{take-all, take-at, length-take-le}
-use Rattle.formula.specs.Formula.{work-size, max-unknowns, Kind, kind-of, universal, existential, prefix}
+use Rattle.formula.specs.Formula.{work-size, max-unknowns, max-rows, Kind, kind-of, universal, existential, prefix}
 use Rattle.formula.specs.Causes.{count, checked, sizes}
 use Rattle.formula.specs.declared.Formula.{Formula}
 use Rattle.formula.specs.declared.Check.{Check}
 use Rattle.formula.specs.declared.Check.the-variants.{Accepted, Refused}
 use Rattle.formula.proofs.Accepted.{accepted, accepted-sizes}
+use Rattle.rows.specs.Stray.{row-bits}
 use Rattle.rows.specs.Row.{row-of, bytes-of}
 use Rattle.rows.specs.Table.{row-at, rows-of}
 use Rattle.rows.proofs.RowLaws.{length-bytes-of, row-of-bytes-of}
@@ -33,14 +34,14 @@ use Rattle.text.specs.declared.Reading.{Reading}
 use Rattle.text.specs.declared.Reading.the-variants.{Taken}
 use Rattle.text.proofs.FrontLaws.{Front}
 use Rattle.buffer.specs.Buffer.{appended, place-behind}
-use Rattle.report.specs.Report.{ascii, decimal, line-one, line-two, result-lines, refusal-line, pair-line, put, put-count, truth}
-use Rattle.report.proofs.Laws.{line-two-behind}
+use Rattle.report.specs.Report.{ascii, decimal, result-lines, refusal-line, put, put-count}
 use Rattle.decision.specs.Decision.{handed-on, own-lent}
 use Rattle.decision.proofs.DecisionLaws.{cause-so, returned-so}
 use Rattle.answer.specs.Printed.{round-limit, settled}
-use Rattle.account.specs.Account.{each, prefix-line, value-line, row-lines, head-lines, lines, facts, by-check, formula-lines, shown, Delivered}
+use Rattle.account.specs.Account.{each, prefix-line, value-line, row-lines, head-lines, lines, facts, shown, Delivered}
 use Rattle.account.specs.Steps.{joined, Accepts, told, Tables}
 use Rattle.account.proofs.ListLaws.{length-joined, joined-back}
+use Rattle.account.proofs.RoomLaws.{longest, refusal-most, result-most, Fronted, fronted}
 
 -- Bytes put at the start of a buffer.
 pub delivered-so : (bytes part out : List ℕ) {r : ℕ} {out-then : List ℕ} → part ≡ bytes → r ≡ place-behind out 0 part → out-then ≡ appended out 0 part
@@ -54,26 +55,14 @@ delivered-so bytes part out same counted written short =
       short = short;
     }
 
+-- The first r bytes of a table.
+pub delivered-short : {bytes out-then : List ℕ} {n : ℕ} (r : ℕ) (text out : List ℕ) → take r text ≡ bytes → n ≡ place-behind out 0 (take r text)
+    → out-then ≡ appended out 0 (take r text) → r ≤ longest → Delivered bytes out n out-then
+delivered-short {bytes} r text out same counted written few =
+    delivered-so bytes (take r text) out same counted written (subst (λ (l : List ℕ). length l ≤ longest) same (omega (arith, few, length-take r text)))
+
 pub delivered-as : {bytes told out : List ℕ} {r : ℕ} {out-then : List ℕ} → bytes ≡ told → Delivered bytes out r out-then → Delivered told out r out-then
 delivered-as {out = out} {r = r} {out-then = out-then} same d = subst (λ (l : List ℕ). Delivered l out r out-then) same d
-
--- The head's parts one behind the other.
-pub head-behind : (answer variables clauses rounds A S : ℕ)
-    → ascii "s cnf " ++ ascii (truth answer) ++ ascii " " ++ decimal variables ++ ascii " " ++ decimal clauses ++ ascii "\nc rounds " ++ decimal rounds
-    ++ ascii " universal " ++ decimal A ++ ascii " existential " ++ decimal S ++ ascii "\nc answer " ++ decimal answer ++ ascii "\n"
-    ≡ head-lines answer variables clauses rounds A S
-unfolding head-lines result-lines line-one
-head-behind answer variables clauses rounds A S =
-    let one : List ℕ = ascii "s cnf " ++ ascii (truth answer) ++ ascii " " ++ decimal variables ++ ascii " " ++ decimal clauses in
-    let counts : List ℕ → List ℕ = λ (l : List ℕ). l ++ decimal rounds ++ ascii " universal " ++ decimal A ++ ascii " existential " ++ decimal S in
-    ap (λ (l : List ℕ). counts l ++ ascii "\nc answer " ++ decimal answer ++ ascii "\n") (sym (append-assoc one (ascii "\n") (ascii "c rounds ")))
-    ∙ ap (λ (l : List ℕ). l ++ decimal answer ++ ascii "\n") (sym (append-assoc (counts (one ++ ascii "\n" ++ ascii "c rounds ")) (ascii "\n") (ascii "c answer ")))
-    ∙ ap (λ (l : List ℕ). l ++ ascii "c answer " ++ decimal answer ++ ascii "\n") (line-two-behind (one ++ ascii "\n") rounds A S)
-
--- The line of a refusal.
-pub refusal-behind : (n line : ℕ) → ascii "c refused " ++ decimal n ++ ascii " " ++ decimal line ++ ascii "\n" ≡ refusal-line n line
-unfolding refusal-line pair-line
-refusal-behind n line = refl
 
 -- The unknowns of both kinds are all.
 count-both : (ks : List Kind) → count universal ks + count existential ks ≡ length ks
@@ -98,7 +87,7 @@ opening-within no-room-universal ks = omega arith
 opening-within no-room-existential ks = omega arith
 
 -- The row that holds some values holds them.
-row-back : (values : List Bool) (m : ℕ) → length values ≡ m → m ≤ 128 → row-of m (row-at (bytes-of values) 0) ≡ values
+row-back : (values : List Bool) (m : ℕ) → length values ≡ m → m ≤ row-bits → row-of m (row-at (bytes-of values) 0) ≡ values
 row-back values m wide few =
     let width = length-bytes-of values in
     ap (row-of m) (row-at-inside (bytes-of values) 0 (omega arith) ∙ take-all 16 (bytes-of values) (omega arith)) ∙ row-of-bytes-of m values wide few
@@ -135,15 +124,8 @@ lines-written kinds names universals variables clauses end A A-marks A-counts S 
     (length-take-le (end .universal) A-marks a))
     (length-take-le (end .existential) S-marks s)
 
--- A formula that `check` accepts.
-pub accepts-so : (kinds : List ℕ) (literals : List ℤ) (names : List ℕ) {f : Formula} → checked kinds literals ≡ Accepted f → length names ≡ length kinds
-    → Accepts kinds literals names (f .universals)
-accepts-so kinds literals names {f} e many =
-    let same = accepted-sizes kinds literals e in
-    record { passes = e ∙ ap Accepted same; counted = ap (λ (x : Formula). x .universals) same; as-many = many }
-
 -- What a run over tables of its own returned and left.
-module _ (kinds : List ℕ) (literals : List ℤ) (names : List ℕ) (universals : ℕ) (asks : Accepts kinds literals names universals) where
+module _ (kinds : List ℕ) (literals : List ℤ) (names : List ℕ) (universals : ℕ) (asks : Accepts kinds literals names) (counted : universals ≡ count universal (prefix kinds)) where
   abbrev g : Given
   g = handed-on kinds literals (replicate work-size 0) round-limit
 
@@ -176,11 +158,11 @@ module _ (kinds : List ℕ) (literals : List ℤ) (names : List ℕ) (universals
         (omega (arith, few, opening-within (o .answer) (prefix kinds), length-map kinds kind-of))
 
     existentials : length kinds - universals ≡ count existential (prefix kinds)
-    existentials = omega (arith, asks .counted, count-both (prefix kinds), length-map kinds kind-of)
+    existentials = omega (arith, counted, count-both (prefix kinds), length-map kinds kind-of)
 
     A-so : joined (rows-of universals (r .universal) A) (take (r .universal) A-marks) ≡ o .A
     A-so =
-        ap₂ joined (ap (λ (m : ℕ). rows-of m (r .universal) A) (asks .counted) ∙ e .tables passes universal .rows-read) (e .tables passes universal .marks-read)
+        ap₂ joined (ap (λ (m : ℕ). rows-of m (r .universal) A) (counted) ∙ e .tables passes universal .rows-read) (e .tables passes universal .marks-read)
         ∙ joined-back (o .A)
 
     S-so : joined (rows-of (length kinds - universals) (r .existential) S) (take (r .existential) S-marks) ≡ o .S
@@ -207,17 +189,17 @@ module _ (kinds : List ℕ) (literals : List ℤ) (names : List ℕ) (universals
           S-counts = e .counts-read passes existential d;
         }
 
-    pub tables-so : length A ≡ 4096 → length A-marks ≡ 256 → length A-counts ≡ 256 → length S ≡ 4096 → length S-marks ≡ 256 → length S-counts ≡ 256
+    pub tables-so : length A ≡ 16 * max-rows → length A-marks ≡ max-rows → length A-counts ≡ max-rows → length S ≡ 16 * max-rows → length S-marks ≡ max-rows → length S-counts ≡ max-rows
         → Tables kinds names universals r A A-marks A-counts S S-marks S-counts
     tables-so a b c d f h =
         let l = own-lent kinds literals in
         record {
           as-many = asks .as-many;
           few = few;
-          fewer = omega (arith, asks .counted, count-both (prefix kinds), length-map kinds kind-of);
+          fewer = omega (arith, counted, count-both (prefix kinds), length-map kinds kind-of);
           first = block-few;
-          few-A = subst (λ (x : Returned). x .universal ≤ 256) (sym reported-so) (count-in-room l round-limit universal (omega arith));
-          few-S = subst (λ (x : Returned). x .existential ≤ 256) (sym reported-so) (count-in-room l round-limit existential (omega arith));
+          few-A = subst (λ (x : Returned). x .universal ≤ max-rows) (sym reported-so) (count-in-room l round-limit universal (omega arith));
+          few-S = subst (λ (x : Returned). x .existential ≤ max-rows) (sym reported-so) (count-in-room l round-limit existential (omega arith));
           rows-A = a;
           marks-A = b;
           counts-A = c;
@@ -226,18 +208,32 @@ module _ (kinds : List ℕ) (literals : List ℤ) (names : List ℕ) (universals
           counts-S = h;
         }
 
-  pub accepted-lines : (variables clauses : ℕ) → lines (facts kinds literals names variables clauses) ≡ formula-lines kinds literals names variables clauses
-  unfolding formula-lines
-  accepted-lines variables clauses = ap (λ (x : Check). by-check x (lines (facts kinds literals names variables clauses))) (sym (asks .passes))
-
 -- A refusal.
-pub shown-refused : {result : Result} {n line : ℕ} → result ≡ refused n line → refusal-line n line ≡ shown result
-shown-refused e = ap shown (sym e)
+pub refusal-delivered : {result : Result} {n line : ℕ} (out : List ℕ) {r : ℕ} {out-then : List ℕ} → result ≡ refused n line
+    → r ≡ put-count (refusal-line n line) out → out-then ≡ put (refusal-line n line) out → Delivered (shown result) out r out-then
+refusal-delivered {n = n} {line = line} out e counted written =
+    delivered-as (ap shown (sym e)) (record { counted = counted; written = written; short = omega (arith, refusal-most n line .most) })
 
-pub refused-lines : (kinds : List ℕ) (literals : List ℤ) (names : List ℕ) (variables clauses n : ℕ) → checked kinds literals ≡ Refused n
-    → refusal-line n 0 ≡ formula-lines kinds literals names variables clauses
-unfolding formula-lines
-refused-lines kinds literals names variables clauses n e = ap (λ (x : Check). by-check x (lines (facts kinds literals names variables clauses))) (sym e)
+-- 01's two lines at the start of a text, and the answer's number behind them.
+module _ (answer variables clauses rounds A S : ℕ) (text : List ℕ) {two : ℕ} {text₁ : List ℕ} (counted : two ≡ put-count (result-lines answer variables clauses rounds A S) text)
+    (written : text₁ ≡ put (result-lines answer variables clauses rounds A S) text) (room : 192 ≤ length text) where
+  whole-front : Fronted (result-lines answer variables clauses rounds A S) two text₁
+  whole-front = fronted (result-lines answer variables clauses rounds A S) text counted written (omega (arith, room, result-most answer variables clauses rounds A S .most))
+
+  pub two-few : two ≤ 145
+  two-few = omega (arith, whole-front .many, result-most answer variables clauses rounds A S .most)
+
+  pub head-so : {front whole : List ℕ} → front ≡ take two text₁ ++ ascii "c answer " ++ decimal answer → whole ≡ front ++ ascii "\n" → whole ≡ head-lines answer variables clauses rounds A S
+  unfolding head-lines
+  head-so front-so whole-so =
+      whole-so ∙ ap (λ (l : List ℕ). l ++ ascii "\n") front-so ∙ ap (λ (l : List ℕ). l ++ ascii "c answer " ++ decimal answer ++ ascii "\n") (whole-front .front)
+
+-- The universal unknowns of a formula that `check` accepts.
+pub universals-so : (kinds : List ℕ) (literals : List ℤ) {f : Formula} → checked kinds literals ≡ Accepted f → f .universals ≡ count universal (prefix kinds)
+universals-so kinds literals e = ap (λ (x : Formula). x .universals) (accepted-sizes kinds literals e)
+
+pub never-refused : {x : Check} {f : Formula} {n : ℕ} → x ≡ Accepted f → x ≡ Refused n → ⊥
+never-refused a b = let z : _≡_ {A = ℕ} 0 1 = cc (a, b) in omega arith
 
 -- The names at the front of their table, where the text was taken: one for each kind.
 pub record Named (result : Result) (unknowns : ℕ) (kinds names : List ℕ) (r : Read) : Type 0 where
@@ -258,6 +254,10 @@ names-so (taken q) {N = N} {K′ = K′} {N′ = N′} {u = u} so is f =
       as-many = length-take-le u N′ there ∙ sym (length-take-le u K′ (f .kinds-there));
     }
 
+pub accepts-front : {result : Result} {u e v c : ℕ} {kinds : List ℕ} {literals : List ℤ} (names : List ℕ) (f : Front result u e v c kinds literals) → Named result u kinds names (f .formula)
+    → checked (take u kinds) (take e literals) ≡ Accepted (sizes (take u kinds) (take e literals)) → Accepts (take u kinds) (take e literals) (take u names)
+accepts-front names f n passes = record { passes = passes; as-many = n .as-many }
+
 pub taken-lines : {result : Result} {u e v c : ℕ} {kinds : List ℕ} {literals : List ℤ} (names : List ℕ) (f : Front result u e v c kinds literals) → Named result u kinds names (f .formula)
-    → formula-lines (take u kinds) (take e literals) (take u names) v c ≡ shown result
+    → lines (facts (take u kinds) (take e literals) (take u names) v c) ≡ shown result
 taken-lines names f n = rw (f .kinds-front, f .literals-front, n .front, f .variables-so, f .clauses-so) (ap shown (sym (f .whole)))

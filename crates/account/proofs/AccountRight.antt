@@ -4,26 +4,22 @@ use native.Mathlib.Omega.{arith}
 use mathlib.Core.Path.{_≡_, refl, sym, ap, subst, _∙_}
 use mathlib.Core.Bool.{true, false}
 use mathlib.Core.List.{List, _++_, append-assoc}
-use mathlib.Core.Logic.{_⊎_, inl, inr}
 use lib.ListN.{length, take}
 use lib.Seq.{take-length, take-append-seam}
+use Rattle.formula.specs.Formula.{max-unknowns, max-entries}
 use Rattle.formula.specs.Meaning.{verdict}
-use Rattle.formula.specs.Causes.{checked}
-use Rattle.formula.specs.declared.Check.{Check}
-use Rattle.formula.specs.declared.Check.the-variants.{Accepted, Refused}
 use Rattle.rounds.proofs.Verdict.{verdict-right}
 use Rattle.rounds.proofs.Claim.{claim}
 use Rattle.rounds.proofs.Opening.{opening-right}
 use Rattle.rounds.proofs.CountsLaws.{counts-right}
 use Rattle.text.specs.Reading.{Read, Result, taken, refused, text-read, gates-read}
-use Rattle.text.proofs.TextLaws.{Results, Passes, read-passes}
 use Rattle.text.proofs.GatesRight.{gates-right}
 use Rattle.report.specs.Report.{refusal-line}
 use Rattle.decision.specs.Decision.{own-lent}
 use Rattle.certificate.proofs.Settled.{rows-accepted}
 use Rattle.answer.specs.Printed.{round-limit, result-of, shown as shown-answer, printed}
-use Rattle.account.specs.Account.{head-lines, lines, facts, by-check, formula-lines, shown, account, account-of-gates}
-use Rattle.account.specs.AccountRight.{RunRight, Told, a-refusal, a-run, AccountRight, Caused, GatesAccountRight}
+use Rattle.account.specs.Account.{head-lines, lines, facts, shown, account, account-of-gates}
+use Rattle.account.specs.AccountRight.{RunRight, Told, a-refusal, a-run, AccountRight, GatesAccountRight}
 
 -- One list goes on where another ends.
 record Starts (front whole : List ℕ) : Type 0 where
@@ -57,16 +53,6 @@ lines-start r =
     let self : Starts (result-of (r .kinds) (r .literals) (r .variables) (r .clauses)) (result-of (r .kinds) (r .literals) (r .variables) (r .clauses) ++ _) = record { rest = _; is = refl } in
     longer (longer (longer (longer (longer (longer self _) _) _) _) _) _
 
-accepted-so : (r : Read) {sizes : _} → checked (r .kinds) (r .literals) ≡ Accepted sizes
-    → formula-lines (r .kinds) (r .literals) (r .names) (r .variables) (r .clauses) ≡ lines (facts (r .kinds) (r .literals) (r .names) (r .variables) (r .clauses))
-unfolding formula-lines
-accepted-so r e = ap (λ (x : Check). by-check x (lines (facts (r .kinds) (r .literals) (r .names) (r .variables) (r .clauses)))) e
-
-refused-so : (r : Read) (n : ℕ) → checked (r .kinds) (r .literals) ≡ Refused n
-    → formula-lines (r .kinds) (r .literals) (r .names) (r .variables) (r .clauses) ≡ refusal-line n 0
-unfolding formula-lines
-refused-so r n e = ap (λ (x : Check). by-check x (lines (facts (r .kinds) (r .literals) (r .names) (r .variables) (r .clauses)))) e
-
 module _ (text : List ℕ) where
   pub account-right : AccountRight text
   unfolding account printed
@@ -80,26 +66,18 @@ module _ (text : List ℕ) where
             tells = a-refusal n line e told;
           }
       go (taken r) e =
-          let passes : Passes r = subst (Results Passes) e (read-passes text 128 8192 128) in
-          let all = accepted-so r (passes .accepted) in
           record {
             begins =
                 ap (λ (x : Result). take (length (shown-answer x)) (shown x)) e
-                ∙ ap (take (length (result-of (r .kinds) (r .literals) (r .variables) (r .clauses)))) all
                 ∙ starts-taken (lines-start r)
                 ∙ sym (ap shown-answer e);
-            tells = a-run r e (ap shown e ∙ all) (run-right r);
+            tells = a-run r e (ap shown e) (run-right r);
           }
 
   pub gates-account-right : GatesAccountRight text
   unfolding account-of-gates
   gates-account-right = record { tells = go (gates-read text) refl; meaning = gates-right text }
     where
-      by : (r : Read) → gates-read text ≡ taken r → (x : Check) → checked (r .kinds) (r .literals) ≡ x
-          → Told (gates-read text) (account-of-gates text) ⊎ Caused (gates-read text) (account-of-gates text)
-      by r e (Accepted sizes) is = inl (a-run r e (ap shown e ∙ accepted-so r is) (run-right r))
-      by r e (Refused n) is = inr (record { r = r; n = n; read-so = e; found = is; told-so = ap shown e ∙ refused-so r n is })
-
-      go : (result : Result) → gates-read text ≡ result → Told (gates-read text) (account-of-gates text) ⊎ Caused (gates-read text) (account-of-gates text)
-      go (refused n line) e = inl (a-refusal n line e (ap shown e))
-      go (taken r) e = by r e (checked (r .kinds) (r .literals)) refl
+      go : (result : Result) → gates-read text ≡ result → Told (gates-read text) (account-of-gates text)
+      go (refused n line) e = a-refusal n line e (ap shown e)
+      go (taken r) e = a-run r e (ap shown e) (run-right r)

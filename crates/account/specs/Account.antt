@@ -9,9 +9,6 @@ use mathlib.Core.List.{List, [], _∷_, _++_, map}
 use lib.IntN.{ℤ}
 use lib.ListN.{length}
 use Rattle.formula.specs.Formula.{universal, existential, prefix}
-use Rattle.formula.specs.Causes.{checked}
-use Rattle.formula.specs.declared.Check.{Check}
-use Rattle.formula.specs.declared.Check.the-variants.{Accepted, Refused}
 use Rattle.rounds.specs.Run.{Entry, Table, number}
 use Rattle.rounds.specs.Opening.{opening}
 use Rattle.rounds.specs.Counts.{counts}
@@ -95,20 +92,10 @@ facts kinds literals names variables clauses =
       S-counts = counts (own-lent kinds literals) existential round-limit;
     }
 
--- 01's causes 1 to 3 come before the run.
-abbrev pub by-check : Check → List ℕ → List ℕ
-by-check (Refused n) told = refusal-line n 0
-by-check (Accepted sizes) told = told
-
-unfoldable pub formula-lines : List ℕ → List ℤ → List ℕ → ℕ → ℕ → List ℕ
-formula-lines kinds literals names variables clauses =
-    let told = lines (facts kinds literals names variables clauses) in
-    by-check (checked kinds literals) told
-
 -- 'A refusal prints only `c refused N L`.'
 abbrev pub shown : Result → List ℕ
 shown (refused n line) = refusal-line n line
-shown (taken r) = formula-lines (r .kinds) (r .literals) (r .names) (r .variables) (r .clauses)
+shown (taken r) = lines (facts (r .kinds) (r .literals) (r .names) (r .variables) (r .clauses))
 
 -- The account of a text, and of a gate list.
 unfoldable pub account : List ℕ → List ℕ

@@ -3,16 +3,13 @@ use Prim.Native.Nat.{ℕ}
 use mathlib.Core.Path.{_≡_}
 use mathlib.Core.Bool.{true, false}
 use mathlib.Core.List.{List}
-use mathlib.Core.Logic.{_⊎_}
 use lib.ListN.{length, take}
 use Rattle.formula.specs.Formula.{prefix, clauses}
 use Rattle.formula.specs.Meaning.{verdict, matrix}
-use Rattle.formula.specs.Causes.{checked}
-use Rattle.formula.specs.declared.Check.the-variants.{Refused}
 use Rattle.expansion.specs.Judge.{accepted}
 use Rattle.rounds.specs.Run.{rows, is-true, is-false}
 use Rattle.rounds.specs.Claim.{Claim}
-use Rattle.rounds.specs.Opening.{OpeningRight}
+use Rattle.rounds.specs.Opening.{Opens}
 use Rattle.rounds.specs.Counts.{CountsRight}
 use Rattle.text.specs.Reading.{Read, Result, taken, refused, text-read, gates-read}
 use Rattle.text.specs.GatesRight.{GatesRight}
@@ -34,7 +31,7 @@ pub record RunRight (r : Read) : Type 0 where
   -- Each finished round added a row with its mark to both tables, and no two rows of a table are equal.
   pub claim : Claim (own-lent (r .kinds) (r .literals)) round-limit
   -- The formula with the first block set to the opening has the same verdict.
-  pub opened : OpeningRight (own-lent (r .kinds) (r .literals)) round-limit
+  pub opened : Opens (own-lent (r .kinds) (r .literals)) (settled (r .kinds) (r .literals))
   -- How often a row came back.
   pub counted : CountsRight (own-lent (r .kinds) (r .literals)) round-limit
 
@@ -48,15 +45,7 @@ pub record AccountRight (text : List ℕ) : Type 0 where
   pub begins : take (length (printed text)) (account text) ≡ printed text
   pub tells : Told (text-read text) (account text)
 
--- One of 01's causes 1 to 3 applies to what was read.
-pub record Caused (result : Result) (told : List ℕ) : Type 0 where
-  pub r : Read
-  pub n : ℕ
-  pub read-so : result ≡ taken r
-  pub found : checked (r .kinds) (r .literals) ≡ Refused n
-  pub told-so : told ≡ refusal-line n 0
-
 -- Of a gate list: the verdict of its clauses is the circuit's value.
 pub record GatesAccountRight (text : List ℕ) : Type 0 where
-  pub tells : Told (gates-read text) (account-of-gates text) ⊎ Caused (gates-read text) (account-of-gates text)
+  pub tells : Told (gates-read text) (account-of-gates text)
   pub meaning : GatesRight text

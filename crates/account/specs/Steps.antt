@@ -4,8 +4,8 @@ use mathlib.Core.Path.{_≡_}
 use mathlib.Core.List.{List, [], _∷_}
 use lib.IntN.{ℤ}
 use lib.ListN.{length, take}
-use Rattle.formula.specs.Formula.{max-unknowns, max-rows, universal, prefix}
-use Rattle.formula.specs.Causes.{count, checked, sizes}
+use Rattle.formula.specs.Formula.{max-unknowns, max-rows}
+use Rattle.formula.specs.Causes.{checked, sizes}
 use Rattle.formula.specs.declared.Check.the-variants.{Accepted}
 use Rattle.rows.specs.Row.{row-of}
 use Rattle.rows.specs.Table.{row-at, rows-of}
@@ -20,9 +20,8 @@ abbrev pub joined : List Row → List ℕ → Table
 joined rows marks = each (λ (row : Row) (mark : ℕ). under-mark mark row ∷ []) rows marks
 
 -- A formula that is accepted, with as many names as kinds.
-pub record Accepts (kinds : List ℕ) (literals : List ℤ) (names : List ℕ) (universals : ℕ) : Type 0 where
+pub record Accepts (kinds : List ℕ) (literals : List ℤ) (names : List ℕ) : Type 0 where
   pub passes : checked kinds literals ≡ Accepted (sizes kinds literals)
-  pub counted : universals ≡ count universal (prefix kinds)
   pub as-many : length names ≡ length kinds
 
 -- What a run returned and left, read below the counts.

@@ -2,7 +2,7 @@
 // prefix as it was read, 02's opening, and each row of both tables with the round that it came in and how often it came back.
 // `account` and `account_of_gates` promise, for every input and buffer, the bytes that the definition (specs/Account.antt) gives; what the lines say of the
 // formula is stated in specs/AccountRight.antt.
-// Reading belongs to `text`, the run to `run`; here what one returns is handed to the next, and the lines are written.
+// Reading belongs to `text`, the run to `run`, 01's lines to `report`; here what one returns is handed to the next, and the other lines are written.
 use formula::Check;
 use formula::Formula;
 use run::Outcome;
@@ -14,8 +14,12 @@ ghost use lib.ListN.{length, take};
 ghost use Rattle.rows.specs.Row.{row-of};
 ghost use Rattle.rows.specs.Table.{row-at, rows-of};
 ghost use Rattle.run.specs.Outcome.{number-of};
-ghost use Rattle.report.specs.Report.{ascii, decimal, truth as T-of, refusal-line};
-ghost use Rattle.account.specs.Account.{each, digit, name-line, prefix-line, value-line, row-line, row-lines, head-lines, formula-lines, lines, account as account-lines, account-of-gates, Delivered};
+ghost use Rattle.formula.specs.Formula.{max-rows, universal, prefix};
+ghost use Rattle.formula.specs.Causes.{count, checked, sizes};
+ghost use Rattle.formula.specs.declared.Check.the-variants.{Accepted};
+ghost use Rattle.report.specs.Report.{decimal};
+ghost use Rattle.text.specs.Reading.{read-as};
+ghost use Rattle.account.specs.Account.{each, digit, name-line, prefix-line, value-line, row-line, row-lines, head-lines, lines, facts, shown, account as account-lines, account-of-gates, Delivered};
 ghost use Rattle.account.specs.AccountRight.{AccountRight, GatesAccountRight};
 ghost use Rattle.account.specs.Steps.{joined, told, Tables, Accepts, Side};
 
@@ -29,25 +33,7 @@ pub fn account(text: &[u8], out: &mut [u8]) -> usize
     ensures delivered { λ r. ⌜ Delivered (account-lines (now (text .entry))) (now (out .entry)) r (now (out .exit)) ⌝ }
     ensures proved { λ _. ⌜ AccountRight (now (text .entry)) ⌝ }
 {
-    let mut kinds = [0u8; Formula::UNKNOWNS];
-    let mut literals = [0i32; Formula::ENTRIES];
-    let mut names = [0u16; Formula::UNKNOWNS];
-    match text::read(text, &mut kinds, &mut literals, &mut names) {
-        Reading::Refused { number, line } => refuse(number, line, out),
-        Reading::Taken {
-            unknowns,
-            entries,
-            variables,
-            clauses,
-        } => tested(
-            &kinds[..unknowns],
-            &literals[..entries],
-            &names[..unknowns],
-            variables,
-            clauses,
-            out,
-        ),
-    }
+    account_as(text, false, out)
 }
 
 // The same of a gate list.
@@ -55,59 +41,29 @@ pub fn account_of_gates(text: &[u8], out: &mut [u8]) -> usize
     ensures delivered { λ r. ⌜ Delivered (account-of-gates (now (text .entry))) (now (out .entry)) r (now (out .exit)) ⌝ }
     ensures proved { λ _. ⌜ GatesAccountRight (now (text .entry)) ⌝ }
 {
+    account_as(text, true, out)
+}
+
+// The lines of a text of clauses or of gates.
+fn account_as(text: &[u8], gates: bool, out: &mut [u8]) -> usize
+    ensures { λ r. ⌜ Delivered (shown (read-as gates (now (text .entry)))) (now (out .entry)) r (now (out .exit)) ⌝ }
+{
     let mut kinds = [0u8; Formula::UNKNOWNS];
     let mut literals = [0i32; Formula::ENTRIES];
     let mut names = [0u16; Formula::UNKNOWNS];
-    match text::read_gates(text, &mut kinds, &mut literals, &mut names) {
-        Reading::Refused { number, line } => refuse(number, line, out),
+    match text::read_as(text, gates, &mut kinds, &mut literals, &mut names) {
+        Reading::Refused { number, line } => report::refusal(out, number, line as u32),
         Reading::Taken {
             unknowns,
             entries,
             variables,
             clauses,
-        } => tested(
+        } => decided(
             &kinds[..unknowns],
             &literals[..entries],
             &names[..unknowns],
-            variables,
-            clauses,
-            out,
-        ),
-    }
-}
-
-// The line of a refusal.
-fn refuse(number: u32, line: usize, out: &mut [u8]) -> usize
-    ensures { λ r. ⌜ Delivered (refusal-line number line) (now (out .entry)) r (now (out .exit)) ⌝ }
-{
-    let mut text = [0u8; 64];
-    let a = field(&mut text, 0, b"c refused ", number as u64);
-    let b = field(&mut text, a, b" ", line as u64);
-    let end = append(&mut text, b, b"\n");
-    buffer::append(out, 0, &text[..end])
-}
-
-// A formula that was read, with a name for each kind.
-fn tested(
-    kinds: &[u8],
-    literals: &[i32],
-    names: &[u16],
-    variables: usize,
-    clauses: usize,
-    out: &mut [u8],
-) -> usize
-    requires { ⌜ length (now names) ≡ length (now kinds) ⌝ }
-    ensures { λ r. ⌜ Delivered (formula-lines (now (kinds .entry)) (now (literals .entry)) (now (names .entry)) variables clauses) (now (out .entry)) r (now (out .exit)) ⌝ }
-{
-    match Formula::check(kinds, literals) {
-        Check::Refused(number) => refuse(number, 0, out),
-        Check::Accepted(sizes) => decided(
-            kinds,
-            literals,
-            names,
-            sizes.universals,
-            variables,
-            clauses,
+            variables as u32,
+            clauses as u32,
             out,
         ),
     }
@@ -118,14 +74,14 @@ fn decided(
     kinds: &[u8],
     literals: &[i32],
     names: &[u16],
-    universals: usize,
-    variables: usize,
-    clauses: usize,
+    variables: u32,
+    clauses: u32,
     out: &mut [u8],
 ) -> usize
-    requires { ⌜ Accepts (now kinds) (now literals) (now names) universals ⌝ }
-    ensures { λ r. ⌜ Delivered (formula-lines (now (kinds .entry)) (now (literals .entry)) (now (names .entry)) variables clauses) (now (out .entry)) r (now (out .exit)) ⌝ }
+    requires { ⌜ Accepts (now kinds) (now literals) (now names) ⌝ }
+    ensures { λ r. ⌜ Delivered (lines (facts (now (kinds .entry)) (now (literals .entry)) (now (names .entry)) variables clauses)) (now (out .entry)) r (now (out .exit)) ⌝ }
 {
+    let universals = universal_unknowns(kinds, literals);
     let none = [0u8; 0];
     let mut universal = [0u8; 16 * Formula::ROWS];
     let mut universal_marks = [0u16; Formula::ROWS];
@@ -165,13 +121,24 @@ fn decided(
     )
 }
 
+// How many unknowns of an accepted formula are universal.
+fn universal_unknowns(kinds: &[u8], literals: &[i32]) -> usize
+    requires { ⌜ checked (now kinds) (now literals) ≡ Accepted (sizes (now kinds) (now literals)) ⌝ }
+    ensures { λ r. ⌜ r ≡ count universal (prefix (now (kinds .entry))) ⌝ }
+{
+    match Formula::check(kinds, literals) {
+        Check::Accepted(sizes) => sizes.universals,
+        Check::Refused(_) => 0,
+    }
+}
+
 // The lines of what a run returned and left.
 fn tell(
     kinds: &[u8],
     names: &[u16],
     universals: usize,
-    variables: usize,
-    clauses: usize,
+    variables: u32,
+    clauses: u32,
     end: Outcome,
     universal: &[u8],
     universal_marks: &[u16],
@@ -214,11 +181,11 @@ fn front_lines(
     text: &mut [u8],
     kinds: &[u8],
     names: &[u16],
-    variables: usize,
-    clauses: usize,
+    variables: u32,
+    clauses: u32,
     end: Outcome,
 ) -> usize
-    requires { ⌜ (length (now names) ≡ length (now kinds)) × (length (now kinds) ≤ 128) × (end .block ≤ length (now kinds)) × (6848 ≤ length (now text)) ⌝ }
+    requires { ⌜ (length (now names) ≡ length (now kinds)) × (length (now kinds) ≤ 128) × (end .block ≤ length (now kinds)) × (end .universal ≤ max-rows) × (end .existential ≤ max-rows) × (6848 ≤ length (now text)) ⌝ }
     ensures { λ r. ⌜ r ≤ 6848 ⌝ }
     ensures { λ r. ⌜ take r (now (text .exit)) ≡ head-lines (number-of (end .answer)) variables clauses (end .round) (end .universal) (end .existential) ++ each prefix-line (now (kinds .entry)) (now (names .entry)) ++ each value-line (row-of (end .block) (row-at (end .opening) 0)) (now (names .entry)) ⌝ }
 {
@@ -231,8 +198,8 @@ fn front_lines(
         variables,
         clauses,
         end.round,
-        end.universal,
-        end.existential,
+        end.universal as u32,
+        end.existential as u32,
     );
     let named = prefix(text, head, kinds, names);
     opening(text, named, &row, end.block, names)
@@ -242,65 +209,27 @@ fn front_lines(
 fn results(
     text: &mut [u8],
     answer: u32,
-    variables: usize,
-    clauses: usize,
+    variables: u32,
+    clauses: u32,
     rounds: u32,
-    universal: usize,
-    existential: usize,
+    universal: u32,
+    existential: u32,
 ) -> usize
     requires { ⌜ 192 ≤ length (now text) ⌝ }
     ensures { λ r. ⌜ r ≤ 192 ⌝ }
     ensures { λ r. ⌜ take r (now (text .exit)) ≡ head-lines answer variables clauses rounds universal existential ⌝ }
 {
-    let first = formula_line(text, answer, variables, clauses);
-    run_lines(text, first, answer, rounds, universal, existential)
-}
-
-// Line one without its LF, at the start of `text`.
-fn formula_line(text: &mut [u8], answer: u32, variables: usize, clauses: usize) -> usize
-    requires { ⌜ 50 ≤ length (now text) ⌝ }
-    ensures { λ r. ⌜ r ≤ 50 ⌝ }
-    ensures { λ r. ⌜ take r (now (text .exit)) ≡ ascii "s cnf " ++ ascii (T-of answer) ++ ascii " " ++ decimal variables ++ ascii " " ++ decimal clauses ⌝ }
-{
-    let a = append(text, 0, b"s cnf ");
-    let b = truth(text, a, answer);
-    let c = field(text, b, b" ", variables as u64);
-    field(text, c, b" ", clauses as u64)
-}
-
-// The other two behind it.
-fn run_lines(
-    text: &mut [u8],
-    at: usize,
-    answer: u32,
-    rounds: u32,
-    universal: usize,
-    existential: usize,
-) -> usize
-    requires { ⌜ at + 125 ≤ length (now text) ⌝ }
-    ensures { λ r. ⌜ r ≤ at + 125 ⌝ }
-    ensures { λ r. ⌜ take r (now (text .exit)) ≡ take at (now (text .entry)) ++ ascii "\nc rounds " ++ decimal rounds ++ ascii " universal " ++ decimal universal ++ ascii " existential " ++ decimal existential ++ ascii "\nc answer " ++ decimal answer ++ ascii "\n" ⌝ }
-{
-    let a = field(text, at, b"\nc rounds ", rounds as u64);
-    let b = field(text, a, b" universal ", universal as u64);
-    let c = field(text, b, b" existential ", existential as u64);
-    let d = field(text, c, b"\nc answer ", answer as u64);
-    append(text, d, b"\n")
-}
-
-// T behind the first `at` bytes.
-fn truth(text: &mut [u8], at: usize, answer: u32) -> usize
-    requires { ⌜ at + 2 ≤ length (now text) ⌝ }
-    ensures { λ r. ⌜ r ≤ at + 2 ⌝ }
-    ensures { λ r. ⌜ take r (now (text .exit)) ≡ take at (now (text .entry)) ++ ascii (T-of answer) ⌝ }
-{
-    if answer == 0 {
-        return append(text, at, b"0");
-    }
-    if answer == 1 {
-        return append(text, at, b"1");
-    }
-    append(text, at, b"-1")
+    let two = report::result(
+        text,
+        answer,
+        variables,
+        clauses,
+        rounds,
+        universal,
+        existential,
+    );
+    let next = field(text, two, b"c answer ", answer as u64);
+    append(text, next, b"\n")
 }
 
 // The prefix, a line for each unknown, behind the first `at` bytes.

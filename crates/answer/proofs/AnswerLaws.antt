@@ -2,26 +2,26 @@
 use Prim.Native.Nat.{ℕ, _≤_}
 use native.Mathlib.Omega.{arith}
 use mathlib.Core.Path.{_≡_, refl, sym, ap, subst, _∙_}
-use mathlib.Core.Bool.{Bool, true, false}
+use mathlib.Core.Bool.{Bool, true}
 use mathlib.Core.List.{List}
 use lib.Dec.{eqb}
 use lib.IntN.{ℤ}
 use lib.ListN.{length, take, replicate, length-replicate}
-use Rattle.formula.specs.Formula.{max-unknowns, max-entries, max-rows, max-clauses, work-size, universal, existential, prefix}
+use Rattle.formula.specs.Formula.{max-rows, max-clauses, work-size, universal, existential, prefix}
 use Rattle.formula.specs.Causes.{checked, sizes}
 use Rattle.formula.specs.declared.Check.the-variants.{Accepted}
 use Rattle.rounds.proofs.Bounds.{count-in-room}
 use Rattle.run.specs.declared.Outcome.{Outcome}
 use Rattle.run.specs.Outcome.{number-of, reported, returned}
 use Rattle.run.proofs.OutcomeLaws.{number-named}
-use Rattle.text.specs.Reading.{Read, taken, refused, read, read-gates, max-variables}
-use Rattle.text.proofs.TextLaws.{Results, Passes, read-passes, refused-line, gates-refused-line}
-use Rattle.text.proofs.GatesPass.{GatesResults, gates-pass}
+use Rattle.text.specs.Reading.{refused, read-as, max-variables}
+use Rattle.text.proofs.TextLaws.{Passes}
+use Rattle.text.proofs.ReadAsLaws.{reading-passes, reading-line}
 use Rattle.text.proofs.FrontLaws.{Front}
 use Rattle.report.specs.Report.{result-lines, refusal-line}
 use Rattle.decision.specs.Decision.{handed-on, own-lent}
 use Rattle.decision.proofs.DecisionLaws.{returned-so}
-use Rattle.answer.specs.Printed.{round-limit, settled, result-of, shown, reading, printed-as}
+use Rattle.answer.specs.Printed.{round-limit, settled, result-of, shown, printed-as}
 
 -- A formula that passes: what the run returns, and the lines of it.
 module _ (kinds : List ℕ) (literals : List ℤ) (passes : checked kinds literals ≡ Accepted (sizes kinds literals)) where
@@ -48,27 +48,17 @@ module _ (kinds : List ℕ) (literals : List ℤ) (passes : checked kinds litera
         (number-named (settled kinds literals .answer))
 
 -- What was read of a text of clauses or of gates.
-pub reading-passes : (gates : Bool) (text : List ℕ) (r : Read) → reading gates text ≡ taken r → Passes r
-unfolding read read-gates
-reading-passes false text r e = subst (Results Passes) e (read-passes text max-unknowns max-entries max-unknowns)
-reading-passes true text r e = subst GatesResults e (gates-pass text max-unknowns max-entries max-unknowns) .passes
-
-pub reading-line : (gates : Bool) (text : List ℕ) (n line : ℕ) → reading gates text ≡ refused n line → line ≤ 65538
-unfolding read read-gates
-reading-line false text n line e = refused-line text max-unknowns max-entries max-unknowns n line e
-reading-line true text n line e = gates-refused-line text max-unknowns max-entries max-unknowns n line e
-
 module _ (gates : Bool) (text : List ℕ) where
   -- A text that is refused.
-  pub refused-printed : {n line : ℕ} → reading gates text ≡ refused n line → refusal-line n line ≡ printed-as gates text
+  pub refused-printed : {n line : ℕ} → read-as gates text ≡ refused n line → refusal-line n line ≡ printed-as gates text
   unfolding printed-as
   refused-printed e = ap shown (sym e)
 
-  pub line-small : {n line : ℕ} → reading gates text ≡ refused n line → line ≤ 65538
+  pub line-small : {n line : ℕ} → read-as gates text ≡ refused n line → line ≤ 65538
   line-small {n} {line} e = reading-line gates text n line e
 
   -- A text that is taken: its formula stands at the front of the tables.
-  module _ {u e v c : ℕ} {kinds : List ℕ} {literals : List ℤ} (f : Front (reading gates text) u e v c kinds literals) where
+  module _ {u e v c : ℕ} {kinds : List ℕ} {literals : List ℤ} (f : Front (read-as gates text) u e v c kinds literals) where
     passes-so : Passes (f .formula)
     passes-so = reading-passes gates text (f .formula) (f .whole)
 

@@ -1,28 +1,17 @@
 -- What the printed lines of a gate list say, for every list. Assumes nothing.
-use Prim.Native.Nat.{ℕ, _≤_}
-use native.Mathlib.Omega.{arith}
+use Prim.Native.Nat.{ℕ}
 use mathlib.Core.Path.{_≡_, refl, sym, subst, _∙_}
 use mathlib.Core.List.{List}
-use mathlib.Core.Logic.{_⊎_, inl, inr}
 use Rattle.formula.specs.Formula.{max-unknowns, max-entries}
 use Rattle.named.specs.Names.{In}
 use Rattle.text.specs.Reading.{gates-read, gates-causes}
 use Rattle.text.proofs.TextLaws.{gates-refused-line}
 use Rattle.text.proofs.GatesPass.{GatesResults, gates-pass}
 use Rattle.text.proofs.GatesRight.{gates-right}
+use Rattle.text.proofs.ReadAsLaws.{gates-small}
 use Rattle.answer.specs.Printed.{gates-printed}
 use Rattle.answer.specs.GatesAnswerRight.{GatesAnswerRight}
 use Rattle.answer.proofs.AnswerRight.{lines-right}
-
-gates-small : (n : ℕ) → In n gates-causes → n ≤ 20
-gates-small n (inl e) = omega (arith, e)
-gates-small n (inr (inl e)) = omega (arith, e)
-gates-small n (inr (inr (inl e))) = omega (arith, e)
-gates-small n (inr (inr (inr (inl e)))) = omega (arith, e)
-gates-small n (inr (inr (inr (inr (inl e))))) = omega (arith, e)
-gates-small n (inr (inr (inr (inr (inr (inl e)))))) = omega (arith, e)
-gates-small n (inr (inr (inr (inr (inr (inr (inl e))))))) = omega (arith, e)
-gates-small n (inr (inr (inr (inr (inr (inr (inr i))))))) = absurd i
 
 pub gates-answer-right : (text : List ℕ) → GatesAnswerRight text
 unfolding gates-printed

@@ -4,21 +4,14 @@ use mathlib.Core.Path.{_≡_}
 use mathlib.Core.Bool.{Bool}
 use mathlib.Core.List.{List}
 use lib.ListN.{length}
-use Rattle.formula.specs.Formula.{prefix, clauses}
-use Rattle.named.specs.Named.{Values, named-meaning}
-use Rattle.named.specs.Gates.{circuit}
+use Rattle.formula.specs.Formula.{clauses}
 use Rattle.text.specs.Reading.{Read, taken, gates-read, gates-causes}
-use Rattle.text.specs.GatesRight.{drawing, output-of}
+use Rattle.text.specs.GatesRight.{CircuitIs}
 use Rattle.answer.specs.Printed.{gates-printed}
 use Rattle.answer.specs.AnswerRight.{LinesRight}
 
--- 'The meaning takes the value of O as the matrix under the prefix': the value of the circuit that the text's own lines draw, whatever values names
--- have that it does not bind.
-abbrev pub CircuitIs : List ℕ → Bool → Type 0
-CircuitIs text value = (g : Values) → named-meaning (prefix (drawing text .kinds)) (drawing text .names) (circuit (drawing text .gates) (output-of text)) g ≡ value
-
 pub record GatesAnswerRight (text : List ℕ) : Type 0 where
   -- `s cnf 1 V C` only if the circuit is true under the prefix, `s cnf 0 V C` only if it is false; N one of 9 to 12, 14, 19 and 20.
-  pub lines : LinesRight gates-causes (gates-read text) (λ _ value. CircuitIs text value) (gates-printed text)
+  pub lines : LinesRight gates-causes (gates-read text) (λ (_ : Read) (value : Bool). CircuitIs text value) (gates-printed text)
   -- 'C being the clauses made.'
   pub made : (r : Read) → gates-read text ≡ taken r → r .clauses ≡ length (clauses (r .literals))

@@ -5,9 +5,8 @@ use mathlib.Core.Bool.{Bool}
 use mathlib.Core.List.{List}
 use lib.IntN.{ℤ}
 use lib.ListN.{length}
-use Rattle.formula.specs.Formula.{max-unknowns, max-entries}
 use Rattle.rounds.specs.Run.{Outcome, run, number}
-use Rattle.text.specs.Reading.{Result, taken, refused, text-read, gates-read, scan, result-of as reading-of}
+use Rattle.text.specs.Reading.{Result, taken, refused, text-read, gates-read, read-as}
 use Rattle.report.specs.Report.{result-lines, refusal-line}
 use Rattle.decision.specs.Decision.{own-lent}
 
@@ -37,8 +36,5 @@ unfoldable pub gates-printed : List ℕ → List ℕ
 gates-printed text = shown (gates-read text)
 
 -- Both, told by a flag whether the text is a gate list.
-abbrev pub reading : Bool → List ℕ → Result
-reading gates text = reading-of (scan gates text max-unknowns max-entries max-unknowns)
-
 unfoldable pub printed-as : Bool → List ℕ → List ℕ
-printed-as gates text = shown (reading gates text)
+printed-as gates text = shown (read-as gates text)

@@ -4,10 +4,8 @@
 use formula::Formula;
 use text::Reading;
 ghost use mathlib.Core.Path.{_≡_};
-ghost use lib.ListN.{length};
 ghost use Rattle.formula.specs.Causes.{checked, sizes};
 ghost use Rattle.formula.specs.declared.Check.the-variants.{Accepted};
-ghost use Rattle.text.specs.Reading.{scan, result-of as reading-of, Read-so};
 ghost use Rattle.report.specs.Report.{put, put-count};
 ghost use Rattle.answer.specs.Printed.{result-of, printed, gates-printed, printed-as};
 ghost use Rattle.answer.specs.AnswerRight.{AnswerRight};
@@ -44,7 +42,7 @@ fn answer_as(text: &[u8], gates: bool, out: &mut [u8]) -> usize
     let mut kinds = [0u8; Formula::UNKNOWNS];
     let mut literals = [0i32; Formula::ENTRIES];
     let mut names = [0u16; Formula::UNKNOWNS];
-    match read(text, gates, &mut kinds, &mut literals, &mut names) {
+    match text::read_as(text, gates, &mut kinds, &mut literals, &mut names) {
         Reading::Refused { number, line } => report::refusal(out, number, line as u32),
         Reading::Taken {
             unknowns,
@@ -59,22 +57,6 @@ fn answer_as(text: &[u8], gates: bool, out: &mut [u8]) -> usize
             out,
         ),
     }
-}
-
-// Reads a text of clauses or of gates.
-fn read(
-    text: &[u8],
-    gates: bool,
-    kinds: &mut [u8],
-    literals: &mut [i32],
-    names: &mut [u16],
-) -> Reading
-    ensures { λ r. ⌜ Read-so (reading-of (scan gates (now (text .entry)) (length (now (kinds .entry))) (length (now (literals .entry))) (length (now (names .entry))))) r (now (kinds .entry)) (now (literals .entry)) (now (names .entry)) (now (kinds .exit)) (now (literals .exit)) (now (names .exit)) ⌝ }
-{
-    if gates {
-        return text::read_gates(text, kinds, literals, names);
-    }
-    text::read(text, kinds, literals, names)
 }
 
 // The lines of a formula that is accepted.

@@ -1,10 +1,10 @@
 -- Rows that the judge's definition accepts are accepted as bytes, with a work area of zeros. Assumes nothing.
 use Prim.Native.Nat.{ℕ, _*_, _%_, _≤_}
 use native.Mathlib.Omega.{arith}
-use mathlib.Core.Path.{_≡_, refl, sym, ap, ap₂, subst, _∙_}
+use mathlib.Core.Path.{_≡_, refl, sym, ap, ap₂, _∙_}
 use mathlib.Core.Bool.{Bool, true, false, cond, not, _&&_, _||_}
 use mathlib.Core.List.{List, [], _∷_, _++_}
-use lib.Dec.{eqb, leb, ltb}
+use lib.Dec.{eqb, ltb}
 use lib.IntN.{ℤ}
 use lib.ListN.{length, replicate, length-replicate}
 use borrow.Author.Tests.{le-leb, le-ltb, eq-eqb}
@@ -12,8 +12,9 @@ use Rattle.formula.specs.Formula.{max-unknowns, max-rows, work-size, prefix, cl
 use Rattle.formula.specs.Meaning.{matrix, bit}
 use Rattle.formula.specs.Causes as Causes
 use Rattle.formula.specs.declared.Check.the-variants as Check
-use Rattle.rows.specs.Table.{rows-of, table-of, room, table-fits, stray-rows}
-use Rattle.expansion.specs.Side.{side-of, other}
+use Rattle.rows.specs.Table.{rows-of, table-of, room, table-fits}
+use Rattle.rows.specs.Stray.{stray-rows}
+use Rattle.expansion.specs.OtherSide.{side-of, other}
 use Rattle.expansion.specs.Play.{Row}
 use Rattle.expansion.specs.Judge.{accepted}
 use Rattle.judge.specs.declared.Judgement.{Judgement}

@@ -9,12 +9,11 @@ use mathlib.Core.Option.{Option, none, some}
 use lib.ListN.{length}
 use Rattle.formula.specs.Formula.{Kind, existential, universal}
 use Rattle.expansion.specs.Play.{Row}
-use Rattle.expansion.specs.Side.{side-of}
 use Rattle.expansion.specs.Model.{search}
 use Rattle.expansion.specs.Judge.{is-none, accepted}
 use Rattle.expansion.proofs.Right.{judge-right}
 use Rattle.judge.proofs.Preferences.{is-none-any-preferences}
-use Rattle.rounds.specs.Run.{Table, rows, Answer, is-false, is-true, spent, no-room-universal, no-room-existential, Outcome, if-fits, grown, kept, Lent, step-1, step-2, step-3, step-4, round-of, start, next, run}
+use Rattle.rounds.specs.Run.{Table, rows, Answer, is-false, is-true, spent, no-room-universal, no-room-existential, Outcome, if-fits, grown, kept, Lent, step-1, step-2, step-3, step-4, round-of, next, run}
 
 -- What an answer says of the rows.
 abbrev By : Answer → Lent → Outcome → Type 0

@@ -1,5 +1,5 @@
--- The witness file of a text (02's C-18): the text is decided as the program decides it (01), and 'the side that settled it' is written: its claim, n
--- and clause count, its rows, rounds. Undecided or refused, no file is written, and 01's lines are said.
+-- The witness file of a text or a gate list (02's C-18): it is decided as the program decides it (01), and 'the side that settled it' is written: its
+-- claim, n and clause count, its rows, rounds. Undecided or refused, no file is written, and 01's lines are said.
 -- Assumes nothing.
 use Prim.Native.Nat.{ℕ}
 use mathlib.Core.Path.{_≡_}
@@ -11,7 +11,7 @@ use lib.ListN.{length, replicate}
 use Rattle.formula.specs.Formula.{work-size}
 use Rattle.rows.specs.Table.{table-of}
 use Rattle.rounds.specs.Run.{rows, Answer, is-false, is-true, spent, no-room-universal, no-room-existential, number, Outcome}
-use Rattle.text.specs.Reading.{Result, taken, refused, text-read}
+use Rattle.text.specs.Reading.{Result, taken, refused, text-read, gates-read}
 use Rattle.report.specs.Report.{result-lines, refusal-line, put, put-count}
 use Rattle.witness.specs.declared.Record.{Record}
 use Rattle.witness.specs.File.{made, file}
@@ -67,12 +67,18 @@ work-by (taken s) work =
     let cleared : List ℕ = replicate work-size 0 in
     cond (eqb (length work) work-size) cleared work
 
--- What a text gives with a work area lent, and what that holds afterwards.
-unfoldable pub output : List ℕ → List ℕ → Output
+-- What a text, or a gate list, gives with a work area lent, and what that holds afterwards.
+abbrev pub output : List ℕ → List ℕ → Output
 output text work = on-text (text-read text) work
 
-unfoldable pub left : List ℕ → List ℕ → List ℕ
+abbrev pub gates-output : List ℕ → List ℕ → Output
+gates-output text work = on-text (gates-read text) work
+
+abbrev pub left : List ℕ → List ℕ → List ℕ
 left text work = work-by (text-read text) work
+
+abbrev pub gates-left : List ℕ → List ℕ → List ℕ
+gates-left text work = work-by (gates-read text) work
 
 -- Both put into lent buffers.
 pub record Delivered (o : Output) (file lines : List ℕ) (counts : Counts) (file-then lines-then : List ℕ) : Type 0 where
@@ -81,9 +87,9 @@ pub record Delivered (o : Output) (file lines : List ℕ) (counts : Counts) (fil
   pub lines-counted : counts .lines ≡ put-count (o .lines) lines
   pub lines-written : lines-then ≡ put (o .lines) lines
 
--- The file and the lines of a text, with a work area of 01's length.
-unfoldable pub written : List ℕ → List ℕ
-written text = output text (replicate work-size 0) .file
+-- The file and the lines of a text that is read so, with a work area of 01's length.
+unfoldable pub written-of : Result → List ℕ
+written-of reading = on-text reading (replicate work-size 0) .file
 
-unfoldable pub said : List ℕ → List ℕ
-said text = output text (replicate work-size 0) .lines
+unfoldable pub said-of : Result → List ℕ
+said-of reading = on-text reading (replicate work-size 0) .lines

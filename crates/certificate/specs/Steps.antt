@@ -1,5 +1,5 @@
 -- What private functions promise. Assumes nothing.
-use Prim.Native.Nat.{ℕ, _*_, _≤_}
+use Prim.Native.Nat.{ℕ, suc, _*_, _≤_}
 use mathlib.Core.Path.{_≡_}
 use mathlib.Core.List.{List}
 use lib.ListN.{length, take}
@@ -25,6 +25,6 @@ pub record Ran (o : Outcome) (r : Returned) (universal existential : List ℕ) :
   pub existential-there : 16 * length (o .S) ≤ length existential
   pub few-universal : length (o .A) ≤ max-rows
   pub few-existential : length (o .S) ≤ max-rows
-  pub few-rounds : o .round ≤ max-rows
+  pub few-rounds : o .round ≤ suc max-rows
   pub some-universal : o .answer ≡ is-false → 1 ≤ length (o .A)
   pub some-existential : o .answer ≡ is-true → 1 ≤ length (o .S)

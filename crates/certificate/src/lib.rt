@@ -1,6 +1,6 @@
-// The witness file of a text: the text is decided, and the rows of the side that settled it are written as a file that the judge accepts.
-// `certify` promises, for every text, buffers and work area, the bytes that the definition (specs/Certificate.antt) gives; that the file is accepted is
-// stated in specs/CertificateRight.antt.
+// The witness file of a text or a gate list: it is decided, and the rows of the side that settled it are written as a file that the judge accepts.
+// `certify` and `certify_gates` promise, for every text, buffers and work area, the bytes that the definition (specs/Certificate.antt) gives; that the
+// file is accepted is stated in specs/CertificateRight.antt.
 // Reading belongs to `text`, the run to `decision`, the file to `witness`, lines to `report`; here what one returns is handed to the next.
 use formula::Formula;
 use run::Outcome;
@@ -13,11 +13,12 @@ ghost use lib.ListN.{length, replicate};
 ghost use Rattle.formula.specs.Formula.{max-unknowns, max-clauses, work-size};
 ghost use Rattle.formula.specs.Causes.{checked, sizes};
 ghost use Rattle.formula.specs.declared.Check.the-variants.{Accepted};
+ghost use Rattle.text.specs.Reading.{read-as};
 ghost use Rattle.report.specs.Report.{refusal-line, put, put-count};
 ghost use Rattle.witness.specs.File.{made, file as file-of, size, write-cause};
 ghost use Rattle.answer.specs.Printed.{settled};
-ghost use Rattle.certificate.specs.Certificate.{only-lines, on-formula, output, left, Delivered};
-ghost use Rattle.certificate.specs.CertificateRight.{CertificateRight};
+ghost use Rattle.certificate.specs.Certificate.{only-lines, on-formula, on-text, work-by, output, gates-output, left, gates-left, Delivered};
+ghost use Rattle.certificate.specs.CertificateRight.{CertificateRight, GatesCertificateRight};
 ghost use Rattle.certificate.specs.Steps.{Ran};
 
 // How many bytes were put into each buffer.
@@ -39,10 +40,33 @@ pub fn certify(text: &[u8], file: &mut [u8], lines: &mut [u8], work: &mut [u8]) 
     ensures left { λ _. ⌜ now (work .exit) ≡ left (now (text .entry)) (now (work .entry)) ⌝ }
     ensures proved { λ _. ⌜ CertificateRight (now (text .entry)) ⌝ }
 {
+    certify_as(text, false, file, lines, work)
+}
+
+// The same for a gate list.
+pub fn certify_gates(text: &[u8], file: &mut [u8], lines: &mut [u8], work: &mut [u8]) -> Counts
+    ensures delivered { λ r. ⌜ Delivered (gates-output (now (text .entry)) (now (work .entry))) (now (file .entry)) (now (lines .entry)) r (now (file .exit)) (now (lines .exit)) ⌝ }
+    ensures left { λ _. ⌜ now (work .exit) ≡ gates-left (now (text .entry)) (now (work .entry)) ⌝ }
+    ensures proved { λ _. ⌜ GatesCertificateRight (now (text .entry)) ⌝ }
+{
+    certify_as(text, true, file, lines, work)
+}
+
+// The same for a text of clauses or of gates.
+fn certify_as(
+    text: &[u8],
+    gates: bool,
+    file: &mut [u8],
+    lines: &mut [u8],
+    work: &mut [u8],
+) -> Counts
+    ensures { λ r. ⌜ Delivered (on-text (read-as gates (now (text .entry))) (now (work .entry))) (now (file .entry)) (now (lines .entry)) r (now (file .exit)) (now (lines .exit)) ⌝ }
+    ensures { λ _. ⌜ now (work .exit) ≡ work-by (read-as gates (now (text .entry))) (now (work .entry)) ⌝ }
+{
     let mut kinds = [0u8; Formula::UNKNOWNS];
     let mut literals = [0i32; Formula::ENTRIES];
     let mut names = [0u16; Formula::UNKNOWNS];
-    match text::read(text, &mut kinds, &mut literals, &mut names) {
+    match text::read_as(text, gates, &mut kinds, &mut literals, &mut names) {
         Reading::Refused { number, line } => refuse(number, line as u32, file, lines),
         Reading::Taken {
             unknowns,
@@ -67,7 +91,7 @@ pub fn certify(text: &[u8], file: &mut [u8], lines: &mut [u8], work: &mut [u8]) 
 }
 
 // No file, and the line of a refusal.
-fn refuse(number: u32, line: u32, file: &mut [u8], lines: &mut [u8]) -> Counts
+pub fn refuse(number: u32, line: u32, file: &mut [u8], lines: &mut [u8]) -> Counts
     ensures { λ r. ⌜ Delivered (only-lines (refusal-line number line)) (now (file .entry)) (now (lines .entry)) r (now (file .exit)) (now (lines .exit)) ⌝ }
 {
     let count = report::refusal(lines, number, line);

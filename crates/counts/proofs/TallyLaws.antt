@@ -8,7 +8,8 @@ use mathlib.Core.List.{List, [], _∷_, _++_, map, append-assoc}
 use mathlib.Core.Option.{some}
 use lib.ListN.{length, drop, getElem?, length-append, length-drop, length-map}
 use lib.Seq.{drop-drop}
-use Rattle.rows.specs.Table.{zeroed, zeroed-from}
+use Rattle.rows.specs.Table.{zeroed}
+use Rattle.rows.specs.Access.{zeroed-from}
 use Rattle.rows.proofs.ZeroedLaws.{zeroed-over, given-up-behind}
 use Rattle.counts.specs.Counts.{one-more, counted-up, filled, updated}
 use Rattle.counts.proofs.CountLaws.{filled-none}

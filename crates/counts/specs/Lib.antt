@@ -1,3 +1,2 @@
--- Return counts: which tables are refused, and what the functions make of one.
-pub mod Fit
+-- Return counts: what the functions make of a table of them.
 pub mod Counts

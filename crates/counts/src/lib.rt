@@ -6,14 +6,14 @@ use rows::Found;
 ghost use mathlib.Core.Path.{_≡_};
 ghost use Prim.Native.Nat.{min};
 ghost use lib.ListN.{length};
-ghost use Rattle.counts.specs.Fit.{counts-fit};
+ghost use Rattle.rows.specs.Table.{one-a-row};
 ghost use Rattle.counts.specs.Counts.{was-yielded, one-more, counted-up, filled, updated};
 
 const ROW: usize = rows::BITS / 8;
 
 // Cause 16: one count a row.
 pub fn counts_fit(rows: &[u8], counts: &[u32]) -> bool
-    ensures { λ r. ⌜ r ≡ counts-fit (now (rows .entry)) (now (counts .entry)) ⌝ }
+    ensures { λ r. ⌜ r ≡ one-a-row (now (rows .entry)) (now (counts .entry)) ⌝ }
 {
     counts.len() == rows.len() / ROW
 }

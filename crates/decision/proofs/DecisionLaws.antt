@@ -1,8 +1,8 @@
 -- The run over 256 rows a side: which causes are left, and what is returned where none applies. Assumes nothing.
-use Prim.Native.Nat.{ℕ, _≤_}
+use Prim.Native.Nat.{ℕ}
 use native.Mathlib.Omega.{arith}
 use mathlib.Core.Path.{_≡_, refl, ap, _∙_}
-use mathlib.Core.Bool.{Bool, true, false, not, cond}
+use mathlib.Core.Bool.{true, false, not, cond}
 use mathlib.Core.List.{List}
 use lib.Dec.{eqb}
 use lib.IntN.{ℤ}
@@ -13,7 +13,7 @@ use Rattle.rows.specs.Table.{table-fits}
 use Rattle.formula.specs.Formula.{work-size, prefix}
 use Rattle.rounds.specs.Run.{run}
 use Rattle.run.specs.declared.Outcome.{Outcome}
-use Rattle.run.specs.Outcome.{Areas, areas, Given, lent, side-fits, tables-fit, tables-counted, cause, reported, returned, left}
+use Rattle.run.specs.Outcome.{Areas, areas, Given, side-fits, tables-fit, tables-counted, cause, reported, returned, left}
 use Rattle.run.specs.Ended.{Ended}
 use Rattle.decision.specs.Decision.{own-rows, own-marks, own-counts, handed-on, own-lent, Decided}
 
@@ -26,9 +26,6 @@ unfolding tables-counted
 own-rows-counted = refl
 
 module _ (kinds : List ℕ) (literals : List ℤ) (work : List ℕ) (limit : ℕ) where
-  pub lent-so : lent (handed-on kinds literals work limit) ≡ own-lent kinds literals
-  lent-so = refl
-
   module _ (passes : checked kinds literals ≡ Accepted (sizes kinds literals)) where
     -- Of a formula that passes, causes 5 and 6 are left.
     pub cause-so : cause (handed-on kinds literals work limit) ≡ cond (not (eqb (length work) work-size)) 5 (cond (eqb limit 0) 6 0)

@@ -16,18 +16,15 @@ use Rattle.run.specs.Numbers.{one-number}
 use Rattle.text.specs.Reading.{Read, Result, taken, refused, text-read}
 use Rattle.text.proofs.FrontLaws.{Front}
 use Rattle.study.specs.declared.Studied.{Studied}
-use Rattle.study.specs.Study.{settings-of, unknown, cause-26, list-cause, cause, studied}
+use Rattle.study.specs.Study.{list-cause, cause, studied}
 use Rattle.study.proofs.StudyRight.{study-right}
 use Rattle.study_answer.specs.House.{house-list, own-areas, house-study, Decided}
+use Rattle.study_answer.proofs.HouseLaws.{list-fine}
 use Rattle.door.specs.Numbers.{Verdict}
 use Rattle.door.specs.Study.{study-number, study-left, study-number-back, study-work-back, study-answer, study-work, StudyNumbersRight}
 use Rattle.door.proofs.NumberLaws.{number-named, number-small, cause-small}
 
 -- ---- the number fits
-
-list-fine : list-cause house-list ≡ 0
-unfolding list-cause cause-26 settings-of unknown
-list-fine = refl
 
 house-cause-small : (n : ℕ) → n ≤ 16 → cond (eqb n 0) (list-cause house-list) n ≤ 16
 house-cause-small n small = go (eqb n 0)

@@ -10,7 +10,8 @@ use mathlib.Core.Logic.{_↔_}
 use borrow.Author.Tests.{not-false}
 use Rattle.formula.specs.Formula.{Kind}
 use Rattle.formula.specs.Meaning.{meaning}
-use Rattle.expansion.specs.Side.{side-of, flags, goal}
+use Rattle.expansion.specs.Side.{flags, goal}
+use Rattle.expansion.specs.OtherSide.{side-of}
 use Rattle.expansion.specs.Play.{Row, Strategy}
 use Rattle.expansion.specs.Model.{wins, search}
 use Rattle.expansion.specs.Judge.{is-none, accepted}

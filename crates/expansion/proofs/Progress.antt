@@ -8,7 +8,8 @@ use mathlib.Core.Option.{Option, none, some, Option·none-ne-some}
 use Prim.Native.Nat.{ℕ, zero}
 use Rattle.formula.specs.Formula.{Kind, existential, universal}
 use Rattle.formula.specs.Meaning.{after}
-use Rattle.expansion.specs.Side.{flags, goal, other}
+use Rattle.expansion.specs.Side.{flags, goal}
+use Rattle.expansion.specs.OtherSide.{other}
 use Rattle.expansion.specs.Play.{Row, Strategy, past-own, past-row, play, yield}
 use Rattle.expansion.specs.Copies.{fresh}
 use Rattle.expansion.specs.Model.{wins, strategy-of, first-model, yielded, search}

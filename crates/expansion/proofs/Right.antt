@@ -6,7 +6,8 @@ use mathlib.Core.List.{List}
 use mathlib.Core.Option.{Option, none, some, Option·none-ne-some}
 use lib.ListN.{length, length-map}
 use Rattle.formula.specs.Formula.{Kind}
-use Rattle.expansion.specs.Side.{side-of, flags, goal}
+use Rattle.expansion.specs.Side.{flags, goal}
+use Rattle.expansion.specs.OtherSide.{side-of}
 use Rattle.expansion.specs.Play.{Row}
 use Rattle.expansion.specs.Copies.{copies}
 use Rattle.expansion.specs.Model.{is-model, first-model, yields, yielded, search}

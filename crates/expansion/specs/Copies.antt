@@ -1,5 +1,4 @@
--- Copies of unknowns and their numbers.
--- Assumes nothing.
+-- Copies of unknowns and their numbers. Assumes nothing.
 use Prim.Native.Nat.{ℕ, zero, suc}
 use mathlib.Core.Bool.{Bool, true, false, _&&_, cond, Bool·beq}
 use mathlib.Core.List.{List, [], _∷_, _++_, map}
@@ -33,8 +32,7 @@ pub record Copy : Type 0 where
 abbrev pub copy-at : ℕ → Row → Copy
 copy-at k r = record { position = k; restricted = r }
 
--- 'Each own unknown has one copy for each different restriction of the rows to the others' unknowns before it.'
--- At one position: by the first row that has the restriction.
+-- 'Each own unknown has one copy for each different restriction of the rows to the others' unknowns before it': the copies at one position.
 abbrev pub copies-at : List Bool → List Row → ℕ → List Copy
 copies-at ts rows k = map (copy-at k) (fresh [] (map (restriction ts k) rows))
 

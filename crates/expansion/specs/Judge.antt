@@ -1,11 +1,10 @@
 -- 01's 'The judge' (a checker of claims).
 -- Assumes nothing.
-use Prim.Native.Nat.{ℕ}
 use mathlib.Core.Bool.{Bool, true, false}
 use mathlib.Core.List.{List}
 use mathlib.Core.Option.{Option, none, some}
 use Rattle.formula.specs.Formula.{Kind}
-use Rattle.expansion.specs.Side.{side-of}
+use Rattle.expansion.specs.OtherSide.{side-of}
 use Rattle.expansion.specs.Play.{Row}
 use Rattle.expansion.specs.Model.{search}
 

@@ -1,6 +1,7 @@
 -- The definitions of 01's 'Copies and models' and 'The judge', in the order of reading: sides, rows and their plays, copies, models and
 -- the first one, the order that makes it the first, the judge; and, for the crates of the search, the table that it keeps.
 pub mod Side
+pub mod OtherSide
 pub mod Play
 pub mod Copies
 pub mod CopyCases

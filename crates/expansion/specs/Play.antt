@@ -1,6 +1,5 @@
 -- Rows, and what a row and a strategy make together. A row gives values to one side's unknowns (an assignment of that side); a strategy
--- gives values to the copies of the other side's unknowns (annotated variables). Throughout, ts flags the strategy's own unknowns.
--- Assumes nothing.
+-- gives values to the copies of the other side's unknowns (annotated variables). Throughout, ts flags the strategy's own unknowns. Assumes nothing.
 use Prim.Native.Nat.{ℕ, zero, suc}
 use mathlib.Core.Bool.{Bool, true, false}
 use mathlib.Core.List.{List, [], _∷_}

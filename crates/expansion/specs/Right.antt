@@ -9,7 +9,8 @@ use mathlib.Core.Option.{none, some}
 use lib.ListN.{length}
 use Rattle.formula.specs.Formula.{Kind}
 use Rattle.formula.specs.Meaning.{meaning}
-use Rattle.expansion.specs.Side.{side-of, flags, goal}
+use Rattle.expansion.specs.Side.{flags, goal}
+use Rattle.expansion.specs.OtherSide.{side-of}
 use Rattle.expansion.specs.Play.{Row}
 use Rattle.expansion.specs.Copies.{copies}
 use Rattle.expansion.specs.Model.{is-model, yields, search}

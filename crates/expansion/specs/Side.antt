@@ -1,14 +1,8 @@
 -- The two sides. Over universal rows the existential side looks for a model, over existential rows the universal side does. Every
--- definition below takes the side as two things: a flag for each unknown, true if it is the side's own, and the goal that the side wants true.
--- Assumes nothing.
+-- definition below takes the side as two things: a flag for each unknown, true if it is the side's own, and the goal that the side wants true. Assumes nothing.
 use mathlib.Core.Bool.{Bool, true, false, not}
 use mathlib.Core.List.{List, map}
 use Rattle.formula.specs.Formula.{Kind, existential, universal}
-
--- A side by a flag: true for the universal one.
-abbrev pub side-of : Bool → Kind
-side-of false = existential
-side-of true = universal
 
 -- The side's own unknowns are those of its kind.
 abbrev pub own : Kind → Kind → Bool
@@ -24,8 +18,3 @@ flags side ks = map (own side) ks
 abbrev pub goal : Kind → (List Bool → Bool) → List Bool → Bool
 goal existential phi vs = phi vs
 goal universal phi vs = not (phi vs)
-
--- The side that looks for a model over the other's rows.
-abbrev pub other : Kind → Kind
-other existential = universal
-other universal = existential

@@ -22,7 +22,7 @@ unfolding nearest-even
 place x = first (ltb (x % 1000) 500) refl
   where
     second : 500 ≤ x % 1000 → (b : Bool) → ltb 500 (x % 1000) ≡ b → ltb (x % 1000) 500 ≡ false → Place x
-    second l true e f = above (ltb-true _ _ e) (rw (f, e))
+    second l true e f = above (ltb-true _ _ e) (rw (f, e) (omega arith))
     second l false e f = let m : x % 1000 ≤ 500 = ltb-false _ _ e in half (omega arith) (rw (f, e))
 
     first : (b : Bool) → ltb (x % 1000) 500 ≡ b → Place x

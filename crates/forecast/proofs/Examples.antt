@@ -1,8 +1,9 @@
 -- The examples come out as said, by computation. Assumes nothing.
 use mathlib.Core.Path.{refl}
 use Rattle.formula.specs.Causes.{checked, cause-1, cause-2, cause-3}
-use Rattle.rows.specs.Row.{row-of, bit-of, stray}
-use Rattle.rows.specs.Table.{row-at, table-fits, stray-rows}
+use Rattle.rows.specs.Row.{row-of, bit-of}
+use Rattle.rows.specs.Stray.{stray, stray-rows}
+use Rattle.rows.specs.Table.{row-at, table-fits}
 use Rattle.expansion.specs.Copies.{copies}
 use Rattle.forecast.specs.Examples.{Examples}
 use Rattle.forecast.specs.Outcome.{copies-over, fits, table-cause, cause, outcome}

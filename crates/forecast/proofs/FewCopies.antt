@@ -9,7 +9,8 @@ use lib.ListN.{length, length-map, length-append}
 use Rattle.formula.specs.Formula.{Kind, existential, universal, prefix}
 use Rattle.formula.specs.Causes.{count}
 use Rattle.rows.proofs.TableLaws.{length-rows-of}
-use Rattle.expansion.specs.Side.{flags, other}
+use Rattle.expansion.specs.Side.{flags}
+use Rattle.expansion.specs.OtherSide.{other}
 use Rattle.expansion.specs.Play.{Row, restriction}
 use Rattle.expansion.specs.Copies.{fresh, copy-at, copies-at, copies-from, copies}
 use Rattle.expansion.proofs.FreshLaws.{length-fresh}

@@ -14,7 +14,9 @@ use Rattle.formula.specs.declared.Check.{Check}
 use Rattle.formula.specs.declared.Check.the-variants as Check
 use Rattle.formula.specs.declared.Formula.{Formula}
 use Rattle.formula.proofs.Accepted.{accepted-sizes}
-use Rattle.rows.specs.Table.{room, table-fits, stray-rows}
+use Rattle.formula.proofs.Order.{refused-from-1}
+use Rattle.rows.specs.Table.{room, table-fits}
+use Rattle.rows.specs.Stray.{stray-rows}
 use Rattle.forecast.specs.declared.Outlook.{Outlook}
 use Rattle.forecast.specs.declared.Outlook.the-variants.{Needs, Refused}
 use Rattle.forecast.specs.Outcome.{Given, width, copies-over, fits, table-cause, cause, outcome}
@@ -88,12 +90,6 @@ module _ (kinds : List ℕ) (literals : List ℤ) (f : Formula) (passed : Causes
 
 -- ---- what is returned
 
-refused-from-1 : (a b c : Bool) (f : Formula) (n : ℕ) → Causes.refused-if a 1 (Causes.refused-if b 2 (Causes.refused-if c 3 (Check.Accepted f))) ≡ Check.Refused n → 1 ≤ n
-refused-from-1 true b c f n e = let same : 1 ≡ n = cc in omega arith
-refused-from-1 false true c f n e = let same : 2 ≡ n = cc in omega arith
-refused-from-1 false false true f n e = let same : 3 ≡ n = cc in omega arith
-refused-from-1 false false false f n e = absurd (let z : _≡_ {A = ℕ} 0 1 = cc in omega arith)
-
 none-later : (formula later : ℕ) (v : Bool) → eqb formula 0 ≡ v → cond v later formula ≡ 0 → later ≡ 0
 none-later formula later true e none = none
 none-later formula later false e none = absurd (eqb-false formula 0 e none)
@@ -127,15 +123,11 @@ module _ (g : Given) where
     right = right;
   }
 
-  formula-number : (n : ℕ) → checked ≡ Check.Refused n → 1 ≤ n
-  unfolding Causes.checked
-  formula-number n e = refused-from-1 (Causes.cause-1 (g .kinds)) (Causes.cause-2 (g .literals)) (Causes.cause-3 (length (g .kinds)) (g .literals)) (Causes.sizes (g .kinds) (g .literals)) n e
-
   -- Causes 1 to 3 come first ..
   pub formula-refused : (n : ℕ) → checked ≡ Check.Refused n → Foretold g (Refused n)
   unfolding cause
   formula-refused n e =
-      let some-cause = formula-number n e in
+      let some-cause = refused-from-1 (g .kinds) (g .literals) n e in
       by-cause n
       (ap (λ (k : Check). cond (eqb (Causes.number k) 0) later (Causes.number k)) e ∙ ap (λ (b : Bool). cond b later n) (ne-eqb n 0 (λ z. omega arith)))
       (λ z. omega arith)

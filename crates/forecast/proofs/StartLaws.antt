@@ -11,7 +11,8 @@ use lib.Dec.{eqb}
 use lib.ListN.{length, getD, set}
 use lib.Seq.{getD-set-same, getD-set-other}
 use borrow.Author.Tests.{eqb-true, eqb-false}
-use Rattle.rows.specs.Row.{bit-of, row-bits}
+use Rattle.rows.specs.Row.{bit-of}
+use Rattle.rows.specs.Stray.{row-bits}
 use Rattle.rows.specs.Table.{row-at, room}
 use Rattle.rows.proofs.BitLaws.{bits-determine}
 use Rattle.rows.proofs.RowLaws.{bit-in-byte}

@@ -18,7 +18,8 @@ use Rattle.rows.specs.Row.{weight, row-of}
 use Rattle.rows.specs.Table.{row-at, room, rows-of}
 use Rattle.rows.proofs.RowLaws.{length-row-of, getD-row-of}
 use Rattle.rows.proofs.TableLaws.{length-rows-of, getD-rows-of, rows-of-next}
-use Rattle.expansion.specs.Side.{side-of, own, flags, other}
+use Rattle.expansion.specs.Side.{own, flags}
+use Rattle.expansion.specs.OtherSide.{side-of, other}
 use Rattle.expansion.specs.Play.{Row, restriction}
 use Rattle.expansion.specs.Copies.{fresh, copy-at, copies-at, copies-from, copies}
 use Rattle.expansion.specs.Cells.{others-before}

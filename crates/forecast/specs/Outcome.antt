@@ -8,8 +8,10 @@ use lib.IntN.{ℤ}
 use lib.ListN.{length}
 use Rattle.formula.specs.Formula.{Kind, existential, universal, prefix}
 use Rattle.formula.specs.Causes as Causes
-use Rattle.rows.specs.Table.{rows-of, room, table-fits, stray-rows}
-use Rattle.expansion.specs.Side.{flags, other}
+use Rattle.rows.specs.Table.{rows-of, room, table-fits}
+use Rattle.rows.specs.Stray.{stray-rows}
+use Rattle.expansion.specs.Side.{flags}
+use Rattle.expansion.specs.OtherSide.{other}
 use Rattle.expansion.specs.Play.{Row}
 use Rattle.expansion.specs.Copies.{copies}
 use Rattle.forecast.specs.declared.Outlook.{Outlook}

@@ -7,7 +7,8 @@ use mathlib.Core.Logic.{_≢_}
 use mathlib.Core.List.{List, [], _∷_}
 use lib.Dec.{leb}
 use lib.ListN.{getD}
-use Rattle.rows.specs.Row.{bit-of, weight, row-bits}
+use Rattle.rows.specs.Row.{bit-of, weight}
+use Rattle.rows.specs.Stray.{row-bits}
 use Rattle.rows.specs.Table.{row-at}
 
 -- Two bytes agree in their r lowest bits and no further.

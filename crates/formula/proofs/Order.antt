@@ -5,15 +5,21 @@ use native.Mathlib.Omega.{arith}
 use borrow.Author.Tests.{ltb-true, lt-ltb, le-ltb}
 use mathlib.Core.Path.{_≡_, refl, ap, _∙_}
 use mathlib.Core.Bool.{Bool, true, false, or-true, cond}
-use mathlib.Core.List.{List}
-use lib.IntN.{ℤ, natAbs}
+use mathlib.Core.List.{List, [], _∷_}
+use lib.IntN.{ℤ, pos, natAbs}
 use lib.ListN.{length}
 use Rattle.formula.specs.declared.Check.{Check}
 use Rattle.formula.specs.declared.Check.the-variants.{Accepted, Refused}
 use Rattle.formula.specs.declared.Formula.{Formula}
 use Rattle.formula.specs.Formula.{max-unknowns, max-clauses, max-entries}
-use Rattle.formula.specs.Causes.{any, other-kind, cause-1, zeros, ended, cause-2, beyond, cause-3, sizes, refused-if, checked, number, first-cause}
+use Rattle.formula.specs.Causes.{any, other-kind, cause-1, zeros, ended, cause-2, beyond, cause-3, sizes, refused-if, checked, number}
+use Rattle.formula.specs.FirstCause.{first-cause}
 use Rattle.formula.proofs.Any.{any-implies}
+
+-- Without an unknown, the entry 1 alone has causes 2 and 3: it ends no clause, and is beyond 0.
+two-before-three : number (checked [] (pos 1 ∷ [])) ≡ 2
+unfolding checked cause-1 cause-2 cause-3
+two-before-three = refl
 
 module _ (kinds : List ℕ) where
   pub cause-1-many : max-unknowns < length kinds → cause-1 kinds ≡ true
@@ -74,6 +80,17 @@ number-refused-if true b c f = refl
 number-refused-if false true c f = refl
 number-refused-if false false true f = refl
 number-refused-if false false false f = refl
+
+-- A formula that is refused has a number from 1 on.
+pub refused-from-1 : (kinds : List ℕ) (literals : List ℤ) (n : ℕ) → checked kinds literals ≡ Refused n → 1 ≤ n
+unfolding checked
+refused-from-1 kinds literals n = by (cause-1 kinds) (cause-2 literals) (cause-3 (length kinds) literals)
+  where
+    by : (a b c : Bool) → refused-if a 1 (refused-if b 2 (refused-if c 3 (Accepted (sizes kinds literals)))) ≡ Refused n → 1 ≤ n
+    by true b c e = let same : 1 ≡ n = cc in omega arith
+    by false true c e = let same : 2 ≡ n = cc in omega arith
+    by false false true e = let same : 3 ≡ n = cc in omega arith
+    by false false false e = absurd (let z : _≡_ {A = ℕ} 0 1 = cc in omega arith)
 
 -- What is answered has the number of the first cause.
 pub numbered : (kinds : List ℕ) (literals : List ℤ) {r : Check} → r ≡ checked kinds literals → (r ≡ checked kinds literals) × (number r ≡ first-cause kinds literals)

@@ -1,7 +1,6 @@
--- What is refused of a formula: causes 1 to 3 of 01's table, in its order, and the sizes of what is accepted.
--- Assumes nothing.
+-- What is refused of a formula: causes 1 to 3 of 01's table, in its order, and the sizes of what is accepted. Assumes nothing.
 use Prim.Native.Nat.{ℕ, zero, suc, _-_}
-use mathlib.Core.Bool.{Bool, true, false, not, _||_, cond}
+use mathlib.Core.Bool.{Bool, true, false, not, _||_}
 use mathlib.Core.List.{List, [], _∷_}
 use lib.Dec.{ltb}
 use lib.IntN.{ℤ, pos, negsuc, natAbs}
@@ -85,7 +84,3 @@ checked kinds literals =
 abbrev pub number : Check → ℕ
 number (Accepted f) = 0
 number (Refused cause) = cause
-
--- The number of the first of causes 1 to 3 that applies, or 0.
-unfoldable pub first-cause : List ℕ → List ℤ → ℕ
-first-cause kinds literals = cond (cause-1 kinds) 1 (cond (cause-2 literals) 2 (cond (cause-3 (length kinds) literals) 3 0))

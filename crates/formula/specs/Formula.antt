@@ -1,11 +1,9 @@
--- A formula as it is lent: kinds and literals, and the prefix and clauses that they stand for.
--- Assumes nothing.
+-- A formula as it is lent: kinds and literals, and the prefix and clauses that they stand for. Assumes nothing.
 use Prim.Native.Nat.{ℕ, zero, suc}
 use mathlib.Core.List.{List, [], _∷_, map}
 use lib.IntN.{ℤ, pos, negsuc}
 
--- 'The limits 128, 2,048, 8,192 and 256 (rows) belong to the formula and are named there once.'
--- In code they are `Formula`'s associated constants; the contracts tie the two.
+-- 'The limits 128, 2,048, 8,192 and 256 (rows) belong to the formula and are named there once.' In code they are `Formula`'s constants.
 abbrev pub max-unknowns : ℕ
 max-unknowns = 128
 

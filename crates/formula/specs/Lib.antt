@@ -4,5 +4,6 @@ pub mod Formula
 pub mod Meaning
 pub mod Verdicts
 pub mod Causes
+pub mod FirstCause
 pub mod Literal
 pub mod Progress

@@ -1,5 +1,4 @@
--- What a formula means (000, section 3): the value of the matrix under values of all unknowns, and the recursive meaning of the prefix.
--- Assumes nothing.
+-- What a formula means (000, section 3): the value of the matrix under values of all unknowns, and the recursive meaning of the prefix. Assumes nothing.
 use Prim.Native.Nat.{ℕ, zero, suc}
 use mathlib.Core.Bool.{Bool, true, false, not, _&&_, _||_}
 use mathlib.Core.List.{List, [], _∷_}

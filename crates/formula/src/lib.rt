@@ -7,7 +7,8 @@ ghost use mathlib.Core.Bool.{false};
 ghost use lib.IntN.{natAbs};
 ghost use lib.ListN.{length};
 ghost use Rattle.formula.specs.Formula.{universal, prefix, max-entries};
-ghost use Rattle.formula.specs.Causes.{any, other-kind, zeros, ended, beyond, count, checked, number, first-cause};
+ghost use Rattle.formula.specs.Causes.{any, other-kind, zeros, ended, beyond, count, checked, number};
+ghost use Rattle.formula.specs.FirstCause.{first-cause};
 ghost use Rattle.formula.specs.Literal.{magnitude-at, negative-at};
 ghost use Rattle.formula.specs.Progress.{fresh};
 

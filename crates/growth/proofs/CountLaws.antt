@@ -8,6 +8,7 @@ use mathlib.Core.List.{List}
 use lib.Bits.{bitOr}
 use lib.Dec.{ltb}
 use lib.ListN.{length, getD, set, length-set}
+use Rattle.rows.specs.Stray.{row-bits}
 use Rattle.rows.specs.Row.{weight}
 use borrow.Author.Tests.{leb-true}
 use Rattle.rows.specs.Table.{inside, row-at}
@@ -32,7 +33,7 @@ with-new-rows-next yielded mark n b = ap (λ (m : ℕ). with-new-rows yielded ma
 
 pub length-bit-set : (t : List ℕ) (i k : ℕ) → length (bit-set t i k) ≡ length t
 unfolding bit-set
-length-bit-set t i k = by-test (inside t i && ltb k 128)
+length-bit-set t i k = by-test (inside t i && ltb k row-bits)
   where
     by-test : (v : Bool) → length (cond v (set t (16 * i + k / 8) (bitOr (getD t (16 * i + k / 8) 0) (2 ^ (k % 8)))) t) ≡ length t
     by-test true = length-set t (16 * i + k / 8) (bitOr (getD t (16 * i + k / 8) 0) (2 ^ (k % 8)))

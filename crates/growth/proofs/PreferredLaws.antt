@@ -12,6 +12,7 @@ use lib.Pow.{pow-lt}
 use lib.ListN.{length, getD, set, replicate, List·getD-eq-default}
 use lib.Seq.{ext-getD, take-all}
 use borrow.Author.Tests.{lt-ltb, le-ltb, eq-eqb, ne-eqb}
+use Rattle.rows.specs.Stray.{row-bits}
 use Rattle.rows.specs.Row.{bit-of, values, row-of, bytes-of}
 use Rattle.rows.specs.Table.{inside, row-at}
 use Rattle.rows.specs.Access.{bit-set}
@@ -49,7 +50,7 @@ set-below (y ∷ l) zero v hv hl (suc q) = hl (suc q)
 set-below (y ∷ l) (suc i) v hv hl zero = hl zero
 set-below (y ∷ l) (suc i) v hv hl (suc q) = set-below l i v hv (λ p. hl (suc p)) q
 
-bit-set-below : (row : List ℕ) (k : ℕ) → 16 ≤ length row → k < 128 → ((q : ℕ) → getD row q 0 < 256) → (v : Bool) (p : ℕ)
+bit-set-below : (row : List ℕ) (k : ℕ) → 16 ≤ length row → k < row-bits → ((q : ℕ) → getD row q 0 < 256) → (v : Bool) (p : ℕ)
     → getD (cond v (bit-set row 0 k) row) p 0 < 256
 bit-set-below row k long h below true p =
     let byte = bitOr (getD row (16 * 0 + k / 8) 0) (2 ^ (k % 8)) in
@@ -61,7 +62,7 @@ and-false : (v : Bool) → v && false ≡ false
 and-false true = refl
 and-false false = refl
 
-bit-of-next : (row : List ℕ) (k q : ℕ) → length row ≡ 16 → k < 128 → q < 128 → (v : Bool) → bit-of (cond v (bit-set row 0 k) row) q ≡ bit-of row q || (v && eqb k q)
+bit-of-next : (row : List ℕ) (k q : ℕ) → length row ≡ 16 → k < row-bits → q < row-bits → (v : Bool) → bit-of (cond v (bit-set row 0 k) row) q ≡ bit-of row q || (v && eqb k q)
 bit-of-next row k q long h hq true =
     let set-long : length (bit-set row 0 k) ≡ 16 = length-bit-set row 0 k ∙ long in
     ap (λ (b : List ℕ). bit-of b q) (sym (row-whole (bit-set row 0 k) set-long))
@@ -70,12 +71,12 @@ bit-of-next row k q long h hq true =
 bit-of-next row k q long h hq false = sym (or-false (bit-of row q))
 
 -- A row has no bit from 128 on.
-no-such-bit : (row : List ℕ) (k : ℕ) → 128 ≤ k → (v : Bool) → cond v (bit-set row 0 k) row ≡ row
+no-such-bit : (row : List ℕ) (k : ℕ) → row-bits ≤ k → (v : Bool) → cond v (bit-set row 0 k) row ≡ row
 unfolding bit-set
 no-such-bit row k h true =
     let place = 16 * 0 + k / 8 in
     ap (λ (b : Bool). cond b (set row place (bitOr (getD row place 0) (2 ^ (k % 8)))) row)
-    (ap (λ (v : Bool). inside row 0 && v) (le-ltb k 128 h) ∙ and-false (inside row 0))
+    (ap (λ (v : Bool). inside row 0 && v) (le-ltb k row-bits h) ∙ and-false (inside row 0))
 no-such-bit row k h false = refl
 
 same-test : (q k : ℕ) → (q ≡ k → ⊥) → Dec (q < k) → ltb q k ≡ ltb q (suc k)
@@ -112,20 +113,20 @@ module _ (f : ℕ → Bool) where
   -- The bytes stay bytes.
   below-256 : (k p : ℕ) → getD (with-preferred f k (replicate 16 0)) p 0 < 256
   below-256 zero p = omega (arith, getD-zeros 16 p)
-  below-256 (suc k) p = go (decLt k 128) (below-256 k)
+  below-256 (suc k) p = go (decLt k row-bits) (below-256 k)
     where
-      go : Dec (k < 128) → ((q : ℕ) → getD (with-preferred f k (replicate 16 0)) q 0 < 256) → getD (with-preferred f (suc k) (replicate 16 0)) p 0 < 256
+      go : Dec (k < row-bits) → ((q : ℕ) → getD (with-preferred f k (replicate 16 0)) q 0 < 256) → getD (with-preferred f (suc k) (replicate 16 0)) p 0 < 256
       go (yes h) below =
           bit-set-below (with-preferred f k (replicate 16 0)) k (omega (arith, length-with-preferred k (replicate 16 0))) h below (f k) p
       go (no h) below =
           subst (λ (row : List ℕ). getD row p 0 < 256) (sym (no-such-bit (with-preferred f k (replicate 16 0)) k (omega arith) (f k))) (below p)
 
   -- Bit q is set if it is passed and preferred.
-  bit-preferred : (k q : ℕ) → q < 128 → bit-of (with-preferred f k (replicate 16 0)) q ≡ ltb q k && f q
+  bit-preferred : (k q : ℕ) → q < row-bits → bit-of (with-preferred f k (replicate 16 0)) q ≡ ltb q k && f q
   bit-preferred zero q hq = no-bits q ∙ ap (λ (v : Bool). v && f q) (sym (le-ltb q 0 (omega arith)))
-  bit-preferred (suc k) q hq = go (decLt k 128) (bit-preferred k q hq)
+  bit-preferred (suc k) q hq = go (decLt k row-bits) (bit-preferred k q hq)
     where
-      go : Dec (k < 128) → bit-of (with-preferred f k (replicate 16 0)) q ≡ ltb q k && f q
+      go : Dec (k < row-bits) → bit-of (with-preferred f k (replicate 16 0)) q ≡ ltb q k && f q
           → bit-of (with-preferred f (suc k) (replicate 16 0)) q ≡ ltb q (suc k) && f q
       go (yes h) before =
           bit-of-next (with-preferred f k (replicate 16 0)) k q (length-with-preferred k (replicate 16 0)) h hq (f k)
@@ -136,20 +137,20 @@ module _ (f : ℕ → Bool) where
           ∙ before
           ∙ ap (λ (v : Bool). v && f q) (same-test q k (omega arith) (decLt q k))
 
-  is-row-128 : (b : List ℕ) → length b ≡ 16 → ((p : ℕ) → getD b p 0 < 256) → IsRow 128 b
-  is-row-128 b long below = record { width = long; below = below; clean = none-stray 128 b (λ k low high. absurd (omega arith)) }
+  is-row-128 : (b : List ℕ) → length b ≡ 16 → ((p : ℕ) → getD b p 0 < 256) → IsRow row-bits b
+  is-row-128 b long below = record { width = long; below = below; clean = none-stray row-bits b (λ k low high. absurd (omega arith)) }
 
   pub preferred-bytes : (m : ℕ) → with-preferred f m (replicate 16 0) ≡ bytes-of (values m f)
   preferred-bytes m =
       let row = with-preferred f m (replicate 16 0) in
       let goal = bytes-of (values m f) in
-      equal-values-equal-bytes 128 row goal
+      equal-values-equal-bytes row-bits row goal
       (is-row-128 row (length-with-preferred m (replicate 16 0)) (below-256 m))
       (is-row-128 goal (length-bytes-of (values m f)) (bytes-of-below (values m f)))
-      (ext-getD false (row-of 128 row) (row-of 128 goal) (length-row-of 128 row ∙ sym (length-row-of 128 goal)) (λ q below.
-      let hq : q < 128 = omega (arith, length-row-of 128 row) in
-      getD-row-of 128 row q hq
+      (ext-getD false (row-of row-bits row) (row-of row-bits goal) (length-row-of row-bits row ∙ sym (length-row-of row-bits goal)) (λ q below.
+      let hq : q < row-bits = omega (arith, length-row-of row-bits row) in
+      getD-row-of row-bits row q hq
       ∙ bit-preferred m q hq
       ∙ value-preferred m f q (decLt q m)
       ∙ sym (bit-bytes-of (values m f) q hq)
-      ∙ sym (getD-row-of 128 goal q hq)))
+      ∙ sym (getD-row-of row-bits goal q hq)))

@@ -11,7 +11,8 @@ use lib.ListN.{length}
 use borrow.Author.Tests.{leb-true, eqb-true, eqb-false, lt-ltb}
 use Rattle.formula.specs.Formula.{work-size}
 use Rattle.formula.specs.Causes as Causes
-use Rattle.rows.specs.Table.{room, table-fits, stray-rows}
+use Rattle.rows.specs.Table.{room, table-fits}
+use Rattle.rows.specs.Stray.{stray-rows}
 use Rattle.search.specs.Search as search
 use Rattle.judge.specs.Judge.{other-claim, width, cause}
 

@@ -10,8 +10,9 @@ use lib.ListN.{length, replicate}
 use Rattle.formula.specs.Formula.{work-size, prefix, clauses}
 use Rattle.formula.specs.Meaning.{matrix, verdict, bit}
 use Rattle.formula.specs.Causes as Causes
-use Rattle.rows.specs.Table.{rows-of, room, table-fits, stray-rows}
-use Rattle.expansion.specs.Side.{side-of, other}
+use Rattle.rows.specs.Table.{rows-of, room, table-fits}
+use Rattle.rows.specs.Stray.{stray-rows}
+use Rattle.expansion.specs.OtherSide.{side-of, other}
 use Rattle.expansion.specs.Play.{Row}
 use Rattle.expansion.specs.Judge.{accepted}
 use Rattle.expansion.specs.Right.{JudgeRight}

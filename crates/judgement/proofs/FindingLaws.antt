@@ -1,19 +1,18 @@
 -- From what the readers and the judge promise to what is found and printed. Assumes nothing.
-use Prim.Native.Nat.{ℕ, _+_, _/_, _%_, _≤_}
+use Prim.Native.Nat.{ℕ, _+_, _/_, _%_}
 use native.Mathlib.Omega.{arith}
-use mathlib.Core.Path.{_≡_, refl, sym, ap, _∙_}
+use mathlib.Core.Path.{_≡_, refl, sym, ap, subst, _∙_}
 use mathlib.Core.Bool.{Bool, true, false, cond, not, _&&_}
 use mathlib.Core.List.{List, _++_}
 use lib.Dec.{eqb, leb}
 use lib.IntN.{ℤ}
 use lib.ListN.{length, take, drop, replicate}
 use borrow.Author.Tests.{eq-eqb, ne-eqb}
-use Rattle.formula.specs.Formula.{max-unknowns, max-entries, work-size}
+use Rattle.formula.specs.Formula.{work-size}
 use Rattle.rows.specs.Table.{room}
 use Rattle.judge.specs.declared.Judgement.{Judgement}
 use Rattle.judge.specs.Judge.{outcome, work-after, Judged}
-use Rattle.text.specs.Reading.{Result, taken, refused, text-read}
-use Rattle.text.proofs.TextLaws.{refused-line}
+use Rattle.text.specs.Reading.{Result, taken, refused}
 use Rattle.text.proofs.FrontLaws.{Front}
 use Rattle.witness.specs.declared.Record.{Record}
 use Rattle.witness.specs.declared.Reading.the-variants.{Taken, Refused as Not-read}
@@ -22,8 +21,7 @@ use Rattle.buffer.specs.Buffer.{appended, place-behind}
 use Rattle.report.specs.Report.{ascii, put, put-count}
 use Rattle.judgement.specs.declared.Finding.{Finding}
 use Rattle.judgement.specs.declared.Finding.the-variants.{OtherFormula, Refused}
-use Rattle.judgement.specs.Finding.{Found, unjudged, judged, claimed-rows, on-claim, of-another, on-record, on-formula, on-text, finding, left, Finds, accepted-line, line-of, printed}
-use Rattle.judgement.specs.JudgementRight.{JudgementRight}
+use Rattle.judgement.specs.Finding.{Found, unjudged, judged, claimed-rows, on-claim, of-another, on-record, on-formula, on-text, finding-of, Finds, accepted-line, line-of, printed-of}
 
 -- A line put at the start of a buffer.
 abbrev pub Put : List ℕ → List ℕ → ℕ → List ℕ → Type 0
@@ -151,36 +149,28 @@ module _ (kinds : List ℕ) (literals : List ℤ) (f work : List ℕ) where
             let same : file-cause f ≡ cause = cc in
             finds-at (on-formula kinds literals clauses f) work (formula-so e ∙ ap (λ (n : ℕ). unjudged (Refused n 0) work) same)
 
-module _ (text f work : List ℕ) where
-  abbrev pub OfText : Finding → List ℕ → Type 0
-  OfText result work-then = (result ≡ finding text f work) × (work-then ≡ left text f work)
+-- From the text's reading.
+module _ (r : Result) (f work : List ℕ) where
+  pub text-refused : {n line : ℕ} → r ≡ refused n line → Finds (on-text r f) work (Refused n line) work
+  text-refused {n} {line} e = finds-at (on-text r f) work (ap (λ (x : Result). on-text x f work) e)
 
-  pub text-refused : {n line : ℕ} → text-read text ≡ refused n line → OfText (Refused n line) work
-  unfolding finding left
-  text-refused e = (ap (λ (r : Result). on-text r f work .finding) (sym e), ap (λ (r : Result). on-text r f work .work) (sym e))
-
-  pub text-taken : {u e v c : ℕ} {kinds : List ℕ} {literals : List ℤ} {result : Finding} {work-then : List ℕ} → Front (text-read text) u e v c kinds literals
-      → Finds (on-formula (take u kinds) (take e literals) c f) work result work-then → OfText result work-then
-  unfolding finding left
+  pub text-taken : {u e v c : ℕ} {kinds : List ℕ} {literals : List ℤ} {result : Finding} {work-then : List ℕ} → Front r u e v c kinds literals
+      → Finds (on-formula (take u kinds) (take e literals) c f) work result work-then → Finds (on-text r f) work result work-then
   text-taken {result = result} {work-then = work-then} t found =
       let here : Finds (on-formula (t .formula .kinds) (t .formula .literals) (t .formula .clauses) f) work result work-then =
       rw (t .kinds-front, t .literals-front, t .clauses-so) at found in
-      (here .found ∙ ap (λ (r : Result). on-text r f work .finding) (sym (t .whole)), here .area ∙ ap (λ (r : Result). on-text r f work .work) (sym (t .whole)))
+      finds-as {one = on-formula (t .formula .kinds) (t .formula .literals) (t .formula .clauses) f} (ap (λ (x : Result). on-text x f work) (t .whole)) here
 
-pub with-finding : {A B C : Type 0} → C → A × B → A × (B × C)
-with-finding right p = (p .0, (p .1, right))
+-- The line of what was found, with a work area of zeros.
+pub printed-so : (r : Result) (f : List ℕ) {result : Finding} {work-then : List ℕ} → Finds (on-text r f) (replicate work-size 0) result work-then
+    → line-of result ≡ printed-of r f
+unfolding printed-of finding-of
+printed-so r f found = ap line-of (found .found)
 
-pub line-small : (text : List ℕ) {n line : ℕ} → text-read text ≡ refused n line → line ≤ 65538
-line-small text {n} {line} e = refused-line text max-unknowns max-entries max-unknowns n line e
+-- The line of a finding that is known.
+pub case-put : (out : List ℕ) {result : Finding} (case : Finding) {r : ℕ} {after : List ℕ} → result ≡ case → Put (line-of case) out r after
+    → Put (line-of result) out r after
+case-put out {result} case {r} {after} told p = subst (λ (x : Finding). Put (line-of x) out r after) (sym told) p
 
--- The line of what was found.
-pub printed-as : (text f out : List ℕ) {result : Finding} (case : Finding) {r : ℕ} {after : List ℕ} → result ≡ finding text f (replicate work-size 0)
-    → result ≡ case → Put (line-of case) out r after → Put (printed text f) out r after
-unfolding printed
-printed-as text f out case found told p =
-    let same : line-of case ≡ line-of (finding text f (replicate work-size 0)) = ap line-of (sym told ∙ found) in
-    (p .0 ∙ ap (λ (bytes : List ℕ). put-count bytes out) same, p .1 ∙ ap (λ (bytes : List ℕ). put bytes out) same)
-
-pub with-right : (text f out : List ℕ) {r : ℕ} {after : List ℕ} → JudgementRight text f → Put (printed text f) out r after
-    → (r ≡ put-count (printed text f) out) × ((after ≡ put (printed text f) out) × JudgementRight text f)
-with-right text f out right p = (p .0, (p .1, right))
+pub put-as : (out : List ℕ) {one other : List ℕ} {r : ℕ} {after : List ℕ} → one ≡ other → r ≡ put-count one out → after ≡ put one out → Put other out r after
+put-as out same counted written = (counted ∙ ap (λ (bytes : List ℕ). put-count bytes out) same, written ∙ ap (λ (bytes : List ℕ). put bytes out) same)

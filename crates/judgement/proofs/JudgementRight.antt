@@ -1,7 +1,7 @@
 -- What the printed line says, for every text and file. Assumes nothing.
 use Prim.Native.Nat.{ℕ, zero, suc, _≤_}
 use native.Mathlib.Omega.{arith}
-use mathlib.Core.Path.{_≡_, refl, sym, ap, ap₂, subst, _∙_}
+use mathlib.Core.Path.{_≡_, refl, sym, ap₂, subst, _∙_}
 use mathlib.Core.Bool.{Bool, true, false, cond, not, _&&_, _||_, true≢false}
 use mathlib.Core.List.{List}
 use mathlib.Core.Logic.{_⊎_, inl, inr}
@@ -14,21 +14,25 @@ use Rattle.formula.specs.Meaning.{verdict, bit}
 use Rattle.formula.specs.Causes as Causes
 use Rattle.formula.specs.declared.Formula.{Formula}
 use Rattle.formula.specs.declared.Check.the-variants as Check
-use Rattle.rows.specs.Table.{room, table-fits, stray-rows}
+use Rattle.rows.specs.Table.{room, table-fits}
+use Rattle.rows.specs.Stray.{stray-rows}
 use Rattle.judge.specs.declared.Judgement.{Judgement}
 use Rattle.judge.specs.declared.Judgement.the-variants as Judgement
 use Rattle.judge.specs.Judge.{other-claim, width, cause, borne-out, answer, outcome}
 use Rattle.judge.proofs.Verdict.{accepted-is-verdict}
-use Rattle.text.specs.Reading.{Result, taken, refused, text-read}
-use Rattle.text.proofs.TextLaws.{Results, Passes, read-passes, refused-line}
+use Rattle.text.specs.Reading.{Result, taken, refused, read, read-gates, text-read, gates-read, read-as}
+use Rattle.text.specs.GatesRight.{CircuitIs}
+use Rattle.text.proofs.TextLaws.{Results, Passes, read-passes}
+use Rattle.text.proofs.GatesRight.{gates-right}
+use Rattle.text.proofs.ReadAsLaws.{reading-number, reading-line}
 use Rattle.witness.specs.declared.Record.{Record}
 use Rattle.witness.specs.File.{stands, end-of, record-of, bad-claim, bad-counts, file-cause}
 use Rattle.report.specs.Report.{ascii, pair-line, refusal-line}
 use Rattle.report.proofs.Lengths.{refusal-most}
 use Rattle.judgement.specs.declared.Finding.{Finding}
 use Rattle.judgement.specs.declared.Finding.the-variants.{NotBorneOut, Accepted, OtherFormula, Refused}
-use Rattle.judgement.specs.Finding.{unjudged, judged, claimed-rows, on-claim, of-another, on-record, on-formula, on-text, finding, accepted-line, line-of, printed}
-use Rattle.judgement.specs.JudgementRight.{Has, IsVerdict, FindingRight, Prints, Differs, Other, Refusal, JudgementRight}
+use Rattle.judgement.specs.Finding.{unjudged, judged, claimed-rows, on-claim, of-another, on-record, on-formula, on-text, finding-of, accepted-line, line-of, printed-of}
+use Rattle.judgement.specs.JudgementRight.{Has, IsVerdict, FoundRight, FindingRight, Prints, Differs, Other, Refusal, LineRight, JudgementRight, GatesJudgementRight}
 
 -- The numbers of causes.
 formula-cause-small : (a b c : Bool) (f : Formula) → Causes.number (Causes.refused-if a 1 (Causes.refused-if b 2 (Causes.refused-if c 3 (Check.Accepted f)))) ≤ 18
@@ -153,29 +157,36 @@ told : (r : Result) (f work : List ℕ) → Told r f (on-text r f work .finding)
 told (taken s) f work = formula-says (s .kinds) (s .literals) (s .clauses) f work
 told (refused n line) f work = refl
 
--- So with any work area.
-module _ (text f work : List ℕ) where
-  refused-few : (r : Result) → text-read text ≡ r → (n line : ℕ) → Told r f (Refused n line) → n ≤ 18
-  refused-few (taken s) e n line t = t .0
-  refused-few (refused m at) e n line t =
-      let same : n ≡ m = cc in
-      omega (arith, same, subst (Results Passes) e (read-passes text max-unknowns max-entries max-unknowns) .to-14)
+-- So of a text that is read so; its causes have numbers up to `most`.
+module _ (reading : Result) (f : List ℕ) (most : ℕ) (some : 18 ≤ most) (bad : (n line : ℕ) → reading ≡ refused n line → n ≤ most) where
+  -- With any work area.
+  module _ (work : List ℕ) where
+    refused-few : (r : Result) → reading ≡ r → (n line : ℕ) → Told r f (Refused n line) → n ≤ most
+    refused-few (taken s) e n line t = omega (arith, some, t .0)
+    refused-few (refused m at) e n line t =
+        let same : n ≡ m = cc in
+        omega (arith, same, bad m at e)
 
-  accepted-told : (r : Result) (claim : ℕ) → Told r f (Accepted claim) → (claim ≡ record-of f .claim) × IsVerdict claim r
-  accepted-told (taken s) claim t = (t .its-own, t .is-verdict)
-  accepted-told (refused n line) claim t = let z : _≡_ {A = ℕ} 0 1 = cc in absurd (omega arith)
+    accepted-told : (r : Result) (claim : ℕ) → Told r f (Accepted claim) → (claim ≡ record-of f .claim) × IsVerdict claim r
+    accepted-told (taken s) claim t = (t .its-own, t .is-verdict)
+    accepted-told (refused n line) claim t = let z : _≡_ {A = ℕ} 0 1 = cc in absurd (omega arith)
 
-  told-of : (x : Finding) → finding text f work ≡ x → Told (text-read text) f x
-  unfolding finding
-  told-of x e = subst (Told (text-read text) f) e (told (text-read text) f work)
+    told-of : (x : Finding) → finding-of reading f work ≡ x → Told reading f x
+    unfolding finding-of
+    told-of x e = subst (Told reading f) e (told reading f work)
 
-  pub finding-right : FindingRight text f work
-  finding-right =
-      record {
-        its-own = λ claim e. accepted-told (text-read text) claim (told-of (Accepted claim) e) .0;
-        only-verdict = λ claim e. accepted-told (text-read text) claim (told-of (Accepted claim) e) .1;
-        few = λ n line e. refused-few (text-read text) refl n line (told-of (Refused n line) e);
-      }
+    found-right : FoundRight most reading f work
+    found-right =
+        record {
+          its-own = λ claim e. accepted-told reading claim (told-of (Accepted claim) e) .0;
+          only-verdict = λ claim e. accepted-told reading claim (told-of (Accepted claim) e) .1;
+          few = λ n line e. refused-few reading refl n line (told-of (Refused n line) e);
+        }
+
+pub finding-right : (text f work : List ℕ) → FindingRight text f work
+finding-right text f work =
+    found-right (text-read text) f 18 (omega arith)
+    (λ n line e. omega (arith, subst (Results Passes) e (read-passes text max-unknowns max-entries max-unknowns) .to-14)) work
 
 bit-1 : (v : Bool) (n : ℕ) → bit v ≡ suc n → v ≡ true
 bit-1 true n e = refl
@@ -189,12 +200,12 @@ not-2 : (v : Bool) (n : ℕ) → bit v ≡ suc (suc n) → ⊥
 not-2 true n e = omega arith
 not-2 false n e = omega arith
 
-module _ (text f : List ℕ) where
+module _ (reading : Result) (f : List ℕ) (bad : (n line : ℕ) → reading ≡ refused n line → (n ≤ 20) × (line ≤ 65538)) where
   -- By the line that is printed.
-  module _ (line : List ℕ) (so : printed text f ≡ line) where
-    with-line : (form : Prints text f "accepted 1\n" ⊎ Prints text f "accepted 0\n" ⊎ Prints text f "not borne out\n" ⊎ Prints text f "not of this formula\n" ⊎ Refusal text f)
-        → length line ≤ 64 → (line ≡ ascii "accepted 1\n" → Has true (text-read text)) → (line ≡ ascii "accepted 0\n" → Has false (text-read text))
-        → (line ≡ ascii "not of this formula\n" → Other text f) → JudgementRight text f
+  module _ (line : List ℕ) (so : printed-of reading f ≡ line) where
+    with-line : (form : Prints reading f "accepted 1\n" ⊎ Prints reading f "accepted 0\n" ⊎ Prints reading f "not borne out\n" ⊎ Prints reading f "not of this formula\n" ⊎ Refusal reading f)
+        → length line ≤ 64 → (line ≡ ascii "accepted 1\n" → Has true reading) → (line ≡ ascii "accepted 0\n" → Has false reading)
+        → (line ≡ ascii "not of this formula\n" → Other reading f) → LineRight reading f
     with-line form few is-true is-false is-other =
         record {
           one-form = form;
@@ -204,56 +215,56 @@ module _ (text f : List ℕ) where
           other = λ b. is-other (sym so ∙ b);
         }
 
-  not-borne-out : printed text f ≡ ascii "not borne out\n" → JudgementRight text f
+  not-borne-out : printed-of reading f ≡ ascii "not borne out\n" → LineRight reading f
   not-borne-out so =
       with-line (ascii "not borne out\n") so (inr (inr (inl so))) (omega arith) (λ b. let z : _≡_ {A = ℕ} 110 97 = cc in absurd (omega arith))
       (λ b. let z : _≡_ {A = ℕ} 110 97 = cc in absurd (omega arith)) (λ b. let z : _≡_ {A = ℕ} 98 111 = cc in absurd (omega arith))
 
-  accepted-true : printed text f ≡ ascii "accepted 1\n" → Has true (text-read text) → JudgementRight text f
+  accepted-true : printed-of reading f ≡ ascii "accepted 1\n" → Has true reading → LineRight reading f
   accepted-true so has =
       with-line (ascii "accepted 1\n") so (inl so) (omega arith) (λ b. has) (λ b. let z : _≡_ {A = ℕ} 49 48 = cc in absurd (omega arith))
       (λ b. let z : _≡_ {A = ℕ} 97 110 = cc in absurd (omega arith))
 
-  accepted-false : printed text f ≡ ascii "accepted 0\n" → Has false (text-read text) → JudgementRight text f
+  accepted-false : printed-of reading f ≡ ascii "accepted 0\n" → Has false reading → LineRight reading f
   accepted-false so has =
       with-line (ascii "accepted 0\n") so (inr (inl so)) (omega arith) (λ b. let z : _≡_ {A = ℕ} 48 49 = cc in absurd (omega arith)) (λ b. has)
       (λ b. let z : _≡_ {A = ℕ} 97 110 = cc in absurd (omega arith))
 
-  other-formula : printed text f ≡ ascii "not of this formula\n" → Other text f → JudgementRight text f
+  other-formula : printed-of reading f ≡ ascii "not of this formula\n" → Other reading f → LineRight reading f
   other-formula so other =
       with-line (ascii "not of this formula\n") so (inr (inr (inr (inl so)))) (omega arith) (λ b. let z : _≡_ {A = ℕ} 110 97 = cc in absurd (omega arith))
       (λ b. let z : _≡_ {A = ℕ} 110 97 = cc in absurd (omega arith)) (λ b. other)
 
-  refusal : (n line : ℕ) → printed text f ≡ refusal-line n line → n ≤ 18 → line ≤ 65538 → (text-read text ≡ refused n line) ⊎ (line ≡ 0)
-      → JudgementRight text f
+  refusal : (n line : ℕ) → printed-of reading f ≡ refusal-line n line → n ≤ 20 → line ≤ 65538 → (reading ≡ refused n line) ⊎ (line ≡ 0)
+      → LineRight reading f
   unfolding refusal-line pair-line
   refusal n line so few short whose =
       with-line (refusal-line n line) so (inr (inr (inr (inr (record { number = n; line = line; printed-so = so; whose = whose })))))
       (omega (arith, refusal-most n line (omega (arith, few)) (omega (arith, short)) .most)) (λ b. let z : _≡_ {A = ℕ} 99 97 = cc in absurd (omega arith))
       (λ b. let z : _≡_ {A = ℕ} 99 97 = cc in absurd (omega arith)) (λ b. let z : _≡_ {A = ℕ} 99 110 = cc in absurd (omega arith))
 
-  accepted-as : (r : Result) → text-read text ≡ r → (claim : ℕ) → printed text f ≡ accepted-line claim → Told r f (Accepted claim) → JudgementRight text f
+  accepted-as : (r : Result) → reading ≡ r → (claim : ℕ) → printed-of reading f ≡ accepted-line claim → Told r f (Accepted claim) → LineRight reading f
   unfolding accepted-line
   accepted-as (taken s) e zero so t = accepted-false so (subst (Has false) (sym e) (bit-0 (verdict (s .kinds) (s .literals)) (t .is-verdict)))
   accepted-as (taken s) e (suc zero) so t = accepted-true so (subst (Has true) (sym e) (bit-1 (verdict (s .kinds) (s .literals)) 0 (t .is-verdict)))
   accepted-as (taken s) e (suc (suc n)) so t = absurd (not-2 (verdict (s .kinds) (s .literals)) n (t .is-verdict))
   accepted-as (refused n line) e claim so t = let z : _≡_ {A = ℕ} 0 1 = cc in absurd (omega arith)
 
-  refused-as : (r : Result) → text-read text ≡ r → (n line : ℕ) → printed text f ≡ refusal-line n line → Told r f (Refused n line) → JudgementRight text f
-  refused-as (taken s) e n line so t = refusal n line so (t .0) (omega (arith, t .1)) (inr (t .1))
+  refused-as : (r : Result) → reading ≡ r → (n line : ℕ) → printed-of reading f ≡ refusal-line n line → Told r f (Refused n line) → LineRight reading f
+  refused-as (taken s) e n line so t = refusal n line so (omega (arith, t .0)) (omega (arith, t .1)) (inr (t .1))
   refused-as (refused m at) e n line so t =
       let same-number : n ≡ m = cc in
       let same-line : line ≡ at = cc in
-      let of-text = subst (Results Passes) e (read-passes text max-unknowns max-entries max-unknowns) in
-      refusal n line so (omega (arith, same-number, of-text .to-14)) (omega (arith, same-line, refused-line text max-unknowns max-entries max-unknowns m at e))
+      let known = bad m at e in
+      refusal n line so (omega (arith, same-number, known .0)) (omega (arith, same-line, known .1))
       (inl (e ∙ ap₂ refused (sym same-number) (sym same-line)))
 
-  other-as : (r : Result) → text-read text ≡ r → printed text f ≡ ascii "not of this formula\n" → Told r f OtherFormula → JudgementRight text f
+  other-as : (r : Result) → reading ≡ r → printed-of reading f ≡ ascii "not of this formula\n" → Told r f OtherFormula → LineRight reading f
   other-as (taken s) e so t =
       other-formula so (record { file-taken = t .file-taken; has-sizes = t .has-sizes; differs = subst (Differs f) (sym e) (t .differs) })
   other-as (refused n line) e so t = let z : _≡_ {A = ℕ} 0 1 = cc in absurd (omega arith)
 
-  by-finding : (r : Result) → text-read text ≡ r → (x : Finding) → printed text f ≡ line-of x → Told r f x → JudgementRight text f
+  by-finding : (r : Result) → reading ≡ r → (x : Finding) → printed-of reading f ≡ line-of x → Told r f x → LineRight reading f
   by-finding r e NotBorneOut so t = not-borne-out so
   by-finding r e (Accepted claim) so t = accepted-as r e claim so t
   by-finding r e OtherFormula so t = other-as r e so t
@@ -262,9 +273,32 @@ module _ (text f : List ℕ) where
   abbrev zeros : List ℕ
   zeros = replicate work-size 0
 
-  printed-so : printed text f ≡ line-of (on-text (text-read text) f zeros .finding)
-  unfolding printed finding
+  printed-so : printed-of reading f ≡ line-of (on-text reading f zeros .finding)
+  unfolding printed-of finding-of
   printed-so = refl
 
-  pub judgement-right : JudgementRight text f
-  judgement-right = by-finding (text-read text) refl (on-text (text-read text) f zeros .finding) printed-so (told (text-read text) f zeros)
+  line-right : LineRight reading f
+  line-right = by-finding reading refl (on-text reading f zeros .finding) printed-so (told reading f zeros)
+
+of-form : (gates : Bool) (text : List ℕ) (n line : ℕ) → read-as gates text ≡ refused n line → (n ≤ 20) × (line ≤ 65538)
+of-form gates text n line e = (reading-number gates text n line e, reading-line gates text n line e)
+
+pub judgement-right : (text f : List ℕ) → JudgementRight text f
+unfolding read
+judgement-right text f = line-right (text-read text) f (of-form false text)
+
+-- The verdict of what was read of a gate list is the circuit's value.
+circuit-is : (text : List ℕ) (value : Bool) (r : Result) → gates-read text ≡ r → Has value r → CircuitIs text value
+circuit-is text value (taken s) e v g = sym (gates-right text s e g) ∙ v
+circuit-is text value (refused n line) e v g = absurd v
+
+pub gates-judgement-right : (text f : List ℕ) → GatesJudgementRight text f
+unfolding read-gates
+gates-judgement-right text f =
+    let right = line-right (gates-read text) f (of-form true text) in
+    record {
+      line = right;
+      found = found-right (gates-read text) f 20 (omega arith) (reading-number true text);
+      only-true = λ b. circuit-is text true (gates-read text) refl (right .only-true b);
+      only-false = λ b. circuit-is text false (gates-read text) refl (right .only-false b);
+    }

@@ -1,5 +1,5 @@
--- The judge over a text and a witness file (02's C-18): the causes of the text, those of the file, whether the file is about this formula, then the
--- judgement of 01; and the line that is printed of it.
+-- The judge over a text, or a gate list, and a witness file (02's C-18): the causes of the text, those of the file, whether the file is about this
+-- formula, then the judgement of 01; and the line that is printed of it.
 -- Assumes nothing.
 use Prim.Native.Nat.{ℕ}
 use mathlib.Core.Path.{_≡_}
@@ -13,7 +13,7 @@ use Rattle.rows.specs.Table.{room}
 use Rattle.judge.specs.declared.Judgement.{Judgement}
 use Rattle.judge.specs.declared.Judgement.the-variants as Judgement
 use Rattle.judge.specs.Judge.{outcome, work-after}
-use Rattle.text.specs.Reading.{Result, taken, refused, text-read}
+use Rattle.text.specs.Reading.{Result, taken, refused, text-read, gates-read}
 use Rattle.witness.specs.declared.Record.{Record}
 use Rattle.witness.specs.File.{stands, file-cause, record-of, rows-back}
 use Rattle.report.specs.Report.{ascii, refusal-line}
@@ -67,12 +67,19 @@ abbrev pub on-text : Result → List ℕ → List ℕ → Found
 on-text (refused number line) f work = unjudged (Refused number line) work
 on-text (taken s) f work = on-formula (s .kinds) (s .literals) (s .clauses) f work
 
--- What is found of a text and a file, and what the work area holds afterwards.
-unfoldable pub finding : List ℕ → List ℕ → List ℕ → Finding
-finding text f work = on-text (text-read text) f work .finding
+-- What is found of a text that is read so and a file, and what the work area holds afterwards.
+unfoldable pub finding-of : Result → List ℕ → List ℕ → Finding
+finding-of reading f work = on-text reading f work .finding
 
-unfoldable pub left : List ℕ → List ℕ → List ℕ → List ℕ
-left text f work = on-text (text-read text) f work .work
+unfoldable pub left-of : Result → List ℕ → List ℕ → List ℕ
+left-of reading f work = on-text reading f work .work
+
+-- Of a text.
+abbrev pub finding : List ℕ → List ℕ → List ℕ → Finding
+finding text f work = finding-of (text-read text) f work
+
+abbrev pub left : List ℕ → List ℕ → List ℕ → List ℕ
+left text f work = left-of (text-read text) f work
 
 -- A result and a work area that are those of a definition.
 pub record Finds (definition : List ℕ → Found) (work : List ℕ) (result : Finding) (work-then : List ℕ) : Type 0 where
@@ -89,6 +96,12 @@ line-of (Accepted claim) = accepted-line claim
 line-of OtherFormula = ascii "not of this formula\n"
 line-of (Refused number line) = refusal-line number line
 
--- What is printed, with a work area of zeros.
-unfoldable pub printed : List ℕ → List ℕ → List ℕ
-printed text f = line-of (finding text f (replicate work-size 0))
+-- What is printed, with a work area of zeros: of a text, and of a gate list.
+unfoldable pub printed-of : Result → List ℕ → List ℕ
+printed-of reading f = line-of (finding-of reading f (replicate work-size 0))
+
+abbrev pub printed : List ℕ → List ℕ → List ℕ
+printed text f = printed-of (text-read text) f
+
+abbrev pub gates-printed : List ℕ → List ℕ → List ℕ
+gates-printed text f = printed-of (gates-read text) f

@@ -1,18 +1,16 @@
-// The judge over a text and a witness file: whether the file's rows bear out its claim about the text's formula.
+// The judge over a text or a gate list and a witness file: whether the file's rows bear out its claim about the formula that is read.
 // `find` promises, for every text, file and work area, the finding and every byte of the work area that the definition (specs/Finding.antt) gives;
-// `print` the bytes of its line. What an accepted claim says of the formula is stated in specs/JudgementRight.antt.
+// `print` and `print_gates` the bytes of its line. What an accepted claim says of the formula, or of the circuit, is stated in specs/JudgementRight.antt.
 // Reading belongs to `text` and `witness`, judging to `judge`; here what one returns is handed to the next.
 use formula::Formula;
 use judge::Judgement;
 use text::Reading;
 use witness::Record;
 ghost use mathlib.Core.Path.{_≡_};
-ghost use lib.ListN.{length};
-ghost use Rattle.formula.specs.Formula.{work-size};
 ghost use Rattle.report.specs.Report.{put, put-count};
-ghost use Rattle.witness.specs.File.{file-cause, record-of};
-ghost use Rattle.judgement.specs.Finding.{of-another, Finds, on-formula, on-record, on-claim, finding, left, accepted-line, printed};
-ghost use Rattle.judgement.specs.JudgementRight.{FindingRight, JudgementRight};
+ghost use Rattle.text.specs.Reading.{read-as};
+ghost use Rattle.judgement.specs.Finding.{of-another, Finds, on-text, on-formula, on-record, on-claim, finding, left, accepted-line, line-of, printed-of, printed, gates-printed};
+ghost use Rattle.judgement.specs.JudgementRight.{FindingRight, JudgementRight, GatesJudgementRight};
 
 // An accepted claim is 0 or 1. A refusal has its number and the text's line, 0 for the file's causes.
 pub enum Finding {
@@ -34,8 +32,34 @@ pub fn print(text: &[u8], file: &[u8], out: &mut [u8]) -> usize
     ensures written { λ _. ⌜ now (out .exit) ≡ put (printed (now (text .entry)) (now (file .entry))) (now (out .entry)) ⌝ }
     ensures proved { λ _. ⌜ JudgementRight (now (text .entry)) (now (file .entry)) ⌝ }
 {
+    print_as(text, false, file, out)
+}
+
+// The same for a gate list.
+pub fn print_gates(text: &[u8], file: &[u8], out: &mut [u8]) -> usize
+    ensures counted { λ r. ⌜ r ≡ put-count (gates-printed (now (text .entry)) (now (file .entry))) (now (out .entry)) ⌝ }
+    ensures written { λ _. ⌜ now (out .exit) ≡ put (gates-printed (now (text .entry)) (now (file .entry))) (now (out .entry)) ⌝ }
+    ensures proved { λ _. ⌜ GatesJudgementRight (now (text .entry)) (now (file .entry)) ⌝ }
+{
+    print_as(text, true, file, out)
+}
+
+// The line for a text of clauses or of gates.
+fn print_as(text: &[u8], gates: bool, file: &[u8], out: &mut [u8]) -> usize
+    ensures { λ r. ⌜ r ≡ put-count (printed-of (read-as gates (now (text .entry))) (now (file .entry))) (now (out .entry)) ⌝ }
+    ensures { λ _. ⌜ now (out .exit) ≡ put (printed-of (read-as gates (now (text .entry))) (now (file .entry))) (now (out .entry)) ⌝ }
+{
     let mut work = [0u8; Formula::WORK];
-    match find(text, file, &mut work) {
+    let finding = find_as(text, gates, file, &mut work);
+    put_line(finding, out)
+}
+
+// The line of a finding.
+fn put_line(finding: Finding, out: &mut [u8]) -> usize
+    ensures { λ r. ⌜ r ≡ put-count (line-of finding) (now (out .entry)) ⌝ }
+    ensures { λ _. ⌜ now (out .exit) ≡ put (line-of finding) (now (out .entry)) ⌝ }
+{
+    match finding {
         Finding::NotBorneOut => buffer::append(out, 0, b"not borne out\n"),
         Finding::Accepted(claim) => accepted(claim, out),
         Finding::OtherFormula => buffer::append(out, 0, b"not of this formula\n"),
@@ -60,10 +84,17 @@ pub fn find(text: &[u8], file: &[u8], work: &mut [u8]) -> Finding
     ensures left { λ _. ⌜ now (work .exit) ≡ left (now (text .entry)) (now (file .entry)) (now (work .entry)) ⌝ }
     ensures proved { λ _. ⌜ FindingRight (now (text .entry)) (now (file .entry)) (now (work .entry)) ⌝ }
 {
+    find_as(text, false, file, work)
+}
+
+// The same for a text of clauses or of gates.
+fn find_as(text: &[u8], gates: bool, file: &[u8], work: &mut [u8]) -> Finding
+    ensures { λ r. ⌜ Finds (on-text (read-as gates (now (text .entry))) (now (file .entry))) (now (work .entry)) r (now (work .exit)) ⌝ }
+{
     let mut kinds = [0u8; Formula::UNKNOWNS];
     let mut literals = [0i32; Formula::ENTRIES];
     let mut names = [0u16; Formula::UNKNOWNS];
-    match text::read(text, &mut kinds, &mut literals, &mut names) {
+    match text::read_as(text, gates, &mut kinds, &mut literals, &mut names) {
         Reading::Refused { number, line } => Finding::Refused {
             number,
             line: line as u32,

@@ -1,17 +1,16 @@
 -- Lists of names, as one comes to them: which are there, that they stay different, rising and known. Assumes nothing.
-use Prim.Native.Nat.{ℕ, zero, suc, _+_, _≤_, _<_, min, max}
+use Prim.Native.Nat.{ℕ, zero, suc, _≤_, _<_, min, max}
 use native.Mathlib.Omega.{arith}
 use native.Mathlib.Decide.{decLt}
 use mathlib.Core.Path.{_≡_, refl, sym, ap, subst, _∙_}
 use mathlib.Core.Bool.{Bool, true, false, _&&_, _||_, true≢false, false≢true}
 use mathlib.Core.List.{List, [], _∷_, _++_}
 use mathlib.Core.Logic.{_⊎_, inl, inr}
-use borrow.Author.Tests.{eq-eqb, ne-eqb, eqb-true, eqb-false}
+use borrow.Author.Tests.{eqb-true, eqb-false}
 use lib.Dec.{eqb}
 use lib.IntN.{ℤ, pos, negsuc, natAbs}
-use lib.ListN.{length, getD, take, drop, take-append-drop}
-use lib.Seq.{take-take}
-use Rattle.named.specs.Named.{among, place-from, position, signed, placed}
+use lib.ListN.{length, getD}
+use Rattle.named.specs.Named.{among, signed}
 use Rattle.named.specs.Names.{In, Distinct, Above, Rising, UpTo, Known}
 use Rattle.named.specs.Closing.{insert}
 
@@ -71,11 +70,6 @@ in-behind v (x ∷ xs) ys i = inr (in-behind v xs ys i)
 pub distinct-front : (xs ys : List ℕ) → Distinct (xs ++ ys) → Distinct xs
 distinct-front [] ys d = tt
 distinct-front (x ∷ xs) ys d = (λ i. d .0 (in-front x xs ys i), distinct-front xs ys (d .1))
-
-pub distinct-take : (m n : ℕ) (xs : List ℕ) → m ≤ n → Distinct (take n xs) → Distinct (take m xs)
-distinct-take m n xs h d =
-    distinct-front (take m xs) (drop m (take n xs))
-    (subst (λ (l : List ℕ). Distinct (l ++ drop m (take n xs))) (take-take m n xs h) (subst Distinct (sym (take-append-drop m (take n xs))) d))
 
 pub distinct-last : (xs : List ℕ) (v : ℕ) → Distinct (xs ++ (v ∷ [])) → In v xs → ⊥
 distinct-last [] v d i = i

@@ -1,5 +1,4 @@
--- 01's 'Preferences': the value that is tried first (a default phase), by number.
--- Assumes nothing.
+-- 01's 'Preferences': the value that is tried first (a default phase), by number. Assumes nothing.
 use Prim.Native.Nat.{ℕ, zero, suc, _+_, _/_, _%_}
 use mathlib.Core.Bool.{Bool}
 use mathlib.Core.List.{List, [], _∷_}
@@ -10,8 +9,7 @@ use lib.ListN.{length, getD}
 abbrev pub odd : ℕ → Bool
 odd n = eqb (n % 2) 1
 
--- The number of ones among the lowest binary digits of n, as many as `digits` says: the last digit is the remainder by 2, the others are
--- those of the half.
+-- The number of ones among so many of the lowest binary digits of n: the last digit is the remainder by 2, the others are those of the half.
 abbrev pub ones : ℕ → ℕ → ℕ
 ones zero n = 0
 ones (suc digits) n = n % 2 + ones digits (n / 2)
@@ -20,8 +18,7 @@ ones (suc digits) n = n % 2 + ones digits (n / 2)
 unfoldable pub parity : ℕ → Bool
 parity n = odd (ones 8 n)
 
--- 'If no byte is lent, a fixed house table of 256 entries is used: .. preference i is then entry i mod 256.' C-12 of 02 puts
--- this rule in the table's place.
+-- 'If no byte is lent, a fixed house table of 256 entries is used: .. preference i is then entry i mod 256': since 02's C-12 this rule.
 abbrev pub house : ℕ → Bool
 house i = parity (i % 256)
 

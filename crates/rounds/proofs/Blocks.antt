@@ -10,9 +10,10 @@ use mathlib.Core.Option.{none}
 use lib.ListN.{length, take, drop}
 use Rattle.formula.specs.Formula.{Kind, existential, universal}
 use Rattle.formula.specs.Causes.{count}
-use Rattle.formula.specs.Meaning.{after, meaning}
-use Rattle.expansion.specs.Side.{own, flags, goal, other}
-use Rattle.expansion.specs.Play.{Row, Strategy, first-value, later-values, past-own, past-row, play, part, yield}
+use Rattle.formula.specs.Meaning.{after}
+use Rattle.expansion.specs.Side.{flags, goal}
+use Rattle.expansion.specs.OtherSide.{other}
+use Rattle.expansion.specs.Play.{Row, Strategy, first-value, later-values, past-own, past-row, play, yield}
 use Rattle.expansion.specs.Model.{wins, search}
 use Rattle.expansion.proofs.Booleans.{never-both, false-if-not-true}
 use Rattle.expansion.proofs.Membership.{In}

@@ -1,5 +1,5 @@
 -- How often a row came back: no more than there were rounds; and after finished rounds a row that does not stand in the table has not come since
--- the last clearing, so that one that is added has come once. Assumes nothing.
+-- the last clearing, so that one that is added has come bit. Assumes nothing.
 use Prim.Native.Nat.{ℕ, zero, suc, _+_, _-_, _≤_}
 use native.Mathlib.Omega.{arith}
 use native.Mathlib.Decide.{le-ind}
@@ -9,6 +9,7 @@ use mathlib.Core.Bool.{Bool, true, false, _&&_, cond}
 use mathlib.Core.List.{List, [], _∷_}
 use mathlib.Core.Logic.{inl, inr, ⊎-elim, _≢_}
 use mathlib.Core.Option.{Option, none, some}
+use Rattle.formula.specs.Meaning.{bit}
 use Rattle.formula.specs.Formula.{Kind, existential, universal}
 use Rattle.expansion.specs.Play.{Row}
 use Rattle.expansion.specs.Copies.{among, fresh}
@@ -16,7 +17,7 @@ use Rattle.expansion.specs.Model.{search}
 use Rattle.expansion.proofs.Membership.{In, in-among, not-in-among, in-append-cases, in-append-left, in-append-right, in-or-not, in-fresh, fresh-in}
 use Rattle.rounds.specs.Run.{Entry, Table, rows, grown, if-fits, clears, kept, Answer, is-false, is-true, spent, no-room-universal, no-room-existential, number, Outcome, Lent, step-1, step-2, step-3, step-4, round-of, run}
 use Rattle.rounds.specs.Claim.{table, Stands, Finished}
-use Rattle.rounds.specs.Counts.{rows-found, is-spent, came-to-3, searched, since, once, came, CountsRight}
+use Rattle.rounds.specs.Counts.{rows-found, is-spent, came-to-3, searched, since, came, CountsRight}
 use Rattle.rounds.proofs.TableLaws.{rows-grown, stands-in}
 use Rattle.rounds.proofs.GrowthLaws.{Fitted, fitted}
 use Rattle.rounds.proofs.RoundLaws.{Over}
@@ -88,11 +89,11 @@ module _ (r : ℕ) (t : Table) (new : List Row) (x : Row) where
 
 -- ---- one round more
 
-yielded-once : (x : Row) (ys : List Row) → In x ys → once (among x ys) ≡ 1
-yielded-once x ys h = ap once (in-among x ys h)
+yielded-once : (x : Row) (ys : List Row) → In x ys → bit (among x ys) ≡ 1
+yielded-once x ys h = ap bit (in-among x ys h)
 
-yielded-not : (x : Row) (ys : List Row) → (In x ys → ⊥) → once (among x ys) ≡ 0
-yielded-not x ys h = ap once (not-in-among x ys h)
+yielded-not : (x : Row) (ys : List Row) → (In x ys → ⊥) → bit (among x ys) ≡ 0
+yielded-not x ys h = ap bit (not-in-among x ys h)
 
 -- The existential side's search of a round that is made.
 pub searched-S : (l : Lent) (r : ℕ) → run l r .answer ≡ spent
@@ -143,9 +144,9 @@ since-over l universal r n over = go (run l r .answer) over
 
 -- What a round adds, by its search; `since` is left as it stands.
 pub came-next : (l : Lent) (side : Kind) (r : ℕ) (ys : List Row) → searched l side r ≡ ys → (x : Row)
-    → came l side (suc r) x ≡ since l side (suc r) (came l side r x) + once (among x ys)
+    → came l side (suc r) x ≡ since l side (suc r) (came l side r x) + bit (among x ys)
 unfolding came
-came-next l side r ys e x = ap (λ (zs : List Row). since l side (suc r) (came l side r x) + once (among x zs)) e
+came-next l side r ys e x = ap (λ (zs : List Row). since l side (suc r) (came l side r x) + bit (among x zs)) e
 
 -- A run that is over counts no more.
 came-over : (l : Lent) (side : Kind) (r : ℕ) → Over (run l r .answer) → (x : Row) → came l side (suc r) x ≡ came l side r x
@@ -164,7 +165,7 @@ came-stays l side r limit h over x =
 
 -- ---- at most the rounds
 
-once-at-most : (b : Bool) → once b ≤ 1
+once-at-most : (b : Bool) → bit b ≤ 1
 once-at-most true = omega arith
 once-at-most false = omega arith
 
@@ -219,12 +220,12 @@ absent-zero l existential (suc r) x e out =
     let stands : In x (rows (grown (suc r) (run l r .S) (p .new-S))) → ⊥ = λ h. out (subst (λ (t : Table). In x (rows t)) (sym (p .S-is)) h) in
     let was : came l existential r x ≡ 0 =
     absent-zero l existential r x (spent-before l r (suc r) (omega arith) e) (λ h. stands (old-in-grown (suc r) (run l r .S) (p .new-S) x h)) in
-    let not-now : once (among x (searched l existential r)) ≡ 0 =
+    let not-now : bit (among x (searched l existential r)) ≡ 0 =
     yielded-not x (searched l existential r) (λ h. stands (new-in-grown (suc r) (run l r .S) (p .new-S) x (subst (λ (ys : List Row). In x ys) (passed-S l r e) h))) in
     omega arith
 absent-zero l universal (suc r) x e out =
     let p = run-passed l r e in
-    let not-now : once (among x (searched l universal r)) ≡ 0 =
+    let not-now : bit (among x (searched l universal r)) ≡ 0 =
     yielded-not x (searched l universal r)
     (λ h. stands (new-in-grown (suc r) (kept l (suc r) (run l r .A)) (p .new-A) x (subst (λ (ys : List Row). In x ys) (passed-A l r e) h))) in
     let was : since l universal (suc r) (came l universal r x) ≡ 0 =
@@ -241,12 +242,12 @@ absent-zero l universal (suc r) x e out =
     go false f before =
         before (λ h. stands (old-in-grown (suc r) (kept l (suc r) (run l r .A)) (run-passed l r e .new-A) x (kept-in l (suc r) (run l r .A) x f h)))
 
--- ---- so an added row came once
+-- ---- so an added row came bit
 
 one : {m n : ℕ} → m ≡ 0 → n ≡ 1 → m + n ≡ 1
 one a b = omega arith
 
--- Of a finished round: a row that stands and was not kept came once.
+-- Of a finished round: a row that stands and was not kept came bit.
 module _ (l : Lent) (r : ℕ) (e : run l (suc r) .answer ≡ spent) (x : Row) where
   once-S : In x (rows (run l (suc r) .S)) → (In x (rows (run l r .S)) → ⊥) → came l existential (suc r) x ≡ 1
   once-S h out =

@@ -10,7 +10,8 @@ use lib.Dec.{T, leb, leb→le, nleb→lt}
 use lib.ListN.{length, take, length-map}
 use Rattle.formula.specs.Formula.{Kind, existential, universal}
 use Rattle.formula.specs.Causes.{count}
-use Rattle.expansion.specs.Side.{flags, other}
+use Rattle.expansion.specs.Side.{flags}
+use Rattle.expansion.specs.OtherSide.{other}
 use Rattle.expansion.specs.Play.{Row, Strategy, part, later-values}
 use Rattle.expansion.specs.Copies.{fresh}
 use Rattle.expansion.specs.Model.{search}

@@ -1,7 +1,5 @@
--- What holds of every run, whatever is lent, with every limit from 1: 01's demand 3, one claim about the whole run, as 02's C-15 restates it for
--- every k.
--- 'A table after round r is the rows and marks that stand below its count when the same things are lent with the limit r': it is a table of `run l r`.
--- Assumes nothing.
+-- 01's demand 3 as 02's C-15 restates it for every k: one claim about the whole run, whatever is lent, with every limit from 1. A table after
+-- round r is a table of `run l r`. Assumes nothing.
 use Prim.Native.Nat.{ℕ, zero, suc, _+_, _-_, _^_, _≤_, _<_, min}
 use mathlib.Core.Path.{_≡_}
 use mathlib.Core.Logic.{_↔_, _≢_}
@@ -27,8 +25,7 @@ no-room existential = no-room-existential
 abbrev pub Stands : Table → ℕ → Entry → Type 0
 Stands t i x = getElem? t i ≡ some x
 
--- '5. The round is finished. If r is the round limit: spent.' So a round is finished if it is one of the rounds up to the limit, and if the
--- same things lent with r itself as the limit give spent, reached in round r.
+-- '5. The round is finished. If r is the round limit: spent.' So a round up to the limit is finished if the limit r gives spent, in round r.
 pub record Finished (l : Lent) (limit r : ℕ) : Type 0 where
   pub from-one : 1 ≤ r
   pub to-limit : r ≤ limit
@@ -81,12 +78,10 @@ pub record Claim (l : Lent) (limit : ℕ) : Type 0 where
   -- '5. If r is the round limit: spent', and at no other round.
   pub spent-at-limit : run l limit .answer ≡ spent → run l limit .round ≡ limit
   -- 'The existential table still gains in every finished round, the universal one in every finished round that isn't a clearing one' (in a clearing
-  -- one too), 'and it keeps what it gained until the next clearing': for every finished round r, each table after it has a row with mark r that is
-  -- equal to no row of that table after round r - 1, and this row and its mark stand in the table after each later round before the next clearing.
+  -- one too), 'and it keeps what it gained until the next clearing': the row stands in the table after each round q before that.
   pub new-rows : (side : Kind) (r q : ℕ) → Finished l limit r → r ≤ q → q ≤ limit → Uncleared side l r q
       → NewRow r (table side (run l (r - 1))) (table side (run l r)) (table side (run l q))
-  -- 'And this row and its mark still stand below that table's count when the run ends': in the existential table always, in the universal one
-  -- if it is never cleared.
+  -- 'And this row and its mark still stand .. when the run ends': in the existential table always, in the universal one if it is never cleared.
   pub to-the-end : (side : Kind) (r : ℕ) → (side ≡ universal → l .clear-every ≡ 0) → Finished l limit r
       → NewRow r (table side (run l (r - 1))) (table side (run l r)) (table side (run l limit))
   -- 'In each round divisible by k the universal table comes to hold only the .. rows of that round's model, .. all with that round's mark.'

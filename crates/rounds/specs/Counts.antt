@@ -1,17 +1,18 @@
 -- 02's C-16, how often a row came back: 'the number of searches of this run (universal: from the last clearing on) whose model yielded it,
--- however often'. It is read from the run; the run knows nothing of it.
--- Assumes nothing.
+-- however often'. It is read from the run; the run knows nothing of it. Assumes nothing.
 use Prim.Native.Nat.{ℕ, zero, suc, _+_, _-_, _≤_}
 use mathlib.Core.Path.{_≡_}
-use mathlib.Core.Bool.{Bool, true, false, _&&_, cond}
+use mathlib.Core.Bool.{Bool, true, not, _&&_, _||_, cond}
 use mathlib.Core.List.{List, [], map}
 use mathlib.Core.Logic.{_≢_}
 use mathlib.Core.Option.{Option, none, some}
+use lib.Dec.{eqb}
 use Rattle.formula.specs.Formula.{Kind, existential, universal}
+use Rattle.formula.specs.Meaning.{bit}
 use Rattle.expansion.specs.Play.{Row}
 use Rattle.expansion.specs.Copies.{among}
 use Rattle.expansion.specs.Model.{search}
-use Rattle.rounds.specs.Run.{Entry, rows, clears, Answer, is-false, is-true, spent, no-room-universal, no-room-existential, Lent, run}
+use Rattle.rounds.specs.Run.{Entry, rows, Answer, number, Lent, clears, run}
 use Rattle.rounds.specs.Claim.{table, Stands, Finished}
 
 -- The rows that a search yielded; none if it found no model.
@@ -19,20 +20,12 @@ abbrev pub rows-found : Option (List Row) → List Row
 rows-found none = []
 rows-found (some yielded) = yielded
 
--- Whether the run goes on, and whether the round that an answer came in was not ended by step 1 or 2.
+-- Whether the run goes on (2, spent), and whether the round that an answer came in was not ended by step 1 (0, false) or 2 (4, no room existential).
 abbrev pub is-spent : Answer → Bool
-is-spent spent = true
-is-spent is-false = false
-is-spent is-true = false
-is-spent no-room-universal = false
-is-spent no-room-existential = false
+is-spent a = eqb (number a) 2
 
 abbrev pub came-to-3 : Answer → Bool
-came-to-3 is-false = false
-came-to-3 no-room-existential = false
-came-to-3 is-true = true
-came-to-3 no-room-universal = true
-came-to-3 spent = true
+came-to-3 a = not (eqb (number a) 0 || eqb (number a) 4)
 
 -- The rows that a side's search of round r + 1 yielded; none if it was not made or found no model. Step 1 is the existential side's, over A; step 3
 -- the universal side's, over S, which later steps leave.
@@ -49,15 +42,10 @@ abbrev pub since : Lent → Kind → ℕ → ℕ → ℕ
 since l existential r n = n
 since l universal r n = cond (is-spent (run l r .answer) && clears (l .clear-every) r) 0 n
 
--- A search counts once.
-abbrev pub once : Bool → ℕ
-once true = 1
-once false = 0
-
--- How often a row came in the rounds up to r.
+-- How often a row came in the rounds up to r: a search counts once.
 unfoldable pub came : Lent → Kind → ℕ → Row → ℕ
 came l side zero x = 0
-came l side (suc r) x = since l side (suc r) (came l side r x) + once (among x (searched l side r))
+came l side (suc r) x = since l side (suc r) (came l side r x) + bit (among x (searched l side r))
 
 -- A side's counts when the run ends: of each row below the table's count, how often it came.
 unfoldable pub counts : Lent → Kind → ℕ → List ℕ

@@ -1,5 +1,4 @@
--- 02's C-11, the opening dispatch: the values of the first block, and that the formula keeps its verdict where the block is set to them.
--- Assumes nothing.
+-- 02's C-11, the opening dispatch: the values of the first block, and that the formula keeps its verdict where the block is set to them. Assumes nothing.
 use Prim.Native.Nat.{ℕ, zero, suc}
 use mathlib.Core.Path.{_≡_}
 use mathlib.Core.Bool.{Bool}
@@ -8,10 +7,9 @@ use lib.ListN.{length, take, drop}
 use Rattle.formula.specs.Formula.{Kind, existential, universal}
 use Rattle.formula.specs.Meaning.{meaning}
 use Rattle.expansion.specs.Play.{Row}
-use Rattle.rounds.specs.Run.{rows, Answer, is-false, is-true, spent, no-room-universal, no-room-existential, Outcome, Lent, run}
+use Rattle.rounds.specs.Run.{rows, Answer, is-false, is-true, spent, no-room-universal, no-room-existential, Outcome, Lent}
 
 -- 'The first block is the longest start of the prefix that is of one kind': how many unknowns of a kind stand before the first of the other kind.
--- It is 0 where the prefix starts with the other kind, or has no unknown.
 abbrev pub block : Kind → List Kind → ℕ
 block side [] = zero
 block existential (existential ∷ ks) = suc (block existential ks)
@@ -53,12 +51,7 @@ opening-length no-room-existential ks = zero
 abbrev pub set-to : List Bool → (List Bool → Bool) → List Bool → Bool
 set-to vs phi ws = phi (vs ++ ws)
 
--- The values are those of the whole block, and 'the formula with that block set to those values has the same verdict'. Where nothing is set
--- this says nothing.
+-- The values are those of the whole block, and 'the formula with that block set to those values has the same verdict'.
 pub record Opens (l : Lent) (o : Outcome) : Type 0 where
   pub whole : length (opening (l .ks) o) ≡ opening-length (o .answer) (l .ks)
   pub same-verdict : meaning (drop (opening-length (o .answer) (l .ks)) (l .ks)) (set-to (opening (l .ks) o) (l .phi)) ≡ meaning (l .ks) (l .phi)
-
--- 'For every run.'
-abbrev pub OpeningRight : Lent → ℕ → Type 0
-OpeningRight l limit = Opens l (run l limit)

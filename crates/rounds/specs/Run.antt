@@ -1,5 +1,4 @@
--- 01's 'The run': the start, a round with its five steps, the run with a limit; and 02's C-15, clearing the universal table.
--- Assumes nothing.
+-- 01's 'The run': the start, a round with its five steps, the run with a limit; and 02's C-15, clearing the universal table. Assumes nothing.
 use Prim.Native.Nat.{ℕ, zero, suc, _%_, max}
 use mathlib.Core.Bool.{Bool, false, cond}
 use mathlib.Core.List.{List, [], _∷_, _++_, map}
@@ -56,8 +55,7 @@ grown r t yielded = t ++ map (under-mark r) (fresh (rows t) yielded)
 abbrev pub if-fits : ℕ → Table → Option Table
 if-fits room t = cond (leb (length t) room) (some t) none
 
--- What a run is given: the prefix, the matrix, the preferences, the rows that each table has room for, and 02's k, 'a new .. number k, 0 for
--- never': how often the universal table is cleared. With 0 it is 01's run.
+-- What a run is given; the rows that each table has room for; and 02's k, 'a new .. number k, 0 for never': the universal table's clearing.
 pub record Lent : Type 0 where
   pub ks : List Kind
   pub phi : List Bool → Bool

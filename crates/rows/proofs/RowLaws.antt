@@ -12,7 +12,8 @@ use lib.ListN.{length, getD, take, drop, length-take, List·getD-eq-default}
 use lib.Pow.{pow-pos, shr-lt, shr-shr}
 use lib.Seq.{ext-getD, getD-take, getD-drop, drop-drop}
 use Rattle.preference.specs.Preference.{odd}
-use Rattle.rows.specs.Row.{bit-of, row-of, number, bytes, bytes-of, stray}
+use Rattle.rows.specs.Row.{bit-of, row-of, number, bytes, bytes-of}
+use Rattle.rows.specs.Stray.{stray, row-bits}
 use Rattle.rows.proofs.BitLaws.{odd-zero, bit-number, number-below, bits-determine}
 use Rattle.rows.proofs.ValueLaws.{length-values, getD-values, any-false, none-any}
 
@@ -78,29 +79,29 @@ bit-bytes n vs k h =
     ∙ ap (λ (i : ℕ). getD vs i false) place
 
 -- Bit k of a row's bytes is the row's value k, and is not set beyond its values.
-pub bit-bytes-of : (r : List Bool) (k : ℕ) → k < 128 → bit-of (bytes-of r) k ≡ getD r k false
+pub bit-bytes-of : (r : List Bool) (k : ℕ) → k < row-bits → bit-of (bytes-of r) k ≡ getD r k false
 unfolding bytes-of
 bit-bytes-of r k h = bit-bytes 16 r k h
 
 -- ---- stray bits
 
 -- Without a stray bit every bit at or beyond m is not set, and the other way round.
-pub stray-false : (m : ℕ) (b : List ℕ) → stray m b ≡ false → (k : ℕ) → m ≤ k → k < 128 → bit-of b k ≡ false
+pub stray-false : (m : ℕ) (b : List ℕ) → stray m b ≡ false → (k : ℕ) → m ≤ k → k < row-bits → bit-of b k ≡ false
 unfolding stray
 stray-false m b e k low high =
     let place : m + (k - m) ≡ k = omega arith in
-    sym (getD-row-of 128 b k high)
-    ∙ ap (λ (i : ℕ). getD (row-of 128 b) i false) (sym place)
-    ∙ sym (getD-drop m (row-of 128 b) (k - m) false)
-    ∙ any-false (drop m (row-of 128 b)) e (k - m)
+    sym (getD-row-of row-bits b k high)
+    ∙ ap (λ (i : ℕ). getD (row-of row-bits b) i false) (sym place)
+    ∙ sym (getD-drop m (row-of row-bits b) (k - m) false)
+    ∙ any-false (drop m (row-of row-bits b)) e (k - m)
 
-pub none-stray : (m : ℕ) (b : List ℕ) → ((k : ℕ) → m ≤ k → k < 128 → bit-of b k ≡ false) → stray m b ≡ false
+pub none-stray : (m : ℕ) (b : List ℕ) → ((k : ℕ) → m ≤ k → k < row-bits → bit-of b k ≡ false) → stray m b ≡ false
 unfolding stray
-none-stray m b none = none-any (drop m (row-of 128 b)) (λ i. getD-drop m (row-of 128 b) i false ∙ go i (decLt (m + i) 128))
+none-stray m b none = none-any (drop m (row-of row-bits b)) (λ i. getD-drop m (row-of row-bits b) i false ∙ go i (decLt (m + i) row-bits))
   where
-    go : (i : ℕ) → Dec (m + i < 128) → getD (row-of 128 b) (m + i) false ≡ false
-    go i (yes h) = getD-row-of 128 b (m + i) h ∙ none (m + i) (omega arith) h
-    go i (no h) = List·getD-eq-default (row-of 128 b) false (omega (arith, length-row-of 128 b))
+    go : (i : ℕ) → Dec (m + i < row-bits) → getD (row-of row-bits b) (m + i) false ≡ false
+    go i (yes h) = getD-row-of row-bits b (m + i) h ∙ none (m + i) (omega arith) h
+    go i (no h) = List·getD-eq-default (row-of row-bits b) false (omega (arith, length-row-of row-bits b))
 
 -- The same byte by byte. Without a stray bit a byte has nothing from its bit s on, if that bit is at or beyond m.
 pub byte-beyond : (m : ℕ) (b : List ℕ) (p s : ℕ) → stray m b ≡ false → getD b p 0 < 256 → p < 16 → s ≤ 8 → m ≤ 8 * p + s
@@ -120,7 +121,7 @@ pub none-stray-bytes : (m : ℕ) (b : List ℕ) → getD b (m / 8) 0 / 2 ^ (m % 
 unfolding bit-of
 none-stray-bytes m b here behind = none-stray m b (λ k low high. go k low high (decLt (m / 8) (k / 8)))
   where
-    go : (k : ℕ) → m ≤ k → k < 128 → Dec (m / 8 < k / 8) → bit-of b k ≡ false
+    go : (k : ℕ) → m ≤ k → k < row-bits → Dec (m / 8 < k / 8) → bit-of b k ≡ false
     go k low high (yes h) = ap (λ (y : ℕ). odd (y / 2 ^ (k % 8))) (behind (k / 8) (omega arith) h) ∙ odd-zero (k % 8)
     go k low high (no h) =
         let byte : k / 8 ≡ m / 8 = omega arith in
@@ -139,7 +140,7 @@ pub record IsRow (m : ℕ) (b : List ℕ) : Type 0 where
   pub below : (p : ℕ) → getD b p 0 < 256
   pub clean : stray m b ≡ false
 
-pub row-of-bytes-of : (m : ℕ) (r : List Bool) → length r ≡ m → m ≤ 128 → row-of m (bytes-of r) ≡ r
+pub row-of-bytes-of : (m : ℕ) (r : List Bool) → length r ≡ m → m ≤ row-bits → row-of m (bytes-of r) ≡ r
 row-of-bytes-of m r e h =
     ext-getD false (row-of m (bytes-of r)) r (length-row-of m (bytes-of r) ∙ sym e)
     (λ k below.
@@ -147,7 +148,7 @@ row-of-bytes-of m r e h =
     getD-row-of m (bytes-of r) k k<m ∙ bit-bytes-of r k (omega arith))
 
 -- A value that is not a row's own is false, and so is the bit.
-getD-row-of-clean : (m : ℕ) (b : List ℕ) → stray m b ≡ false → (k : ℕ) → k < 128 → Dec (k < m) → getD (row-of m b) k false ≡ bit-of b k
+getD-row-of-clean : (m : ℕ) (b : List ℕ) → stray m b ≡ false → (k : ℕ) → k < row-bits → Dec (k < m) → getD (row-of m b) k false ≡ bit-of b k
 getD-row-of-clean m b e k h (yes own) = getD-row-of m b k own
 getD-row-of-clean m b e k h (no beyond) =
     List·getD-eq-default (row-of m b) false (omega (arith, length-row-of m b)) ∙ sym (stray-false m b e k (omega arith) h)
@@ -156,7 +157,7 @@ pub bytes-of-row-of : (m : ℕ) (b : List ℕ) → IsRow m b → bytes-of (row-o
 bytes-of-row-of m b ok =
     ext-getD 0 (bytes-of (row-of m b)) b (length-bytes-of (row-of m b) ∙ sym (ok .width))
     (λ p h. bits-determine 8 (getD (bytes-of (row-of m b)) p 0) (getD b p 0) (bytes-of-below (row-of m b) p) (ok .below p) (λ t t<8.
-    let k<128 : 8 * p + t < 128 = omega (arith, length-bytes-of (row-of m b)) in
+    let k<128 : 8 * p + t < row-bits = omega (arith, length-bytes-of (row-of m b)) in
     sym (bit-in-byte (bytes-of (row-of m b)) p t t<8)
     ∙ bit-bytes-of (row-of m b) (8 * p + t) k<128
     ∙ getD-row-of-clean m b (ok .clean) (8 * p + t) k<128 (decLt (8 * p + t) m)

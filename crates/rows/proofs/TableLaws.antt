@@ -7,14 +7,15 @@ use Prim.Native.Nat.{ℕ, zero, suc, _+_, _*_, _/_, _%_, _^_, _≤_, _<_, min, z
 use native.Mathlib.Nat.{le-of-suc-le-suc, not-suc-le-zero}
 use native.Mathlib.Decide.{decLt}
 use native.Mathlib.Omega.{arith}
-use lib.ListN.{length, getD, take, drop, length-drop, List·getD-eq-default}
+use lib.ListN.{length, getD, take, drop, length-drop}
 use lib.Seq.{ext-getD, getD-take, getD-drop, drop-drop, take-at, drop-at, length-take-le}
 use borrow.Author.Tests.{le-leb, lt-leb}
 use Rattle.preference.specs.Preference.{odd}
-use Rattle.rows.specs.Row.{bit-of, values, row-of, bytes-of, stray}
-use Rattle.rows.specs.Table.{inside, row-at, room, rows-of, table-of, stray-rows}
-use Rattle.rows.proofs.ValueLaws.{values-false, getD-values, any-false, none-any, found-any}
-use Rattle.rows.proofs.RowLaws.{IsRow, getD-row-of, no-bit-past-end, none-stray, length-bytes-of, row-of-bytes-of}
+use Rattle.rows.specs.Row.{bit-of, values, row-of, bytes-of}
+use Rattle.rows.specs.Stray.{stray, stray-rows, row-bits}
+use Rattle.rows.specs.Table.{inside, row-at, room, rows-of, table-of}
+use Rattle.rows.proofs.ValueLaws.{values-false, getD-values, none-any, found-any}
+use Rattle.rows.proofs.RowLaws.{no-bit-past-end, none-stray, length-bytes-of, row-of-bytes-of}
 
 -- ---- a row of a table
 
@@ -55,23 +56,8 @@ pub getD-row-at : (t : List ℕ) (i p : ℕ) → i < room t → p < 16 → getD 
 getD-row-at t i p h below =
     ap (λ (l : List ℕ). getD l p 0) (row-at-inside t i h) ∙ getD-part t (16 * i) p below
 
-pub equal-row-at : (t : List ℕ) (i : ℕ) (u : List ℕ) (j : ℕ) → i < room t → j < room u
-    → ((p : ℕ) → p < 16 → getD t (16 * i + p) 0 ≡ getD u (16 * j + p) 0) → row-at t i ≡ row-at u j
-equal-row-at t i u j hi hj same =
-    row-at-inside t i hi ∙ equal-parts t (16 * i) u (16 * j) (omega arith) (omega arith) same ∙ sym (row-at-inside u j hj)
-
--- A row of a table of bytes that has no stray bit.
-pub row-at-is-row : (m : ℕ) (t : List ℕ) (i : ℕ) → i < room t → ((p : ℕ) → getD t p 0 < 256) → stray m (row-at t i) ≡ false → IsRow m (row-at t i)
-row-at-is-row m t i h bytes clean = record { width = length-row-at t i h; below = λ p. go p (decLt p 16); clean = clean }
-  where
-    go : (p : ℕ) → Dec (p < 16) → getD (row-at t i) p 0 < 256
-    go p (yes own) = let same = getD-row-at t i p h own in let byte = bytes (16 * i + p) in omega arith
-    go p (no past) =
-        let end : length (row-at t i) ≤ p = omega (arith, length-row-at t i h) in
-        let zeros = List·getD-eq-default (row-at t i) 0 end in omega arith
-
 -- Bit k of row i, where it stands in the table.
-pub bit-of-row-at : (t : List ℕ) (i k : ℕ) → i < room t → k < 128 → bit-of (row-at t i) k ≡ odd (getD t (16 * i + k / 8) 0 / 2 ^ (k % 8))
+pub bit-of-row-at : (t : List ℕ) (i k : ℕ) → i < room t → k < row-bits → bit-of (row-at t i) k ≡ odd (getD t (16 * i + k / 8) 0 / 2 ^ (k % 8))
 unfolding bit-of
 bit-of-row-at t i k h own = ap (λ (x : ℕ). odd (x / 2 ^ (k % 8))) (getD-row-at t i (k / 8) h (omega arith))
 
@@ -105,21 +91,8 @@ rows-of-next m n t h = go n t ∙ ap (λ (b : List ℕ). rows-of m n t ++ (row-o
         ap (λ (l : List (List Bool)). row-of m (take 16 t) ∷ l)
         (go n (drop 16 t) ∙ ap (λ (l : List ℕ). rows-of m n (drop 16 t) ++ (row-of m (take 16 l) ∷ [])) (drop-row t n))
 
--- Tables with the same rows below a count.
-pub rows-of-same : (m n : ℕ) (t u : List ℕ) → n ≤ room t → n ≤ room u → ((i : ℕ) → i < n → row-at t i ≡ row-at u i) → rows-of m n t ≡ rows-of m n u
-rows-of-same m n t u ht hu same =
-    ext-getD [] (rows-of m n t) (rows-of m n u) (length-rows-of m n t ∙ sym (length-rows-of m n u)) (λ i h.
-    let below : i < n = omega (arith, length-rows-of m n t) in
-    getD-rows-of m n t i below (omega arith) ∙ ap (row-of m) (same i below) ∙ sym (getD-rows-of m n u i below (omega arith)))
-
--- Bit k of row i is value k of row i.
-pub bit-is-value : (m n : ℕ) (t : List ℕ) (i k : ℕ) → i < n → i < room t → k < m
-    → bit-of (row-at t i) k ≡ getD (getD (rows-of m n t) i []) k false
-bit-is-value m n t i k h into own =
-    sym (getD-row-of m (row-at t i) k own) ∙ ap (λ (r : List Bool). getD r k false) (sym (getD-rows-of m n t i h into))
-
 -- The table that holds just some rows holds those rows.
-pub rows-of-table-of : (m : ℕ) (rows : List (List Bool)) → m ≤ 128 → ((i : ℕ) → i < length rows → length (getD rows i []) ≡ m)
+pub rows-of-table-of : (m : ℕ) (rows : List (List Bool)) → m ≤ row-bits → ((i : ℕ) → i < length rows → length (getD rows i []) ≡ m)
     → rows-of m (length rows) (table-of rows) ≡ rows
 rows-of-table-of m [] h wide = refl
 rows-of-table-of m (r ∷ rows) h wide =
@@ -143,11 +116,6 @@ below-count P t n i end passed outside q h = go (decLt q (room t))
 
 pub no-stray-outside : (m : ℕ) (t : List ℕ) (i : ℕ) → room t ≤ i → stray m (row-at t i) ≡ false
 no-stray-outside m t i h = ap (stray m) (row-at-outside t i h) ∙ none-stray m [] (λ k low high. no-bit-past-end [] k zero-le)
-
-pub stray-rows-false : (m n : ℕ) (t : List ℕ) → stray-rows m n t ≡ false → (i : ℕ) → i < n → stray m (row-at t i) ≡ false
-unfolding stray-rows
-stray-rows-false m n t e i h =
-    sym (getD-values n (λ i. stray m (row-at t i)) i h) ∙ any-false (values n (λ i. stray m (row-at t i))) e i
 
 pub none-stray-rows : (m n : ℕ) (t : List ℕ) → ((i : ℕ) → i < n → stray m (row-at t i) ≡ false) → stray-rows m n t ≡ false
 unfolding stray-rows

@@ -1,30 +1,30 @@
 -- What stands in the tables after a bit is set and after a row is written: the row named has changed, and no other.
 -- Assumes nothing.
 use mathlib.Core.Path.{_≡_, sym, ap, _∙_}
-use mathlib.Core.Bool.{Bool, true, false, _||_, or-false, or-true}
-use mathlib.Core.List.{List, [], _∷_, _++_}
-use Prim.Native.Nat.{ℕ, suc, _+_, _-_, _*_, _/_, _%_, _^_, _≤_, _<_}
-use native.Mathlib.Decide.{decLt, ℕ-discrete}
+use mathlib.Core.Bool.{Bool, _||_, or-false}
+use mathlib.Core.List.{List, [], _++_}
+use Prim.Native.Nat.{ℕ, _+_, _-_, _*_, _/_, _%_, _^_, _≤_, _<_}
+use native.Mathlib.Decide.{ℕ-discrete}
 use native.Mathlib.Omega.{arith}
 use lib.Bits.{bitOr}
 use lib.Dec.{eqb}
 use lib.ListN.{length, getD, take, drop, set, length-append, length-drop, length-set, List·getD-append}
-use lib.Seq.{ext-getD, getD-take, getD-drop, getD-append-add, getD-set-same, getD-set-other, length-take-le, take-suc-set}
+use lib.Seq.{ext-getD, getD-drop, getD-append-add, getD-set-same, getD-set-other, length-take-le}
 use borrow.Author.Tests.{lt-ltb, eq-eqb, ne-eqb}
 use Rattle.preference.specs.Preference.{odd}
-use Rattle.rows.specs.Row.{bit-of, row-of}
-use Rattle.rows.specs.Table.{row-at, room, rows-of}
+use Rattle.rows.specs.Stray.{row-bits}
+use Rattle.rows.specs.Row.{bit-of}
+use Rattle.rows.specs.Table.{row-at, room}
 use Rattle.rows.specs.Access.{bit-set, placed, rows-written, marks-written}
 use Rattle.rows.proofs.BitLaws.{odd-with-bit}
-use Rattle.rows.proofs.RowLaws.{length-row-of, getD-row-of}
-use Rattle.rows.proofs.TableLaws.{inside-true, length-row-at, getD-row-at, equal-row-at, bit-of-row-at, rows-of-next, rows-of-same}
+use Rattle.rows.proofs.TableLaws.{inside-true, length-row-at, getD-row-at, bit-of-row-at}
 
 -- ---- a bit is set
 
-pub bit-set-inside : (t : List ℕ) (i k : ℕ) → i < room t → k < 128
+pub bit-set-inside : (t : List ℕ) (i k : ℕ) → i < room t → k < row-bits
     → bit-set t i k ≡ set t (16 * i + k / 8) (bitOr (getD t (16 * i + k / 8) 0) (2 ^ (k % 8)))
 unfolding bit-set
-bit-set-inside t i k h own = rw (inside-true t i h, lt-ltb k 128 own)
+bit-set-inside t i k h own = rw (inside-true t i h, lt-ltb k row-bits own)
 
 -- Places of two bits in a byte.
 equal-in-byte : (k q : ℕ) → q / 8 ≡ k / 8 → Dec (k ≡ q) → eqb (k % 8) (q % 8) ≡ eqb k q
@@ -52,44 +52,17 @@ odd-set t x k q h = go (ℕ-discrete (q / 8) (k / 8))
         ∙ sym (or-false (odd (getD t (x + q / 8) 0 / 2 ^ (q % 8))))
         ∙ ap (λ (v : Bool). odd (getD t (x + q / 8) 0 / 2 ^ (q % 8)) || v) (sym (ne-eqb k q (λ same. e (ap (λ (n : ℕ). n / 8) (sym same)))))
 
-module _ (t : List ℕ) (i k : ℕ) (h : i < room t) (own : k < 128) where
+module _ (t : List ℕ) (i k : ℕ) (h : i < room t) (own : k < row-bits) where
   pub length-bit-set : length (bit-set t i k) ≡ length t
   length-bit-set = ap length (bit-set-inside t i k h own) ∙ length-set t (16 * i + k / 8) (bitOr (getD t (16 * i + k / 8) 0) (2 ^ (k % 8)))
 
-  pub row-at-bit-set-other : (p : ℕ) → p < room t → (p ≡ i → ⊥) → row-at (bit-set t i k) p ≡ row-at t p
-  row-at-bit-set-other p hp other =
-      equal-row-at (bit-set t i k) p t p (omega (arith, length-bit-set)) hp (λ q hq.
-      ap (λ (l : List ℕ). getD l (16 * p + q) 0) (bit-set-inside t i k h own)
-      ∙ getD-set-other t (16 * i + k / 8) (16 * p + q) (bitOr (getD t (16 * i + k / 8) 0) (2 ^ (k % 8))) 0 (omega arith))
-
   -- Bit q of the row: bit k is set, the others are as they were.
-  pub bit-of-bit-set : (q : ℕ) → q < 128 → bit-of (row-at (bit-set t i k) i) q ≡ bit-of (row-at t i) q || eqb k q
+  pub bit-of-bit-set : (q : ℕ) → q < row-bits → bit-of (row-at (bit-set t i k) i) q ≡ bit-of (row-at t i) q || eqb k q
   bit-of-bit-set q hq =
       bit-of-row-at (bit-set t i k) i q (omega (arith, length-bit-set)) hq
       ∙ ap (λ (l : List ℕ). odd (getD l (16 * i + q / 8) 0 / 2 ^ (q % 8))) (bit-set-inside t i k h own)
       ∙ odd-set t (16 * i) k q (omega arith)
       ∙ ap (λ (v : Bool). v || eqb k q) (sym (bit-of-row-at t i q h hq))
-
-  -- The row's values: value k is true.
-  pub row-of-bit-set : (m : ℕ) → m ≤ 128 → row-of m (row-at (bit-set t i k) i) ≡ set (row-of m (row-at t i)) k true
-  row-of-bit-set m wide =
-      ext-getD false (row-of m (row-at (bit-set t i k) i)) (set (row-of m (row-at t i)) k true)
-      (length-row-of m (row-at (bit-set t i k) i) ∙ sym (length-set (row-of m (row-at t i)) k true ∙ length-row-of m (row-at t i)))
-      (λ q below.
-      let hq : q < m = omega (arith, length-row-of m (row-at (bit-set t i k) i)) in
-      getD-row-of m (row-at (bit-set t i k) i) q hq ∙ bit-of-bit-set q (omega arith) ∙ go q hq (ℕ-discrete q k))
-    where
-      go : (q : ℕ) → q < m → Dec (q ≡ k) → bit-of (row-at t i) q || eqb k q ≡ getD (set (row-of m (row-at t i)) k true) q false
-      go q hq (yes e) =
-          ap (λ (v : Bool). bit-of (row-at t i) q || v) (eq-eqb k q (sym e))
-          ∙ or-true (bit-of (row-at t i) q)
-          ∙ sym (getD-set-same (row-of m (row-at t i)) k true false (omega (arith, length-row-of m (row-at t i))))
-          ∙ ap (λ (p : ℕ). getD (set (row-of m (row-at t i)) k true) p false) (sym e)
-      go q hq (no e) =
-          ap (λ (v : Bool). bit-of (row-at t i) q || v) (ne-eqb k q (omega arith))
-          ∙ or-false (bit-of (row-at t i) q)
-          ∙ sym (getD-row-of m (row-at t i) q hq)
-          ∙ sym (getD-set-other (row-of m (row-at t i)) k q true false e)
 
 -- ---- a row is written
 
@@ -103,12 +76,6 @@ module _ (t : List ℕ) (i : ℕ) (row : List ℕ) (h : i < room t) (width : len
   length-placed =
       let front = length-front in
       omega (arith, length-append (take (16 * i) t ++ row) (drop (16 * i + 16) t), length-drop (16 * i + 16) t)
-
-  getD-before : (q : ℕ) → q < 16 * i → getD (placed t i row) q 0 ≡ getD t q 0
-  getD-before q hq =
-      List·getD-append (take (16 * i) t ++ row) (drop (16 * i + 16) t) 0 q (omega (arith, length-front))
-      ∙ List·getD-append (take (16 * i) t) row 0 q (omega (arith, length-take-le (16 * i) t (omega arith)))
-      ∙ getD-take (16 * i) t q 0 hq
 
   getD-within : (q : ℕ) → q < 16 → getD (placed t i row) (16 * i + q) 0 ≡ getD row q 0
   getD-within q hq =
@@ -132,22 +99,6 @@ module _ (t : List ℕ) (i : ℕ) (row : List ℕ) (h : i < room t) (width : len
       let hq : q < 16 = omega (arith, length-row-at (placed t i row) i (omega (arith, length-placed))) in
       getD-row-at (placed t i row) i q (omega (arith, length-placed)) hq ∙ getD-within q hq)
 
-  pub row-at-placed-other : (p : ℕ) → p < room t → (p ≡ i → ⊥) → row-at (placed t i row) p ≡ row-at t p
-  row-at-placed-other p hp other =
-      equal-row-at (placed t i row) p t p (omega (arith, length-placed)) hp (λ q hq. go q hq (decLt p i))
-    where
-      go : (q : ℕ) → q < 16 → Dec (p < i) → getD (placed t i row) (16 * p + q) 0 ≡ getD t (16 * p + q) 0
-      go q hq (yes before) = getD-before (16 * p + q) (omega arith)
-      go q hq (no behind) = getD-behind (16 * p + q) (omega arith)
-
-  -- The rows below the place stand, and the next one is the row.
-  pub rows-of-placed : (m : ℕ) → rows-of m (suc i) (placed t i row) ≡ rows-of m i t ++ (row-of m row ∷ [])
-  rows-of-placed m =
-      rows-of-next m i (placed t i row) (omega (arith, length-placed))
-      ∙ ap (λ (b : List ℕ). rows-of m i (placed t i row) ++ (row-of m b ∷ [])) row-at-placed
-      ∙ ap (λ (l : List (List Bool)). l ++ (row-of m row ∷ []))
-      (rows-of-same m i (placed t i row) t (omega (arith, length-placed)) (omega arith) (λ p hp. row-at-placed-other p (omega arith) (omega arith)))
-
 -- A write that is inside all three tables.
 module _ (t marks : List ℕ) (i : ℕ) (u : List ℕ) (j : ℕ) (hi : i < room t) (marked : i < length marks) (hj : j < room u) where
   pub rows-written-inside : rows-written t marks i u j ≡ placed t i (row-at u j)
@@ -157,9 +108,3 @@ module _ (t marks : List ℕ) (i : ℕ) (u : List ℕ) (j : ℕ) (hi : i < room 
   pub marks-written-inside : (mark : ℕ) → marks-written t marks i u j mark ≡ set marks i mark
   unfolding marks-written
   marks-written-inside mark = rw (inside-true t i hi, lt-ltb i (length marks) marked, inside-true u j hj)
-
-  pub rows-of-written : (m : ℕ) → rows-of m (suc i) (rows-written t marks i u j) ≡ rows-of m i t ++ (row-of m (row-at u j) ∷ [])
-  rows-of-written m = ap (rows-of m (suc i)) rows-written-inside ∙ rows-of-placed t i (row-at u j) hi (length-row-at u j hj) m
-
-  pub take-marks-written : (mark : ℕ) → take (suc i) (marks-written t marks i u j mark) ≡ take i marks ++ (mark ∷ [])
-  take-marks-written mark = ap (take (suc i)) (marks-written-inside mark) ∙ take-suc-set marks i mark marked

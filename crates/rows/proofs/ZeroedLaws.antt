@@ -1,11 +1,12 @@
 -- Tables of which some entries have become zero. Assumes nothing.
-use Prim.Native.Nat.{ℕ, zero, suc, _≤_, _<_}
+use Prim.Native.Nat.{ℕ, zero, suc, _≤_}
 use native.Mathlib.Omega.{arith}
 use mathlib.Core.Path.{_≡_, refl, sym, ap, _∙_}
 use mathlib.Core.List.{List, [], _∷_, _++_}
 use lib.ListN.{length, drop, set}
 use lib.Seq.{drop-nil}
-use Rattle.rows.specs.Table.{zeroed, zeroed-from}
+use Rattle.rows.specs.Table.{zeroed}
+use Rattle.rows.specs.Access.{zeroed-from}
 
 pub length-zeroed : (n : ℕ) (l : List ℕ) → length (zeroed n l) ≡ length l
 length-zeroed zero l = refl

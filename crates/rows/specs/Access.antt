@@ -1,13 +1,13 @@
--- What the code reads from a table, finds in it and writes to it. No contract of the search, the judge or the run cites this file.
--- Assumes nothing.
+-- What the code reads from a table, finds in it and writes to it. No contract of the search, the judge or the run cites this file. Assumes nothing.
 use Prim.Native.Nat.{ℕ, zero, suc, _+_, _*_, _/_, _%_, _^_, min}
 use mathlib.Core.Bool.{Bool, true, false, _&&_, cond}
 use mathlib.Core.List.{List, [], _∷_, _++_}
 use lib.Bits.{bitOr}
 use lib.Dec.{eqb, ltb}
 use lib.ListN.{length, getD, take, drop, set}
-use Rattle.rows.specs.Row.{values, row-bits}
-use Rattle.rows.specs.Table.{inside, row-at, room, zeroed-from}
+use Rattle.rows.specs.Row.{values}
+use Rattle.rows.specs.Stray.{row-bits}
+use Rattle.rows.specs.Table.{inside, row-at, room, zeroed}
 use Rattle.rows.specs.declared.Found.{Found}
 use Rattle.rows.specs.declared.Found.the-variants.{At, Absent}
 
@@ -66,6 +66,13 @@ marks-written table marks i other j mark = cond (writable table marks i other j)
 -- The places below a number that are inside both tables.
 abbrev pub places-below : List ℕ → List ℕ → ℕ → ℕ
 places-below table marks to = min (min to (room table)) (length marks)
+
+-- The entries from a on, up to b, zero, the others as they are.
+abbrev pub zeroed-from : ℕ → ℕ → List ℕ → List ℕ
+zeroed-from zero b l = zeroed b l
+zeroed-from (suc a) zero l = l
+zeroed-from (suc a) (suc b) [] = []
+zeroed-from (suc a) (suc b) (x ∷ l) = x ∷ zeroed-from a b l
 
 -- 'Rows and marks of places given up .. are zeroed': the places from one up to another, those that are inside.
 unfoldable pub rows-given-up : List ℕ → List ℕ → ℕ → ℕ → List ℕ

@@ -1,10 +1,9 @@
--- One row, an assignment of one side's unknowns: as its values, and as its sixteen bytes.
--- Assumes nothing.
+-- One row, an assignment of one side's unknowns: as its values, and as its sixteen bytes. Assumes nothing.
 use Prim.Native.Nat.{ℕ, zero, suc, _+_, _*_, _/_, _%_, _^_}
-use mathlib.Core.Bool.{Bool, true, false}
+use mathlib.Core.Bool.{Bool}
 use mathlib.Core.List.{List, [], _∷_}
 use lib.ListN.{getD, take, drop}
-use Rattle.formula.specs.Causes.{any}
+pub use Rattle.formula.specs.Meaning.{bit as weight}
 use Rattle.preference.specs.Preference.{odd}
 
 -- 'Bit k (byte k div 8, weight 2^(k mod 8))' of a list of bytes. Past the end no bit is set.
@@ -21,10 +20,6 @@ unfoldable pub row-of : ℕ → List ℕ → List Bool
 row-of m bytes = values m (bit-of bytes)
 
 -- The number that has some values as its bits, the lowest first.
-abbrev pub weight : Bool → ℕ
-weight false = 0
-weight true = 1
-
 abbrev pub number : List Bool → ℕ
 number [] = 0
 number (v ∷ vs) = weight v + number vs * 2
@@ -37,11 +32,3 @@ bytes (suc n) vs = number (take 8 vs) ∷ bytes n (drop 8 vs)
 -- 'A row is 16 bytes.'
 unfoldable pub bytes-of : List Bool → List ℕ
 bytes-of row = bytes 16 row
-
--- A row's bits, eight to a byte.
-abbrev pub row-bits : ℕ
-row-bits = 8 * 16
-
--- 'A bit set beyond its unknowns', of which there are m: one of a row's bits, at or beyond m.
-unfoldable pub stray : ℕ → List ℕ → Bool
-stray m bytes = any (λ v. v) (drop m (row-of row-bits bytes))

@@ -1,13 +1,11 @@
--- Row tables and mark tables: a table's rows, its room, and which tables are refused.
--- Assumes nothing.
+-- Row tables and mark tables: a table's rows, its room, and which tables are refused. Assumes nothing.
 use Prim.Native.Nat.{ℕ, zero, suc, _+_, _*_, _/_, _%_}
 use mathlib.Core.Bool.{Bool, _&&_, cond}
 use mathlib.Core.List.{List, [], _∷_, _++_}
 use lib.Dec.{eqb, leb}
 use lib.ListN.{length, take, drop}
 use Rattle.formula.specs.Formula.{max-rows}
-use Rattle.formula.specs.Causes.{any}
-use Rattle.rows.specs.Row.{values, row-of, bytes-of, stray}
+use Rattle.rows.specs.Row.{row-of, bytes-of}
 
 -- 'Row i starts at byte 16·i.' It is wholly inside the table.
 abbrev pub inside : List ℕ → ℕ → Bool
@@ -35,22 +33,12 @@ room table = length table / 16
 unfoldable pub table-fits : List ℕ → Bool
 table-fits table = leb 16 (length table) && leb (length table) (max-rows * 16) && eqb (length table % 16) 0
 
--- 'A mark table has one 16-bit unsigned number a row.'
-abbrev pub marks-fit : List ℕ → List ℕ → Bool
-marks-fit table marks = eqb (length marks) (room table)
+-- 'A mark table has one 16-bit unsigned number a row'; 02's count table is 'one entry a row' too.
+abbrev pub one-a-row : List ℕ → List ℕ → Bool
+one-a-row table entries = eqb (length entries) (room table)
 
--- The first n entries zero, the others as they are; the same of the entries from a on, up to b.
+-- The first n entries zero, the others as they are.
 abbrev pub zeroed : ℕ → List ℕ → List ℕ
 zeroed zero l = l
 zeroed (suc n) [] = []
 zeroed (suc n) (x ∷ l) = 0 ∷ zeroed n l
-
-abbrev pub zeroed-from : ℕ → ℕ → List ℕ → List ℕ
-zeroed-from zero b l = zeroed b l
-zeroed-from (suc a) zero l = l
-zeroed-from (suc a) (suc b) [] = []
-zeroed-from (suc a) (suc b) (x ∷ l) = x ∷ zeroed-from a b l
-
--- Cause 8: 'in a row below the count, a bit set beyond its unknowns', of which there are m.
-unfoldable pub stray-rows : ℕ → ℕ → List ℕ → Bool
-stray-rows m count table = any (λ v. v) (values count (λ i. stray m (row-at table i)))

@@ -6,9 +6,10 @@ ghost use mathlib.Core.Path.{_≡_};
 ghost use Prim.Native.Nat.{_+_, _≤_, min};
 ghost use lib.ListN.{length, take, drop, replicate};
 ghost use lib.Seq.{paste};
-ghost use Rattle.rows.specs.Row.{bit-of, stray};
-ghost use Rattle.rows.specs.Table.{row-at, room, table-fits, marks-fit, zeroed-from, stray-rows};
-ghost use Rattle.rows.specs.Access.{handed-back, handed-start, bit-set, same-bytes, equal-rows, first-place, rows-written, marks-written, places-below, rows-given-up, marks-given-up};
+ghost use Rattle.rows.specs.Row.{bit-of};
+ghost use Rattle.rows.specs.Stray.{stray, stray-rows};
+ghost use Rattle.rows.specs.Table.{row-at, room, table-fits, one-a-row};
+ghost use Rattle.rows.specs.Access.{zeroed-from, handed-back, handed-start, bit-set, same-bytes, equal-rows, first-place, rows-written, marks-written, places-below, rows-given-up, marks-given-up};
 
 // A row's bytes, and its bits.
 const BYTES: usize = 16;
@@ -37,7 +38,7 @@ pub fn table_fits(rows: &[u8]) -> bool
 
 // Cause 4, of the marks.
 pub fn marks_fit(rows: &[u8], marks: &[u16]) -> bool
-    ensures { λ r. ⌜ r ≡ marks-fit (now (rows .entry)) (now (marks .entry)) ⌝ }
+    ensures { λ r. ⌜ r ≡ one-a-row (now (rows .entry)) (now (marks .entry)) ⌝ }
 {
     marks.len() == rows.len() / BYTES
 }

@@ -8,7 +8,8 @@ use lib.ListN.{length, getD, take, drop, length-append}
 use lib.Seq.{ext-getD, getD-take, drop-drop, take-at, drop-at, length-take-le}
 use Rattle.formula.specs.Formula.{max-unknowns}
 use Rattle.rows.specs.Row.{row-of, bytes-of}
-use Rattle.rows.specs.Table.{row-at, rows-of, table-of, room, stray-rows}
+use Rattle.rows.specs.Table.{row-at, rows-of, table-of, room}
+use Rattle.rows.specs.Stray.{stray-rows}
 use Rattle.rows.specs.Access.{equal-rows, first-place}
 use Rattle.rows.specs.declared.Found.the-variants.{At, Absent}
 use Rattle.rows.proofs.RowLaws.{IsRow, length-bytes-of, row-of-bytes-of, bytes-of-is-row}

@@ -10,13 +10,13 @@ use lib.Dec.{eqb}
 use lib.IntN.{ℤ}
 use lib.ListN.{length, drop, length-map}
 use Rattle.formula.specs.Formula.{work-size, Kind, existential, universal}
-use Rattle.rows.specs.Table.{table-of, room, zeroed, zeroed-from}
-use Rattle.rows.specs.Access.{places-below, rows-given-up, marks-given-up}
+use Rattle.rows.specs.Table.{table-of, room, zeroed}
+use Rattle.rows.specs.Access.{zeroed-from, places-below, rows-given-up, marks-given-up}
 use Rattle.rows.proofs.ZeroedLaws.{length-zeroed, zeroed-again, drop-zeroed, zeroed-over, given-up-behind}
 use Rattle.rounds.specs.Run.{Entry, Table, rows, clears}
 use Rattle.run.specs.declared.Step.{Step}
 use Rattle.run.specs.Outcome.{row-bytes, mark-numbers}
-use Rattle.run.specs.Growing.{Passes, HoldsRows, Holds, Blank, Half, no-model, no-room, grows, half-table, half-of, Extended, Extends, ExtendsUniversal}
+use Rattle.run.specs.Growing.{Passes, HoldsRows, Holds, Blank, Half, no-model, no-room, grows, half-of, Extended, Extends, ExtendsUniversal}
 use Rattle.run.proofs.ByteLaws.{length-table-of}
 use Rattle.run.proofs.GrowingLaws.{length-row-bytes, length-mark-numbers}
 use Rattle.run.proofs.ExtendLaws.{table-fits-length}

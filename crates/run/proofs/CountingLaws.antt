@@ -1,5 +1,5 @@
 -- Return counts of a side's step: from what the step leaves to what its update of the counts makes of them. Assumes nothing.
-use Prim.Native.Nat.{ℕ, zero, suc, _+_, _-_, _*_, _^_, _≤_, _<_}
+use Prim.Native.Nat.{ℕ, suc, _+_, _-_, _*_, _^_, _≤_, _<_}
 use native.Mathlib.Omega.{arith}
 use native.Mathlib.Nat.{add-zero}
 use mathlib.Core.Path.{_≡_, refl, sym, ap, subst, _∙_}
@@ -11,14 +11,14 @@ use lib.IntN.{ℤ}
 use lib.ListN.{length, getD, take, drop, replicate, length-map}
 use lib.Seq.{take-all}
 use Rattle.formula.specs.Formula.{max-unknowns, work-size, Kind, existential, universal, prefix, clauses}
-use Rattle.formula.specs.Meaning.{matrix}
+use Rattle.formula.specs.Meaning.{matrix, bit}
 use Rattle.formula.specs.Causes.{count}
 use Rattle.preference.specs.Preference.{prefer}
 use Rattle.rows.specs.Table.{table-of, room, zeroed}
 use Rattle.rows.specs.Access.{first-place}
 use Rattle.rows.specs.declared.Found.{Found}
 use Rattle.rows.specs.declared.Found.the-variants.{At, Absent}
-use Rattle.expansion.specs.Side.{side-of}
+use Rattle.expansion.specs.OtherSide.{side-of}
 use Rattle.expansion.specs.Play.{Row}
 use Rattle.expansion.specs.Copies.{among, fresh}
 use Rattle.expansion.specs.Model.{search}
@@ -30,7 +30,6 @@ use Rattle.counts.specs.Counts.{is-place, was-yielded, one-more, updated}
 use Rattle.counts.proofs.TallyLaws.{updated-standing, updated-grown, updated-cleared}
 use Rattle.rounds.specs.Run.{Entry, Table, rows, under-mark, grown, clears}
 use Rattle.rounds.specs.Claim.{Stands}
-use Rattle.rounds.specs.Counts.{rows-found, once}
 use Rattle.rounds.proofs.GrowthLaws.{sized-found}
 use Rattle.rounds.proofs.TableLaws.{rows-under-mark, stands-in, stands-append}
 use Rattle.run.specs.declared.Step.{Step}
@@ -76,7 +75,7 @@ module _ (m : ℕ) (few : m ≤ max-unknowns) (new : List Row) (rest : List ℕ)
 
 -- ---- one more
 
-once-more : (b : Bool) (n : ℕ) → n + 1 < 2 ^ 32 → one-more b n ≡ n + once b
+once-more : (b : Bool) (n : ℕ) → n + 1 < 2 ^ 32 → one-more b n ≡ n + bit b
 once-more true n h = omega arith
 once-more false n h = sym (add-zero n)
 
@@ -84,8 +83,8 @@ once-more false n h = sym (add-zero n)
 stands-fresh : (r : ℕ) (l : List Row) (i : ℕ) (x : Entry) → Stands (map (under-mark r) l) i x → In (x .row) l
 stands-fresh r l i x s = subst (λ (q : List Row). In (x .row) q) (rows-under-mark r l) (stands-in (map (under-mark r) l) i x s)
 
-came-once : (x : Row) (new : List Row) (n : ℕ) → n ≡ 0 → In x new → n + once (among x new) ≡ 1
-came-once x new n e h = let one : once (among x new) ≡ 1 = ap once (in-among x new h) in omega arith
+came-once : (x : Row) (new : List Row) (n : ℕ) → n ≡ 0 → In x new → n + bit (among x new) ≡ 1
+came-once x new n e h = let one : bit (among x new) ≡ 1 = ap bit (in-among x new h) in omega arith
 
 module _ (t : Table) (came : Row → ℕ) (base counts : List ℕ) (counted : Counted t came base counts) where
   -- A search without a model counts for none.
@@ -100,7 +99,7 @@ module _ (t : Table) (came : Row → ℕ) (base counts : List ℕ) (counted : Co
 
     -- A row that stands, in a table that may have grown behind it.
     counted-there : (u : Table) → Wide m (rows u) → (R found : List ℕ) → R ≡ row-bytes u found
-        → (i : ℕ) (x : Entry) → Stands u i x → one-more (yields R i) (came (x .row)) ≡ came (x .row) + once (among (x .row) new)
+        → (i : ℕ) (x : Entry) → Stands u i x → one-more (yields R i) (came (x .row)) ≡ came (x .row) + bit (among (x .row) new)
     counted-there u wide R found is i x s =
         ap (λ (v : Bool). one-more v (came (x .row)))
         (ap (λ (q : List ℕ). yields q i) is ∙ yielded-there m few new rest new-wide u wide found i x s)
@@ -114,7 +113,7 @@ module _ (t : Table) (came : Row → ℕ) (base counts : List ℕ) (counted : Co
         ∙ updated-standing (λ (x : Entry). half-came cleared no-room (some new) came (x .row)) (yields R) (λ (x : Entry). came (x .row)) t base
         (counted-there t wide R found is)
 
-    -- One whose rows are added: the rows that stood go on, the added ones came once.
+    -- One whose rows are added: the rows that stood go on, the added ones came bit.
     tally-grown : (r : ℕ) (R found : List ℕ) → Wide m (rows (grown r t new)) → R ≡ row-bytes (grown r t new) found → length (grown r t new) ≤ length base
         → updated (yields R) (length t) (length (grown r t new)) (length t) counts
         ≡ tallied (half-came false (grows (grown r t new)) (some new) came) (grown r t new) base
@@ -127,7 +126,7 @@ module _ (t : Table) (came : Row → ℕ) (base counts : List ℕ) (counted : Co
         let h = stands-fresh r (fresh (rows t) new) i x s in
         came-once (x .row) new (came (x .row)) (counted .absent (x .row) (fresh-unseen (x .row) (rows t) new h)) (fresh-in (x .row) (rows t) new h))
 
-    -- And one whose rows are all that is left: each came once.
+    -- And one whose rows are all that is left: each came bit.
     tally-cleared : (r : ℕ) (R : List ℕ) → length t ≤ length base → zeroed (length t) base ≡ base → length (grown r [] new) ≤ length base
         → updated (yields R) 0 (length (grown r [] new)) (length t) counts
         ≡ tallied (half-came true (grows (grown r [] new)) (some new) came) (grown r [] new) base

@@ -15,8 +15,9 @@ use Rattle.formula.specs.Meaning.{matrix}
 use Rattle.formula.specs.Causes.{count}
 use Rattle.formula.proofs.Accepted.{accepted}
 use Rattle.preference.specs.Preference.{prefer}
-use Rattle.rows.specs.Table.{table-of, room, table-fits, stray-rows, rows-of}
-use Rattle.expansion.specs.Side.{side-of, other}
+use Rattle.rows.specs.Table.{table-of, room, table-fits, rows-of}
+use Rattle.rows.specs.Stray.{stray-rows}
+use Rattle.expansion.specs.OtherSide.{side-of, other}
 use Rattle.expansion.specs.Play.{Row}
 use Rattle.expansion.specs.Copies.{fresh}
 use Rattle.expansion.specs.Model.{search}

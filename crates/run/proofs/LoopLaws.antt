@@ -15,7 +15,7 @@ use Rattle.formula.specs.Progress.{fresh}
 use Rattle.formula.specs.declared.Progress.{Progress}
 use Rattle.preference.specs.Preference.{prefer}
 use Rattle.rows.specs.Row.{values, bytes-of}
-use Rattle.rows.specs.Table.{room, table-fits, marks-fit, zeroed}
+use Rattle.rows.specs.Table.{room, table-fits, one-a-row, zeroed}
 use Rattle.rows.specs.Access.{rows-written, marks-written}
 use Rattle.rows.proofs.WriteLaws.{rows-written-inside, marks-written-inside}
 use Rattle.rows.proofs.RowLaws.{length-bytes-of}
@@ -49,7 +49,7 @@ least-bytes t e =
 side-fitting : (t marks : List ℕ) → side-fits t marks ≡ true → (table-fits t ≡ true) × (length marks ≡ room t)
 unfolding side-fits
 side-fitting t marks e =
-    let both = and-eq-true-iff (table-fits t) (marks-fit t marks) .0 e in
+    let both = and-eq-true-iff (table-fits t) (one-a-row t marks) .0 e in
     (both .0, eqb-true (length marks) (room t) (both .1))
 
 pub tables-fitting : (A A-marks S S-marks : List ℕ) → tables-fit A A-marks S S-marks ≡ true

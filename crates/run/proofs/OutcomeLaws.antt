@@ -1,7 +1,7 @@
 -- What `run` returns and leaves, cause by cause and after an answer. Assumes nothing.
 use Prim.Native.Nat.{ℕ, _*_, _≤_}
 use native.Mathlib.Omega.{arith}
-use mathlib.Core.Path.{_≡_, refl, sym, ap, subst, _∙_}
+use mathlib.Core.Path.{_≡_, refl, sym, ap, _∙_}
 use mathlib.Core.Bool.{Bool, true, false, not, cond, true≢false}
 use mathlib.Core.List.{List, [], _++_}
 use lib.Dec.{eqb}
@@ -13,8 +13,9 @@ use Rattle.formula.specs.Formula.{work-size, Kind, existential, universal, pref
 use Rattle.rows.specs.Table.{zeroed}
 use Rattle.rows.proofs.ZeroedLaws.{drop-zeroed}
 use Rattle.formula.specs.Meaning.{verdict}
-use Rattle.formula.specs.Causes.{cause-1, cause-2, cause-3, refused-if, checked, sizes, number as cause-number}
+use Rattle.formula.specs.Causes.{checked, number as cause-number}
 use Rattle.formula.proofs.Accepted.{accepted-sizes}
+use Rattle.formula.proofs.Order.{refused-from-1}
 use Rattle.formula.specs.declared.Formula.{Formula}
 use Rattle.formula.specs.declared.Check.{Check}
 use Rattle.formula.specs.declared.Check.the-variants.{Accepted, Refused}
@@ -36,13 +37,6 @@ use Rattle.rounds.proofs.Highest.{highest-if-never}
 use Rattle.rounds.proofs.Verdict.{verdict-right}
 use Rattle.rounds.proofs.Opening.{opening-right}
 use Rattle.rounds.proofs.CountsLaws.{counts-right}
-
--- No refused formula has the number 0.
-refused-from-1 : (a b c : Bool) (f : Formula) (n : ℕ) → refused-if a 1 (refused-if b 2 (refused-if c 3 (Accepted f))) ≡ Refused n → 1 ≤ n
-refused-from-1 true b c f n e = let same : 1 ≡ n = cc in omega arith
-refused-from-1 false true c f n e = let same : 2 ≡ n = cc in omega arith
-refused-from-1 false false true f n e = let same : 3 ≡ n = cc in omega arith
-refused-from-1 false false false f n e = let z : _≡_ {A = ℕ} 0 1 = cc in absurd (omega arith)
 
 -- The number is that of the definition's answer.
 pub number-named : (a : RunAnswer) → number-of (named a) ≡ number a
@@ -95,7 +89,7 @@ passes-if-none g none = go (checked (g .kinds) (g .literals)) refl _ none
         → Passes (g .kinds) (g .literals)
     go (Accepted f) e later z = e ∙ ap Accepted (accepted-sizes (g .kinds) (g .literals) e)
     go (Refused n) e later z =
-        let from-1 = refused-from-1 (cause-1 (g .kinds)) (cause-2 (g .literals)) (cause-3 (length (g .kinds)) (g .literals)) (sizes (g .kinds) (g .literals)) n e in
+        let from-1 = refused-from-1 (g .kinds) (g .literals) n e in
         let same : n ≡ 0 = sym (ap (λ (b : Bool). cond b later n) (ne-eqb n 0 (omega arith))) ∙ z in
         absurd (omega arith)
 
@@ -204,23 +198,19 @@ module _ (kinds : List ℕ) (literals : List ℤ) (A A-marks A-counts S S-marks 
   abbrev later : ℕ
   later = cond (not (tables-fit A A-marks S S-marks)) 4 counted
 
-  formula-number : (n : ℕ) → checked kinds literals ≡ Refused n → 1 ≤ n
-  unfolding checked
-  formula-number n e = refused-from-1 (cause-1 kinds) (cause-2 literals) (cause-3 (length kinds) literals) (sizes kinds literals) n e
-
   -- The formula's cause comes first; without one it is a later cause or none.
   formula-cause : (n : ℕ) → checked kinds literals ≡ Refused n → cause g ≡ n
   unfolding cause
   formula-cause n e =
       ap (λ (c : Check). cond (eqb (cause-number c) 0) later (cause-number c)) e
-      ∙ ap (λ (b : Bool). cond b later n) (ne-eqb n 0 (omega (arith, formula-number n e)))
+      ∙ ap (λ (b : Bool). cond b later n) (ne-eqb n 0 (omega (arith, refused-from-1 kinds literals n e)))
 
   later-cause : (f : Formula) → checked kinds literals ≡ Accepted f → cause g ≡ later
   unfolding cause
   later-cause f e = ap (λ (c : Check). cond (eqb (cause-number c) 0) later (cause-number c)) e
 
   pub formula-refused : (n u : ℕ) → checked kinds literals ≡ Refused n → FirstCause g (record { cause = n; universals = u })
-  formula-refused n u e = applies g n u (sym (formula-cause n e)) (formula-number n e)
+  formula-refused n u e = applies g n u (sym (formula-cause n e)) (refused-from-1 kinds literals n e)
 
   module _ (f : Formula) (passes : checked kinds literals ≡ Accepted f) where
     pub tables-refused : (u : ℕ) → tables-fit A A-marks S S-marks ≡ false → FirstCause g (record { cause = 4; universals = u })

@@ -12,18 +12,18 @@ use mathlib.Core.Logic.{by-cases}
 use mathlib.Core.Option.{Option}
 use lib.ListN.{length, drop}
 use borrow.Author.Tests.{eqb-true}
+use Rattle.formula.specs.Meaning.{bit}
 use Rattle.formula.specs.Formula.{Kind, existential, universal}
 use Rattle.formula.specs.Progress.{fresh}
 use Rattle.formula.specs.declared.Progress.{Progress}
-use Rattle.rows.specs.Table.{room, zeroed}
+use Rattle.rows.specs.Table.{room, zeroed, one-a-row}
 use Rattle.rows.proofs.ZeroedLaws.{length-zeroed, zeroed-again, drop-zeroed}
 use Rattle.expansion.specs.Play.{Row}
 use Rattle.expansion.specs.Copies.{among}
 use Rattle.expansion.specs.Model.{search}
-use Rattle.counts.specs.Fit.{counts-fit}
 use Rattle.counts.specs.Counts.{filled}
 use Rattle.rounds.specs.Run.{Entry, Table, rows, clears, kept, Answer, is-false, is-true, spent, no-room-universal, no-room-existential, Outcome, Lent, round-of, run, highest}
-use Rattle.rounds.specs.Counts.{rows-found, is-spent, once, came, counts}
+use Rattle.rounds.specs.Counts.{rows-found, is-spent, came, counts}
 use Rattle.rounds.proofs.RoundLaws.{Over}
 use Rattle.rounds.proofs.RunLaws.{run-goes-on, run-reached, run-stays}
 use Rattle.rounds.proofs.Highest.{count-at-most-highest, highest-stays}
@@ -41,7 +41,7 @@ use Rattle.run.proofs.LoopLaws.{least-bytes, tables-fitting, row-base, 
 counts-fitting : (A A-counts S S-counts : List ℕ) → tables-counted A A-counts S S-counts ≡ true → (length A-counts ≡ room A) × (length S-counts ≡ room S)
 unfolding tables-counted
 counts-fitting A A-counts S S-counts e =
-    let both = and-eq-true-iff (counts-fit A A-counts) (counts-fit S S-counts) .0 e in
+    let both = and-eq-true-iff (one-a-row A A-counts) (one-a-row S S-counts) .0 e in
     (eqb-true (length A-counts) (room A) (both .0), eqb-true (length S-counts) (room S) (both .1))
 
 -- ---- the start
@@ -122,23 +122,23 @@ module _ (g : Given) (made : ℕ) (going : run (lent g) made .answer ≡ spent) 
       let s = search (l .prefer) existential (l .ks) (l .phi) (rows A) in
       let same : (x : Row) → half-came false h s (came l existential made) x ≡ came l existential (suc made) x =
       λ x.
-      ap (λ (n : ℕ). n + once (among x (rows-found s))) (since-none h (came l existential made x))
+      ap (λ (n : ℕ). n + bit (among x (rows-found s))) (since-none h (came l existential made x))
       ∙ sym (came-next l existential made (rows-found s) (searched-S l made going) x) in
       e ∙ (λ d. tallied (λ x. same x d) (sym is d) (g .found .existential-counts))
 
   -- The universal counts after it, by its answer, its universal table, what its search yielded and what it keeps of the counts.
   next-A : (a : Answer) → o .answer ≡ a → (A′ : Table) → o .A ≡ A′ → (ys : List Row) → second-search l a o ≡ ys
       → (since : ℕ → ℕ) → ((n : ℕ) → cond (is-spent a && clears (l .clear-every) (suc made)) 0 n ≡ since n) → (C : List ℕ)
-      → C ≡ tallied (λ x. since (came l universal made x) + once (among x ys)) A′ (zeroed (highest l made) (g .found .universal-counts))
+      → C ≡ tallied (λ x. since (came l universal made x) + bit (among x ys)) A′ (zeroed (highest l made) (g .found .universal-counts))
       → C ≡ counts-after universal g (suc made)
   unfolding counts highest
   next-A a answered A′ is ys yields since since-so C e =
-      let same : (x : Row) → since (came l universal made x) + once (among x ys) ≡ came l universal (suc made) x =
+      let same : (x : Row) → since (came l universal made x) + bit (among x ys) ≡ came l universal (suc made) x =
       λ x.
       sym
       (came-next l universal made ys (searched-A l made a going answered ∙ yields) x
-      ∙ ap (λ (b : Answer). cond (is-spent b && clears (l .clear-every) (suc made)) 0 (came l universal made x) + once (among x ys)) answered
-      ∙ ap (λ (n : ℕ). n + once (among x ys)) (since-so (came l universal made x))) in
+      ∙ ap (λ (b : Answer). cond (is-spent b && clears (l .clear-every) (suc made)) 0 (came l universal made x) + bit (among x ys)) answered
+      ∙ ap (λ (n : ℕ). n + bit (among x ys)) (since-so (came l universal made x))) in
       e
       ∙ (λ d. tallied (λ x. same x d) (sym is d) (zeroed (highest l made) (g .found .universal-counts)))
       ∙ ap (λ (rest : List ℕ). map (λ (x : Entry). came l universal (suc made) (x .row)) (o .A) ++ rest)

@@ -10,18 +10,18 @@ use lib.Dec.{eqb}
 use lib.IntN.{ℤ}
 use lib.ListN.{length, drop}
 use Rattle.formula.specs.Formula.{work-size, Kind, existential, universal, prefix, clauses}
-use Rattle.formula.specs.Meaning.{matrix}
+use Rattle.formula.specs.Meaning.{bit, matrix}
 use Rattle.preference.specs.Preference.{prefer}
 use Rattle.rows.specs.Table.{table-of, room, zeroed}
-use Rattle.expansion.specs.Side.{side-of, other}
+use Rattle.expansion.specs.OtherSide.{side-of, other}
 use Rattle.expansion.specs.Play.{Row}
 use Rattle.expansion.specs.Copies.{among}
 use Rattle.expansion.specs.Model.{search}
 use Rattle.expansion.proofs.Membership.{In}
 use Rattle.rounds.specs.Run.{Entry, Table, rows, clears}
-use Rattle.rounds.specs.Counts.{rows-found, once}
+use Rattle.rounds.specs.Counts.{rows-found}
 use Rattle.run.specs.Outcome.{Given, after}
-use Rattle.run.specs.Growing.{Passes, HoldsRows, Holds, Blank, Half, no-model, no-room, grows, half, half-table, half-of}
+use Rattle.run.specs.Growing.{Passes, HoldsRows, Holds, Blank, Half, no-model, no-room, grows, half-table, half-of}
 
 -- The rows that a search yields stand packed from the work area's start.
 abbrev pub Packed : Option (List Row) → List ℕ → Type 0
@@ -55,7 +55,7 @@ half-since cleared no-room n = n
 half-since cleared (grows u) n = cond cleared 0 n
 
 abbrev pub half-came : Bool → Half → Option (List Row) → (Row → ℕ) → Row → ℕ
-half-came cleared h s came x = half-since cleared h (came x) + once (among x (rows-found s))
+half-came cleared h s came x = half-since cleared h (came x) + bit (among x (rows-found s))
 
 -- As many rows stood when a step's search was counted as the step kept; without room it kept all.
 abbrev pub stood : ℕ → ℕ → ℕ → ℕ

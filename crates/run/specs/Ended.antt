@@ -1,6 +1,4 @@
--- All that `run` promises: what it returns and leaves, demand 2, demand 3 over the run and in the lent tables themselves, 02's opening and its
--- return counts.
--- Assumes nothing.
+-- All that `run` promises: what it returns and leaves, demands 2 and 3, 02's opening and its return counts. Assumes nothing.
 use Prim.Native.Nat.{ℕ, _-_, _<_}
 use mathlib.Core.Path.{_≡_}
 use mathlib.Core.Logic.{_≢_}
@@ -13,7 +11,7 @@ use Rattle.formula.specs.Meaning.{verdict}
 use Rattle.rows.specs.Table.{row-at, rows-of}
 use Rattle.rounds.specs.Run.{Entry, rows, number, run}
 use Rattle.rounds.specs.Claim.{table, Finished, Uncleared, Claim}
-use Rattle.rounds.specs.Opening.{OpeningRight}
+use Rattle.rounds.specs.Opening.{Opens}
 use Rattle.rounds.specs.Counts.{counts, CountsRight}
 use Rattle.run.specs.declared.Answer.the-variants.{False, True}
 use Rattle.run.specs.declared.Outcome.{Outcome}
@@ -58,8 +56,7 @@ pub record TableRight (g : Given) (side : Kind) (rows-left marks-left : List ℕ
   -- 'For every finished round r, each table .. has a row with mark r that is equal to no row of that table after round r - 1', 'and it keeps what
   -- it gained until the next clearing'.
   pub new-rows : (r : ℕ) → Finished (lent g) (g .limit) r → Uncleared side (lent g) r (g .limit) → Gained g side r rows-left marks-left number
-  -- 'And this row and its mark still stand below that table's count when the run ends': in the existential table always, in the universal one
-  -- if it is never cleared.
+  -- 'And this row and its mark still stand .. when the run ends': in the existential table always, in the universal one if it is never cleared.
   pub to-the-end : (side ≡ universal → g .clear-every ≡ 0) → (r : ℕ) → Finished (lent g) (g .limit) r → Gained g side r rows-left marks-left number
 
 pub record Ended (g : Given) (r : Outcome) (exit : Areas) : Type 0 where
@@ -73,9 +70,8 @@ pub record Ended (g : Given) (r : Outcome) (exit : Areas) : Type 0 where
   pub only-false : r .answer ≡ False → verdict (g .kinds) (g .literals) ≡ false
   pub claim : accepted g ≡ true → Claim (lent g) (g .limit)
   -- 02: 'The formula with that block set to those values has the same verdict.'
-  pub opened : accepted g ≡ true → OpeningRight (lent g) (g .limit)
+  pub opened : accepted g ≡ true → Opens (lent g) (reached g)
   pub tables : accepted g ≡ true → (side : Kind) → TableRight g side (row-part side exit) (mark-part side exit) (count-of side r)
-  -- 02: a table of counts 'holds for each row below the count the number of searches of this run (universal: from the last clearing on) whose
-  -- model yielded it, however often'.
+  -- 02: a table of counts 'holds for each row below the count the number of searches of this run .. whose model yielded it, however often'.
   pub counts-read : accepted g ≡ true → (side : Kind) → take (count-of side r) (count-part side exit) ≡ counts (lent g) side (g .limit)
   pub counted : accepted g ≡ true → CountsRight (lent g) (g .limit)

@@ -7,16 +7,17 @@ use mathlib.Core.Bool.{Bool, true, false, cond}
 use mathlib.Core.List.{List, []}
 use mathlib.Core.Option.{Option, none, some}
 use lib.IntN.{ℤ}
-use lib.ListN.{length, getD}
+use lib.ListN.{length, getD, replicate}
 use Rattle.formula.specs.Formula.{work-size, Kind, existential, universal, prefix, clauses}
 use Rattle.formula.specs.Meaning.{matrix}
 use Rattle.formula.specs.Causes.{count, checked, sizes}
 use Rattle.formula.specs.declared.Check.the-variants.{Accepted}
 use Rattle.preference.specs.Preference.{prefer}
 use Rattle.rows.specs.Table.{room, table-fits, zeroed}
-use Rattle.expansion.specs.Side.{side-of, other}
+use Rattle.expansion.specs.OtherSide.{side-of, other}
 use Rattle.expansion.specs.Play.{Row}
 use Rattle.expansion.specs.Model.{search}
+use Rattle.search.specs.Search.{Prepared}
 use Rattle.search.specs.declared.Search.{Search}
 use Rattle.search.specs.declared.Search.the-variants.{Found as ModelFound, NoModel, Refused as SearchRefused}
 use Rattle.run.specs.declared.Answer.{Answer}
@@ -29,11 +30,15 @@ use Rattle.growth.specs.declared.Growth.{Growth}
 use Rattle.growth.specs.declared.Growth.the-variants.{Grown, NoRoom}
 use Rattle.opening.specs.Start.{equal-from-start, first-bits}
 use Rattle.rounds.specs.Run.{Table, rows, grown, if-fits, clears, highest, Outcome as RunOutcome}
-use Rattle.run.specs.Outcome.{Given, lent, reached, tables-fit, tables-counted, cause, named, without-opening, row-bytes, mark-numbers}
+use Rattle.run.specs.Outcome.{Given, lent, reached, tables-fit, tables-counted, cause, named, row-bytes, mark-numbers}
 
 -- None of the causes 1 to 3 applies.
 abbrev pub Passes : List ℕ → List ℤ → Type 0
 Passes kinds literals = checked kinds literals ≡ Accepted (sizes kinds literals)
+
+-- What holds of the formula that tables were made of (search).
+abbrev pub Over : List ℕ → List ℕ → List ℕ → List ℕ → (List ℤ → Type 0) → Type 0
+Over kinds codes index terms P = (literals : List ℤ) → Prepared kinds literals codes index terms → P literals
 
 -- The model was found.
 abbrev pub is-found : Search → Bool
@@ -151,7 +156,7 @@ opened-from e kinds kind table n =
     }
 
 abbrev pub not-opened : End → Outcome
-not-opened e = without-opening (e .answer) (e .round) (e .universal) (e .existential)
+not-opened e = record { answer = e .answer; round = e .round; universal = e .universal; existential = e .existential; opening = replicate 16 0; block = 0 }
 
 abbrev pub opened-by : Answer → End → List ℕ → List ℕ → List ℕ → Outcome
 opened-by True e kinds A S = opened-from e kinds 0 S (e .existential)

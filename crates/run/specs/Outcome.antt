@@ -1,5 +1,4 @@
--- What `run` returns and leaves, for everything that is lent: causes 1 to 4, 16, 5 and 6 in order, then the outcome of the run with the limit.
--- Assumes nothing.
+-- What `run` returns and leaves, for everything that is lent: causes 1 to 4, 16, 5 and 6 in order, then the outcome of the run with the limit. Assumes nothing.
 use Prim.Native.Nat.{ℕ, _*_}
 use mathlib.Core.Bool.{Bool, not, _&&_, cond}
 use mathlib.Core.List.{List, _++_, map}
@@ -11,8 +10,7 @@ use Rattle.formula.specs.Meaning.{matrix}
 use Rattle.formula.specs.Causes.{checked, number as cause-number}
 use Rattle.preference.specs.Preference.{prefer}
 use Rattle.rows.specs.Row.{bytes-of}
-use Rattle.rows.specs.Table.{table-of, room, table-fits, marks-fit, zeroed}
-use Rattle.counts.specs.Fit.{counts-fit}
+use Rattle.rows.specs.Table.{table-of, room, table-fits, one-a-row, zeroed}
 use Rattle.rounds.specs.Run.{Entry, Table, rows, Lent, run, highest, is-false, is-true, spent, no-room-universal, no-room-existential, Answer as RunAnswer, Outcome as RunOutcome}
 use Rattle.rounds.specs.Opening.{opening, opening-length}
 use Rattle.rounds.specs.Counts.{counts}
@@ -32,18 +30,9 @@ pub record Areas : Type 0 where
 
 abbrev pub areas : List ℕ → List ℕ → List ℕ → List ℕ → List ℕ → List ℕ → List ℕ → Areas
 areas A A-marks A-counts S S-marks S-counts work =
-    record {
-      universal-rows = A;
-      universal-marks = A-marks;
-      universal-counts = A-counts;
-      existential-rows = S;
-      existential-marks = S-marks;
-      existential-counts = S-counts;
-      work = work;
-    }
+    record { universal-rows = A; universal-marks = A-marks; universal-counts = A-counts; existential-rows = S; existential-marks = S-marks; existential-counts = S-counts; work = work }
 
--- All that is lent: the formula, the preferences, what the areas were found to hold, the limit, and 02's k: how often the universal table is
--- cleared, 0 for never.
+-- All that is lent: formula, preferences, what the areas were found to hold, limit, and 02's k, how often the universal table is cleared.
 pub record Given : Type 0 where
   pub kinds : List ℕ
   pub literals : List ℤ
@@ -70,17 +59,16 @@ lent g =
 
 -- Cause 4: 'row table not 16 to 4,096 bytes in sixteens, or (run) marks not one a row', of either side.
 unfoldable pub side-fits : List ℕ → List ℕ → Bool
-side-fits rows marks = table-fits rows && marks-fit rows marks
+side-fits rows marks = table-fits rows && one-a-row rows marks
 
 unfoldable pub tables-fit : List ℕ → List ℕ → List ℕ → List ℕ → Bool
 tables-fit A A-marks S S-marks = side-fits A A-marks && side-fits S S-marks
 
 -- Cause 16, which 'refuses .. a count table that isn't one entry a row', of either side.
 unfoldable pub tables-counted : List ℕ → List ℕ → List ℕ → List ℕ → Bool
-tables-counted A A-counts S S-counts = counts-fit A A-counts && counts-fit S S-counts
+tables-counted A A-counts S S-counts = one-a-row A A-counts && one-a-row S S-counts
 
--- The first of the causes that applies, or 0: 1 to 3 of the formula, 4 of the tables, 16 of their counts, 'tested after 4', 5 'work area not 65,536',
--- 6 'limit 0'.
+-- The first cause that applies, or 0: 1 to 3 of the formula, 4 of the tables, 16 of their counts, 5 'work area not 65,536', 6 'limit 0'.
 unfoldable pub cause : Given → ℕ
 cause g =
     let formula : ℕ = cause-number (checked (g .kinds) (g .literals)) in
@@ -114,8 +102,7 @@ number-of NoRoomUniversal = 3
 number-of NoRoomExistential = 4
 number-of (Refused cause) = cause
 
--- 'Returned: the answer, the round reached and made, the counts of A and S.' 02 adds the opening, which comes 'as a row, other bits zero, with the
--- block's length'.
+-- 'Returned: the answer, the round reached and made, the counts of A and S.' 02 adds the opening, with its block's length.
 abbrev pub reported : List Kind → RunOutcome → Outcome
 reported ks o =
     record {
@@ -127,12 +114,9 @@ reported ks o =
       block = opening-length (o .answer) ks;
     }
 
--- Sixteen zero bytes and the length 0. On a refusal round and counts are 0 too.
-abbrev pub without-opening : Answer → ℕ → ℕ → ℕ → Outcome
-without-opening a r n k = record { answer = a; round = r; universal = n; existential = k; opening = replicate 16 0; block = 0 }
-
+-- On a refusal all but the cause is 0.
 abbrev pub refusal : ℕ → Outcome
-refusal n = without-opening (Refused n) 0 0 0
+refusal n = record { answer = Refused n; round = 0; universal = 0; existential = 0; opening = replicate 16 0; block = 0 }
 
 unfoldable pub returned : Given → Outcome
 returned g =
@@ -146,8 +130,7 @@ row-bytes t found = table-of (rows t) ++ drop (16 * length t) found
 unfoldable pub mark-numbers : Table → List ℕ → List ℕ
 mark-numbers t found = map (λ (x : Entry). x .mark) t ++ drop (length t) found
 
--- The areas with the tables of the run after round r in them, each over what was found, its return counts behind its marks, and with the work area
--- zero.
+-- The areas with the tables of the run after round r in them, each over what was found, and with the work area zero.
 abbrev pub written : Lent → ℕ → Areas → Areas
 written l r found =
     areas

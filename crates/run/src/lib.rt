@@ -3,7 +3,7 @@
 // the verdict, and of an accepted run the claim, over 01's run and in the lent tables, that the opening keeps the verdict, and what the return
 // counts say (specs/Ended.antt).
 // The model search belongs to `search`, adding rows to a table to `growth`, the return counts to `counts`, the opening's bytes to `opening`.
-// A round costs one search a side, and what the growth of the two tables and their counts cost.
+// A round costs one search a side, and what the growth of the two tables and their counts cost. The formula is checked and its tables are made once a run.
 use formula::Check;
 use formula::Formula;
 use growth::Growth;
@@ -18,7 +18,7 @@ ghost use Rattle.run.specs.declared.Answer.the-variants.{Spent};
 ghost use Rattle.run.specs.Outcome.{areas, given, number-of, side-fits, tables-fit, tables-counted};
 ghost use Rattle.run.specs.Ended.{Ended};
 ghost use Rattle.run.specs.Numbers.{one-number};
-ghost use Rattle.run.specs.Growing.{is-found, step-of, said, existential-stop, universal-stop, opened-from, not-opened, with-opening, Extends, ExtendsUniversal, ShowsRun, Ready, FirstCause};
+ghost use Rattle.run.specs.Growing.{is-found, step-of, said, existential-stop, universal-stop, opened-from, not-opened, with-opening, Over, Extends, ExtendsUniversal, ShowsRun, Ready, FirstCause};
 ghost use Rattle.run.specs.Counting.{Packs, stood, Tallies, TalliesUniversal, CountsShow};
 
 pub enum Answer {
@@ -329,7 +329,7 @@ fn counted(
 }
 
 // The start, then one round after the other until one of them ends the run: steps 1 and 2 towards the existential rows, 3 and 4 towards the
-// universal ones.
+// universal ones. The formula's tables are made once, and lent to every search.
 fn rounds(
     kinds: &[u8],
     literals: &[i32],
@@ -355,6 +355,10 @@ fn rounds(
         (areas (now («universal_rows» .entry)) (now («universal_marks» .entry)) (now («universal_counts» .entry)) (now («existential_rows» .entry)) (now («existential_marks» .entry)) (now («existential_counts» .entry)) (now (work .entry))) limit «clear_every»)
         limit (now («universal_counts» .exit)) (now («existential_counts» .exit)) ⌝ }
 {
+    let mut codes = [0u16; Formula::ENTRIES];
+    let mut index = [0u16; search::INDEX];
+    let mut terms = [0u16; search::TERMS];
+    let used = search::prepare(kinds, literals, &mut codes, &mut index, &mut terms);
     growth::write_start(preferences, universals, universal_rows, universal_marks);
     counts::fill(universal_counts, 0, 1, 0);
     let start = Formula::start();
@@ -366,7 +370,9 @@ fn rounds(
         let mark = number as u16;
         let step = existential_half(
             kinds,
-            literals,
+            &codes[..used], // the entries in use
+            &index, // through which this side finds a literal's clauses
+            &terms, // by which the other side finds its open clauses
             preferences,
             universal_rows,
             universal,
@@ -384,7 +390,9 @@ fn rounds(
         }
         let back = universal_half(
             kinds,
-            literals,
+            &codes[..used],
+            &index,
+            &terms,
             preferences,
             existential_rows,
             grown,
@@ -462,7 +470,9 @@ fn spent(round: u32, universal: usize, existential: usize) -> End
 // The existential side's half of a round: its step, then what its search counts for.
 fn existential_half(
     kinds: &[u8],
-    literals: &[i32],
+    codes: &[u16],
+    index: &[u16],
+    terms: &[u16],
     preferences: &[u8],
     others: &[u8],
     other_count: usize,
@@ -473,12 +483,14 @@ fn existential_half(
     mark: u16,
     work: &mut [u8],
 ) -> Step
-    ensures { λ r. ⌜ Extends (now (kinds .entry)) (now (literals .entry)) (now (preferences .entry)) (now (others .entry)) «other_count» false (now (rows .entry)) (now (marks .entry)) count mark (now (work .entry)) r (now (rows .exit)) (now (marks .exit)) (now (work .exit)) ⌝ }
-    ensures { λ _. ⌜ Tallies (now (kinds .entry)) (now (literals .entry)) (now (preferences .entry)) (now (others .entry)) «other_count» (now (rows .entry)) (now (marks .entry)) count mark (now (work .entry)) (now (counts .entry)) (now (counts .exit)) ⌝ }
+    ensures { λ r. ⌜ Over (now (kinds .entry)) (now (codes .entry)) (now (index .entry)) (now (terms .entry)) (λ literals. Extends (now (kinds .entry)) literals (now (preferences .entry)) (now (others .entry)) «other_count» false (now (rows .entry)) (now (marks .entry)) count mark (now (work .entry)) r (now (rows .exit)) (now (marks .exit)) (now (work .exit))) ⌝ }
+    ensures { λ _. ⌜ Over (now (kinds .entry)) (now (codes .entry)) (now (index .entry)) (now (terms .entry)) (λ literals. Tallies (now (kinds .entry)) literals (now (preferences .entry)) (now (others .entry)) «other_count» (now (rows .entry)) (now (marks .entry)) count mark (now (work .entry)) (now (counts .entry)) (now (counts .exit))) ⌝ }
 {
     let step = extend(
         kinds,
-        literals,
+        codes,
+        index,
+        terms,
         preferences,
         others,
         other_count,
@@ -501,7 +513,9 @@ fn existential_half(
 // The universal side's half of a round, which may clear its table.
 fn universal_half(
     kinds: &[u8],
-    literals: &[i32],
+    codes: &[u16],
+    index: &[u16],
+    terms: &[u16],
     preferences: &[u8],
     others: &[u8],
     other_count: usize,
@@ -514,12 +528,14 @@ fn universal_half(
     mark: u16,
     work: &mut [u8],
 ) -> Step
-    ensures { λ r. ⌜ ExtendsUniversal (now (kinds .entry)) (now (literals .entry)) (now (preferences .entry)) (now (others .entry)) «other_count» (now (rows .entry)) (now (marks .entry)) count «clear_every» round mark (now (work .entry)) r (now (rows .exit)) (now (marks .exit)) (now (work .exit)) ⌝ }
-    ensures { λ _. ⌜ TalliesUniversal (now (kinds .entry)) (now (literals .entry)) (now (preferences .entry)) (now (others .entry)) «other_count» (now (rows .entry)) (now (marks .entry)) count «clear_every» round mark (now (work .entry)) (now (counts .entry)) (now (counts .exit)) ⌝ }
+    ensures { λ r. ⌜ Over (now (kinds .entry)) (now (codes .entry)) (now (index .entry)) (now (terms .entry)) (λ literals. ExtendsUniversal (now (kinds .entry)) literals (now (preferences .entry)) (now (others .entry)) «other_count» (now (rows .entry)) (now (marks .entry)) count «clear_every» round mark (now (work .entry)) r (now (rows .exit)) (now (marks .exit)) (now (work .exit))) ⌝ }
+    ensures { λ _. ⌜ Over (now (kinds .entry)) (now (codes .entry)) (now (index .entry)) (now (terms .entry)) (λ literals. TalliesUniversal (now (kinds .entry)) literals (now (preferences .entry)) (now (others .entry)) «other_count» (now (rows .entry)) (now (marks .entry)) count «clear_every» round mark (now (work .entry)) (now (counts .entry)) (now (counts .exit))) ⌝ }
 {
     let step = extend_universal(
         kinds,
-        literals,
+        codes,
+        index,
+        terms,
         preferences,
         others,
         other_count,
@@ -555,7 +571,9 @@ fn stood(end: u8, clear_every: u32, round: u32, count: usize) -> usize
 // old count are given up.
 fn extend_universal(
     kinds: &[u8],
-    literals: &[i32],
+    codes: &[u16],
+    index: &[u16],
+    terms: &[u16],
     preferences: &[u8],
     others: &[u8],
     other_count: usize,
@@ -567,13 +585,15 @@ fn extend_universal(
     mark: u16,
     work: &mut [u8],
 ) -> Step
-    ensures { λ r. ⌜ ExtendsUniversal (now (kinds .entry)) (now (literals .entry)) (now (preferences .entry)) (now (others .entry)) «other_count» (now (rows .entry)) (now (marks .entry)) count «clear_every» round mark (now (work .entry)) r (now (rows .exit)) (now (marks .exit)) (now (work .exit)) ⌝ }
-    ensures { λ _. ⌜ Packs (now (kinds .entry)) (now (literals .entry)) (now (preferences .entry)) (now (others .entry)) «other_count» true (now (work .entry)) (now (work .exit)) ⌝ }
+    ensures { λ r. ⌜ Over (now (kinds .entry)) (now (codes .entry)) (now (index .entry)) (now (terms .entry)) (λ literals. ExtendsUniversal (now (kinds .entry)) literals (now (preferences .entry)) (now (others .entry)) «other_count» (now (rows .entry)) (now (marks .entry)) count «clear_every» round mark (now (work .entry)) r (now (rows .exit)) (now (marks .exit)) (now (work .exit))) ⌝ }
+    ensures { λ _. ⌜ Over (now (kinds .entry)) (now (codes .entry)) (now (index .entry)) (now (terms .entry)) (λ literals. Packs (now (kinds .entry)) literals (now (preferences .entry)) (now (others .entry)) «other_count» true (now (work .entry)) (now (work .exit))) ⌝ }
 {
     let kept = kept_rows(clear_every, round, count);
     let step = extend(
         kinds,
-        literals,
+        codes,
+        index,
+        terms,
         preferences,
         others,
         other_count,
@@ -616,7 +636,9 @@ fn clears(clear_every: u32, round: u32) -> bool
 // A side's step: the search over the other side's rows, then the new ones of what they yield added to the side's table, or none of them.
 fn extend(
     kinds: &[u8],
-    literals: &[i32],
+    codes: &[u16],
+    index: &[u16],
+    terms: &[u16],
     preferences: &[u8],
     others: &[u8],
     other_count: usize,
@@ -627,12 +649,14 @@ fn extend(
     mark: u16,
     work: &mut [u8],
 ) -> Step
-    ensures { λ r. ⌜ Extends (now (kinds .entry)) (now (literals .entry)) (now (preferences .entry)) (now (others .entry)) «other_count» universal (now (rows .entry)) (now (marks .entry)) count mark (now (work .entry)) r (now (rows .exit)) (now (marks .exit)) (now (work .exit)) ⌝ }
-    ensures { λ _. ⌜ Packs (now (kinds .entry)) (now (literals .entry)) (now (preferences .entry)) (now (others .entry)) «other_count» universal (now (work .entry)) (now (work .exit)) ⌝ }
+    ensures { λ r. ⌜ Over (now (kinds .entry)) (now (codes .entry)) (now (index .entry)) (now (terms .entry)) (λ literals. Extends (now (kinds .entry)) literals (now (preferences .entry)) (now (others .entry)) «other_count» universal (now (rows .entry)) (now (marks .entry)) count mark (now (work .entry)) r (now (rows .exit)) (now (marks .exit)) (now (work .exit))) ⌝ }
+    ensures { λ _. ⌜ Over (now (kinds .entry)) (now (codes .entry)) (now (index .entry)) (now (terms .entry)) (λ literals. Packs (now (kinds .entry)) literals (now (preferences .entry)) (now (others .entry)) «other_count» universal (now (work .entry)) (now (work .exit))) ⌝ }
 {
     if finds(
         kinds,
-        literals,
+        codes,
+        index,
+        terms,
         preferences,
         others,
         other_count,
@@ -667,17 +691,29 @@ fn after_growth(growth: Growth, count: usize) -> Step
 // Whether the side has a model; the rows that it yields are then in the work area.
 fn finds(
     kinds: &[u8],
-    literals: &[i32],
+    codes: &[u16],
+    index: &[u16],
+    terms: &[u16],
     preferences: &[u8],
     rows: &[u8],
     count: usize,
     universal: bool,
     work: &mut [u8],
 ) -> bool
-    ensures { λ r. ⌜ r ≡ is-found (search-outcome (now (kinds .entry)) (now (literals .entry)) (now (preferences .entry)) (now (rows .entry)) count universal (now (work .entry))) ⌝ }
-    ensures { λ _. ⌜ now (work .exit) ≡ work-after (now (kinds .entry)) (now (literals .entry)) (now (preferences .entry)) (now (rows .entry)) count universal (now (work .entry)) ⌝ }
+    ensures { λ r. ⌜ Over (now (kinds .entry)) (now (codes .entry)) (now (index .entry)) (now (terms .entry)) (λ literals. r ≡ is-found (search-outcome (now (kinds .entry)) literals (now (preferences .entry)) (now (rows .entry)) count universal (now (work .entry)))) ⌝ }
+    ensures { λ _. ⌜ Over (now (kinds .entry)) (now (codes .entry)) (now (index .entry)) (now (terms .entry)) (λ literals. now (work .exit) ≡ work-after (now (kinds .entry)) literals (now (preferences .entry)) (now (rows .entry)) count universal (now (work .entry))) ⌝ }
 {
-    match search::first_model(kinds, literals, preferences, rows, count, universal, work) {
+    match search::first_model_over(
+        kinds,
+        codes,
+        index,
+        terms,
+        preferences,
+        rows,
+        count,
+        universal,
+        work,
+    ) {
         Search::Found => true,
         Search::NoModel => false,
         Search::Refused(_) => false,

@@ -1,15 +1,13 @@
 -- What the functions of the crates below leave, by the relations that the search's steps speak of. Assumes nothing.
 use Prim.Native.Nat.{ℕ, zero, suc, _+_, _-_, _%_, _≤_, _<_}
-use mathlib.Core.Path.{_≡_, refl, sym, _∙_, ap, ap₂, subst}
+use mathlib.Core.Path.{_≡_, refl, sym, _∙_, ap, subst}
 use mathlib.Core.Logic.{inl, inr}
 use mathlib.Core.Bool.{Bool, true}
 use mathlib.Core.List.{List, [], _∷_}
 use native.Mathlib.Omega.{arith}
 use native.Mathlib.Decide.{decLt}
 use borrow.Author.Tests.{le-leb, eq-eqb, ne-eqb, eqb-true}
-use lib.IntN.{ℤ}
-use lib.ListN.{length, getD, take, drop, replicate, List·getD-eq-default}
-use Rattle.formula.specs.Causes.{ended}
+use lib.ListN.{length, getD, drop, replicate, List·getD-eq-default}
 use Rattle.expansion.proofs.ClauseCuts.{matrix-at}
 use Rattle.search_cells.specs.Cells.{cells}
 use Rattle.search_cells.specs.Changes.{CellsSet, CellsOpened, FirstDifference}
@@ -23,14 +21,12 @@ use Rattle.search_order.proofs.PlaceLaws.{places-sorted}
 use Rattle.search_numbering.specs.Numbering.{filled as numbered}
 use Rattle.search_numbering.specs.Wants.{WantsFilled}
 use Rattle.search_numbering.proofs.WantsFill.{wants-filled}
-use Rattle.codes.specs.Codes.{used as entries-used, filled as written-codes}
-use Rattle.codes.specs.Clauses.{code-true, code-clauses, clause-of, Ended, Begins, Coded, Names, Encoded}
-use Rattle.codes.proofs.EncodeLaws.{accepted as encodable, used-length, filled-encoded}
+use Rattle.codes.specs.Clauses.{code-true, code-clauses, clause-of, Ended, Begins, Coded}
 use Rattle.index.specs.Occurrences.{begins}
 use Rattle.index.specs.Index.{all-codes, table-fits, index-of, filled as indexed}
 use Rattle.index.proofs.LayoutLaws.{end-is}
 use Rattle.index.proofs.IndexLaws.{read-names}
-use Rattle.search_sets.specs.Sets.{united, united-words, added, has, emptied, filled, trimmed, excused, blamed}
+use Rattle.search_sets.specs.Sets.{sets-size, united, united-words, added, has, emptied, filled, trimmed, excused, blamed}
 use Rattle.search_sets.specs.Masks.{set-at, SetGrown, SetsKept, United, WordsUnited, Trimmed, Excused, Blamed}
 use Rattle.search_sets.proofs.SetLaws.{unite-unites, words-unite, add-grows, add-adds, has-is, empty-keeps, fill-keeps, fill-fills, trim-trims, excuse-excuses, blame-blames}
 use Rattle.search_evaluation.specs.Evaluation.{look-at, matrix-in}
@@ -39,12 +35,12 @@ use Rattle.search_evaluation.proofs.LookLaws.{look-looked}
 use Rattle.search_evaluation.proofs.MatrixLaws.{matrix-is}
 use Rattle.search_groups.specs.Groups.{copy-start, copy-end, parting-row, parted-at, open-position}
 use Rattle.search_groups.specs.Parts.{CopyFrom, CopyTo, Parting, PartedAt, Stands}
-use Rattle.search.specs.Steps.{Listed}
+use Rattle.search.specs.Steps.{Listed, Indexed}
 use Rattle.search_groups.proofs.PartLaws.{copy-start-from, copy-end-to, parting-row-parts, parted-at-there, open-position-stands}
 
 -- ---- sets of positions
 
-module _ (s : List ℕ) {t : List ℕ} (size : length s ≡ 524) where
+module _ (s : List ℕ) {t : List ℕ} (size : length s ≡ sets-size) where
   pub unites : (to from : ℕ) → to < 130 → from < 130 → t ≡ united s to from → United to from s t
   unites to from place other e = subst (λ (x : List ℕ). United to from s x) (sym e) (unite-unites s size to from place other)
 
@@ -76,7 +72,7 @@ module _ (s : List ℕ) {t : List ℕ} (size : length s ≡ 524) where
   blames codes start to place coded e =
       subst (λ (x : List ℕ). Blamed (clause-of (drop start codes)) to s x) (sym e) (blame-blames s size codes start to place coded)
 
-pub has-at : (s : List ℕ) → length s ≡ 524 → (of p : ℕ) {r : Bool} → of < 130 → p < 128 → r ≡ has s of p → r ≡ set-at s of p
+pub has-at : (s : List ℕ) → length s ≡ sets-size → (of p : ℕ) {r : Bool} → of < 130 → p < 128 → r ≡ has s of p → r ≡ set-at s of p
 has-at s size of p place below e = e ∙ has-is s size of p place below
 
 -- ---- clauses in a row
@@ -134,15 +130,6 @@ pub numbers : (kinds preferences place splits : List ℕ) (side : ℕ) {w u : Li
 numbers kinds preferences place splits side {w} few most met room area e =
     subst (λ (x : List ℕ). WantsFilled kinds preferences place splits side w x) (sym e) (wants-filled kinds preferences place splits side w few most met room area)
 
-module _ (literals : List ℤ) (before : List ℕ) (short : length literals ≤ length before) (names : Names 128 literals) where
-  pub encodes-few : {used : ℕ} → used ≡ entries-used literals (length before) → used ≤ length literals
-  encodes-few e = omega (arith, used-length literals before (encodable literals (length before) short names))
-
-  pub encodes : {used : ℕ} {codes : List ℕ} → ended literals ≡ true → used ≡ entries-used literals (length before) → codes ≡ written-codes literals before
-      → Encoded literals (take used codes)
-  encodes end e f =
-      subst (λ (l : List ℕ). Encoded literals l) (ap₂ take (sym e) (sym f)) (filled-encoded literals before (encodable literals (length before) short names) end)
-
 all-are-codes : (codes : List ℕ) → Coded 128 codes → all-codes codes ≡ true
 all-are-codes [] coded = refl
 all-are-codes (zero ∷ codes) coded = all-are-codes codes (λ e less. coded (suc e) (omega arith))
@@ -193,6 +180,12 @@ lists-starts codes index few coded e = subst (λ (x : List ℕ). Listed codes x)
     starts c at small low high =
         let names = read-names codes few c (omega arith) at low (omega (arith, end-is (index-of codes) c (omega arith))) in
         start (getD (index-of codes) at 0) (names .first) (names .inside)
+
+-- A number that is read there is one.
+pub starts-there : (codes index : List ℕ) → length codes ≤ 8192 → Coded 128 codes → (c at start : ℕ) → c ≤ 257 → getD index c 0 ≤ at → at < getD index (259 + c) 0 → start ≡ getD index at 0
+    → Indexed 0 codes index → Begins codes start
+starts-there codes index few coded c at start small low high read listed =
+    subst (λ (x : ℕ). Begins codes x) (sym read) (lists-starts codes index few coded (listed refl) c at small low high)
 
 -- A table of zeros has 0 at every place, and past its end.
 pub zero-at : (n x : ℕ) → _≡_ {A = ℕ} (getD (replicate n 0) x 0) 0

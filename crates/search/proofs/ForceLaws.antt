@@ -6,9 +6,10 @@ use mathlib.Core.Logic.{_⊎_, inl, inr, ⊎-elim}
 use mathlib.Core.Bool.{Bool, true, false}
 use mathlib.Core.List.{List}
 use native.Mathlib.Omega.{arith}
-use native.Mathlib.Decide.{decLe, decLt}
+use native.Mathlib.Decide.{ℕ-discrete, decLe, decLt}
 use lib.Dec.{eqb}
-use lib.ListN.{length, drop}
+use lib.ListN.{length, getD, set, drop}
+use lib.Seq.{getD-set-same, getD-set-other}
 use Rattle.expansion.proofs.Booleans.{true-or-false, never-both}
 use Rattle.expansion.proofs.Cuts.{Mask, Problem, Agree, Refuted, Implied, Within, agree-sym, refuted-row, implied-row, implied-larger}
 use Rattle.expansion.proofs.Node.{Node, MasksWithin, grown-refl, grown-stored}
@@ -18,10 +19,11 @@ use Rattle.search_cells.specs.Cells.{cells}
 use Rattle.search_cells.specs.Changes.{CellsSet}
 use Rattle.search_sets.specs.Masks.{set-at, masks, cut, SetsKept, Blamed}
 use Rattle.codes.specs.Clauses.{position, code-true, code-clauses, clause-of, code-goal, Begins, Coded}
-use Rattle.search.specs.Steps.{Fits, Settled, Settles, Lent}
+use Rattle.search.specs.Steps.{Fits, Settled, Settles, Starts, Indexed, Lent}
 use Rattle.search_evaluation.specs.Looked.{IsAt, Looked}
 use Rattle.search_groups.specs.Parts.{CopyFrom, CopyTo}
 use Rattle.search.proofs.StepLaws.{masks-below, masks-grown, masks-kept, within-refl, within-trans, settles-refl, settles-then}
+use Rattle.search.proofs.CallLaws.{lists-starts}
 use Rattle.search.proofs.Rows.{agree-between, parted-apart}
 use Rattle.codes.proofs.CodeLaws.{code-local, code-sign, clause-among, clause-coded, every-both, every-some}
 
@@ -236,9 +238,9 @@ module _ (splits codes : List ℕ) (coded : Coded 128 codes) (lo hi mark : ℕ) 
 
 -- ---- looks one after the other
 
--- From the area w and the sets s to u and t, over looks that do not fail.
-pub record Going (splits codes : List ℕ) (lo hi mark : ℕ) (w u s t : List ℕ) : Type 0 where
-  pub settles : Settles 0 splits codes lo hi mark w u s t true
+-- From the area w and the sets s to u and t, over looks that do not fail, if what is looked up is as H says.
+pub record Going (H : Type 0) (splits codes : List ℕ) (lo hi mark : ℕ) (w u s t : List ℕ) : Type 0 where
+  pub settles : H → Settles 0 splits codes lo hi mark w u s t true
   pub work : length u ≡ length w
   pub sets : length t ≡ length s
 
@@ -260,7 +262,6 @@ lent-noted lent a = record {
   area = lent .area;
   sets-lent = a ∙ lent .sets-lent;
   index-lent = lent .index-lent;
-  listed = lent .listed;
 }
 
 -- What the side that is known to be the existential one is lent.
@@ -272,13 +273,12 @@ lent-existential is lent = record {
   area = lent .area;
   sets-lent = lent .sets-lent;
   index-lent = lent .index-lent;
-  listed = λ _. lent .listed is;
 }
 
-pub going-start : {splits codes : List ℕ} {lo hi mark : ℕ} {w s : List ℕ} → Going splits codes lo hi mark w w s s
-going-start {splits} {codes} {lo} {hi} {mark} {w} {s} = record { settles = settles-nothing splits codes lo hi mark w s; work = refl; sets = refl }
+pub going-start : {H : Type 0} {splits codes : List ℕ} {lo hi mark : ℕ} {w s : List ℕ} → Going H splits codes lo hi mark w w s s
+going-start {H} {splits} {codes} {lo} {hi} {mark} {w} {s} = record { settles = λ _. settles-nothing splits codes lo hi mark w s; work = refl; sets = refl }
 
-module _ {splits codes : List ℕ} {lo hi mark : ℕ} {w u s t : List ℕ} (so-far : Going splits codes lo hi mark w u s t) where
+module _ {H : Type 0} {splits codes : List ℕ} {lo hi mark : ℕ} {w u s t : List ℕ} (so-far : Going H splits codes lo hi mark w u s t) where
   pub lent-still : {side : ℕ} {x : List ℕ} → Lent side splits codes w s x → Lent side splits codes u t x
   lent-still lent = record {
     rows = lent .rows;
@@ -287,30 +287,47 @@ module _ {splits codes : List ℕ} {lo hi mark : ℕ} {w u s t : List ℕ} (so-f
     area = so-far .work ∙ lent .area;
     sets-lent = so-far .sets ∙ lent .sets-lent;
     index-lent = lent .index-lent;
-    listed = lent .listed;
   }
 
-  pub going-noted : {y : List ℕ} → SetsKept t y → length y ≡ length t → Going splits codes lo hi mark w u s y
+  pub going-noted : {y : List ℕ} → SetsKept t y → length y ≡ length t → Going H splits codes lo hi mark w u s y
   going-noted {y} noted same = record {
-    settles = settles-then 0 splits codes lo hi mark w u u s t y true (so-far .settles) (settles-noted splits codes lo hi mark u t y noted);
+    settles = λ h. settles-then 0 splits codes lo hi mark w u u s t y true (so-far .settles h) (settles-noted splits codes lo hi mark u t y noted);
     work = so-far .work;
     sets = same ∙ so-far .sets;
   }
 
-  pub going-then : {x y : List ℕ} (r : Bool) → Settles 0 splits codes lo hi mark u x t y r → r ≡ true → length x ≡ length u → length y ≡ length t → Going splits codes lo hi mark w x s y
+  pub going-then : {x y : List ℕ} (r : Bool) → (H → Settles 0 splits codes lo hi mark u x t y r) → r ≡ true → length x ≡ length u → length y ≡ length t → Going H splits codes lo hi mark w x s y
   going-then {x} {y} r next e a b = record {
-    settles = settles-then 0 splits codes lo hi mark w u x s t y true (so-far .settles) (subst (λ (z : Bool). Settles 0 splits codes lo hi mark u x t y z) e next);
+    settles = λ h. settles-then 0 splits codes lo hi mark w u x s t y true (so-far .settles h) (subst (λ (z : Bool). Settles 0 splits codes lo hi mark u x t y z) e (next h));
     work = a ∙ so-far .work;
     sets = b ∙ so-far .sets;
   }
 
   -- the last look, and one that fails
-  pub going-last : (x y : List ℕ) (r : Bool) → Settles 0 splits codes lo hi mark u x t y r → Settles 0 splits codes lo hi mark w x s y r
-  going-last x y r next = settles-then 0 splits codes lo hi mark w u x s t y r (so-far .settles) next
+  pub going-last : (x y : List ℕ) (r : Bool) → (H → Settles 0 splits codes lo hi mark u x t y r) → H → Settles 0 splits codes lo hi mark w x s y r
+  going-last x y r next h = settles-then 0 splits codes lo hi mark w u x s t y r (so-far .settles h) (next h)
 
-  pub going-ends : (x y : List ℕ) (r : Bool) → Settles 0 splits codes lo hi mark u x t y r → r ≡ false → Settles 0 splits codes lo hi mark w x s y false
-  going-ends x y r next e = going-last x y false (subst (λ (z : Bool). Settles 0 splits codes lo hi mark u x t y z) e next)
+  pub going-ends : (x y : List ℕ) (r : Bool) → (H → Settles 0 splits codes lo hi mark u x t y r) → r ≡ false → H → Settles 0 splits codes lo hi mark w x s y false
+  going-ends x y r next e = going-last x y false (λ h. subst (λ (z : Bool). Settles 0 splits codes lo hi mark u x t y z) e (next h))
 
-  pub going-at : {u′ t′ : List ℕ} → u′ ≡ u → t′ ≡ t → Going splits codes lo hi mark w u′ s t′
+  pub going-at : {u′ t′ : List ℕ} → u′ ≡ u → t′ ≡ t → Going H splits codes lo hi mark w u′ s t′
   going-at {u′} {t′} a b =
-      subst (λ (x : List ℕ). Going splits codes lo hi mark w x s t′) (sym a) (subst (λ (x : List ℕ). Going splits codes lo hi mark w u s x) (sym b) so-far)
+      subst (λ (x : List ℕ). Going H splits codes lo hi mark w x s t′) (sym a) (subst (λ (x : List ℕ). Going H splits codes lo hi mark w u s x) (sym b) so-far)
+
+-- ---- lists of clauses
+
+-- a start that is put behind those that are counted may be counted too
+pub starts-put : (codes list : List ℕ) (count start more : ℕ) → count < length list → more ≤ 1 → Begins codes start → Starts codes list 0 count → Starts codes (set list count start) 0 (count + more)
+starts-put codes list count start more fits few begins starts at low high = go (ℕ-discrete at count)
+  where
+    go : Dec (at ≡ count) → Begins codes (getD (set list count start) at 0)
+    go (yes e) = subst (λ (x : ℕ). Begins codes x) (sym (ap (λ (y : ℕ). getD (set list count start) y 0) e ∙ getD-set-same list count start 0 fits)) begins
+    go (no n) = subst (λ (x : ℕ). Begins codes x) (sym (getD-set-other list count at start 0 n)) (starts at (omega arith) (omega arith))
+
+-- what stands at a place of a list
+pub starts-at : (codes list : List ℕ) (begin end at start : ℕ) → begin ≤ at → at < end → start ≡ getD list at 0 → Starts codes list begin end → Begins codes start
+starts-at codes list begin end at start low high read starts = subst (λ (x : ℕ). Begins codes x) (sym read) (starts at low high)
+
+-- what the index lists for a code, up to an end that is no later
+pub lent-starts : {splits codes work sets index : List ℕ} → Lent 0 splits codes work sets index → Indexed 0 codes index → (c begin end : ℕ) → c ≤ 257 → begin ≡ getD index c 0 → end ≤ getD index (259 + c) 0 → Starts codes index begin end
+lent-starts {splits} {codes} {work} {sets} {index} lent listed c begin end le is early at low high = lists-starts codes index (lent .entries) (lent .coded) (listed refl) c at le (omega arith) (omega arith)

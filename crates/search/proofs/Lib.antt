@@ -10,3 +10,4 @@ pub mod TopLaws
 pub mod GoalLaws
 pub mod WholeLaws
 pub mod OutcomeLaws
+pub mod PreparedLaws

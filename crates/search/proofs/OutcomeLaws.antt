@@ -1,4 +1,4 @@
--- The causes in order, and the outcome: what is answered for an accepted formula is the outcome of the whole. Assumes nothing.
+-- The causes in order, and the outcome: what is answered over an accepted formula's tables is the outcome of the whole. Assumes nothing.
 use Prim.Native.Nat.{ℕ, zero, suc, _+_, _-_, _*_, _%_, _≤_, _<_}
 use mathlib.Core.Path.{_≡_, refl, sym, _∙_, ap}
 use mathlib.Core.Bool.{Bool, true, false, cond, _&&_, and-eq-true-iff}
@@ -14,18 +14,19 @@ use Rattle.formula.specs.Meaning.{matrix}
 use Rattle.formula.specs.Causes.{count, checked, refused-if, cause-1, cause-2, cause-3, sizes}
 use Rattle.formula.specs.declared.Check.the-variants.{Accepted as Passed, Refused as Turned}
 use Rattle.formula.specs.declared.Formula.{Formula}
-use Rattle.formula.proofs.Accepted.{accepted, accepted-sizes}
+use Rattle.formula.proofs.Accepted.{accepted-sizes}
 use Rattle.preference.specs.Preference.{prefer}
-use Rattle.rows.specs.Table.{rows-of, room, table-fits, stray-rows}
-use Rattle.expansion.specs.Side.{side-of, other}
+use Rattle.rows.specs.Table.{rows-of, room, table-fits}
+use Rattle.rows.specs.Stray.{stray-rows}
+use Rattle.expansion.specs.OtherSide.{side-of, other}
 use Rattle.expansion.specs.Play.{Row}
 use Rattle.expansion.specs.Model.{search}
 use Rattle.expansion.proofs.Booleans.{never-both}
 use Rattle.expansion.proofs.Right.{search-right}
 use Rattle.search.specs.declared.Search.{Search}
 use Rattle.search.specs.declared.Search.the-variants.{Found, NoModel, Refused}
-use Rattle.search.specs.Search.{lent-rows, cause, found, answer, left, outcome, work-after, number, outcome-number, Searched}
-use Rattle.search.specs.Whole.{side-kind, Accepting, FoundIs, later-cause, Answered}
+use Rattle.search.specs.Search.{lent-rows, cause, found, answer, left, outcome, work-after, number, outcome-number, later-cause, Searched}
+use Rattle.search.specs.Whole.{side-kind, TablesOf, FoundIs, Finds, Answered}
 
 -- ---- the causes behind the formula's
 
@@ -61,29 +62,29 @@ fits-few rows e =
     let c : length rows ≤ 4096 = leb-true (length rows) (max-rows * 16) b in
     omega arith
 
--- ---- answers for an accepted formula
+-- ---- answers over tables that fit
 
-module _ (kinds : List ℕ) (literals : List ℤ) (preferences rows : List ℕ) (lent others side : ℕ) (w : List ℕ) where
-  pub answered-refused : (n : ℕ) → later-cause rows lent others w ≡ suc n → Answered kinds literals preferences rows lent others side w w (Refused (suc n))
+module _ (kinds codes index terms preferences rows : List ℕ) (lent others side : ℕ) (w : List ℕ) where
+  pub answered-refused : (n : ℕ) → later-cause rows lent others w ≡ suc n → Answered kinds codes index terms preferences rows lent others side w w (Refused (suc n))
   answered-refused n e = record {
     refused = λ f. (ap Refused (sym e), refl);
     answered = λ z. absurd (omega arith);
   }
 
-  pub answered-found : (u : List ℕ) (b : Bool) → later-cause rows lent others w ≡ 0 → FoundIs (search (prefer preferences) (side-kind side) (prefix kinds) (matrix (clauses literals)) (rows-of others lent rows)) b u → b ≡ true → Answered kinds literals preferences rows lent others side w u Found
+  pub answered-found : (u : List ℕ) (b : Bool) → later-cause rows lent others w ≡ 0 → Finds kinds codes index terms preferences rows lent others side b u → b ≡ true → Answered kinds codes index terms preferences rows lent others side w u Found
   answered-found u b z found-is e = record {
     refused = λ f. absurd (f z);
-    answered = λ q. go (search (prefer preferences) (side-kind side) (prefix kinds) (matrix (clauses literals)) (rows-of others lent rows)) found-is;
+    answered = λ q literals of. go (search (prefer preferences) (side-kind side) (prefix kinds) (matrix (clauses literals)) (rows-of others lent rows)) (found-is literals of);
   }
     where
       go : (o : Option (List Row)) → FoundIs o b u → (Found ≡ answer o) × (u ≡ left o)
       go none f = absurd (never-both e (f .0))
       go (some ys) f = (refl, f .1)
 
-  pub answered-none : (u : List ℕ) (b : Bool) → later-cause rows lent others w ≡ 0 → FoundIs (search (prefer preferences) (side-kind side) (prefix kinds) (matrix (clauses literals)) (rows-of others lent rows)) b u → b ≡ false → Answered kinds literals preferences rows lent others side w u NoModel
+  pub answered-none : (u : List ℕ) (b : Bool) → later-cause rows lent others w ≡ 0 → Finds kinds codes index terms preferences rows lent others side b u → b ≡ false → Answered kinds codes index terms preferences rows lent others side w u NoModel
   answered-none u b z found-is e = record {
     refused = λ f. absurd (f z);
-    answered = λ q. go (search (prefer preferences) (side-kind side) (prefix kinds) (matrix (clauses literals)) (rows-of others lent rows)) found-is;
+    answered = λ q literals of. go (search (prefer preferences) (side-kind side) (prefix kinds) (matrix (clauses literals)) (rows-of others lent rows)) (found-is literals of);
   }
     where
       go : (o : Option (List Row)) → FoundIs o b u → (NoModel ≡ answer o) × (u ≡ left o)
@@ -138,7 +139,8 @@ module _ (kinds : List ℕ) (literals : List ℤ) (preferences rows : List ℕ) 
   pub refused-searched : (n : ℕ) → checked kinds literals ≡ Turned n → Searched kinds literals preferences rows lent universal? w (Refused n) w
   refused-searched n e = searched (Refused n) w (refused-outcome n e) (refused-work n e)
 
-  module _ (f : Formula) (passed : checked kinds literals ≡ Passed f) (others side : ℕ) (same-side : side-kind side ≡ side-of universal?) (others-known : others ≡ count (other (side-kind side)) (prefix kinds)) where
+  module _ (f : Formula) (passed : checked kinds literals ≡ Passed f) (others side : ℕ) (same-side : side-kind side ≡ side-of universal?) (others-known : others ≡ count (other (side-kind side)) (prefix kinds))
+      (codes index terms : List ℕ) (of : TablesOf kinds literals codes index terms) where
     others-same : count (other (side-of universal?)) (prefix kinds) ≡ others
     others-same = ap (λ (s : Kind). count (other s) (prefix kinds)) (sym same-side) ∙ sym others-known
 
@@ -150,23 +152,23 @@ module _ (kinds : List ℕ) (literals : List ℤ) (preferences rows : List ℕ) 
     unfolding found lent-rows
     found-same = rw (others-same, ← same-side)
 
-    answered-outcome : (u : List ℕ) (r : Search) → Answered kinds literals preferences rows lent others side w u r → r ≡ outcome kinds literals preferences rows lent universal? w
+    answered-outcome : (u : List ℕ) (r : Search) → Answered kinds codes index terms preferences rows lent others side w u r → r ≡ outcome kinds literals preferences rows lent universal? w
     unfolding outcome
     answered-outcome u r a = go (later-cause rows lent others w) refl
       where
         go : (n : ℕ) → later-cause rows lent others w ≡ n → r ≡ cond (eqb (cause kinds literals rows lent universal? w) 0) (answer (found kinds literals preferences rows lent universal?)) (Refused (cause kinds literals rows lent universal? w))
-        go zero e = a .answered e .0 ∙ sym (rw (cause-later, e, found-same))
+        go zero e = a .answered e literals of .0 ∙ sym (rw (cause-later, e, found-same))
         go (suc n) e = a .refused (λ z. omega arith) .0 ∙ sym (rw (cause-later, e, ne-eqb (suc n) 0 (λ z. omega arith)))
 
-    answered-work : (u : List ℕ) (r : Search) → Answered kinds literals preferences rows lent others side w u r → u ≡ work-after kinds literals preferences rows lent universal? w
+    answered-work : (u : List ℕ) (r : Search) → Answered kinds codes index terms preferences rows lent others side w u r → u ≡ work-after kinds literals preferences rows lent universal? w
     unfolding work-after
     answered-work u r a = go (later-cause rows lent others w) refl
       where
         go : (n : ℕ) → later-cause rows lent others w ≡ n → u ≡ cond (eqb (cause kinds literals rows lent universal? w) 0) (left (found kinds literals preferences rows lent universal?)) w
-        go zero e = a .answered e .1 ∙ sym (rw (cause-later, e, found-same))
+        go zero e = a .answered e literals of .1 ∙ sym (rw (cause-later, e, found-same))
         go (suc n) e = a .refused (λ z. omega arith) .1 ∙ sym (rw (cause-later, e, ne-eqb (suc n) 0 (λ z. omega arith)))
 
-    pub answered-searched : (u : List ℕ) (r : Search) → Answered kinds literals preferences rows lent others side w u r
+    pub answered-searched : (u : List ℕ) (r : Search) → Answered kinds codes index terms preferences rows lent others side w u r
         → Searched kinds literals preferences rows lent universal? w r u
     answered-searched u r a = searched r u (answered-outcome u r a) (answered-work u r a)
 
@@ -188,16 +190,12 @@ module _ (kinds : List ℕ) (literals : List ℤ) (f : Formula) (passed : checke
       let c : length (prefix kinds) ≡ length kinds = length-map kinds kind-of in
       omega arith
 
-  pub accepting-existential : Accepting kinds literals (f .universals) 0
-  accepting-existential = record { accepted = accepted kinds literals passed; others-known = universals-known; side-fits = omega arith }
+  pub others-existential : f .universals ≡ count (other (side-kind 0)) (prefix kinds)
+  others-existential = universals-known
 
-  pub accepting-universal : Accepting kinds literals (length kinds - f .universals) 1
-  accepting-universal = record {
-    accepted = accepted kinds literals passed;
-    others-known =
-        let a : f .universals ≡ count universal (prefix kinds) = universals-known in
-        let b : count universal (prefix kinds) + count existential (prefix kinds) ≡ length (prefix kinds) = count-both (prefix kinds) in
-        let c : length (prefix kinds) ≡ length kinds = length-map kinds kind-of in
-        omega arith;
-    side-fits = omega arith;
-  }
+  pub others-universal : length kinds - f .universals ≡ count (other (side-kind 1)) (prefix kinds)
+  others-universal =
+      let a : f .universals ≡ count universal (prefix kinds) = universals-known in
+      let b : count universal (prefix kinds) + count existential (prefix kinds) ≡ length (prefix kinds) = count-both (prefix kinds) in
+      let c : length (prefix kinds) ≡ length kinds = length-map kinds kind-of in
+      omega arith

@@ -15,7 +15,7 @@ use Rattle.expansion.proofs.Cuts.{Mask, Problem, Model, Refuted, refuted-row}
 use Rattle.expansion.proofs.Node.{Node}
 use Rattle.codes.specs.Clauses.{Coded}
 use Rattle.search_cells.specs.Cells.{cells}
-use Rattle.search_sets.specs.Sets.{emptied, united-words}
+use Rattle.search_sets.specs.Sets.{sets-size, emptied, united-words}
 use Rattle.search_sets.specs.Masks.{words, set-at, masks, cut, SetsKept}
 use Rattle.search_sets.proofs.MaskLaws.{words-none, kept-trans, kept-grown}
 use Rattle.search_reasons.specs.Reasons.{Fixed, IsReason, Shorter}
@@ -100,7 +100,7 @@ shortened-none codes w i mark s t same = record {
   reason = inl (λ l. cut-at t l ∙ same .same 128 (omega arith) l ∙ sym (cut-at s l));
 }
 
-pub shortened-new : (codes w : List ℕ) (i mark k low high : ℕ) (found : Bool) (s s1 s2 s3 t : List ℕ) → Same s s1 → Same s1 s2 → length s2 ≡ 524 → length s3 ≡ 524
+pub shortened-new : (codes w : List ℕ) (i mark k low high : ℕ) (found : Bool) (s s1 s2 s3 t : List ℕ) → Same s s1 → Same s1 s2 → length s2 ≡ sets-size → length s3 ≡ sets-size
     → k ≡ mark - 1 → Shorter codes w s1 i k found low high → found ≡ true → s3 ≡ emptied s2 128 → t ≡ united-words s3 128 low high → Shortened codes w i mark s t
 shortened-new codes w i mark k low high found s s1 s2 s3 t first second size size′ ek shorter is-found ee eu =
     let united = unites-words s3 size′ 128 low high (omega arith) eu in

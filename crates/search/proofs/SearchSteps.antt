@@ -13,10 +13,10 @@ use Rattle.expansion.proofs.Node.{Node, Won}
 use Rattle.search_cells.specs.Cells.{cells, wants}
 use Rattle.search_cells.specs.Changes.{CellsSet, CellsOpened}
 use Rattle.search_sets.specs.Masks.{set-at, masks, cut, SetGrown, WordsUnited, Trimmed, Excused}
-use Rattle.search.specs.Steps.{Fits, Settled, Settles, Searched, Searches, with-value, Tried, Tries, Chooses, Retries, Steps, Reached, FromStart}
+use Rattle.search.specs.Steps.{Fits, Settled, SettlesFor, Searched, Searches, with-value, Tried, Tries, Chooses, Retries, Steps, Reached, FromStart}
 use Rattle.search_groups.specs.Parts.{Parting, PartedAt, Stands}
 use Rattle.search.proofs.StepLaws.{masks-grown}
-use Rattle.search.proofs.SolveLaws.{tried-node, tried-refuted, tried-searched, chosen-first, failed-without, second-node, second-wants, second-open, chosen-second, failed-both, failed-second, high-node, split-first, low-node, split-second, searched-leaf, stood-node, at-fits, stood-open, parted-other, stood-searched, stood-won}
+use Rattle.search.proofs.SolveLaws.{tried-node, tried-refuted, tried-searched, chosen-first, failed-without, second-node, second-wants, second-open, chosen-second, failed-both, failed-second, InOrder, first-node, split-first, second-part-node, split-second, searched-leaf, stood-node, at-fits, stood-open, parted-other, stood-searched, stood-won}
 
 unknown : (P : Problem) (kinds splits codes : List ℕ) (side k : ℕ) → Fits P kinds splits codes side → k < length kinds → k < P .n
 unknown P kinds splits codes side k F h = let e : P .n ≡ length kinds = F .unknowns in omega arith
@@ -27,20 +27,20 @@ module _ (kinds splits codes : List ℕ) (side k lo hi : ℕ) (kk : k < length k
 
   -- ---- a trial
 
-  module _ (y : Bool) (w w1 w2 s s1 s2 : List ℕ) (r1 : Bool) (added : SetGrown k s s1) (named : set-at s1 k k ≡ true) (stored : CellsSet k lo hi (k + 2) y w w1) (followed : Settles side splits codes lo hi (k + 2) w1 w2 s1 s2 r1) where
+  module _ (y : Bool) (w w1 w2 s s1 s2 : List ℕ) (r1 : Bool) (added : SetGrown k s s1) (named : set-at s1 k k ≡ true) (stored : CellsSet k lo hi (k + 2) y w w1) (followed : SettlesFor kinds side splits codes lo hi (k + 2) w1 w2 s1 s2 r1) where
     pub tries-refuted : r1 ≡ false → Tries kinds splits codes side k lo hi y w w2 s s2 false
     tries-refuted e P v F W A o z =
         let kn : k < P .n = unknown P kinds splits codes side k F kk in
         tried-refuted kinds splits codes side k lo hi below y w w1 w2 s s1 s2 added named stored P v F W A kn o z
         (subst (λ (b : Bool). Settled P (k + 1) lo hi (with-value k y v) (k + 2) w1 w2 s1 s2 b) e
-        (followed P kinds (k + 1) (with-value k y v) F (tried-node kinds splits codes side k lo hi below y w w1 w2 s s1 s2 added named stored P v F W A kn o z) (omega arith) (omega arith)))
+        (followed P (k + 1) (with-value k y v) F (tried-node kinds splits codes side k lo hi below y w w1 w2 s s1 s2 added named stored P v F W A kn o z) (omega arith) (omega arith)))
 
     pub tries-searched : (w3 s3 : List ℕ) (r : Bool) → r1 ≡ true → Searches kinds splits codes side (k + 1) lo hi w2 w3 s2 s3 r → Tries kinds splits codes side k lo hi y w w3 s s3 r
     tries-searched w3 s3 r e searches P v F W A o z =
         let kn : k < P .n = unknown P kinds splits codes side k F kk in
         let settled : Settled P (k + 1) lo hi (with-value k y v) (k + 2) w1 w2 s1 s2 true =
         subst (λ (b : Bool). Settled P (k + 1) lo hi (with-value k y v) (k + 2) w1 w2 s1 s2 b) e
-        (followed P kinds (k + 1) (with-value k y v) F (tried-node kinds splits codes side k lo hi below y w w1 w2 s s1 s2 added named stored P v F W A kn o z) (omega arith) (omega arith)) in
+        (followed P (k + 1) (with-value k y v) F (tried-node kinds splits codes side k lo hi below y w w1 w2 s s1 s2 added named stored P v F W A kn o z) (omega arith) (omega arith)) in
         tried-searched kinds splits codes side k lo hi below y w w1 w2 s s1 s2 added named stored P v F W A kn o z w3 s3 r settled
         (searches P (with-value k y v) F (λ i j a b own. settled .wanted i j ∙ stored .wanted i j ∙ W i j a b own) (settled .kept refl))
 
@@ -102,20 +102,20 @@ Splits kinds splits codes side k lo mid hi w u s t r =
     → P .own k ≡ false → Parting splits lo hi mid → getD splits mid 0 ≡ k
     → Searched P k lo hi v w u s t r
 
-module _ (kinds splits codes : List ℕ) (side k lo mid hi : ℕ) (kk : k < length kinds) (lm : lo < mid) (w w1 s s1 : List ℕ) (r1 : Bool) (first : Searches kinds splits codes side (k + 1) mid hi w w1 s s1 r1) where
+module _ (kinds splits codes : List ℕ) (side k lo mid hi a b d e : ℕ) (kk : k < length kinds) (lm : lo < mid) (order : InOrder lo mid hi a b d e) (w w1 s s1 : List ℕ) (r1 : Bool) (first : Searches kinds splits codes side (k + 1) a b w w1 s s1 r1) where
   pub splits-first : r1 ≡ false → Splits kinds splits codes side k lo mid hi w w1 s s1 false
-  splits-first e P v F W A o parting at-k =
+  splits-first f P v F W A o parting at-k =
       let kn : k < P .n = unknown P kinds splits codes side k F kk in
-      split-first P kinds splits codes side F k lo mid hi v w s A kn o parting lm at-k w1 s1 r1
-      (first P (with-value k (P .given mid k) v) F W (high-node P kinds splits codes side F k lo mid hi v w s A kn o parting lm at-k)) e
+      split-first P kinds splits codes side F k lo mid hi v w s A kn o parting lm at-k a b d e order w1 s1 r1
+      (first P (with-value k (P .given a k) v) F W (first-node P kinds splits codes side F k lo mid hi v w s A kn o parting lm at-k a b d e order)) f
 
-  pub splits-second : (s2 w3 s3 : List ℕ) (r : Bool) → r1 ≡ true → Trimmed k s1 s2 → Searches kinds splits codes side (k + 1) lo mid w1 w3 s2 s3 r → Splits kinds splits codes side k lo mid hi w w3 s s3 r
-  splits-second s2 w3 s3 r e trimmed second P v F W A o parting at-k =
+  pub splits-second : (s2 w3 s3 : List ℕ) (r : Bool) → r1 ≡ true → Trimmed k s1 s2 → Searches kinds splits codes side (k + 1) d e w1 w3 s2 s3 r → Splits kinds splits codes side k lo mid hi w w3 s s3 r
+  splits-second s2 w3 s3 r f trimmed second P v F W A o parting at-k =
       let kn : k < P .n = unknown P kinds splits codes side k F kk in
-      let one : Searched P (k + 1) mid hi (with-value k (P .given mid k) v) w w1 s s1 r1 =
-      first P (with-value k (P .given mid k) v) F W (high-node P kinds splits codes side F k lo mid hi v w s A kn o parting lm at-k) in
-      split-second P kinds splits codes side F k lo mid hi v w s A kn o parting lm at-k w1 s1 r1 one s2 trimmed w3 s3 r e
-      (second P (with-value k (P .given lo k) v) F (λ i j a b own. one .wanted i j ∙ W i j a b own) (low-node P kinds splits codes side F k lo mid hi v w s A kn o parting lm at-k w1 s1 r1 one s2 trimmed))
+      let one : Searched P (k + 1) a b (with-value k (P .given a k) v) w w1 s s1 r1 =
+      first P (with-value k (P .given a k) v) F W (first-node P kinds splits codes side F k lo mid hi v w s A kn o parting lm at-k a b d e order) in
+      split-second P kinds splits codes side F k lo mid hi v w s A kn o parting lm at-k a b d e order w1 s1 r1 one s2 trimmed w3 s3 r f
+      (second P (with-value k (P .given d k) v) F (λ i j x y own. one .wanted i j ∙ W i j x y own) (second-part-node P kinds splits codes side F k lo mid hi v w s A kn o parting lm at-k a b d e order w1 s1 r1 one s2 trimmed))
 
 -- ---- the position behind those that stand
 
@@ -188,14 +188,14 @@ module _ (P : Problem) (kinds splits codes : List ℕ) (side : ℕ) (F : Fits P 
     levels = λ i j p q. ⊎-elim (λ c. let z : cells w .level i j ≡ 1 = filled i j (c .0) (c .1) (c .2) .0 in omega arith) (λ e. omega arith) (cell-cases i j);
   }
 
-module _ (kinds splits codes : List ℕ) (side : ℕ) (some : 0 < length splits) (w w1 s s1 : List ℕ) (r1 : Bool) (looked : Settles side splits codes 0 (length splits) 1 w w1 s s1 r1) where
+module _ (kinds splits codes : List ℕ) (side : ℕ) (some : 0 < length splits) (w w1 s s1 : List ℕ) (r1 : Bool) (looked : SettlesFor kinds side splits codes 0 (length splits) 1 w w1 s s1 r1) where
   pub start-refuted : r1 ≡ false → FromStart kinds splits codes side w w1 false
-  start-refuted e P F W filled opened = (λ f. absurd (never-both f refl), λ f v. (cut s1, looked P kinds 0 v F (root-node P kinds splits codes side F some w filled opened v s) (omega arith) (omega arith) .failed e))
+  start-refuted e P F W filled opened = (λ f. absurd (never-both f refl), λ f v. (cut s1, looked P 0 v F (root-node P kinds splits codes side F some w filled opened v s) (omega arith) (omega arith) .failed e))
 
   pub start-searched : (u t : List ℕ) (r : Bool) → r1 ≡ true → Searches kinds splits codes side 0 0 (length splits) w1 u s1 t r → FromStart kinds splits codes side w u r
   start-searched u t r e searches P F W filled opened = (λ f. subst (λ (x : ℕ). Won P 0 0 x (cells u)) (sym (F .rows)) (searched (λ j. false) .won f), λ f v. (cut t, searched v .failed f))
     where
       searched : (v : ℕ → Bool) → Searched P 0 0 (length splits) v w1 u s1 t r
       searched v =
-          let settled : Settled P 0 0 (length splits) v 1 w w1 s s1 r1 = looked P kinds 0 v F (root-node P kinds splits codes side F some w filled opened v s) (omega arith) (omega arith) in
+          let settled : Settled P 0 0 (length splits) v 1 w w1 s s1 r1 = looked P 0 v F (root-node P kinds splits codes side F some w filled opened v s) (omega arith) (omega arith) in
           searches P v F (λ i j a b own. settled .wanted i j ∙ W i j a b own) (settled .kept e)

@@ -11,7 +11,7 @@ use borrow.Author.Tests.{eq-eqb, ne-eqb}
 use lib.ListN.{length, getD}
 use Rattle.expansion.proofs.Booleans.{true-or-false, never-both}
 use Rattle.expansion.proofs.Cuts.{Mask, Problem, Agree, Refuted, Within, SameBelow, agree-own, agree-given, agree-shorter, refuted-without, refuted-both, refuted-row, refuted-given}
-use Rattle.expansion.proofs.Node.{Node, SameCell, Grown, MasksWithin, grown-outside, grown-refl, grown-trans, grown-wider, grown-stored, grown-keeps, cleared-back}
+use Rattle.expansion.proofs.Node.{Node, Won, SameCell, Grown, MasksWithin, grown-outside, grown-refl, grown-trans, grown-wider, grown-stored, grown-keeps, cleared-back}
 use Rattle.expansion.proofs.Steps.{node-part, node-same, node-next, node-decide}
 use Rattle.expansion.proofs.Success.{past-kept, won-leaf, won-wanted, won-other, won-parts, won-kept}
 use Rattle.expansion.proofs.Stand.{node-stand, won-stand, refuted-stand}
@@ -183,6 +183,32 @@ module _ (kinds splits codes : List ℕ) (side k lo hi : ℕ) (k128 : k < 128) w
 
 -- ---- rows that part
 
+-- One of the two parts of a group, the rows before mid and those from mid on.
+abbrev pub IsPart : ℕ → ℕ → ℕ → ℕ → ℕ → Type 0
+IsPart lo mid hi a e = ((a ≡ lo) × (e ≡ mid)) ⊎ ((a ≡ mid) × (e ≡ hi))
+
+-- Both of them, in either order.
+pub record InOrder (lo mid hi a b d e : ℕ) : Type 0 where
+  pub parts : ((a ≡ lo) × (b ≡ mid) × (d ≡ mid) × (e ≡ hi)) ⊎ ((a ≡ mid) × (b ≡ hi) × (d ≡ lo) × (e ≡ mid))
+
+pub in-order : (low : Bool) {lo mid hi a b d e : ℕ} → a ≡ cond low lo mid → b ≡ cond low mid hi → d ≡ cond low mid lo → e ≡ cond low hi mid → InOrder lo mid hi a b d e
+in-order true p q r s = record { parts = inl (p, q, r, s) }
+in-order false p q r s = record { parts = inr (p, q, r, s) }
+
+module _ {lo mid hi a b d e : ℕ} (order : InOrder lo mid hi a b d e) where
+  pub first-part : IsPart lo mid hi a b
+  first-part = ⊎-elim (λ t. inl (t .0, t .1)) (λ t. inr (t .0, t .1)) (order .parts)
+
+  pub second-part : IsPart lo mid hi d e
+  second-part = ⊎-elim (λ t. inr (t .2, t .3)) (λ t. inl (t .2, t .3)) (order .parts)
+
+  disjoint : lo < mid → mid < hi → (i : ℕ) → d ≤ i → i < e → (a ≤ i) × (i < b) → ⊥
+  disjoint lm mh i p q r = ⊎-elim {C = ⊥} (λ t. omega arith) (λ t. omega arith) (order .parts)
+
+-- a part has a row, and lies in the group
+pub part-fits : {lo mid hi a e : ℕ} → lo < mid → mid < hi → IsPart lo mid hi a e → (lo ≤ a) × (a < e) × (e ≤ hi)
+part-fits {lo} {mid} {hi} {a} {e} lm mh part = ⊎-elim {C = (lo ≤ a) × (a < e) × (e ≤ hi)} (λ t. (omega arith, omega arith, omega arith)) (λ t. (omega arith, omega arith, omega arith)) part
+
 module _ (P : Problem) (kinds splits codes : List ℕ) (side : ℕ) (F : Fits P kinds splits codes side) where
   other-given : (a b c : Bool) → (a ≡ b → ⊥) → (a ≡ c → ⊥) → b ≡ c
   other-given true true c f g = absurd (f refl)
@@ -210,63 +236,84 @@ module _ (P : Problem) (kinds splits codes : List ℕ) (side : ℕ) (F : Fits P 
         (other-given (P .given lo k) (P .given i k) (P .given h k) (parts-differ lo i (omega arith) lm p q) (parts-differ lo h (omega arith) lm r t))
         (A .agree i h (omega arith) q (omega arith) t)
 
-    part-node : (a e : ℕ) → lo ≤ a → a < e → e ≤ hi → ((i h : ℕ) → a ≤ i → i < e → a ≤ h → h < e → Agree P i h (k + 1)) → (u t : List ℕ) → ((i j : ℕ) → a ≤ i → i < e → SameCell (cells w) (cells u) i j) → MasksWithin k (masks s) (masks t)
-        → Node P (k + 1) a e (with-value k (P .given a k) v) (cells u) (masks t)
-    part-node a e la ae eh ag u t same larger =
-        node-next P k a e v (with-value k (P .given a k) v) (cells u) (masks t) kn (with-same k (P .given a k) v)
-        (λ i p q. (N .given i k p q kn o .0, N .given i k p q kn o .1 ∙ ag i a p q (omega arith) ae k (omega arith) o ∙ sym (with-at k (P .given a k) v)))
-        ag N
-      where
-        N : Node P k a e v (cells u) (masks t)
-        N = node-same P k a e v (cells w) (cells u) (masks s) (masks t) same larger (node-part P k lo hi a e v (cells w) (masks s) la ae eh A)
-
-    part-refuted : (a e : ℕ) → lo ≤ a → a < e → e ≤ hi → (D : Mask) → Refuted P (k + 1) (with-value k (P .given a k) v) D a → Refuted P k v D lo
-    part-refuted a e la ae eh D refuted =
-        refuted-row P a lo k v D (let b : hi ≤ P .count = A .rows in omega arith) (let b : hi ≤ P .count = A .rows in omega arith) (A .depth) (A .agree a lo (omega arith) (omega arith) (omega arith) (omega arith))
-        (refuted-given P k v (with-value k (P .given a k) v) D a (let b : hi ≤ P .count = A .rows in omega arith) kn o (with-at k (P .given a k) v) (with-same k (P .given a k) v) refuted)
-
     high : mid < hi
     high = parting .high
 
-    pub high-node : Node P (k + 1) mid hi (with-value k (P .given mid k) v) (cells w) (masks s)
-    high-node = part-node mid hi (omega arith) high (omega arith) high-agree w s (λ i j p q. (refl, λ h. refl)) (within-refl k (masks s))
+    part-agree : (a e : ℕ) → IsPart lo mid hi a e → (i h : ℕ) → a ≤ i → i < e → a ≤ h → h < e → Agree P i h (k + 1)
+    part-agree a e part i h p q r t = ⊎-elim (λ x. low-agree i h (omega arith) (omega arith) (omega arith) (omega arith)) (λ x. high-agree i h (omega arith) (omega arith) (omega arith) (omega arith)) part
 
-    module _ (w1 s1 : List ℕ) (r1 : Bool) (first : Searched P (k + 1) mid hi (with-value k (P .given mid k) v) w w1 s s1 r1) where
-      first-grown : Grown (k + 2) lo hi (cells w) (cells w1)
-      first-grown = grown-wider (k + 1 + 2) (k + 2) mid hi lo hi (cells w) (cells w1) (omega arith) (omega arith) (omega arith) (first .grown)
+    part-node : (a e : ℕ) → IsPart lo mid hi a e → (u t : List ℕ) → ((i j : ℕ) → a ≤ i → i < e → SameCell (cells w) (cells u) i j) → MasksWithin k (masks s) (masks t)
+        → Node P (k + 1) a e (with-value k (P .given a k) v) (cells u) (masks t)
+    part-node a e part u t same larger =
+        node-next P k a e v (with-value k (P .given a k) v) (cells u) (masks t) kn (with-same k (P .given a k) v)
+        (λ i p q. (N .given i k p q kn o .0, N .given i k p q kn o .1 ∙ part-agree a e part i a p q (omega arith) (fits .1) k (omega arith) o ∙ sym (with-at k (P .given a k) v)))
+        (part-agree a e part) N
+      where
+        fits : (lo ≤ a) × (a < e) × (e ≤ hi)
+        fits = part-fits lm high part
 
-      first-masked : MasksWithin k (masks s) (masks s1)
-      first-masked = within-shorter k (k + 1) (masks s) (masks s1) (omega arith) (first .masked)
+        N : Node P k a e v (cells u) (masks t)
+        N = node-same P k a e v (cells w) (cells u) (masks s) (masks t) same larger (node-part P k lo hi a e v (cells w) (masks s) (fits .0) (fits .1) (fits .2) A)
 
-      pub split-first : r1 ≡ false → Searched P k lo hi v w w1 s s1 false
-      split-first e = record {
-        grown = first-grown;
-        wanted = first .wanted;
-        masked = first-masked;
-        won = λ e′. absurd (never-both e′ refl);
-        failed = λ e′. part-refuted mid hi (omega arith) high (omega arith) (cut s1) (first .failed e);
-      }
+    part-refuted : (a e : ℕ) → IsPart lo mid hi a e → (D : Mask) → Refuted P (k + 1) (with-value k (P .given a k) v) D a → Refuted P k v D lo
+    part-refuted a e part D refuted =
+        let fits : (lo ≤ a) × (a < e) × (e ≤ hi) = part-fits lm high part in
+        refuted-row P a lo k v D (let b : hi ≤ P .count = A .rows in omega arith) (let b : hi ≤ P .count = A .rows in omega arith) (A .depth) (A .agree a lo (omega arith) (omega arith) (omega arith) (omega arith))
+        (refuted-given P k v (with-value k (P .given a k) v) D a (let b : hi ≤ P .count = A .rows in omega arith) kn o (with-at k (P .given a k) v) (with-same k (P .given a k) v) refuted)
 
-      module _ (s2 : List ℕ) (trimmed : Trimmed k s1 s2) where
-        between : MasksWithin k (masks s) (masks s2)
-        between = within-trans k (masks s) (masks s1) (masks s2) first-masked (masks-within k s1 s2 (λ p lt l lk h. trimmed .below p l lk h))
+    module _ (a b d e : ℕ) (order : InOrder lo mid hi a b d e) where
+      first-fits : (lo ≤ a) × (a < b) × (b ≤ hi)
+      first-fits = part-fits lm high (first-part order)
 
-        pub low-node : Node P (k + 1) lo mid (with-value k (P .given lo k) v) (cells w1) (masks s2)
-        low-node = part-node lo mid (omega arith) lm (omega arith) low-agree w1 s2 (λ i j p q. grown-outside (k + 1 + 2) mid hi (cells w) (cells w1) (first .grown) i j (λ t. omega arith)) between
+      second-fits : (lo ≤ d) × (d < e) × (e ≤ hi)
+      second-fits = part-fits lm high (second-part order)
 
-        pub split-second : (w3 s3 : List ℕ) (r : Bool) → r1 ≡ true → Searched P (k + 1) lo mid (with-value k (P .given lo k) v) w1 w3 s2 s3 r → Searched P k lo hi v w w3 s s3 r
-        split-second w3 s3 r e second = record {
-          grown = all-grown;
-          wanted = wants-trans w w1 w3 (first .wanted) (second .wanted);
-          masked = within-trans k (masks s) (masks s2) (masks s3) between (within-shorter k (k + 1) (masks s2) (masks s3) (omega arith) (second .masked));
-          won = λ e′.
-              won-parts P k lo mid hi v (cells w3) kn o (past-kept P k lo hi (k + 2) lo hi v (cells w) (cells w3) (masks s) A all-grown) parts-differ (second .won e′)
-              (won-kept P (k + 1) mid hi (k + 1 + 2) lo mid (cells w1) (cells w3) (second .grown) (first .won e) (F .sound));
-          failed = λ e′. part-refuted lo mid (omega arith) lm (omega arith) (cut s3) (second .failed e′);
+      pub first-node : Node P (k + 1) a b (with-value k (P .given a k) v) (cells w) (masks s)
+      first-node = part-node a b (first-part order) w s (λ i j p q. (refl, λ h. refl)) (within-refl k (masks s))
+
+      module _ (w1 s1 : List ℕ) (r1 : Bool) (first : Searched P (k + 1) a b (with-value k (P .given a k) v) w w1 s s1 r1) where
+        first-grown : Grown (k + 2) lo hi (cells w) (cells w1)
+        first-grown = grown-wider (k + 1 + 2) (k + 2) a b lo hi (cells w) (cells w1) (omega arith) (first-fits .0) (first-fits .2) (first .grown)
+
+        first-masked : MasksWithin k (masks s) (masks s1)
+        first-masked = within-shorter k (k + 1) (masks s) (masks s1) (omega arith) (first .masked)
+
+        pub split-first : r1 ≡ false → Searched P k lo hi v w w1 s s1 false
+        split-first f = record {
+          grown = first-grown;
+          wanted = first .wanted;
+          masked = first-masked;
+          won = λ f′. absurd (never-both f′ refl);
+          failed = λ f′. part-refuted a b (first-part order) (cut s1) (first .failed f);
         }
-          where
-            all-grown : Grown (k + 2) lo hi (cells w) (cells w3)
-            all-grown = grown-trans (k + 2) lo hi (cells w) (cells w1) (cells w3) (omega arith) first-grown (grown-wider (k + 1 + 2) (k + 2) lo mid lo hi (cells w1) (cells w3) (omega arith) (omega arith) (omega arith) (second .grown))
+
+        module _ (s2 : List ℕ) (trimmed : Trimmed k s1 s2) where
+          between : MasksWithin k (masks s) (masks s2)
+          between = within-trans k (masks s) (masks s1) (masks s2) first-masked (masks-within k s1 s2 (λ p lt l lk h. trimmed .below p l lk h))
+
+          pub second-part-node : Node P (k + 1) d e (with-value k (P .given d k) v) (cells w1) (masks s2)
+          second-part-node = part-node d e (second-part order) w1 s2 (λ i j p q. grown-outside (k + 1 + 2) a b (cells w) (cells w1) (first .grown) i j (disjoint order lm high i p q)) between
+
+          pub split-second : (w3 s3 : List ℕ) (r : Bool) → r1 ≡ true → Searched P (k + 1) d e (with-value k (P .given d k) v) w1 w3 s2 s3 r → Searched P k lo hi v w w3 s s3 r
+          split-second w3 s3 r f second = record {
+            grown = all-grown;
+            wanted = wants-trans w w1 w3 (first .wanted) (second .wanted);
+            masked = within-trans k (masks s) (masks s2) (masks s3) between (within-shorter k (k + 1) (masks s2) (masks s3) (omega arith) (second .masked));
+            won = λ f′. both (second .won f′) (won-kept P (k + 1) a b (k + 1 + 2) d e (cells w1) (cells w3) (second .grown) (first .won f) (F .sound));
+            failed = λ f′. part-refuted d e (second-part order) (cut s3) (second .failed f′);
+          }
+            where
+              all-grown : Grown (k + 2) lo hi (cells w) (cells w3)
+              all-grown = grown-trans (k + 2) lo hi (cells w) (cells w1) (cells w3) (omega arith) first-grown (grown-wider (k + 1 + 2) (k + 2) d e lo hi (cells w1) (cells w3) (omega arith) (second-fits .0) (second-fits .2) (second .grown))
+
+              at : {x y g h : ℕ} → x ≡ g → y ≡ h → Won P (k + 1) x y (cells w3) → Won P (k + 1) g h (cells w3)
+              at {x} {y} {g} {h} p q won = subst (λ (z : ℕ). Won P (k + 1) g z (cells w3)) q (subst (λ (z : ℕ). Won P (k + 1) z y (cells w3)) p won)
+
+              parts-won : Won P (k + 1) lo mid (cells w3) → Won P (k + 1) mid hi (cells w3) → Won P k lo hi (cells w3)
+              parts-won = won-parts P k lo mid hi v (cells w3) kn o (past-kept P k lo hi (k + 2) lo hi v (cells w) (cells w3) (masks s) A all-grown) parts-differ
+
+              both : Won P (k + 1) d e (cells w3) → Won P (k + 1) a b (cells w3) → Won P k lo hi (cells w3)
+              both x y = ⊎-elim (λ t. parts-won (at (t .0) (t .1) y) (at (t .2) (t .3) x)) (λ t. parts-won (at (t .2) (t .3) x) (at (t .0) (t .1) y)) (order .parts)
 
   -- ---- past the last position
 

@@ -16,7 +16,8 @@ use Rattle.preference.specs.Preference.{prefer}
 use Rattle.rows.specs.Row.{bytes-of}
 use Rattle.rows.specs.Table.{rows-of, table-of}
 use Rattle.rows.proofs.RowLaws.{length-bytes-of}
-use Rattle.expansion.specs.Side.{other, flags, goal}
+use Rattle.expansion.specs.Side.{flags, goal}
+use Rattle.expansion.specs.OtherSide.{other}
 use Rattle.expansion.specs.Play.{Row, part}
 use Rattle.expansion.specs.Model.{search, first-model, yielded}
 use Rattle.expansion.proofs.Verdict.{search-none}
@@ -28,8 +29,8 @@ use Rattle.search_order.specs.Sorted.{Sorted}
 use Rattle.search_cells.specs.Steps.{rows-filled}
 use Rattle.search_cells.proofs.FillLaws.{rows-are-filled}
 use Rattle.search_cells.proofs.PackLaws.{packed-inside}
-use Rattle.search.specs.Steps.{FromStart}
-use Rattle.search.specs.Whole.{side-kind, Ready, Arranged, Decided, OverPlaces, FoundIs}
+use Rattle.search.specs.Steps.{Tabled, FromStart}
+use Rattle.search.specs.Whole.{side-kind, TablesOf, Ready, Arranged, Decided, OverPlaces, FoundIs}
 use Rattle.search_cells.proofs.OwnedLaws.{length-owned}
 use Rattle.search.proofs.CallLaws.{zero-at}
 use Rattle.search.proofs.TopLaws.{searched-none, searched-some}
@@ -96,10 +97,10 @@ module _ (rows : List ℕ) (lent m : ℕ) (place : List ℕ) (long : lent ≤ le
   place-inside : (r : ℕ) → r < length (take lent place) → getD (take lent place) r 0 < length (take lent place)
   place-inside r lt = subst (λ (x : ℕ). getD (take lent place) r 0 < x) (sym cut-length) (cut-sorted .place-below r (omega (arith, cut-length)))
 
-pub arranged : (kinds : List ℕ) (literals : List ℤ) (rows : List ℕ) (lent others side : ℕ) (w₀ place z : List ℕ) → Ready kinds literals rows lent others side w₀ → 0 < lent → lent ≤ length place
-    → Sorted rows lent others place → length z ≡ length w₀ → Arranged kinds literals (take lent place) side z
-arranged kinds literals rows lent others side w₀ place z ready some-row long sorted same = record {
-  accepted = ready .accepted;
+pub arranged : (kinds codes index rows : List ℕ) (lent others side : ℕ) (w₀ place z : List ℕ) → Ready kinds codes index rows lent others side w₀ → 0 < lent → lent ≤ length place
+    → Sorted rows lent others place → length z ≡ length w₀ → Arranged kinds codes index (take lent place) side z
+arranged kinds codes index rows lent others side w₀ place z ready some-row long sorted same = record {
+  tables = ready .tables;
   side-fits = ready .side-fits;
   some-row = omega (arith, cut-length rows lent others place long sorted);
   few = omega (arith, cut-length rows lent others place long sorted, ready .inside, ready .few);
@@ -132,9 +133,9 @@ module _ (kinds : List ℕ) (literals : List ℤ) (preferences rows : List ℕ) 
   abbrev result : Option (List Row)
   result = search (prefer preferences) (side-kind side) (prefix kinds) (matrix (clauses literals)) (rows-of others lent rows)
 
-  module _ (w₀ place z x : List ℕ) (ready : Ready kinds literals rows lent others side w₀) (some-row : 0 < lent) (long : lent ≤ length place) (sorted : Sorted rows lent others place)
-      (cleared : z ≡ replicate (length w₀) 0) (r : Bool) (over : OverPlaces kinds literals preferences rows (take lent place) side z x r) where
-    abbrev decided : Decided kinds literals preferences (take lent place) side (rows-filled kinds rows (take lent place) side z) (over .searched) r
+  module _ (codes index terms w₀ place z x : List ℕ) (ready : Ready kinds codes index rows lent others side w₀) (some-row : 0 < lent) (long : lent ≤ length place) (sorted : Sorted rows lent others place)
+      (cleared : z ≡ replicate (length w₀) 0) (r : Bool) (over : OverPlaces kinds codes index terms preferences rows (take lent place) side z x r) (of : TablesOf kinds literals codes index terms) where
+    abbrev decided : Decided kinds codes index terms preferences (take lent place) side (rows-filled kinds rows (take lent place) side z) (over .searched) r
     decided = over .decided
 
     abbrev w : List ℕ
@@ -150,7 +151,7 @@ module _ (kinds : List ℕ) (literals : List ℤ) (preferences rows : List ℕ) 
     few-places = omega (arith, length-take-le lent place long, ready .inside, ready .few)
 
     filled : Filled kinds rows (take lent place) side z w
-    filled = rows-are-filled kinds rows (take lent place) side z cleared-area (ready .accepted .few-unknowns) few-places
+    filled = rows-are-filled kinds rows (take lent place) side z cleared-area (of .accepted .few-unknowns) few-places
         (λ q lt. omega (arith, place-inside rows lent others place long sorted q lt, few-places)) (places-differ rows lent others place long sorted)
 
     placed : length (take lent place) ≡ lent
@@ -159,7 +160,7 @@ module _ (kinds : List ℕ) (literals : List ℤ) (preferences rows : List ℕ) 
     others-fit : (k : ℕ) → k < length kinds → getD (owned kinds side) k false ≡ false → others-before (owned kinds side) k < others
     others-fit k lt o =
         let a : others-before (owned kinds side) k < others-before (owned kinds side) (length (owned kinds side)) = others-below (owned kinds side) k (let q : length (owned kinds side) ≡ length kinds = length-owned kinds side in omega arith) o in
-        let b : others-before (owned kinds side) (length (owned kinds side)) ≡ count (other (side-kind side)) (prefix kinds) = others-all kinds side (ready .side-fits) (ready .accepted .kinds-known) in
+        let b : others-before (owned kinds side) (length (owned kinds side)) ≡ count (other (side-kind side)) (prefix kinds) = others-all kinds side (ready .side-fits) (of .accepted .kinds-known) in
         let c : others ≡ count (other (side-kind side)) (prefix kinds) = ready .others-known in
         omega arith
 
@@ -174,18 +175,21 @@ module _ (kinds : List ℕ) (literals : List ℤ) (preferences rows : List ℕ) 
     split-length : length (take (length (take lent place)) (decided .all)) ≡ lent
     split-length = length-take-le (length (take lent place)) (decided .all) (decided .long) ∙ placed
 
+    tabled : Tabled side kinds codes index terms
+    tabled = record { indexed = λ _. of .listed; sized = λ _. of .terms-sized; told = λ _. of .terms-listed }
+
     found-none : r ≡ false → x ≡ replicate (length w₀) 0 → FoundIs result false x
     found-none e h =
         subst (λ (o : Option (List Row)). FoundIs o false x)
-        (sym (searched-none kinds literals preferences rows (take lent place) (decided .all) (take (length (take lent place)) (decided .all)) (decided .codes) side lent others (ready .side-fits) (ready .accepted) (ready .inside) some-row (sorted-take rows lent others place sorted) others-fit (decided .encoded) placed split-length z w (decided .wanting-area) filled (cleared-levels w₀ z cleared) differences (decided .wanting) same-splits u
-        (subst (λ (b : Bool). FromStart kinds (take (length (take lent place)) (decided .all)) (decided .codes) side (decided .wanting-area) u b) e (decided .from))))
+        (sym (searched-none kinds literals preferences rows (take lent place) (decided .all) (take (length (take lent place)) (decided .all)) codes side lent others (ready .side-fits) (of .accepted) (ready .inside) some-row (sorted-take rows lent others place sorted) others-fit (of .encoded) placed split-length z w (decided .wanting-area) filled (cleared-levels w₀ z cleared) differences (decided .wanting) same-splits u
+        (subst (λ (b : Bool). FromStart kinds (take (length (take lent place)) (decided .all)) codes side (decided .wanting-area) u b) e (decided .from tabled))))
         (refl, h ∙ ap (λ (n : ℕ). replicate n 0) (ready .area))
 
     found-some : r ≡ true → x ≡ table-of (tabulate (length (take lent place)) (λ q. part (owned kinds side) (tabulate (length kinds) (cells u .value (getD (take lent place) q 0))))) ++ replicate (65536 - 16 * length (take lent place)) 0 → FoundIs result true x
     found-some e h =
         subst (λ (o : Option (List Row)). FoundIs o true x)
-        (sym (searched-some kinds literals preferences rows (take lent place) (decided .all) (take (length (take lent place)) (decided .all)) (decided .codes) side lent others (ready .side-fits) (ready .accepted) (ready .inside) some-row (sorted-take rows lent others place sorted) others-fit (decided .encoded) placed split-length z w (decided .wanting-area) filled (cleared-levels w₀ z cleared) differences (decided .wanting) same-splits u
-        (subst (λ (b : Bool). FromStart kinds (take (length (take lent place)) (decided .all)) (decided .codes) side (decided .wanting-area) u b) e (decided .from))))
+        (sym (searched-some kinds literals preferences rows (take lent place) (decided .all) (take (length (take lent place)) (decided .all)) codes side lent others (ready .side-fits) (of .accepted) (ready .inside) some-row (sorted-take rows lent others place sorted) others-fit (of .encoded) placed split-length z w (decided .wanting-area) filled (cleared-levels w₀ z cleared) differences (decided .wanting) same-splits u
+        (subst (λ (b : Bool). FromStart kinds (take (length (take lent place)) (decided .all)) codes side (decided .wanting-area) u b) e (decided .from tabled))))
         (refl, h ∙ ap (λ (n : ℕ). table-of (yields n) ++ replicate (65536 - 16 * n) 0) placed ∙ ap (λ (n : ℕ). table-of (yields lent) ++ replicate (65536 - n) 0) (sym (length-table-of (yields lent) ∙ ap (λ (n : ℕ). 16 * n) (length-tabulate lent one))))
       where
         one : ℕ → Row
@@ -201,7 +205,7 @@ module _ (kinds : List ℕ) (literals : List ℤ) (preferences rows : List ℕ) 
         go : (b : Bool) → r ≡ b → FoundIs result r x
         go true e =
             subst (λ (b : Bool). FoundIs result b x) (sym e)
-            (found-some e (over .yields e ∙ packed-inside kinds (take lent place) side u (over .sized ∙ cleared-area) (ready .accepted .few-unknowns) few-places))
+            (found-some e (over .yields e ∙ packed-inside kinds (take lent place) side u (over .sized ∙ cleared-area) (of .accepted .few-unknowns) few-places))
         go false e =
             subst (λ (b : Bool). FoundIs result b x) (sym e)
             (found-none e (over .clears e ∙ ap (λ (n : ℕ). replicate n 0) (ap length cleared ∙ length-replicate (length w₀) 0)))

@@ -1,6 +1,5 @@
 -- What the search promises (Search), and what the contracts of its private functions speak of: the steps of the search over the lent tables
--- (Steps, Live), and the search as a whole (Whole). The public contract cites Search alone.
+-- (Steps), and the search as a whole (Whole). The public contract cites Search alone.
 pub mod Search
 pub mod Steps
-pub mod Live
 pub mod Whole

@@ -1,22 +1,29 @@
--- What a search returns and leaves, for everything that is lent: 01's causes 1 to 5, 7 and 8 in order, then the first model.
+-- What a search returns and leaves, for everything that is lent: 01's causes 1 to 5, 7 and 8 in order, then the first model. Below it the same over
+-- tables that were made of the formula before.
 -- Assumes nothing.
 use Prim.Native.Nat.{ℕ, _-_}
 use mathlib.Core.Path.{_≡_}
-use mathlib.Core.Bool.{Bool, not, cond}
+use mathlib.Core.Bool.{Bool, not, cond, _&&_, _||_}
 use mathlib.Core.List.{List, _++_}
 use mathlib.Core.Option.{Option, none, some}
 use lib.Dec.{eqb, ltb}
 use lib.IntN.{ℤ}
-use lib.ListN.{length, replicate}
-use Rattle.formula.specs.Formula.{work-size, prefix, clauses}
+use lib.ListN.{length, take, replicate}
+use Rattle.formula.specs.Formula.{max-entries, work-size, prefix, clauses}
 use Rattle.formula.specs.Meaning.{matrix}
-use Rattle.formula.specs.Causes.{checked, count, number as cause-number}
+use Rattle.formula.specs.Causes.{any, cause-1, checked, sizes, count, number as cause-number}
+use Rattle.formula.specs.declared.Check.the-variants.{Accepted}
 use Rattle.preference.specs.Preference.{prefer}
-use Rattle.rows.specs.Table.{rows-of, table-of, room, table-fits, stray-rows}
-use Rattle.expansion.specs.Side.{side-of, other}
+use Rattle.rows.specs.Table.{rows-of, table-of, room, table-fits}
+use Rattle.rows.specs.Stray.{stray-rows}
+use Rattle.expansion.specs.OtherSide.{side-of, other}
 use Rattle.expansion.specs.Play.{Row}
 use Rattle.expansion.specs.Model.{search}
 use Rattle.expansion.specs.Right.{SearchRight}
+use Rattle.codes.specs.Codes.{last-code, encoding, used as entries-used, filled as codes-filled}
+use Rattle.index.specs.Index.{index-size, index-of, filled as index-filled}
+use Rattle.search_terms.specs.Tables.{table-size}
+use Rattle.search_terms.specs.Terms.{Listed, ListedIn}
 use Rattle.search.specs.declared.Search.{Search}
 use Rattle.search.specs.declared.Search.the-variants.{Found, NoModel, Refused}
 
@@ -78,3 +85,52 @@ pub record Searched (kinds : List ℕ) (literals : List ℤ) (preferences rows :
   pub numbered : number result ≡ outcome-number kinds literals preferences rows lent universal? work
   pub area : work-then ≡ work-after kinds literals preferences rows lent universal? work
   pub right : SearchRight (prefer preferences) (side-of universal?) (prefix kinds) (matrix (clauses literals)) (lent-rows kinds rows lent universal?)
+
+-- ---- over tables that were made before
+
+-- The tables of an accepted formula: the codes of its literals, the index of these, and a table in which their clauses are listed with their terms.
+pub record Prepared (kinds : List ℕ) (literals : List ℤ) (codes index terms : List ℕ) : Type 0 where
+  pub accepted : checked kinds literals ≡ Accepted (sizes kinds literals)
+  pub coded : codes ≡ encoding literals
+  pub listed : index ≡ index-of codes
+  pub terms-sized : length terms ≡ table-size
+  pub terms-listed : Listed kinds codes terms
+
+-- All that `prepare` promises: how many entries are used, the codes and the index at exit, for whatever is lent, and what is listed in a table of terms;
+-- and that these are an accepted formula's tables, if they are large enough.
+pub record Prepares (kinds : List ℕ) (literals : List ℤ) (codes index terms : List ℕ) (used : ℕ) (codes-then index-then terms-then : List ℕ) : Type 0 where
+  pub entries : used ≡ entries-used literals (length codes)
+  pub coded : codes-then ≡ codes-filled literals codes
+  pub listed : index-then ≡ index-filled (take used codes-then) index
+  pub terms-listed : ListedIn kinds (take used codes-then) terms-then
+  pub prepared : checked kinds literals ≡ Accepted (sizes kinds literals) → length codes ≡ max-entries → length index ≡ index-size → length terms ≡ table-size
+      → Prepared kinds literals (take used codes-then) index-then terms-then
+
+-- A number that is no code: 1, or one above the last.
+abbrev pub no-code : ℕ → Bool
+no-code c = eqb c 1 || ltb last-code c
+
+-- At most as many codes as a formula has literals, none of them another number, and the size of an index.
+unfoldable pub tables-fit : List ℕ → ℕ → Bool
+tables-fit codes places = not (ltb max-entries (length codes)) && (eqb places index-size && not (any no-code codes))
+
+-- The causes behind the formula's, in order, for `others` unknowns of the other side; 0 if none applies.
+unfoldable pub later-cause : List ℕ → ℕ → ℕ → List ℕ → ℕ
+later-cause rows lent others work =
+    cond (not (table-fits rows)) 4
+    (cond (not (eqb (length work) work-size)) 5
+    (cond (ltb (room rows) lent) 7
+    (cond (stray-rows others lent rows) 8 0)))
+
+-- The first cause that applies to what is lent with tables, or 0: 1 of the kinds, 2 of the tables, then 4, 5, 7 and 8.
+unfoldable pub cause-over : List ℕ → List ℕ → List ℕ → List ℕ → ℕ → Bool → List ℕ → ℕ
+cause-over kinds codes index rows lent universal? work =
+    let later = later-cause rows lent (count (other (side-of universal?)) (prefix kinds)) work in
+    cond (cause-1 kinds) 1 (cond (not (tables-fit codes (length index))) 2 later)
+
+-- All that `first_model_over` promises: over an accepted formula's tables what `first_model` promises of the formula, and over any tables that a cause
+-- is returned and changes nothing. What tables hold that are no formula's is not found out, and of an answer over them nothing is promised.
+pub record SearchedOver (kinds codes index terms preferences rows : List ℕ) (lent : ℕ) (universal? : Bool) (work : List ℕ) (result : Search) (work-then : List ℕ) : Type 0 where
+  pub prepared : (literals : List ℤ) → Prepared kinds literals codes index terms → Searched kinds literals preferences rows lent universal? work result work-then
+  pub refused : (cause-over kinds codes index rows lent universal? work ≡ 0 → ⊥)
+      → (result ≡ Refused (cause-over kinds codes index rows lent universal? work)) × (work-then ≡ work)

@@ -10,17 +10,17 @@ use lib.ListN.{length, getD}
 use Rattle.formula.specs.Formula.{max-unknowns, max-rows, max-entries, work-size}
 use Rattle.expansion.proofs.Cuts.{Mask, Problem, Agree, Sound, Refuted}
 use Rattle.expansion.proofs.Node.{Node, Won, Grown, MasksWithin}
-use Rattle.expansion.proofs.ClauseCuts.{Every, Some}
 use Rattle.search_cells.specs.Cells.{cells, wants}
 use Rattle.search_cells.specs.Changes.{SameWants}
 use Rattle.index.specs.Index.{code-count, index-size, index-of}
 use Rattle.search_sets.specs.Sets.{sets-size}
-use Rattle.search_sets.specs.Masks.{set-at, masks, cut, SetGrown, SetsKept}
+use Rattle.search_sets.specs.Masks.{set-at, masks, cut, SetsKept}
 use Rattle.codes.specs.Codes.{last-code}
-use Rattle.codes.specs.Clauses.{position, code-clauses, Ended, code-goal, Begins, Coded}
-use Rattle.search_evaluation.specs.Looked.{IsAt}
+use Rattle.codes.specs.Clauses.{Ended, code-goal, Begins, Coded}
 use Rattle.search_reasons.specs.Reasons.{IsReason}
 use Rattle.search_groups.specs.Parts.{Parting, PartedAt}
+use Rattle.search_terms.specs.Tables.{table-size}
+use Rattle.search_terms.specs.Terms.{Listed as TermsListed}
 
 -- The sorted rows: entry i of `splits` is the first position where row i and the row before it have different values, or past the last.
 -- The codes are the clauses; the side is 0 or 1.
@@ -46,6 +46,13 @@ pub record Settled (P : Problem) (k lo hi : ℕ) (v : ℕ → Bool) (mark : ℕ)
 abbrev pub Settles : ℕ → List ℕ → List ℕ → ℕ → ℕ → ℕ → List ℕ → List ℕ → List ℕ → List ℕ → Bool → Type 0
 Settles side splits codes lo hi mark w u s t r =
     (P : Problem) (kinds : List ℕ) (k : ℕ) (v : ℕ → Bool)
+    → Fits P kinds splits codes side → Node P k lo hi v (cells w) (masks s) → 0 < mark → mark ≤ k + 1
+    → Settled P k lo hi v mark w u s t r
+
+-- The same over the kinds that are lent.
+abbrev pub SettlesFor : List ℕ → ℕ → List ℕ → List ℕ → ℕ → ℕ → ℕ → List ℕ → List ℕ → List ℕ → List ℕ → Bool → Type 0
+SettlesFor kinds side splits codes lo hi mark w u s t r =
+    (P : Problem) (k : ℕ) (v : ℕ → Bool)
     → Fits P kinds splits codes side → Node P k lo hi v (cells w) (masks s) → 0 < mark → mark ≤ k + 1
     → Settled P k lo hi v mark w u s t r
 
@@ -122,15 +129,26 @@ FromStart kinds splits codes side w u r =
     → ((i j : ℕ) → ((i < P .count) × (j < P .n) × (P .own j ≡ false) → ⊥) → cells w .level i j ≡ 0)
     → (r ≡ true → Won P 0 0 (P .count) (cells u)) × (r ≡ false → (v : ℕ → Bool) → (D : Mask) × Refuted P 0 v D 0)
 
+-- What a list has from one place to another are starts of clauses.
+abbrev pub Starts : List ℕ → List ℕ → ℕ → ℕ → Type 0
+Starts codes list begin end = (at : ℕ) → begin ≤ at → at < end → Begins codes (getD list at 0)
+
 -- What an index lists from the begin of a code's list to its end are starts of clauses.
 abbrev pub Listed : List ℕ → List ℕ → Type 0
 Listed codes index = (c at : ℕ) → c ≤ last-code → getD index c 0 ≤ at → at < getD index (code-count + c) 0 → Begins codes (getD index at 0)
 
--- The existential side finds a code's clauses through the index of the codes; the universal side looks up none.
+-- The existential side finds a code's clauses through the index of the codes; the universal side looks up none. What the steps promise is promised
+-- over such an index: what is lent from outside can't be compared with it at little cost, and is safe to read in any case.
 abbrev pub Indexed : ℕ → List ℕ → List ℕ → Type 0
 Indexed side codes index = side ≡ 0 → index ≡ index-of codes
 
--- The sizes of what the steps are lent, and what they rest on.
+-- .. and the universal side finds its open clauses through a table of their terms.
+pub record Tabled (side : ℕ) (kinds codes index terms : List ℕ) : Type 0 where
+  pub indexed : Indexed side codes index
+  pub sized : side ≡ 1 → length terms ≡ table-size
+  pub told : side ≡ 1 → TermsListed kinds codes terms
+
+-- The sizes of what the steps are lent, and that the codes are literals of unknowns that have a set.
 pub record Lent (side : ℕ) (splits codes work sets index : List ℕ) : Type 0 where
   pub rows : length splits ≤ max-rows
   pub entries : length codes ≤ max-entries
@@ -138,14 +156,8 @@ pub record Lent (side : ℕ) (splits codes work sets index : List ℕ) : Type 0 
   pub area : length work ≡ work-size
   pub sets-lent : length sets ≡ sets-size
   pub index-lent : length index ≡ index-size
-  pub listed : Indexed side codes index
 
 -- After a failure in row i the sets of the positions stay, and the set by which it was reached stays or is that of a reason (search_reasons).
 pub record Shortened (codes w : List ℕ) (i mark : ℕ) (s t : List ℕ) : Type 0 where
   pub kept : SetsKept s t
   pub reason : ((l : ℕ) → cut t l ≡ cut s l) ⊎ ((u : List ℕ) × SetsKept s u × (Coded max-unknowns codes → IsReason codes w u i (mark - 1) (cut t)))
-
--- In row i every clause has a true literal, whose position's set is taken in behind those of the positions.
-pub record RowBlamed (codes w : List ℕ) (i : ℕ) (s t : List ℕ) (r : Bool) : Type 0 where
-  pub grown : SetGrown max-unknowns s t
-  pub dead : r ≡ true → Ended codes → Every (Some (λ c. IsAt w i true c × ((l : ℕ) → set-at s (position c) l ≡ true → set-at t max-unknowns l ≡ true))) (code-clauses codes)

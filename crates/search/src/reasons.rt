@@ -31,6 +31,9 @@ const FIRST: u64 = 2_048;
 
 const EACH: u64 = 4;
 
+// Steps that one look may spend: where none finds anything, there are few looks, and they cost little.
+const LOOK: u64 = 8_192;
+
 // No number of the account is larger.
 const FAR: u64 = 4_294_967_296;
 
@@ -68,10 +71,17 @@ fn is_due(sets: &mut [u64]) -> bool
     sets[QUIET] % FAR + FEWEST <= failures
 }
 
-// The steps that are left.
+// The steps that are left for a look.
 fn allowed(failures: u64, spent: u64) -> u64 {
     let most = EACH * (failures % FAR) + FIRST;
-    if spent < most { most - spent } else { 0 }
+    if spent < most {
+        let left = most - spent;
+        if left < LOOK {
+            return left;
+        }
+        return LOOK;
+    }
+    0
 }
 
 // The number of positions that were decided at levels below the mark's.
@@ -99,7 +109,7 @@ fn next_wait(wait: u64, found: bool) -> u64 {
     if found {
         return wait / 2;
     }
-    2 * (wait % FAR) + FEWEST
+    4 * (wait % FAR) + FEWEST
 }
 
 fn used(steps: u64, left: u64) -> u64 {

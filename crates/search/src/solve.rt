@@ -2,15 +2,17 @@
 // values differ, an own position gets the wanted value first, and a failure goes back to the last decision that it was reached by.
 ghost use mathlib.Core.Path.{_≡_};
 ghost use Prim.Native.Nat.{_+_, _≤_, _<_};
+ghost use mathlib.Core.Bool.{cond};
 ghost use lib.ListN.{length};
 ghost use Rattle.formula.specs.Formula.{max-unknowns, max-rows, max-entries, work-size};
 ghost use Rattle.codes.specs.Clauses.{Coded};
 ghost use Rattle.index.specs.Index.{index-size};
 ghost use Rattle.search_sets.specs.Sets.{sets-size};
-ghost use Rattle.search.specs.Steps.{Lent, Indexed, Settles, Searches, Tries, Chooses, Retries, Steps, Reached, FromStart};
+ghost use Rattle.search_terms.specs.Terms.{OpenedIn};
+ghost use Rattle.search.specs.Steps.{Lent, Indexed, Tabled, SettlesFor, Searches, Tries, Chooses, Retries, Steps, Reached, FromStart};
 use super::force;
+use super::hints;
 use super::hints::CUT;
-use super::live;
 use super::table;
 
 // The words of the set at CUT.
@@ -23,46 +25,47 @@ pub(crate) fn from_start(
     kinds: &[u8],
     splits: &[u8],
     codes: &[u16],
+    index: &[u16],
+    terms: &[u16],
     side: u8,
     work: &mut [u8],
 ) -> bool
-    requires { ⌜ (length (now kinds) ≤ max-unknowns) × (0 < length (now splits)) × (length (now splits) ≤ max-rows) × (length (now codes) ≤ max-entries) × Coded max-unknowns (now codes) × (side ≤ 1) × (length (now work) ≡ work-size) ⌝ }
-    ensures { λ r. ⌜ FromStart (now (kinds .entry)) (now (splits .entry)) (now (codes .entry)) side (now (work .entry)) (now (work .exit)) r ⌝ }
+    requires { ⌜ (length (now kinds) ≤ max-unknowns) × (0 < length (now splits)) × (length (now splits) ≤ max-rows) × (length (now codes) ≤ max-entries) × Coded max-unknowns (now codes) × (length (now index) ≡ index-size) × (side ≤ 1) × (length (now work) ≡ work-size) ⌝ }
+    ensures { λ r. ⌜ (Tabled side (now (kinds .entry)) (now (codes .entry)) (now (index .entry)) (now (terms .entry)) → FromStart (now (kinds .entry)) (now (splits .entry)) (now (codes .entry)) side (now (work .entry)) (now (work .exit)) r) ⌝ }
 {
     let mut sets = [0u64; search_sets::WORDS];
-    let mut index = [0u16; index::SIZE];
-    list_codes(codes, side, &mut index);
-    if look_around(splits, codes, work, &mut sets, &index, side) {
-        let hi = splits.len();
-        solve(
-            kinds,
-            splits,
-            codes,
-            work,
-            &mut sets,
-            &index,
-            side,
-            0,
-            0,
-            hi,
-        )
+    let mut opened = [0u64; search_terms::WORDS];
+    let hi = splits.len();
+    open_terms(kinds, codes, terms, side, work, hi, &mut opened, &mut sets);
+    if look_around(kinds, splits, codes, work, &mut sets, index, side) {
+        solve(kinds, splits, codes, work, &mut sets, index, side, 0, 0, hi)
     } else {
         false
     }
 }
 
-// The existential side finds a code's clauses through the index; the universal side doesn't look them up.
-fn list_codes(codes: &[u16], side: u8, index: &mut [u16])
-    requires { ⌜ (length (now codes) ≤ max-entries) × Coded max-unknowns (now codes) × (length (now index) ≡ index-size) ⌝ }
-    ensures { λ _. ⌜ Indexed side (now (codes .entry)) (now (index .exit)) ⌝ }
+// Finds the terms that are open in each row, and notes them.
+fn open_terms(
+    kinds: &[u8],
+    codes: &[u16],
+    terms: &[u16],
+    side: u8,
+    work: &[u8],
+    count: usize,
+    opened: &mut [u64],
+    sets: &mut [u64],
+)
+    ensures { λ _. ⌜ (side ≡ 1 → OpenedIn (now (kinds .entry)) (now (codes .entry)) (now (terms .entry)) (now (work .entry)) count (now (opened .exit))) ⌝ }
 {
-    if side == 0 { // the existential one
-        index::fill(codes, index);
+    if side == 1 {
+        search_terms::open(kinds, codes, terms, work, count, opened);
+        search_live::begin(kinds, codes, terms, opened, count, sets);
     }
 }
 
 // The consequences of the rows' values alone.
 fn look_around(
+    kinds: &[u8],
     splits: &[u8],
     codes: &[u16],
     work: &mut [u8],
@@ -72,12 +75,12 @@ fn look_around(
 ) -> bool
     requires { ⌜ Lent side (now splits) (now codes) (now work) (now sets) (now index) ⌝ }
     requires { ⌜ side ≤ 1 ⌝ }
-    ensures { λ r. ⌜ Settles side (now (splits .entry)) (now (codes .entry)) 0 (length (now (splits .entry))) 1 (now (work .entry)) (now (work .exit)) (now (sets .entry)) (now (sets .exit)) r ⌝ }
+    ensures { λ r. ⌜ (Indexed side (now (codes .entry)) (now (index .entry)) → SettlesFor (now (kinds .entry)) side (now (splits .entry)) (now (codes .entry)) 0 (length (now (splits .entry))) 1 (now (work .entry)) (now (work .exit)) (now (sets .entry)) (now (sets .exit)) r) ⌝ }
 {
     if side == 1 {
-        live::check(codes, work, sets, 0, splits.len())
+        search_live::check_given(kinds, codes, work, sets, splits.len())
     } else {
-        force::survey(splits, codes, work, sets, index)
+        force::survey(kinds, splits, codes, work, sets, index)
     }
 }
 
@@ -96,7 +99,7 @@ fn solve(
 ) -> bool
     requires { ⌜ Lent side (now splits) (now codes) (now work) (now sets) (now index) ⌝ }
     requires { ⌜ (length (now kinds) ≤ max-unknowns) × (side ≤ 1) × (k ≤ length (now kinds)) × (lo < hi) × (hi ≤ length (now splits)) ⌝ }
-    ensures { λ r. ⌜ Searches (now (kinds .entry)) (now (splits .entry)) (now (codes .entry)) side k lo hi (now (work .entry)) (now (work .exit)) (now (sets .entry)) (now (sets .exit)) r ⌝ }
+    ensures { λ r. ⌜ (Indexed side (now (codes .entry)) (now (index .entry)) → Searches (now (kinds .entry)) (now (splits .entry)) (now (codes .entry)) side k lo hi (now (work .entry)) (now (work .exit)) (now (sets .entry)) (now (sets .exit)) r) ⌝ }
 {
     let mid = search_groups::parting(splits, lo, hi);
     let until = search_groups::parted_at(splits, lo, mid, kinds.len());
@@ -122,7 +125,7 @@ fn solve(
 }
 
 // The search at the position `at` behind those that stand: past the last one, at a choice, or at a split, where the rows from mid on and
-// those before have different values.
+// those before have different values. Of the two parts the one in which a row failed last comes first, or else the rows from mid on.
 fn step(
     kinds: &[u8],
     splits: &[u8],
@@ -140,7 +143,7 @@ fn step(
     requires { ⌜ Lent side (now splits) (now codes) (now work) (now sets) (now index) ⌝ }
     requires { ⌜ (length (now kinds) ≤ max-unknowns) × (side ≤ 1) × (at ≤ length (now kinds)) × (until ≤ length (now kinds)) × (lo < hi) × (hi ≤ length (now splits)) ⌝ }
     requires { ⌜ (lo ≤ mid) × (mid < hi) × (until < length (now kinds) → lo < mid) ⌝ }
-    ensures { λ r. ⌜ Steps (now (kinds .entry)) (now (splits .entry)) (now (codes .entry)) side at until lo mid hi (now (work .entry)) (now (work .exit)) (now (sets .entry)) (now (sets .exit)) r ⌝ }
+    ensures { λ r. ⌜ (Indexed side (now (codes .entry)) (now (index .entry)) → Steps (now (kinds .entry)) (now (splits .entry)) (now (codes .entry)) side at until lo mid hi (now (work .entry)) (now (work .exit)) (now (sets .entry)) (now (sets .exit)) r) ⌝ }
 {
     if at == kinds.len() {
         return reached(codes, work, sets, side, lo);
@@ -148,6 +151,11 @@ fn step(
     if at < until {
         return choose(kinds, splits, codes, work, sets, index, side, at, lo, hi);
     }
+    let low = hints::failed_between(sets, lo, mid);
+    let from = either(low, lo, mid);
+    let to = either(low, mid, hi);
+    let other_from = either(low, mid, lo);
+    let other_to = either(low, hi, mid);
     if solve(
         kinds,
         splits,
@@ -157,8 +165,8 @@ fn step(
         index,
         side,
         at + 1,
-        mid,
-        hi,
+        from,
+        to,
     ) {} else {
         return false;
     }
@@ -172,9 +180,15 @@ fn step(
         index,
         side,
         at + 1,
-        lo, // the other part: from lo
-        mid, // to mid
+        other_from,
+        other_to,
     )
+}
+
+fn either(first: bool, a: usize, b: usize) -> usize
+    ensures { λ r. ⌜ r ≡ cond first a b ⌝ }
+{
+    if first { a } else { b }
 }
 
 // Tries the wanted value at the open own position k, and the other one if a failure was reached by that.
@@ -192,7 +206,7 @@ fn choose(
 ) -> bool
     requires { ⌜ Lent side (now splits) (now codes) (now work) (now sets) (now index) ⌝ }
     requires { ⌜ (length (now kinds) ≤ max-unknowns) × (side ≤ 1) × (k < length (now kinds)) × (lo < hi) × (hi ≤ length (now splits)) ⌝ }
-    ensures { λ r. ⌜ Chooses (now (kinds .entry)) (now (splits .entry)) (now (codes .entry)) side k lo hi (now (work .entry)) (now (work .exit)) (now (sets .entry)) (now (sets .exit)) r ⌝ }
+    ensures { λ r. ⌜ (Indexed side (now (codes .entry)) (now (index .entry)) → Chooses (now (kinds .entry)) (now (splits .entry)) (now (codes .entry)) side k lo hi (now (work .entry)) (now (work .exit)) (now (sets .entry)) (now (sets .exit)) r) ⌝ }
 {
     let wanted = table::wanted(work, lo, k);
     if attempt(
@@ -244,7 +258,7 @@ fn retry(
 ) -> bool
     requires { ⌜ Lent side (now splits) (now codes) (now work) (now sets) (now index) ⌝ }
     requires { ⌜ (length (now kinds) ≤ max-unknowns) × (side ≤ 1) × (k < length (now kinds)) × (lo < hi) × (hi ≤ length (now splits)) ⌝ }
-    ensures { λ r. ⌜ Retries (now (kinds .entry)) (now (splits .entry)) (now (codes .entry)) side k lo hi tried (now (work .entry)) (now (work .exit)) (now (sets .entry)) (now (sets .exit)) r ⌝ }
+    ensures { λ r. ⌜ (Indexed side (now (codes .entry)) (now (index .entry)) → Retries (now (kinds .entry)) (now (splits .entry)) (now (codes .entry)) side k lo hi tried (now (work .entry)) (now (work .exit)) (now (sets .entry)) (now (sets .exit)) r) ⌝ }
 {
     search_cells::undo(work, lo, hi, k as u8 + 1);
     search_sets::trim(sets, k, kinds.len());
@@ -287,11 +301,11 @@ fn attempt(
 ) -> bool
     requires { ⌜ Lent side (now splits) (now codes) (now work) (now sets) (now index) ⌝ }
     requires { ⌜ (length (now kinds) ≤ max-unknowns) × (side ≤ 1) × (k < length (now kinds)) × (lo < hi) × (hi ≤ length (now splits)) ⌝ }
-    ensures { λ r. ⌜ Tries (now (kinds .entry)) (now (splits .entry)) (now (codes .entry)) side k lo hi value (now (work .entry)) (now (work .exit)) (now (sets .entry)) (now (sets .exit)) r ⌝ }
+    ensures { λ r. ⌜ (Indexed side (now (codes .entry)) (now (index .entry)) → Tries (now (kinds .entry)) (now (splits .entry)) (now (codes .entry)) side k lo hi value (now (work .entry)) (now (work .exit)) (now (sets .entry)) (now (sets .exit)) r) ⌝ }
 {
     search_sets::add(sets, k, k);
     search_cells::set_rows(work, k, lo, hi, k as u8 + 2, value);
-    if follow(splits, codes, work, sets, index, side, k, lo, hi) {
+    if follow(kinds, splits, codes, work, sets, index, side, k, lo, hi) {
         solve(kinds, splits, codes, work, sets, index, side, k + 1, lo, hi)
     } else {
         false
@@ -300,6 +314,7 @@ fn attempt(
 
 // The consequences of the value just set at position k.
 fn follow(
+    kinds: &[u8],
     splits: &[u8],
     codes: &[u16],
     work: &mut [u8],
@@ -312,17 +327,32 @@ fn follow(
 ) -> bool
     requires { ⌜ Lent side (now splits) (now codes) (now work) (now sets) (now index) ⌝ }
     requires { ⌜ (side ≤ 1) × (k < max-unknowns) × (lo < hi) × (hi ≤ length (now splits)) ⌝ }
-    ensures { λ r. ⌜ Settles side (now (splits .entry)) (now (codes .entry)) lo hi (k + 2) (now (work .entry)) (now (work .exit)) (now (sets .entry)) (now (sets .exit)) r ⌝ }
+    ensures { λ r. ⌜ (Indexed side (now (codes .entry)) (now (index .entry)) → SettlesFor (now (kinds .entry)) side (now (splits .entry)) (now (codes .entry)) lo hi (k + 2) (now (work .entry)) (now (work .exit)) (now (sets .entry)) (now (sets .exit)) r) ⌝ }
 {
     if side == 1 {
-        live::check(codes, work, sets, lo, hi)
+        search_live::check(kinds, codes, work, sets, k, lo, hi)
     } else {
         force::propagate(splits, codes, work, sets, index, k, lo, hi)
     }
 }
 
-// Whether the values of row i reach the side's goal. Where they do not, every position is to blame.
+// Whether the values of row i reach the side's goal. Where they do not, every position is to blame. The universal side's goal is a false
+// clause, which may be known.
 fn reached(codes: &[u16], work: &[u8], sets: &mut [u64], side: u8, i: usize) -> bool
+    requires { ⌜ (length (now work) ≡ work-size) × (length (now sets) ≡ sets-size) × (i < max-rows) × (side ≤ 1) × Coded max-unknowns (now codes) ⌝ }
+    ensures { λ r. ⌜ Reached (now (codes .entry)) side (now (work .entry)) i (now (sets .entry)) (now (sets .exit)) r ⌝ }
+{
+    if side == 0 {
+        return values_reach(codes, work, sets, side, i);
+    }
+    if search_live::finds_false(codes, work, sets, i) {
+        return true;
+    }
+    values_reach(codes, work, sets, side, i)
+}
+
+// The same by reading all clauses.
+fn values_reach(codes: &[u16], work: &[u8], sets: &mut [u64], side: u8, i: usize) -> bool
     requires { ⌜ (length (now work) ≡ work-size) × (length (now sets) ≡ sets-size) × (i < max-rows) × (side ≤ 1) × Coded max-unknowns (now codes) ⌝ }
     ensures { λ r. ⌜ Reached (now (codes .entry)) side (now (work .entry)) i (now (sets .entry)) (now (sets .exit)) r ⌝ }
 {

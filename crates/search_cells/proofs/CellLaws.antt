@@ -10,56 +10,57 @@ use native.Mathlib.Decide.{ℕ-discrete, decLt}
 use lib.ListN.{length, getD, set, length-set}
 use lib.Seq.{getD-set-same, getD-set-other}
 use borrow.Author.Tests.{lt-ltb, le-ltb, eq-eqb, ne-eqb}
+use Rattle.formula.specs.Formula.{work-size, max-rows, max-unknowns}
 use Rattle.preference.specs.Preference.{odd}
 use Rattle.rows.specs.Row.{weight}
-use Rattle.search_cells.specs.Cells.{spot, cells, wants}
+use Rattle.search_cells.specs.Cells.{flags as flags-from, spot, cells, wants}
 use Rattle.search_cells.specs.Changes.{SameWants, CellsSet, WantSet}
 
 -- The byte of a cell's value and wanted value.
 abbrev pub flags : List ℕ → ℕ → ℕ → ℕ
-flags w i k = getD w (32768 + spot i k) 0
+flags w i k = getD w (flags-from + spot i k) 0
 
 -- ---- the byte of a cell
 
-pub spot-in : (i k : ℕ) → i < 256 → k < 128 → spot i k ≡ 128 * i + k
-spot-in i k hi hk = rw (lt-ltb i 256 hi, lt-ltb k 128 hk)
+pub spot-in : (i k : ℕ) → i < max-rows → k < max-unknowns → spot i k ≡ max-unknowns * i + k
+spot-in i k hi hk = rw (lt-ltb i max-rows hi, lt-ltb k max-unknowns hk)
 
-pub spot-out : (i k : ℕ) → ((i < 256) × (k < 128) → ⊥) → spot i k ≡ 65536
-spot-out i k out = go (decLt i 256) (decLt k 128)
+pub spot-out : (i k : ℕ) → ((i < max-rows) × (k < max-unknowns) → ⊥) → spot i k ≡ work-size
+spot-out i k out = go (decLt i max-rows) (decLt k max-unknowns)
   where
-    go : Dec (i < 256) → Dec (k < 128) → spot i k ≡ 65536
+    go : Dec (i < max-rows) → Dec (k < max-unknowns) → spot i k ≡ work-size
     go (yes hi) (yes hk) = absurd (out (hi, hk))
-    go (yes hi) (no nk) = rw (lt-ltb i 256 hi, le-ltb k 128 (omega arith))
-    go (no ni) d = rw (le-ltb i 256 (omega arith))
+    go (yes hi) (no nk) = rw (lt-ltb i max-rows hi, le-ltb k max-unknowns (omega arith))
+    go (no ni) d = rw (le-ltb i max-rows (omega arith))
 
-pub spot-cases : (i k : ℕ) → ((i < 256) × (k < 128) × (spot i k ≡ 128 * i + k)) ⊎ (spot i k ≡ 65536)
-spot-cases i k = go (decLt i 256) (decLt k 128)
+pub spot-cases : (i k : ℕ) → ((i < max-rows) × (k < max-unknowns) × (spot i k ≡ max-unknowns * i + k)) ⊎ (spot i k ≡ work-size)
+spot-cases i k = go (decLt i max-rows) (decLt k max-unknowns)
   where
-    go : Dec (i < 256) → Dec (k < 128) → ((i < 256) × (k < 128) × (spot i k ≡ 128 * i + k)) ⊎ (spot i k ≡ 65536)
+    go : Dec (i < max-rows) → Dec (k < max-unknowns) → ((i < max-rows) × (k < max-unknowns) × (spot i k ≡ max-unknowns * i + k)) ⊎ (spot i k ≡ work-size)
     go (yes hi) (yes hk) = inl (hi, hk, spot-in i k hi hk)
     go (yes hi) (no nk) = inr (spot-out i k (λ t. nk (t .1)))
     go (no ni) d = inr (spot-out i k (λ t. ni (t .0)))
 
 -- ---- what the bytes of the cell (i, k) say
 
-module _ (i k : ℕ) (hi : i < 256) (hk : k < 128) where
-  pub level-at : (w : List ℕ) → cells w .level i k ≡ getD w (128 * i + k) 0
+module _ (i k : ℕ) (hi : i < max-rows) (hk : k < max-unknowns) where
+  pub level-at : (w : List ℕ) → cells w .level i k ≡ getD w (max-unknowns * i + k) 0
   unfolding cells
   level-at w = ap (λ (x : ℕ). getD w x 0) (spot-in i k hi hk)
 
-  pub flags-at : (w : List ℕ) → flags w i k ≡ getD w (32768 + (128 * i + k)) 0
-  flags-at w = ap (λ (x : ℕ). getD w (32768 + x) 0) (spot-in i k hi hk)
+  pub flags-at : (w : List ℕ) → flags w i k ≡ getD w (flags-from + (max-unknowns * i + k)) 0
+  flags-at w = ap (λ (x : ℕ). getD w (flags-from + x) 0) (spot-in i k hi hk)
 
-  pub value-at : (w : List ℕ) → cells w .value i k ≡ odd (getD w (32768 + (128 * i + k)) 0)
+  pub value-at : (w : List ℕ) → cells w .value i k ≡ odd (getD w (flags-from + (max-unknowns * i + k)) 0)
   unfolding cells
   value-at w = ap odd (flags-at w)
 
-  pub wants-at : (w : List ℕ) → wants w i k ≡ odd (getD w (32768 + (128 * i + k)) 0 / 2)
+  pub wants-at : (w : List ℕ) → wants w i k ≡ odd (getD w (flags-from + (max-unknowns * i + k)) 0 / 2)
   unfolding wants
   wants-at w = ap (λ (x : ℕ). odd (x / 2)) (flags-at w)
 
   -- another cell has another byte
-  pub spot-apart : (h j : ℕ) → ((h ≡ i) × (j ≡ k) → ⊥) → spot h j ≡ 128 * i + k → ⊥
+  pub spot-apart : (h j : ℕ) → ((h ≡ i) × (j ≡ k) → ⊥) → spot h j ≡ max-unknowns * i + k → ⊥
   spot-apart h j other same =
       ⊎-elim
       (λ t. let a = t .0 in let b = t .1 in let e = t .2 in other (omega arith, omega arith))
@@ -67,32 +68,32 @@ module _ (i k : ℕ) (hi : i < 256) (hk : k < 128) where
       (spot-cases h j)
 
   -- a level's byte is no flags' byte
-  pub spot-below : (h j : ℕ) → spot h j ≡ 32768 + (128 * i + k) → ⊥
+  pub spot-below : (h j : ℕ) → spot h j ≡ flags-from + (max-unknowns * i + k) → ⊥
   spot-below h j same = ⊎-elim (λ t. let a = t .0 in let b = t .1 in let e = t .2 in omega arith) (λ e. omega arith) (spot-cases h j)
 
-  module _ (w : List ℕ) (area : length w ≡ 65536) where
-    pub level-there : (m : ℕ) → cells (set w (128 * i + k) m) .level i k ≡ m
+  module _ (w : List ℕ) (area : length w ≡ work-size) where
+    pub level-there : (m : ℕ) → cells (set w (max-unknowns * i + k) m) .level i k ≡ m
     unfolding cells
-    level-there m = rw (spot-in i k hi hk) (getD-set-same w (128 * i + k) m 0 (omega arith))
+    level-there m = rw (spot-in i k hi hk) (getD-set-same w (max-unknowns * i + k) m 0 (omega arith))
 
-    pub flags-there : (b : ℕ) → flags (set w (32768 + (128 * i + k)) b) i k ≡ b
-    flags-there b = rw (spot-in i k hi hk) (getD-set-same w (32768 + (128 * i + k)) b 0 (omega arith))
+    pub flags-there : (b : ℕ) → flags (set w (flags-from + (max-unknowns * i + k)) b) i k ≡ b
+    flags-there b = rw (spot-in i k hi hk) (getD-set-same w (flags-from + (max-unknowns * i + k)) b 0 (omega arith))
 
   module _ (w : List ℕ) where
-    pub level-elsewhere : (m h j : ℕ) → ((h ≡ i) × (j ≡ k) → ⊥) → cells (set w (128 * i + k) m) .level h j ≡ cells w .level h j
+    pub level-elsewhere : (m h j : ℕ) → ((h ≡ i) × (j ≡ k) → ⊥) → cells (set w (max-unknowns * i + k) m) .level h j ≡ cells w .level h j
     unfolding cells
-    level-elsewhere m h j other = getD-set-other w (128 * i + k) (spot h j) m 0 (spot-apart h j other)
+    level-elsewhere m h j other = getD-set-other w (max-unknowns * i + k) (spot h j) m 0 (spot-apart h j other)
 
-    pub flags-elsewhere : (b h j : ℕ) → ((h ≡ i) × (j ≡ k) → ⊥) → flags (set w (32768 + (128 * i + k)) b) h j ≡ flags w h j
-    flags-elsewhere b h j other = getD-set-other w (32768 + (128 * i + k)) (32768 + spot h j) b 0 (λ e. spot-apart h j other (omega arith))
+    pub flags-elsewhere : (b h j : ℕ) → ((h ≡ i) × (j ≡ k) → ⊥) → flags (set w (flags-from + (max-unknowns * i + k)) b) h j ≡ flags w h j
+    flags-elsewhere b h j other = getD-set-other w (flags-from + (max-unknowns * i + k)) (flags-from + spot h j) b 0 (λ e. spot-apart h j other (omega arith))
 
     -- a store to a level leaves all flags, and a store to flags all levels
-    pub flags-after-level : (m h j : ℕ) → flags (set w (128 * i + k) m) h j ≡ flags w h j
-    flags-after-level m h j = getD-set-other w (128 * i + k) (32768 + spot h j) m 0 (λ e. omega arith)
+    pub flags-after-level : (m h j : ℕ) → flags (set w (max-unknowns * i + k) m) h j ≡ flags w h j
+    flags-after-level m h j = getD-set-other w (max-unknowns * i + k) (flags-from + spot h j) m 0 (λ e. omega arith)
 
-    pub level-after-flags : (b h j : ℕ) → cells (set w (32768 + (128 * i + k)) b) .level h j ≡ cells w .level h j
+    pub level-after-flags : (b h j : ℕ) → cells (set w (flags-from + (max-unknowns * i + k)) b) .level h j ≡ cells w .level h j
     unfolding cells
-    level-after-flags b h j = getD-set-other w (32768 + (128 * i + k)) (spot h j) b 0 (spot-below h j)
+    level-after-flags b h j = getD-set-other w (flags-from + (max-unknowns * i + k)) (spot h j) b 0 (spot-below h j)
 
 -- ---- cells with the same flags have the same value and want the same
 
@@ -123,31 +124,31 @@ half-twice false = refl
 -- ---- a cell is set by two stores, and what it wants by one
 
 abbrev pub level-stored : List ℕ → ℕ → ℕ → ℕ → List ℕ
-level-stored w i k mark = set w (128 * i + k) mark
+level-stored w i k mark = set w (max-unknowns * i + k) mark
 
 abbrev pub value-stored : List ℕ → ℕ → ℕ → Bool → List ℕ
-value-stored w i k y = set w (32768 + (128 * i + k)) (getD w (32768 + (128 * i + k)) 0 / 2 * 2 + weight y)
+value-stored w i k y = set w (flags-from + (max-unknowns * i + k)) (getD w (flags-from + (max-unknowns * i + k)) 0 / 2 * 2 + weight y)
 
-module _ (i k : ℕ) (hi : i < 256) (hk : k < 128) (w : List ℕ) (area : length w ≡ 65536) (mark : ℕ) (y : Bool) where
+module _ (i k : ℕ) (hi : i < max-rows) (hk : k < max-unknowns) (w : List ℕ) (area : length w ≡ work-size) (mark : ℕ) (y : Bool) where
   abbrev one-set : List ℕ
   one-set = value-stored (level-stored w i k mark) i k y
 
-  area-kept : length (level-stored w i k mark) ≡ 65536
-  area-kept = length-set w (128 * i + k) mark ∙ area
+  area-kept : length (level-stored w i k mark) ≡ work-size
+  area-kept = length-set w (max-unknowns * i + k) mark ∙ area
 
   -- the flags as they were, but for the value
   flags-of-set : flags one-set i k ≡ flags w i k / 2 * 2 + weight y
   flags-of-set =
-      flags-there i k hi hk (level-stored w i k mark) area-kept (getD (level-stored w i k mark) (32768 + (128 * i + k)) 0 / 2 * 2 + weight y)
+      flags-there i k hi hk (level-stored w i k mark) area-kept (getD (level-stored w i k mark) (flags-from + (max-unknowns * i + k)) 0 / 2 * 2 + weight y)
       ∙ ap (λ (x : ℕ). x / 2 * 2 + weight y) (sym (flags-at i k hi hk (level-stored w i k mark)) ∙ flags-after-level i k hi hk w mark i k)
 
   flags-kept : (h j : ℕ) → ((h ≡ i) × (j ≡ k) → ⊥) → flags one-set h j ≡ flags w h j
   flags-kept h j other =
-      flags-elsewhere i k hi hk (level-stored w i k mark) (getD (level-stored w i k mark) (32768 + (128 * i + k)) 0 / 2 * 2 + weight y) h j other
+      flags-elsewhere i k hi hk (level-stored w i k mark) (getD (level-stored w i k mark) (flags-from + (max-unknowns * i + k)) 0 / 2 * 2 + weight y) h j other
       ∙ flags-after-level i k hi hk w mark h j
 
   level-of-set : (h j : ℕ) → cells one-set .level h j ≡ cells (level-stored w i k mark) .level h j
-  level-of-set h j = level-after-flags i k hi hk (level-stored w i k mark) (getD (level-stored w i k mark) (32768 + (128 * i + k)) 0 / 2 * 2 + weight y) h j
+  level-of-set h j = level-after-flags i k hi hk (level-stored w i k mark) (getD (level-stored w i k mark) (flags-from + (max-unknowns * i + k)) 0 / 2 * 2 + weight y) h j
 
   value-of-set : cells one-set .value i k ≡ y
   unfolding cells
@@ -176,17 +177,17 @@ module _ (i k : ℕ) (hi : i < 256) (hk : k < 128) (w : List ℕ) (area : length
           go (yes p) (no q) = wants-same w one-set h j (flags-kept h j (λ t. q (t .1)))
           go (no p) d = wants-same w one-set h j (flags-kept h j (λ t. p (t .0)))
 
-module _ (i k : ℕ) (hi : i < 256) (hk : k < 128) (w : List ℕ) (area : length w ≡ 65536) (wanted : Bool) where
-  wants-of-want : wants (set w (32768 + (128 * i + k)) (2 * weight wanted)) i k ≡ wanted
+module _ (i k : ℕ) (hi : i < max-rows) (hk : k < max-unknowns) (w : List ℕ) (area : length w ≡ work-size) (wanted : Bool) where
+  wants-of-want : wants (set w (flags-from + (max-unknowns * i + k)) (2 * weight wanted)) i k ≡ wanted
   unfolding wants
   wants-of-want = ap (λ (x : ℕ). odd (x / 2)) (flags-there i k hi hk w area (2 * weight wanted)) ∙ half-twice wanted
 
-  pub want-set : WantSet i k wanted w (set w (32768 + (128 * i + k)) (2 * weight wanted))
+  pub want-set : WantSet i k wanted w (set w (flags-from + (max-unknowns * i + k)) (2 * weight wanted))
   want-set = record {
     there = wants-of-want;
     elsewhere = λ h j other.
         let same = flags-elsewhere i k hi hk w (2 * weight wanted) h j other in
-        (wants-same w (set w (32768 + (128 * i + k)) (2 * weight wanted)) h j same, value-same w (set w (32768 + (128 * i + k)) (2 * weight wanted)) h j same);
+        (wants-same w (set w (flags-from + (max-unknowns * i + k)) (2 * weight wanted)) h j same, value-same w (set w (flags-from + (max-unknowns * i + k)) (2 * weight wanted)) h j same);
     levels = λ h j. level-after-flags i k hi hk w (2 * weight wanted) h j;
   }
 

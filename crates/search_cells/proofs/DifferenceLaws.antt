@@ -10,6 +10,7 @@ use borrow.Author.Tests.{not-true, eq-eqb, ne-eqb}
 use lib.Dec.{eqb}
 use lib.ListN.{length, getD, length-set}
 use lib.Seq.{getD-set-same, getD-set-other}
+use Rattle.formula.specs.Formula.{work-size, max-rows, max-unknowns}
 use Rattle.search_cells.specs.Cells.{cells, owned}
 use Rattle.search_cells.specs.Steps.{steps, first-from, differ, first-difference, with-split, rows-compared}
 use Rattle.search_cells.specs.Changes.{FirstDifference}
@@ -98,13 +99,13 @@ module _ (kinds : List ℕ) (side : ℕ) (w : List ℕ) (i : ℕ) where
 
 -- ---- row by row
 
-module _ (kinds w : List ℕ) (count side : ℕ) (splits : List ℕ) (area : length w ≡ 65536) (few : length kinds ≤ 128) (most : count ≤ 256) (room : length splits ≡ 256) where
+module _ (kinds w : List ℕ) (count side : ℕ) (splits : List ℕ) (area : length w ≡ work-size) (few : length kinds ≤ max-unknowns) (most : count ≤ max-rows) (room : length splits ≡ max-rows) where
   pub rows-compared-inside : rows-compared kinds w count side splits ≡ steps (with-split kinds side w) (count - 1) 0 splits
   unfolding rows-compared
-  rows-compared-inside = rw (sizes-fit (length w) (length kinds) count area few most, eq-eqb (length splits) 256 room)
+  rows-compared-inside = rw (sizes-fit (length w) (length kinds) count area few most, eq-eqb (length splits) max-rows room)
 
   abbrev ComparedBelow : ℕ → List ℕ → Type 0
-  ComparedBelow i u = (length u ≡ 256) × ((j : ℕ) → j < i → FirstDifference kinds side w j (getD u (j + 1) 0))
+  ComparedBelow i u = (length u ≡ max-rows) × ((j : ℕ) → j < i → FirstDifference kinds side w j (getD u (j + 1) 0))
 
   compared-more : (i : ℕ) (u : List ℕ) → i < count - 1 → ComparedBelow i u → ComparedBelow (i + 1) (with-split kinds side w i u)
   compared-more i u less p = (length-set u (i + 1) (first-difference kinds side w i) ∙ p .0, λ j l. go j l (ℕ-discrete j i))

@@ -7,6 +7,7 @@ use native.Mathlib.Omega.{arith}
 use native.Mathlib.Decide.{ℕ-discrete}
 use lib.ListN.{length, getD}
 use borrow.Author.Tests.{eq-eqb, ne-eqb}
+use Rattle.formula.specs.Formula.{work-size, max-rows, max-unknowns}
 use Rattle.rows.specs.Row.{bit-of}
 use Rattle.rows.specs.Table.{row-at}
 use Rattle.expansion.specs.Cells.{others-before}
@@ -105,9 +106,9 @@ module _ (kinds rows : List ℕ) (side row i : ℕ) where
   unfolding with-given-row
   given-row-steps w = steps-all (with-given kinds rows side row i) (length kinds) w
 
-  module _ (few : length kinds ≤ 128) (place : i < 256) (w : List ℕ) (area : length w ≡ 65536) where
+  module _ (few : length kinds ≤ max-unknowns) (place : i < max-rows) (w : List ℕ) (area : length w ≡ work-size) where
     abbrev GivenBelow : ℕ → List ℕ → Type 0
-    GivenBelow k u = (length u ≡ 65536) × RowFilledBelow kinds rows row i side k w u
+    GivenBelow k u = (length u ≡ work-size) × RowFilledBelow kinds rows row i side k w u
 
     given-more : (k : ℕ) (u : List ℕ) → k < length kinds → GivenBelow k u → GivenBelow (k + 1) (with-given kinds rows side row i k u)
     given-more k u less p = (length-with-given k u ∙ p .0, go (ℕ-discrete (getD kinds k 0) side))
@@ -128,7 +129,7 @@ module _ (kinds rows : List ℕ) (side row i : ℕ) where
         (steps-reach (with-given kinds rows side row i) GivenBelow 0 (length kinds) (λ k u low less p. given-more k u less p) w (omega arith)
         (area, row-filled-none kinds rows row i side w))
 
-    length-given-row : length (with-given-row kinds rows side row i w) ≡ 65536
+    length-given-row : length (with-given-row kinds rows side row i w) ≡ work-size
     length-given-row = row-given .0
 
     row-is-filled : RowFilled kinds rows row i side w (with-given-row kinds rows side row i w)
@@ -200,14 +201,14 @@ module _ (kinds rows place : List ℕ) (side : ℕ) (w : List ℕ) where
 abbrev pub row-step : List ℕ → List ℕ → List ℕ → ℕ → ℕ → List ℕ → List ℕ
 row-step kinds rows place side r = with-given-row kinds rows side r (getD place r 0)
 
-module _ (kinds rows place : List ℕ) (side : ℕ) (w : List ℕ) (area : length w ≡ 65536) (few : length kinds ≤ 128) (most : length place ≤ 256) where
+module _ (kinds rows place : List ℕ) (side : ℕ) (w : List ℕ) (area : length w ≡ work-size) (few : length kinds ≤ max-unknowns) (most : length place ≤ max-rows) where
   pub rows-filled-inside : rows-filled kinds rows place side w ≡ steps (row-step kinds rows place side) (length place) 0 w
   unfolding rows-filled
   rows-filled-inside = rw (sizes-fit (length w) (length kinds) (length place) area few most)
 
   module _ (bytes : (r : ℕ) → r < length place → getD place r 0 < 256) (apart : (r q : ℕ) → r < length place → q < length place → getD place r 0 ≡ getD place q 0 → r ≡ q) where
     abbrev RowsBelow : ℕ → List ℕ → Type 0
-    RowsBelow n u = (length u ≡ 65536) × FilledBelow kinds rows place side n w u
+    RowsBelow n u = (length u ≡ work-size) × FilledBelow kinds rows place side n w u
 
     rows-more : (n : ℕ) (u : List ℕ) → n < length place → RowsBelow n u → RowsBelow (n + 1) (row-step kinds rows place side n u)
     rows-more n u less p = (

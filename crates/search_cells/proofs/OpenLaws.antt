@@ -9,7 +9,8 @@ use native.Mathlib.Decide.{ℕ-discrete, decLe, decLt}
 use lib.ListN.{length, getD, set, length-set, List·getD-eq-default}
 use lib.Seq.{getD-set-same, getD-set-other}
 use borrow.Author.Tests.{le-leb, lt-leb}
-use Rattle.search_cells.specs.Cells.{spot, cells}
+use Rattle.formula.specs.Formula.{work-size, max-rows, max-unknowns}
+use Rattle.search_cells.specs.Cells.{flags as flags-from, spot, cells}
 use Rattle.search_cells.specs.Steps.{steps, bounded, with-bounded, rows-opened}
 use Rattle.search_cells.specs.Changes.{CellsOpened}
 use Rattle.search_cells.proofs.CellLaws.{flags, spot-cases, value-same, wants-same}
@@ -44,31 +45,31 @@ bytes-bounded-more bound from at w u low-at inside b = record {
     there x low high (no n) = getD-set-other u at x (bounded bound (getD u at 0)) 0 n ∙ b .there x low (omega arith)
 
 -- The bytes of the rows lo to hi bounded: the cells with a mark over the bound are open.
-module _ (bound lo hi : ℕ) (w u : List ℕ) (most : hi ≤ 256) (area : length w ≡ 65536) (b : BytesBounded bound (128 * lo) (128 * hi) w u) where
+module _ (bound lo hi : ℕ) (w u : List ℕ) (most : hi ≤ max-rows) (area : length w ≡ work-size) (b : BytesBounded bound (max-unknowns * lo) (max-unknowns * hi) w u) where
   flags-stay : (i j : ℕ) → flags u i j ≡ flags w i j
-  flags-stay i j = b .elsewhere (32768 + spot i j) (λ t. let p = t .1 in omega arith)
+  flags-stay i j = b .elsewhere (flags-from + spot i j) (λ t. let p = t .1 in omega arith)
 
   high : (i j : ℕ) → lo ≤ i → i < hi → bound + 1 ≤ cells w .level i j → cells u .level i j ≡ 0
   unfolding cells
   high i j low less over = ⊎-elim at-cell no-cell (spot-cases i j)
     where
-      at-cell : (i < 256) × (j < 128) × (spot i j ≡ 128 * i + j) → getD u (spot i j) 0 ≡ 0
+      at-cell : (i < max-rows) × (j < max-unknowns) × (spot i j ≡ max-unknowns * i + j) → getD u (spot i j) 0 ≡ 0
       at-cell t =
           let p = t .1 in
           let e = t .2 in
           b .there (spot i j) (omega arith) (omega arith) ∙ bounded-high bound (getD w (spot i j) 0) (omega arith)
 
-      no-cell : spot i j ≡ 65536 → getD u (spot i j) 0 ≡ 0
+      no-cell : spot i j ≡ work-size → getD u (spot i j) 0 ≡ 0
       no-cell e = absurd (omega (arith, List·getD-eq-default w 0 {n = spot i j} (omega arith)))
 
   level-stays : (i j : ℕ) → ((lo ≤ i) × (i < hi) × (bound + 1 ≤ cells w .level i j) → ⊥) → cells u .level i j ≡ cells w .level i j
   unfolding cells
   level-stays i j out = ⊎-elim at-cell no-cell (spot-cases i j)
     where
-      no-cell : spot i j ≡ 65536 → getD u (spot i j) 0 ≡ getD w (spot i j) 0
+      no-cell : spot i j ≡ work-size → getD u (spot i j) 0 ≡ getD w (spot i j) 0
       no-cell e = b .elsewhere (spot i j) (λ t. let p = t .1 in omega arith)
 
-      at-cell : (i < 256) × (j < 128) × (spot i j ≡ 128 * i + j) → getD u (spot i j) 0 ≡ getD w (spot i j) 0
+      at-cell : (i < max-rows) × (j < max-unknowns) × (spot i j ≡ max-unknowns * i + j) → getD u (spot i j) 0 ≡ getD w (spot i j) 0
       at-cell t = go (decLe lo i) (decLt i hi) (decLe (getD w (spot i j) 0) bound)
         where
           go : Dec (lo ≤ i) → Dec (i < hi) → Dec (getD w (spot i j) 0 ≤ bound) → getD u (spot i j) 0 ≡ getD w (spot i j) 0
@@ -88,22 +89,22 @@ module _ (bound lo hi : ℕ) (w u : List ℕ) (most : hi ≤ 256) (area : length
 
 -- ---- byte by byte
 
-module _ (lo hi bound : ℕ) (w : List ℕ) (area : length w ≡ 65536) (most : hi ≤ 256) where
-  pub rows-opened-inside : rows-opened lo hi bound w ≡ steps (with-bounded bound) (128 * hi - 128 * lo) (128 * lo) w
+module _ (lo hi bound : ℕ) (w : List ℕ) (area : length w ≡ work-size) (most : hi ≤ max-rows) where
+  pub rows-opened-inside : rows-opened lo hi bound w ≡ steps (with-bounded bound) (max-unknowns * hi - max-unknowns * lo) (max-unknowns * lo) w
   unfolding rows-opened
   rows-opened-inside = rw (sizes-fit (length w) 0 hi area (omega arith) most)
 
   module _ (order : lo ≤ hi) where
     abbrev BoundedBelow : ℕ → List ℕ → Type 0
-    BoundedBelow at u = (length u ≡ 65536) × BytesBounded bound (128 * lo) at w u
+    BoundedBelow at u = (length u ≡ work-size) × BytesBounded bound (max-unknowns * lo) at w u
 
-    all-bounded : BoundedBelow (128 * hi) (rows-opened lo hi bound w)
+    all-bounded : BoundedBelow (max-unknowns * hi) (rows-opened lo hi bound w)
     all-bounded =
-        subst (BoundedBelow (128 * hi)) (sym rows-opened-inside)
-        (steps-reach (with-bounded bound) BoundedBelow (128 * lo) (128 * hi)
+        subst (BoundedBelow (max-unknowns * hi)) (sym rows-opened-inside)
+        (steps-reach (with-bounded bound) BoundedBelow (max-unknowns * lo) (max-unknowns * hi)
         (λ at u low less p.
-        let long = p .0 in (length-set u at (bounded bound (getD u at 0)) ∙ p .0, bytes-bounded-more bound (128 * lo) at w u low (omega arith) (p .1)))
-        w (omega arith) (area, bytes-bounded-none bound (128 * lo) w))
+        let long = p .0 in (length-set u at (bounded bound (getD u at 0)) ∙ p .0, bytes-bounded-more bound (max-unknowns * lo) at w u low (omega arith) (p .1)))
+        w (omega arith) (area, bytes-bounded-none bound (max-unknowns * lo) w))
 
     pub rows-are-opened : CellsOpened lo hi bound w (rows-opened lo hi bound w)
     rows-are-opened = cells-opened bound lo hi w (rows-opened lo hi bound w) most area (all-bounded .1)

@@ -14,6 +14,8 @@ use lib.Pow.{pow-lt}
 use lib.Seq.{ext-getD, getD-drop, take-at, drop-at, take-all, take-nil, take-append-le, drop-append-add, drop-drop, drop-length, length-take-le, set-append-left}
 use borrow.Author.Tests.{eq-eqb, ne-eqb}
 use borrow.Rule.Slice.PartMut.{midOf, postOf, putMid, post-is, mid-len}
+use Rattle.rows.specs.Stray.{row-bits}
+use Rattle.formula.specs.Formula.{work-size, max-rows, max-unknowns}
 use Rattle.rows.specs.Row.{bit-of, bytes-of}
 use Rattle.rows.specs.Table.{row-at, room, table-of}
 use Rattle.rows.specs.Access.{bit-set, placed}
@@ -25,7 +27,7 @@ use Rattle.expansion.specs.Play.{first-value, later-values, part}
 use Rattle.expansion.proofs.LeadingPath.{first-at, later-at}
 use Rattle.expansion.specs.Cells.{tabulate}
 use Rattle.expansion.proofs.Engine.{tabulate-at}
-use Rattle.search_cells.specs.Cells.{spot, cells, owned}
+use Rattle.search_cells.specs.Cells.{flags as flags-from, spot, cells, owned}
 use Rattle.search_cells.specs.Steps.{yielded, packed}
 use Rattle.search_cells.proofs.CellLaws.{value-same}
 use Rattle.search_cells.proofs.OwnedLaws.{owned-at, length-owned}
@@ -83,7 +85,7 @@ module _ (kinds : List ℕ) (side : ℕ) (f : ℕ → Bool) where
 
 -- Rows of sixteen bytes with the same bits are equal.
 same-bits : (b c : List ℕ) → length b ≡ 16 → length c ≡ 16 → ((p : ℕ) → getD b p 0 < 256) → ((p : ℕ) → getD c p 0 < 256)
-    → ((k : ℕ) → k < 128 → bit-of b k ≡ bit-of c k) → b ≡ c
+    → ((k : ℕ) → k < row-bits → bit-of b k ≡ bit-of c k) → b ≡ c
 same-bits b c width-b width-c below-b below-c same =
     ext-getD 0 b c (width-b ∙ sym width-c) (λ p inside.
     bits-determine 8 (getD b p 0) (getD c p 0) (below-b p) (below-c p) (λ t less.
@@ -111,7 +113,7 @@ bytes-of-false r =
 row-at-whole : (b : List ℕ) → length b ≡ 16 → row-at b 0 ≡ b
 row-at-whole b width = row-at-inside b 0 (omega arith) ∙ take-all 16 b (omega arith)
 
-bit-set-whole : (b : List ℕ) (k : ℕ) → length b ≡ 16 → k < 128 → bit-set b 0 k ≡ set b (k / 8) (bitOr (getD b (k / 8) 0) (2 ^ (k % 8)))
+bit-set-whole : (b : List ℕ) (k : ℕ) → length b ≡ 16 → k < row-bits → bit-set b 0 k ≡ set b (k / 8) (bitOr (getD b (k / 8) 0) (2 ^ (k % 8)))
 bit-set-whole b k width own =
     let first : 16 * 0 + k / 8 ≡ k / 8 = omega arith in
     bit-set-inside b 0 k (omega arith) own ∙ ap (λ (x : ℕ). set b x (bitOr (getD b x 0) (2 ^ (k % 8)))) first
@@ -124,7 +126,7 @@ set-below (y ∷ b) (suc j) x below hx zero = below zero
 set-below (y ∷ b) (suc j) x below hx (suc p) = set-below b j x (λ q. below (suc q)) hx p
 
 -- .. and true sets its bit.
-module _ (r : List Bool) (left : length r < 128) where
+module _ (r : List Bool) (left : length r < row-bits) where
   bit-set-below : (p : ℕ) → getD (bit-set (bytes-of r) 0 (length r)) p 0 < 256
   bit-set-below p =
       subst (λ (b : List ℕ). getD b p 0 < 256) (sym (bit-set-whole (bytes-of r) (length r) (length-bytes-of r) left))
@@ -155,17 +157,17 @@ set-append-add (x ∷ xs) ys m a =
     ap (λ (k : ℕ). set (x ∷ (xs ++ ys)) k a) (suc-add (length xs) m) ∙ ap (λ (l : List ℕ). x ∷ l) (set-append-add xs ys m a)
 
 -- What stands behind a byte before the values' bytes gives the values.
-values-behind : (w u : List ℕ) (n : ℕ) → n ≤ 32768 → drop n u ≡ drop n w → (i : ℕ) → cells u .value i ≡ cells w .value i
+values-behind : (w u : List ℕ) (n : ℕ) → n ≤ flags-from → drop n u ≡ drop n w → (i : ℕ) → cells u .value i ≡ cells w .value i
 values-behind w u n low same i = λ d k. at k d
   where
     at : (k : ℕ) → cells u .value i k ≡ cells w .value i k
     at k =
-        let place : n + (32768 + spot i k - n) ≡ 32768 + spot i k = omega arith in
+        let place : n + (flags-from + spot i k - n) ≡ flags-from + spot i k = omega arith in
         value-same w u i k
         (ap (λ (x : ℕ). getD u x 0) (sym place)
-        ∙ sym (getD-drop n u (32768 + spot i k - n) 0)
-        ∙ ap (λ (l : List ℕ). getD l (32768 + spot i k - n) 0) same
-        ∙ getD-drop n w (32768 + spot i k - n) 0
+        ∙ sym (getD-drop n u (flags-from + spot i k - n) 0)
+        ∙ ap (λ (l : List ℕ). getD l (flags-from + spot i k - n) 0) same
+        ∙ getD-drop n w (flags-from + spot i k - n) 0
         ∙ ap (λ (x : ℕ). getD w x 0) place)
 
 module _ (w : List ℕ) (row : ℕ) (inside : row < room w) where
@@ -189,7 +191,7 @@ module _ (w : List ℕ) (row : ℕ) (inside : row < room w) where
         ap (λ (l : List ℕ). l ++ c ++ drop (16 * row + 16) (placed w row b)) take-placed
         ∙ ap (λ (l : List ℕ). take (16 * row) w ++ c ++ l) drop-placed
 
-    bit-set-placed : (k : ℕ) → k < 128 → bit-set (placed w row b) row k ≡ placed w row (bit-set b 0 k)
+    bit-set-placed : (k : ℕ) → k < row-bits → bit-set (placed w row b) row k ≡ placed w row (bit-set b 0 k)
     bit-set-placed k own =
         let within : row < room (placed w row b) = omega (arith, length-placed w row b inside width) in
         let same : getD (placed w row b) (16 * row + k / 8) 0 ≡ getD b (k / 8) 0 =
@@ -203,7 +205,7 @@ module _ (w : List ℕ) (row : ℕ) (inside : row < room w) where
         ∙ set-append-add (take (16 * row) w) b (k / 8) (bitOr (getD b (k / 8) 0) (2 ^ (k % 8))))
         ∙ ap (placed w row) (sym (bit-set-whole b k width own))
 
-  value-more : (r : List Bool) (v : Bool) → length r < 128
+  value-more : (r : List Bool) (v : Bool) → length r < row-bits
       → cond v (bit-set (placed w row (bytes-of r)) row (length r)) (placed w row (bytes-of r)) ≡ placed w row (bytes-of (r ++ (v ∷ [])))
   value-more r true left = bit-set-placed (bytes-of r) (length-bytes-of r) (length r) left ∙ ap (placed w row) (bytes-of-true r left)
   value-more r false left = ap (placed w row) (sym (bytes-of-false r))
@@ -235,12 +237,12 @@ row-cleared-placed w row =
 -- The own values at the positions below k of the sorted row i stand in row `row`, and the next one is its bit `bit`.
 pub record RowPacked (kinds : List ℕ) (row i side k bit : ℕ) (w u : List ℕ) : Type 0 where
   pub low : k ≤ length kinds
-  pub area : length w ≡ 65536
+  pub area : length w ≡ work-size
   pub next : bit ≡ length (own-values kinds side (cells w .value i) k)
   pub packed : u ≡ placed w row (bytes-of (own-values kinds side (cells w .value i) k))
 
-module _ (kinds : List ℕ) (row i side : ℕ) (inside : row < 256) where
-  module _ (w x : List ℕ) (area : length w ≡ 65536) (cleared : x ≡ row-cleared w row) where
+module _ (kinds : List ℕ) (row i side : ℕ) (inside : row < max-rows) where
+  module _ (w x : List ℕ) (area : length w ≡ work-size) (cleared : x ≡ row-cleared w row) where
     as-placed : x ≡ placed w row (bytes-of [])
     as-placed = cleared ∙ row-cleared-placed w row
 
@@ -271,7 +273,7 @@ module _ (kinds : List ℕ) (row i side : ℕ) (inside : row < 256) where
     abbrev so-far : List Bool
     so-far = own-values kinds side (cells w .value i) k
 
-    pub row-packed-area : length u ≡ 65536
+    pub row-packed-area : length u ≡ work-size
     row-packed-area =
         let area = p .area in
         ap length (p .packed) ∙ length-placed w row (bytes-of so-far) (omega arith) (length-bytes-of so-far) ∙ area
@@ -295,7 +297,7 @@ module _ (kinds : List ℕ) (row i side : ℕ) (inside : row < 256) where
           packed = p .packed ∙ ap (λ (r : List Bool). placed w row (bytes-of r)) (sym same);
         }
 
-    pub row-packed-own : k < length kinds → length kinds ≤ 128 → getD kinds k 0 ≡ side → (v : Bool) → v ≡ cells u .value i k
+    pub row-packed-own : k < length kinds → length kinds ≤ max-unknowns → getD kinds k 0 ≡ side → (v : Bool) → v ≡ cells u .value i k
         → (x : List ℕ) → x ≡ cond v (bit-set u row bit) u → RowPacked kinds row i side (k + 1) (bit + 1) w x
     row-packed-own less few own v value x stored =
         let area = p .area in
@@ -337,14 +339,14 @@ length-table-of (suc n) f =
 abbrev pub rows-packed : List ℕ → List ℕ → ℕ → List ℕ → ℕ → List ℕ
 rows-packed kinds place side w n = table-of (tabulate n (yielded kinds place side w)) ++ drop (16 * n) w
 
-module _ (kinds place : List ℕ) (side : ℕ) (w : List ℕ) (area : length w ≡ 65536) where
+module _ (kinds place : List ℕ) (side : ℕ) (w : List ℕ) (area : length w ≡ work-size) where
   abbrev table : ℕ → List ℕ
   table n = table-of (tabulate n (yielded kinds place side w))
 
   length-table : (n : ℕ) → length (table n) ≡ 16 * n
   length-table n = length-table-of n (yielded kinds place side w)
 
-  length-rows-packed : (n : ℕ) → n ≤ 256 → length (rows-packed kinds place side w n) ≡ 65536
+  length-rows-packed : (n : ℕ) → n ≤ max-rows → length (rows-packed kinds place side w n) ≡ work-size
   length-rows-packed n few =
       let a = length-table n in
       let b = length-drop (16 * n) w in
@@ -361,7 +363,7 @@ module _ (kinds place : List ℕ) (side : ℕ) (w : List ℕ) (area : length w �
       ∙ drop-drop 16 (16 * n) w
       ∙ ap (λ (m : ℕ). drop m w) next)
 
-  pub rows-packed-more : (n : ℕ) (u x : List ℕ) → n < 256 → u ≡ rows-packed kinds place side w n → x ≡ placed u n (bytes-of (yielded kinds place side u n))
+  pub rows-packed-more : (n : ℕ) (u x : List ℕ) → n < max-rows → u ≡ rows-packed kinds place side w n → x ≡ placed u n (bytes-of (yielded kinds place side u n))
       → x ≡ rows-packed kinds place side w (n + 1)
   rows-packed-more n u x few before now =
       let values : cells u .value (getD place n 0) ≡ cells w .value (getD place n 0) =
@@ -375,15 +377,15 @@ module _ (kinds place : List ℕ) (side : ℕ) (w : List ℕ) (area : length w �
       ∙ ap (λ (m : ℕ). table m ++ drop (16 * (n + 1)) w) (sym (add-one n))
 
   -- All that is behind the rows is cleared.
-  pub rows-packed-whole : (n : ℕ) (u x : List ℕ) → n ≤ 256 → u ≡ rows-packed kinds place side w n
-      → x ≡ take (16 * n) u ++ (replicate (length u - 16 * n) 0 ++ drop (length u) u) → x ≡ table n ++ replicate (65536 - 16 * n) 0
+  pub rows-packed-whole : (n : ℕ) (u x : List ℕ) → n ≤ max-rows → u ≡ rows-packed kinds place side w n
+      → x ≡ take (16 * n) u ++ (replicate (length u - 16 * n) 0 ++ drop (length u) u) → x ≡ table n ++ replicate (work-size - 16 * n) 0
   rows-packed-whole n u x few before now =
       now
       ∙ ap (λ (l : List ℕ). take (16 * n) u ++ (replicate (length u - 16 * n) 0 ++ l)) (drop-length u)
       ∙ ap (λ (l : List ℕ). take (16 * n) u ++ l) (append-nil (replicate (length u - 16 * n) 0))
       ∙ ap (λ (m : ℕ). take (16 * n) u ++ replicate (m - 16 * n) 0) (ap length before ∙ length-rows-packed n few)
-      ∙ ap (λ (l : List ℕ). l ++ replicate (65536 - 16 * n) 0) (ap (take (16 * n)) before ∙ take-at (table n) (drop (16 * n) w) (16 * n) (length-table n))
+      ∙ ap (λ (l : List ℕ). l ++ replicate (work-size - 16 * n) 0) (ap (take (16 * n)) before ∙ take-at (table n) (drop (16 * n) w) (16 * n) (length-table n))
 
-  pub packed-inside : length kinds ≤ 128 → length place ≤ 256 → packed kinds place side w ≡ table (length place) ++ replicate (65536 - 16 * length place) 0
+  pub packed-inside : length kinds ≤ max-unknowns → length place ≤ max-rows → packed kinds place side w ≡ table (length place) ++ replicate (work-size - 16 * length place) 0
   unfolding packed
   packed-inside few most = rw (sizes-fit (length w) (length kinds) (length place) area few most)

@@ -6,6 +6,8 @@ use mathlib.Core.List.{List}
 use native.Mathlib.Omega.{arith}
 use lib.ListN.{length, getD, set, length-set}
 use borrow.Author.Tests.{lt-ltb}
+use Rattle.search_cells.specs.Cells.{flags as flags-from}
+use Rattle.formula.specs.Formula.{work-size, max-rows, max-unknowns}
 use Rattle.rows.specs.Row.{weight}
 use Rattle.search_cells.specs.Steps.{steps, with-cell, rows-set}
 use Rattle.search_cells.specs.Changes.{CellsSet}
@@ -19,25 +21,25 @@ module _ (i k mark : ℕ) (value : Bool) (w : List ℕ) where
   unfolding with-cell
   length-with-cell = simp length-set
 
-  module _ (hi : i < 256) (hk : k < 128) where
+  module _ (hi : i < max-rows) (hk : k < max-unknowns) where
     pub with-cell-stored : value-stored (level-stored w i k mark) i k value ≡ with-cell i k mark value w
     unfolding with-cell
     with-cell-stored =
-        ap (λ (x : ℕ). set (set w x mark) (32768 + x) (getD (set w x mark) (32768 + x) 0 / 2 * 2 + weight value)) (sym (spot-in i k hi hk))
+        ap (λ (x : ℕ). set (set w x mark) (flags-from + x) (getD (set w x mark) (flags-from + x) 0 / 2 * 2 + weight value)) (sym (spot-in i k hi hk))
 
-    pub cells-set-one : length w ≡ 65536 → CellsSet k i (i + 1) mark value w (with-cell i k mark value w)
+    pub cells-set-one : length w ≡ work-size → CellsSet k i (i + 1) mark value w (with-cell i k mark value w)
     cells-set-one area = subst (CellsSet k i (i + 1) mark value w) with-cell-stored (cell-set i k hi hk w area mark value)
 
 -- ---- row by row
 
-module _ (k lo hi mark : ℕ) (value : Bool) (w : List ℕ) (area : length w ≡ 65536) (small : k < 128) (most : hi ≤ 256) where
+module _ (k lo hi mark : ℕ) (value : Bool) (w : List ℕ) (area : length w ≡ work-size) (small : k < max-unknowns) (most : hi ≤ max-rows) where
   pub rows-set-inside : rows-set k lo hi mark value w ≡ steps (λ i. with-cell i k mark value) (hi - lo) lo w
   unfolding rows-set
-  rows-set-inside = rw (sizes-fit (length w) 0 hi area (omega arith) most, lt-ltb k 128 small)
+  rows-set-inside = rw (sizes-fit (length w) 0 hi area (omega arith) most, lt-ltb k max-unknowns small)
 
   module _ (order : lo ≤ hi) where
     abbrev SetBelow : ℕ → List ℕ → Type 0
-    SetBelow i u = (length u ≡ 65536) × CellsSet k lo i mark value w u
+    SetBelow i u = (length u ≡ work-size) × CellsSet k lo i mark value w u
 
     all-set : SetBelow hi (rows-set k lo hi mark value w)
     all-set =

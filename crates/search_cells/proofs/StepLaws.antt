@@ -8,6 +8,7 @@ use native.Mathlib.Numerals.{add-one}
 use native.Mathlib.Omega.{arith}
 use lib.Dec.{eqb, leb}
 use borrow.Author.Tests.{eq-eqb, eqb-true, le-leb, leb-true}
+use Rattle.formula.specs.Formula.{work-size, max-rows, max-unknowns}
 use Rattle.search_cells.specs.Steps.{steps, fits}
 
 -- ---- the sizes
@@ -18,16 +19,16 @@ both true false e = absurd (true≢false (sym e))
 both false b e = absurd (true≢false (sym e))
 
 module _ (area positions rows : ℕ) where
-  pub sizes-fit : area ≡ 65536 → positions ≤ 128 → rows ≤ 256 → fits area positions rows ≡ true
+  pub sizes-fit : area ≡ work-size → positions ≤ max-unknowns → rows ≤ max-rows → fits area positions rows ≡ true
   unfolding fits
-  sizes-fit a p r = rw (eq-eqb area 65536 a, le-leb positions 128 p, le-leb rows 256 r)
+  sizes-fit a p r = rw (eq-eqb area work-size a, le-leb positions max-unknowns p, le-leb rows max-rows r)
 
-  pub fitting-sizes : fits area positions rows ≡ true → (area ≡ 65536) × (positions ≤ 128) × (rows ≤ 256)
+  pub fitting-sizes : fits area positions rows ≡ true → (area ≡ work-size) × (positions ≤ max-unknowns) × (rows ≤ max-rows)
   unfolding fits
   fitting-sizes e =
-      let last = both (eqb area 65536 && leb positions 128) (leb rows 256) e in
-      let first = both (eqb area 65536) (leb positions 128) (last .0) in
-      (eqb-true area 65536 (first .0), leb-true positions 128 (first .1), leb-true rows 256 (last .1))
+      let last = both (eqb area work-size && leb positions max-unknowns) (leb rows max-rows) e in
+      let first = both (eqb area work-size) (leb positions max-unknowns) (last .0) in
+      (eqb-true area work-size (first .0), leb-true positions max-unknowns (first .1), leb-true rows max-rows (last .1))
 
 -- ---- the steps
 

@@ -8,7 +8,7 @@ use lib.ListN.{length, getD}
 use borrow.Author.Tests.{ltb-true, eqb-true}
 use Rattle.formula.specs.Formula.{work-size, max-rows, max-unknowns}
 use Rattle.preference.specs.Preference.{odd}
-use Rattle.search_cells.specs.Cells.{cells}
+use Rattle.search_cells.specs.Cells.{flags as flags-from, cells}
 use Rattle.search_cells.proofs.CellLaws.{level-at, value-at}
 use Rattle.codes.specs.Codes.{row-position}
 use Rattle.search_evaluation.specs.Evaluation.{has-row, is-set}
@@ -19,9 +19,9 @@ row-given w i e =
     (eqb-true (length w) work-size (both .0), ltb-true i max-rows (both .1))
 
 module _ (w : List ℕ) (i c k : ℕ) (row : i < max-rows) (is : (k ≡ row-position c) × (k < max-unknowns)) where
-  pub set-by : ltb 0 (getD w (128 * i + k) 0) ≡ is-set w i c
+  pub set-by : ltb 0 (getD w (max-unknowns * i + k) 0) ≡ is-set w i c
   unfolding is-set
   set-by = ap (ltb 0) (sym (level-at i k row (is .1) w)) ∙ ap (λ (x : ℕ). ltb 0 (cells w .level i x)) (is .0)
 
-  pub value-by : odd (getD w (32768 + (128 * i + k)) 0) ≡ cells w .value i (row-position c)
+  pub value-by : odd (getD w (flags-from + (max-unknowns * i + k)) 0) ≡ cells w .value i (row-position c)
   value-by = sym (value-at i k row (is .1) w) ∙ ap (cells w .value i) (is .0)

@@ -110,7 +110,7 @@ module _ (codes : List ℕ) (start agreement : ℕ) where
   is-repeated-is high = rw (lt-ltb start (length codes) high)
 
 module _ (kinds work : List ℕ) (side i j : ℕ) where
-  pub is-open-own : getD kinds j 0 ≡ side → i < max-rows → j < max-unknowns → eqb (getD work (128 * i + j) 0) 0 ≡ is-open kinds work side i j
+  pub is-open-own : getD kinds j 0 ≡ side → i < max-rows → j < max-unknowns → eqb (getD work (max-unknowns * i + j) 0) 0 ≡ is-open kinds work side i j
   unfolding is-open
   is-open-own own row position =
       rw (eq-eqb (getD kinds j 0) side own) (sym (ap (λ (x : ℕ). eqb x 0) (level-at i j row position work)))

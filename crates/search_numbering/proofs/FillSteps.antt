@@ -12,6 +12,8 @@ use lib.Dec.{eqb, leb}
 use lib.ListN.{length, getD, take, drop, set, replicate, length-append, length-map}
 use lib.Seq.{take-suc, drop-cons, getD-set-same, getD-set-other}
 use borrow.Author.Tests.{lt-ltb, le-ltb, leb-true, eqb-true, eq-eqb, ne-eqb}
+use Rattle.search_cells.specs.Cells.{flags as flags-from}
+use Rattle.formula.specs.Formula.{work-size, max-rows, max-unknowns}
 use Rattle.preference.specs.Preference.{prefer}
 use Rattle.rows.specs.Row.{weight}
 use Rattle.expansion.proofs.Booleans.{true-or-false, never-both, false-if-not-true}
@@ -143,7 +145,7 @@ written-same f g k (suc n) w same = rw (written-same f g k n w (λ i less. same 
 
 -- One more cell written.
 pub written-next : (f : ℕ → Bool) (k n : ℕ) (w u : List ℕ) → u ≡ written f k n w → (b : ℕ) → b ≡ 2 * weight (f n)
-    → set u (32768 + (128 * n + k)) b ≡ written f k (n + 1) w
+    → set u (flags-from + (max-unknowns * n + k)) b ≡ written f k (n + 1) w
 written-next f k n w u so-far b is = rw (so-far, is, add-one n)
 
 note-is-two : (b : Bool) → eqb (note b) 2 ≡ b
@@ -210,12 +212,12 @@ both-true true b h = (refl, h)
 both-true false b h = absurd (never-both h refl)
 
 pub sized-bounds : (kinds places splits bytes : ℕ) → sized kinds places splits bytes ≡ true
-    → (kinds ≤ 128) × (places ≤ 256) × (splits ≡ 256) × (bytes ≡ 65536)
+    → (kinds ≤ max-unknowns) × (places ≤ max-rows) × (splits ≡ max-rows) × (bytes ≡ work-size)
 sized-bounds kinds places splits bytes h =
-    let a = both-true (leb kinds 128 && leb places 256 && eqb splits 256) (eqb bytes 65536) h in
-    let b = both-true (leb kinds 128 && leb places 256) (eqb splits 256) (a .0) in
-    let d = both-true (leb kinds 128) (leb places 256) (b .0) in
-    (leb-true kinds 128 (d .0), leb-true places 256 (d .1), eqb-true splits 256 (b .1), eqb-true bytes 65536 (a .1))
+    let a = both-true (leb kinds max-unknowns && leb places max-rows && eqb splits max-rows) (eqb bytes work-size) h in
+    let b = both-true (leb kinds max-unknowns && leb places max-rows) (eqb splits max-rows) (a .0) in
+    let d = both-true (leb kinds max-unknowns) (leb places max-rows) (b .0) in
+    (leb-true kinds max-unknowns (d .0), leb-true places max-rows (d .1), eqb-true splits max-rows (b .1), eqb-true bytes work-size (a .1))
 
 module _ (kinds preferences place splits : List ℕ) (side : ℕ) (w : List ℕ) where
   pub filled-sized : sized (length kinds) (length place) (length splits) (length w) ≡ true → (u : List ℕ)

@@ -11,10 +11,11 @@ use native.Mathlib.Decide.{ℕ-discrete}
 use lib.Dec.{eqb}
 use lib.ListN.{length, getD, length-set}
 use borrow.Author.Tests.{le-leb, eq-eqb}
+use Rattle.formula.specs.Formula.{work-size, max-rows, max-unknowns}
 use Rattle.preference.specs.Preference.{prefer}
 use Rattle.rows.specs.Row.{weight}
 use Rattle.expansion.proofs.Booleans.{true-or-false, never-both}
-use Rattle.search_cells.specs.Cells.{cells, wants, owned}
+use Rattle.search_cells.specs.Cells.{flags as flags-from, cells, wants, owned}
 use Rattle.search_cells.specs.Changes.{WantSet}
 use Rattle.search_cells.proofs.CellLaws.{want-set}
 use Rattle.search_cells.proofs.OwnedLaws.{owned-at}
@@ -33,9 +34,9 @@ record Written (f : ℕ → Bool) (k n : ℕ) (w u : List ℕ) : Type 0 where
 
 length-written : (f : ℕ → Bool) (k n : ℕ) (w : List ℕ) → length (written f k n w) ≡ length w
 length-written f k zero w = refl
-length-written f k (suc n) w = length-set (written f k n w) (32768 + (128 * n + k)) (2 * weight (f n)) ∙ length-written f k n w
+length-written f k (suc n) w = length-set (written f k n w) (flags-from + (max-unknowns * n + k)) (2 * weight (f n)) ∙ length-written f k n w
 
-module _ (f : ℕ → Bool) (k : ℕ) (w : List ℕ) (small : k < 128) (area : length w ≡ 65536) where
+module _ (f : ℕ → Bool) (k : ℕ) (w : List ℕ) (small : k < max-unknowns) (area : length w ≡ work-size) where
   written-more : (n : ℕ) (u x : List ℕ) → Written f k n w u → WantSet n k (f n) u x → Written f k (suc n) w x
   written-more n u x so-far one = record {
     there = λ i less. there i less (ℕ-discrete i n);
@@ -50,7 +51,7 @@ module _ (f : ℕ → Bool) (k : ℕ) (w : List ℕ) (small : k < 128) (area : l
       there i less (yes e) = rw e (one .there)
       there i less (no d) = one .elsewhere i k (λ t. d (t .0)) .0 ∙ so-far .there i (omega arith)
 
-  written-all : (n : ℕ) → n ≤ 256 → Written f k n w (written f k n w)
+  written-all : (n : ℕ) → n ≤ max-rows → Written f k n w (written f k n w)
   written-all zero few = record { there = λ i less. absurd (omega arith); elsewhere = λ h j out. (refl, refl); levels = λ h j. refl }
   written-all (suc n) few =
       written-more n (written f k n w) (written f k (suc n) w) (written-all n (omega arith))
@@ -131,8 +132,8 @@ module _ (kinds preferences place splits : List ℕ) (side : ℕ) (w : List ℕ)
         wanted i k h less o (yes e) = rw e (a .there i h)
         wanted i k h less o (no d) = a .elsewhere i k d .0 ∙ f .wanted i k h (omega arith) o
 
-module _ (kinds preferences place splits : List ℕ) (side : ℕ) (w : List ℕ) (short : length kinds ≤ 128) (few : length place ≤ 256) (onto : (i : ℕ) → i < length place → (r : ℕ) × (r < length place) × (getD place r 0 ≡ i)) where
-  filled-at-is : (k number : ℕ) (u : List ℕ) → k < 128 → length u ≡ 65536
+module _ (kinds preferences place splits : List ℕ) (side : ℕ) (w : List ℕ) (short : length kinds ≤ max-unknowns) (few : length place ≤ max-rows) (onto : (i : ℕ) → i < length place → (r : ℕ) × (r < length place) × (getD place r 0 ≡ i)) where
+  filled-at-is : (k number : ℕ) (u : List ℕ) → k < max-unknowns → length u ≡ work-size
       → FilledAt preferences place splits k number u (filled-at preferences place splits k number u)
   unfolding filled-at
   filled-at-is k number u small area = record {
@@ -149,7 +150,7 @@ module _ (kinds preferences place splits : List ℕ) (side : ℕ) (w : List ℕ)
 
   -- Of the positions that are left k is the first; those before it are filled.
   wants-from : (left : List ℕ) (k : ℕ) (u : List ℕ) → ((j : ℕ) → getD left j 0 ≡ getD kinds (k + j) 0) → k + length left ≡ length kinds
-      → length u ≡ 65536 → WantsFilledBelow kinds preferences place splits side k w u
+      → length u ≡ work-size → WantsFilledBelow kinds preferences place splits side k w u
       → WantsFilled kinds preferences place splits side w (filled-from preferences place splits side left k (copies-before splits place (owned kinds side) k) u)
   wants-from [] k u here sum area f =
       let full : k ≡ length kinds = omega arith in
@@ -174,9 +175,9 @@ module _ (kinds preferences place splits : List ℕ) (side : ℕ) (w : List ℕ)
       (true-or-false (getD (owned kinds side) k false))
 
   -- Where every place is a lent row's, the table that is filled has what the copies want.
-  pub wants-filled : length splits ≡ 256 → length w ≡ 65536
+  pub wants-filled : length splits ≡ max-rows → length w ≡ work-size
       → WantsFilled kinds preferences place splits side w (filled kinds preferences place splits side w)
   unfolding filled
   wants-filled all area =
-      rw (le-leb (length kinds) 128 short, le-leb (length place) 256 few, eq-eqb (length splits) 256 all, eq-eqb (length w) 65536 area)
+      rw (le-leb (length kinds) max-unknowns short, le-leb (length place) max-rows few, eq-eqb (length splits) max-rows all, eq-eqb (length w) work-size area)
       (wants-from kinds 0 w (λ j. ap (λ (n : ℕ). getD kinds n 0) (omega arith)) (omega arith) area (wants-none kinds preferences place splits side w))

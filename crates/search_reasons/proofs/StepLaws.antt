@@ -20,7 +20,7 @@ use Rattle.codes.specs.Codes.{row-position}
 use Rattle.codes.specs.Clauses.{position, clause-of, HasEnd, Begins, Coded}
 use Rattle.codes.proofs.CodeLaws.{row-position-is, clause-step, clause-stop}
 use Rattle.search_cells.specs.Cells.{cells}
-use Rattle.search_sets.specs.Sets.{added, has, emptied, blamed}
+use Rattle.search_sets.specs.Sets.{sets-size, added, has, emptied, blamed}
 use Rattle.search_sets.specs.Masks.{set-at, SetGrown, SetsKept, Put, Blamed}
 use Rattle.search_sets.proofs.SetLaws.{add-grows, add-adds, has-is, empty-empties, empty-keeps, blame-blames}
 use Rattle.search_sets.proofs.MaskLaws.{store-elsewhere}
@@ -55,7 +55,7 @@ level-set w i k e h = go (has-row w i && ltb k 128) (subst (λ (x : ℕ). 0 < x)
 
 -- ---- the calls, as relations
 
-module _ (o : List ℕ) {q : List ℕ} (size : length o ≡ 524) where
+module _ (o : List ℕ) {q : List ℕ} (size : length o ≡ sets-size) where
   pub but-emptied : (p : ℕ) → p < 128 → q ≡ emptied o p → SetsBut p o q
   but-emptied p lt e = subst (λ (x : List ℕ). SetsBut p o x) (sym e) (record { same = λ j jl n l. empty-empties o size p (omega arith) .others j n l })
 
@@ -71,7 +71,7 @@ module _ (o : List ℕ) {q : List ℕ} (size : length o ≡ 524) where
   pub blames : (codes : List ℕ) (start p : ℕ) → p < 130 → Coded 128 codes → q ≡ blamed codes o start p → Blamed (clause-of (drop start codes)) p o q
   blames codes start p place coded e = subst (λ (x : List ℕ). Blamed (clause-of (drop start codes)) p o x) (sym e) (blame-blames o size codes start p place coded)
 
-pub has-at : (o : List ℕ) → length o ≡ 524 → (l : ℕ) {r : Bool} → l < 128 → r ≡ has o 128 l → r ≡ set-at o 128 l
+pub has-at : (o : List ℕ) → length o ≡ sets-size → (l : ℕ) {r : Bool} → l < 128 → r ≡ has o 128 l → r ≡ set-at o 128 l
 has-at o size l below e = e ∙ has-is o size 128 l (omega arith) below
 
 -- no position passed is in the set, nor the next one
@@ -159,7 +159,7 @@ is-false a c p x there is set same =
 -- ---- values that are put
 
 -- the row's own value, as a decision
-pub put-held : (w a o b q1 q : List ℕ) (i p : ℕ) (y : Bool) → length o ≡ 524 → length q1 ≡ 524 → p < 128
+pub put-held : (w a o b q1 q : List ℕ) (i p : ℕ) (y : Bool) → length o ≡ sets-size → length q1 ≡ sets-size → p < 128
     → q1 ≡ emptied o p → q ≡ added q1 p p → y ≡ cells w .value i p → LineSet p y a b
     → (codes s : List ℕ) → Held codes w s i a o → Held codes w s i b q
 put-held w a o b q1 q i p y size size1 small e1 e2 ey stored codes s held =
@@ -169,7 +169,7 @@ put-held w a o b q1 q i p y size size1 small e1 e2 ey stored codes s held =
     (implied-decided codes w s i (set-at q p) p small (adds q1 size1 p p small small e2))
 
 -- what is fixed
-pub fixed-held : (w s a o b q : List ℕ) (i p : ℕ) (y : Bool) → length o ≡ 524 → p < 128 → Fixed w s i p
+pub fixed-held : (w s a o b q : List ℕ) (i p : ℕ) (y : Bool) → length o ≡ sets-size → p < 128 → Fixed w s i p
     → q ≡ emptied o p → y ≡ cells w .value i p → LineSet p y a b
     → (codes : List ℕ) → Held codes w s i a o → Held codes w s i b q
 fixed-held w s a o b q i p y size small fixed e1 ey stored codes held =
@@ -195,7 +195,7 @@ pub moves-at : {codes a b o q : List ℕ} {r r′ : Bool} → r ≡ r′ → Mov
 moves-at {codes} {a} {b} {o} {q} e moves = subst (λ (x : Bool). Moves codes a b o q x) e moves
 
 -- a clause that is false
-pub false-moves : (codes a o q1 q : List ℕ) (start c : ℕ) → length o ≡ 524 → length q1 ≡ 524 → Begins codes start → FalseBut codes a start c → c ≡ 0
+pub false-moves : (codes a o q1 q : List ℕ) (start c : ℕ) → length o ≡ sets-size → length q1 ≡ sets-size → Begins codes start → FalseBut codes a start c → c ≡ 0
     → q1 ≡ emptied o 128 → q ≡ blamed codes q1 start 128 → Moves codes a a o q false
 false-moves codes a o q1 q start c size size1 begins looked none e1 e2 = record { on = moved }
   where
@@ -210,7 +210,7 @@ false-moves codes a o q1 q start c size size1 begins looked none e1 e2 = record 
         blamed = blames q1 size1 codes start 128 (omega arith) coded e2
 
 -- a clause with one open literal
-module _ (codes a o b q1 q2 q : List ℕ) (p start c : ℕ) (size : length o ≡ 524) (size1 : length q1 ≡ 524) (small : p < 128) (two : 2 ≤ c) (last : c ≤ 257)
+module _ (codes a o b q1 q2 q : List ℕ) (p start c : ℕ) (size : length o ≡ sets-size) (size1 : length q1 ≡ sets-size) (small : p < 128) (two : 2 ≤ c) (last : c ≤ 257)
     (ep : p ≡ row-position c) (unset : getD a p 0 ≡ 0) (e1 : q1 ≡ emptied o p) (e2 : q2 ≡ blamed codes q1 start p) (stored : LineSet p (eqb (c % 2) 0) a b) (noted : SetsKept q2 q)
     (begins : Begins codes start) (looked : FalseBut codes a start c) where
   there : position c ≡ p
@@ -275,7 +275,7 @@ module _ {p e : ℕ} {o q : List ℕ} (small : p < 128) (so-far : Inheriting p e
           absurd (none (so-far .others 128 (λ x. omega arith) e ∙ subst (λ (x : ℕ). set-at o 128 x ≡ true) same h) (λ x. n (same ∙ x)))
       go l less n h (no other) = so-far .takes l (omega arith) n h
 
-  pub inheriting-more : {t : List ℕ} → length q ≡ 524 → e < 128 → t ≡ added q p e → Inheriting p (e + 1) o t
+  pub inheriting-more : {t : List ℕ} → length q ≡ sets-size → e < 128 → t ≡ added q p e → Inheriting p (e + 1) o t
   inheriting-more {t} size below eq = record {
     others = λ j n l. grown .others j n l ∙ so-far .others j n l;
     takes = λ l less n h. go l less n h (ℕ-discrete l e);
@@ -289,7 +289,7 @@ module _ {p e : ℕ} {o q : List ℕ} (small : p < 128) (so-far : Inheriting p e
       go l less n h (no other) = grown .keeps l (so-far .takes l (omega arith) n h)
 
   -- all positions, over a table whose set at p was emptied
-  pub inheriting-all : (before : List ℕ) → length before ≡ 524 → o ≡ emptied before p → 128 ≤ e → Inherited p before q
+  pub inheriting-all : (before : List ℕ) → length before ≡ sets-size → o ≡ emptied before p → 128 ≤ e → Inherited p before q
   inheriting-all before size eq all =
       let emptied-there = subst (λ (x : List ℕ). Put p 0 0 before x) (sym eq) (empty-empties before size p (omega arith)) in
       record {

@@ -13,7 +13,7 @@ use Rattle.expansion.proofs.ClauseCuts.{Every, every-map}
 use Rattle.codes.specs.Clauses.{position, clause-of, Coded}
 use Rattle.codes.proofs.CodeLaws.{clause-coded, row-position-is}
 use Rattle.codes.specs.Codes.{row-position}
-use Rattle.search_sets.specs.Sets.{words-put, words-joined, words-met, set-joined, bit-added, bit-at, ones, each-from, cut-at, followed, code-joined, codes-joined, united, united-words, added, has, emptied, filled, trimmed, excused, blamed}
+use Rattle.search_sets.specs.Sets.{sets-size, words-put, words-joined, words-met, set-joined, bit-added, bit-at, ones, each-from, cut-at, followed, code-joined, codes-joined, united, united-words, added, has, emptied, filled, trimmed, excused, blamed}
 use Rattle.search_sets.specs.Masks.{set-at, SetGrown, SetsKept, Put, United, WordsUnited, Trimmed, Excused, Blamed}
 use Rattle.search_sets.proofs.TestLaws.{place-true, numbers-true}
 use Rattle.search_sets.proofs.LengthLaws.{length-met, length-followed, length-code-joined, length-each}
@@ -21,7 +21,7 @@ use Rattle.search_sets.proofs.MaskLaws.{words-full, set-bit, store-put,
 
 -- ---- sets at places that are there
 
-module _ (s : List ℕ) (size : length s ≡ 524) (to : ℕ) (place : to < 130) where
+module _ (s : List ℕ) (size : length s ≡ sets-size) (to : ℕ) (place : to < 130) where
   put-there : (low high : ℕ) → Put to low high s (words-put s to low high)
   unfolding words-put
   put-there low high = store-put s to low high (omega arith)
@@ -36,12 +36,12 @@ module _ (s : List ℕ) (size : length s ≡ 524) (to : ℕ) (place : to < 130) 
 
 -- ---- a position after the other
 
-trimmed-each : (k m : ℕ) (s : List ℕ) → length s ≡ 524 → k + m ≤ 128 → Trimmed k s (each-from (cut-at k) k m s)
+trimmed-each : (k m : ℕ) (s : List ℕ) → length s ≡ sets-size → k + m ≤ 128 → Trimmed k s (each-from (cut-at k) k m s)
 unfolding words-met ones
 trimmed-each k zero s size fits = trimmed-refl k s
 trimmed-each k (suc m) s size fits =
     let t = each-from (cut-at k) k m s in
-    let same : length t ≡ 524 = length-each (cut-at k) (λ u p. length-met u p (ones k) (ones (k - 64))) k m s ∙ size in
+    let same : length t ≡ sets-size = length-each (cut-at k) (λ u p. length-met u p (ones k) (ones (k - 64))) k m s ∙ size in
     trimmed-more k (k + m) (ones k) (ones (k - 64)) s t _ (omega arith) (omega arith) refl refl (trimmed-each k m s size (omega arith))
     (put-there t same (k + m) (omega arith) _ _)
 
@@ -66,7 +66,7 @@ excused-more k p s t u below x g here = record {
         here (set-grown-keeps (x .grown) 128 p (subst (λ (y : ℕ). set-at s 128 y ≡ true) same named)) l
         (set-grown-keeps (x .grown) p l (subst (λ (y : ℕ). set-at s y l ≡ true) same h))
 
-excused-step : (k p : ℕ) (s t : List ℕ) → length t ≡ 524 → p < 128 → Excused k p s t → (b : Bool) → bit-at t 128 p ≡ b
+excused-step : (k p : ℕ) (s t : List ℕ) → length t ≡ sets-size → p < 128 → Excused k p s t → (b : Bool) → bit-at t 128 p ≡ b
     → Excused k (p + 1) s (cond b (set-joined t 128 p) t)
 unfolding bit-at
 excused-step k p s t size below x true e =
@@ -75,24 +75,24 @@ excused-step k p s t size below x true e =
 excused-step k p s t size below x false e =
     excused-more k p s t t below x set-grown-refl (λ named. absurd (never-both named (set-bit t 128 p below ∙ e)))
 
-excused-each : (k m : ℕ) (s : List ℕ) → length s ≡ 524 → m ≤ 128 - k → Excused k (k + m) s (each-from (followed 128) k m s)
+excused-each : (k m : ℕ) (s : List ℕ) → length s ≡ sets-size → m ≤ 128 - k → Excused k (k + m) s (each-from (followed 128) k m s)
 excused-each k zero s size fits = excused-shorter k (k + 0) k s s (omega arith) (excused-none k s)
 excused-each k (suc m) s size fits =
     let t = each-from (followed 128) k m s in
-    let same : length t ≡ 524 = length-each (followed 128) (length-followed 128) k m s ∙ size in
+    let same : length t ≡ sets-size = length-each (followed 128) (length-followed 128) k m s ∙ size in
     excused-shorter k (k + suc m) (k + m + 1) s _ (omega arith)
     (excused-step k (k + m) s t same (omega arith) (excused-each k m s size (omega arith)) (bit-at t 128 (k + m)) refl)
 
 -- ---- a code after the other
 
-code-grown : (s : List ℕ) → length s ≡ 524 → (to c : ℕ) → to < 130 → SetGrown to s (code-joined to s c)
+code-grown : (s : List ℕ) → length s ≡ sets-size → (to c : ℕ) → to < 130 → SetGrown to s (code-joined to s c)
 code-grown s size to c place = go (ℕ-discrete (row-position c) to)
   where
     go : Dec (row-position c ≡ to) → SetGrown to s (code-joined to s c)
     go (yes same) = rw (eq-eqb (row-position c) to same) set-grown-refl
     go (no other) = rw (ne-eqb (row-position c) to other) (set-joined-united s size to place (row-position c) .grown)
 
-code-taken : (s : List ℕ) → length s ≡ 524 → (to c : ℕ) → to < 130 → 2 ≤ c → position c < 128
+code-taken : (s : List ℕ) → length s ≡ sets-size → (to c : ℕ) → to < 130 → 2 ≤ c → position c < 128
     → (position c ≡ to) ⊎ ((l : ℕ) → set-at s (position c) l ≡ true → set-at (code-joined to s c) to l ≡ true)
 code-taken s size to c place two below = go (ℕ-discrete (row-position c) to)
   where
@@ -105,7 +105,7 @@ code-taken s size to c place two below = go (ℕ-discrete (row-position c) to)
         (set-joined-united s size to place (row-position c) .takes l (subst (λ (p : ℕ). set-at s p l ≡ true) (sym (row-position-is c two below)) h)))
 
 blamed-all : (to : ℕ) → to < 130 → (cs : List ℕ) → Every (λ c. (2 ≤ c) × (position c < 128)) cs
-    → (s : List ℕ) → length s ≡ 524 → Blamed cs to s (codes-joined to cs s)
+    → (s : List ℕ) → length s ≡ sets-size → Blamed cs to s (codes-joined to cs s)
 blamed-all to place [] coded s size = record { grown = set-grown-refl; takes = tt }
 blamed-all to place (c ∷ cs) coded s size =
     let t = code-joined to s c in
@@ -125,7 +125,7 @@ blamed-all to place (c ∷ cs) coded s size =
 
 -- ---- the public functions
 
-module _ (s : List ℕ) (size : length s ≡ 524) where
+module _ (s : List ℕ) (size : length s ≡ sets-size) where
   pub unite-unites : (to from : ℕ) → to < 130 → from < 130 → United to from s (united s to from)
   unfolding united
   unite-unites to from place other = rw (numbers-true (length s) to from 130 size place other) (set-joined-united s size to place from)

@@ -69,9 +69,10 @@ codes-joined to (c ∷ cs) s = codes-joined to cs (code-joined to s c)
 abbrev pub set-places : ℕ
 set-places = max-unknowns + 2
 
--- Two words a set, and behind the sets a word for each row and eight more, of which nothing is said here.
+-- Two words a set, and behind the sets words of which nothing is said here: two for each row, three for each position and the place behind
+-- them, and eight more.
 abbrev pub sets-size : ℕ
-sets-size = 2 * set-places + max-rows + 8
+sets-size = 2 * set-places + 2 * max-rows + 3 * (max-unknowns + 1) + 8
 
 -- A table has its size, and a set at the place.
 unfoldable pub has-place : ℕ → ℕ → Bool

@@ -12,8 +12,8 @@ ghost use Rattle.search_sets.specs.Sets.{set-places, sets-size, has-plac
 // A set for each position, and two behind them.
 pub const PLACES: usize = Formula::UNKNOWNS + 2;
 
-// Behind the sets there is a word for each row, and then eight more.
-pub const WORDS: usize = 2 * PLACES + Formula::ROWS + 8;
+// Behind the sets there is room for hints: two words for each row, three for each end of a range of positions, and eight more.
+pub const WORDS: usize = 2 * PLACES + 2 * Formula::ROWS + 3 * ENDS + 8;
 
 // The last position.
 const LAST: usize = Formula::UNKNOWNS - 1;

@@ -80,7 +80,10 @@ fn is_ahead(first: u32, most: u32, rounds: u32) -> bool
     if first == 0 {
         return true;
     }
-    most < rounds
+    if most < rounds {
+        return true;
+    }
+    false
 }
 
 fn one_if(answer: u32, k: u32) -> u32

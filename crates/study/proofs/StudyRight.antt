@@ -94,7 +94,7 @@ not-empty (x ∷ ss) j s there = ne-eqb (suc (length ss)) 0 (λ z. omega arith)
 
 module _ (kinds : List ℕ) (literals : List ℤ) (trimming : Proved kinds literals) where
   -- The runs of all settings are accepted.
-  abbrev Accepts : List Setting → Areas → Type 0
+  abbrev pub Accepts : List Setting → Areas → Type 0
   Accepts ss found = (i : ℕ) (s : Setting) → getElem? ss i ≡ some s → run-cause (given-of kinds literals s found) ≡ 0
 
   formula-verdict : (n : ℕ) → verdict kinds (formula-of n kinds literals) ≡ verdict kinds literals
@@ -125,7 +125,7 @@ module _ (kinds : List ℕ) (literals : List ℤ) (trimming : Proved kinds liter
         ap is-verdict (answered (given-of kinds literals s found) none ∙ ap named (holds .decided (p .universal-rows) (p .existential-rows) (p .rounds)))
         ∙ named-verdict (meaning (l .ks) (l .phi))
 
-  later-accepts : (s : Setting) (rest : List Setting) (found : Areas) → Accepts (s ∷ rest) found → Accepts rest (left (given-of kinds literals s found))
+  pub later-accepts : (s : Setting) (rest : List Setting) (found : Areas) → Accepts (s ∷ rest) found → Accepts rest (left (given-of kinds literals s found))
   later-accepts s rest found accepts i t there =
       let g = given-of kinds literals s found in
       same-cause kinds (formula-of (t .trim) kinds literals) (preferences-of (t .preference)) (left g) found (t .limit) (t .clearing) (left-sizes g (accepts zero s refl))

@@ -1,8 +1,8 @@
 -- From what the readers, `decide` and the writers promise to what is printed. Assumes nothing.
 use Prim.Native.Nat.{ℕ, suc, _+_, _≤_}
 use native.Mathlib.Omega.{arith}
-use mathlib.Core.Path.{_≡_, refl, sym, ap, subst, _∙_}
-use mathlib.Core.Bool.{Bool, true, false}
+use mathlib.Core.Path.{_≡_, sym, ap, subst, _∙_}
+use mathlib.Core.Bool.{Bool}
 use mathlib.Core.List.{List}
 use lib.IntN.{ℤ}
 use lib.ListN.{take, replicate}
@@ -10,15 +10,15 @@ use Rattle.formula.specs.Formula.{work-size}
 use Rattle.formula.specs.Causes.{checked, sizes}
 use Rattle.formula.specs.declared.Check.the-variants.{Accepted}
 use Rattle.run.specs.Outcome.{number-of}
-use Rattle.text.specs.Reading.{Read, Result, taken, refused, read, read-gates}
-use Rattle.text.proofs.TextLaws.{Results, Passes, read-passes, refused-line, gates-refused-line}
-use Rattle.text.proofs.GatesPass.{GatesResults, gates-pass}
+use Rattle.text.specs.Reading.{refused, read-as}
+use Rattle.text.proofs.TextLaws.{Passes}
+use Rattle.text.proofs.ReadAsLaws.{reading-passes}
 use Rattle.text.proofs.FrontLaws.{Front}
 use Rattle.report.specs.Report.{refusal-line}
 use Rattle.report.specs.Studied.{study-lines}
 use Rattle.study.specs.declared.Studied.{Studied}
 use Rattle.study_answer.specs.House.{Answered, Decided}
-use Rattle.study_answer.specs.Printed.{read-as, lines-of, result-of, shown, printed}
+use Rattle.study_answer.specs.Printed.{lines-of, result-of, shown, printed}
 use Rattle.study_answer.specs.AnswerRight.{Settles}
 use Rattle.study_answer.proofs.HouseLaws.{no-cause}
 
@@ -41,15 +41,6 @@ module _ (kinds : List ℕ) (literals : List ℤ) (passes : checked kinds litera
         ∙ ap (λ (k : ℕ). study-lines k variables clauses (suc (r .setting)) (r .outcome .round) (r .outcome .universal) (r .outcome .existential)) numbered
         ∙ ap (lines-of variables clauses) (d .result-so)
 
--- What either reader takes passes, and the line of a refusal is small.
-pub taken-passes : (gates : Bool) (text : List ℕ) (s : Read) → read-as gates text ≡ taken s → Passes s
-taken-passes false text s e = subst (Results Passes) e (read-passes text 128 8192 128)
-taken-passes true text s e = subst GatesResults e (gates-pass text 128 8192 128) .passes
-
-pub line-small : (gates : Bool) (text : List ℕ) {n line : ℕ} → read-as gates text ≡ refused n line → line ≤ 65538
-line-small false text {n} {line} e = refused-line text 128 8192 128 n line e
-line-small true text {n} {line} e = gates-refused-line text 128 8192 128 n line e
-
 module _ (gates : Bool) (text : List ℕ) where
   pub refused-printed : {n line : ℕ} → read-as gates text ≡ refused n line → refusal-line n line ≡ printed gates text
   unfolding printed
@@ -58,7 +49,7 @@ module _ (gates : Bool) (text : List ℕ) where
   -- A text that is taken: its formula stands at the front of the tables.
   module _ {u e v c : ℕ} {kinds : List ℕ} {literals : List ℤ} (f : Front (read-as gates text) u e v c kinds literals) where
     passes-so : Passes (f .formula)
-    passes-so = taken-passes gates text (f .formula) (f .whole)
+    passes-so = reading-passes gates text (f .formula) (f .whole)
 
     pub front-passes : checked (take u kinds) (take e literals) ≡ Accepted (sizes (take u kinds) (take e literals))
     front-passes = rw (f .kinds-front, f .literals-front) (passes-so .accepted)

@@ -9,24 +9,23 @@ use lib.ListN.{length, replicate}
 use Rattle.formula.specs.Formula.{work-size}
 use Rattle.formula.specs.Meaning.{verdict}
 use Rattle.rounds.specs.Run.{Answer, is-false, is-true, spent, no-room-universal, no-room-existential, number}
-use Rattle.run.specs.declared.Answer.{Answer as Returned}
-use Rattle.run.specs.declared.Answer.the-variants.{False, True}
 use Rattle.run.specs.Outcome.{named, number-of}
 use Rattle.run.proofs.OutcomeLaws.{number-named}
-use Rattle.text.specs.Reading.{Read, taken, refused}
+use Rattle.text.specs.Reading.{Read, taken, refused, read-gates, read-as}
 use Rattle.text.proofs.GatesRight.{gates-right}
 use Rattle.report.specs.Report.{refusal-line}
 use Rattle.report.specs.Studied.{study-lines}
 use Rattle.answer.specs.AnswerRight.{Begins}
 use Rattle.answer.proofs.PrintedLaws.{refusal-begins, refusal-not-true, refusal-not-false, refusal-not-undecided}
 use Rattle.study.specs.declared.Studied.{Studied}
-use Rattle.study_answer.specs.House.{Answered, house-study}
-use Rattle.study_answer.specs.Printed.{read-as, lines-of, result-of, shown, printed}
-use Rattle.study_answer.specs.AnswerRight.{Settles, Refusal, Result, Means, StudyAnswerRight}
+use Rattle.study_answer.specs.House.{house-study}
+use Rattle.study_answer.specs.Printed.{lines-of, result-of, shown, printed}
+use Rattle.study_answer.specs.AnswerRight.{Settles, Result, Means, StudyAnswerRight}
 use Rattle.study_answer.proofs.PrintedLaws.{study-short, refusal-short, Lines, true-begins, false-begins, spent-begins, no-room-universal-begins, no-room-existential-begins, study-no-refusal, true-if-1, false-if-0}
 
 -- The verdict of what is read is the value of the text, in either form.
 pub means : (gates : Bool) (text : List ℕ) (s : Read) (value : Bool) → read-as gates text ≡ taken s → verdict (s .kinds) (s .literals) ≡ value → Means gates text s value
+unfolding read-gates
 means false text s value e is = is
 means true text s value e is = λ g. sym (gates-right text s e g) ∙ is
 

@@ -9,37 +9,37 @@ use borrow.Author.Tests.{eqb-true, leb-true}
 use lib.Dec.{eqb, leb}
 use lib.IntN.{ℤ}
 use lib.ListN.{length, getElem?, replicate, length-replicate}
-use Rattle.formula.specs.Formula.{max-rows, work-size, Kind, universal, existential, prefix}
+use Rattle.formula.specs.Formula.{max-rows, work-size, universal, existential, prefix}
 use Rattle.formula.specs.Causes.{checked, sizes}
 use Rattle.formula.specs.declared.Check.the-variants.{Accepted}
 use Rattle.rows.specs.Table.{room, table-fits}
 use Rattle.rounds.specs.Run.{run}
 use Rattle.rounds.proofs.Bounds.{count-in-room}
 use Rattle.run.specs.declared.Outcome.{Outcome}
-use Rattle.run.specs.Outcome.{Areas, Given, lent, side-fits, tables-fit, accepted, cause as run-cause, reached, named, reported, returned}
+use Rattle.run.specs.Outcome.{Areas, Given, lent, side-fits, tables-fit, accepted, cause as run-cause, reached, reported, returned}
 use Rattle.decision.proofs.DecisionLaws.{cause-so}
-use Rattle.study.specs.declared.Setting.{Setting}
 use Rattle.study.specs.declared.Studied.{Studied}
-use Rattle.study.specs.Study.{Ending, ending, settings-of, given-of, unknown, cause-26, list-cause, cause}
-use Rattle.study.specs.StudyRight.{StudyRight, LastRun, Studies}
+use Rattle.study.specs.Study.{Ending, settings-of, given-of, unknown, cause-26, list-cause, cause}
+use Rattle.study.specs.StudyRight.{LastRun, Studies}
 use Rattle.study.proofs.CauseLaws.{passes-if-none}
-use Rattle.study_answer.specs.House.{house-list, own-areas, house-study, Answered, Decided}
+use Rattle.study_answer.specs.House.{house-list, own-areas, Answered, Decided}
 
 -- ---- the causes
 
-list-fine : list-cause house-list ≡ 0
+pub list-fine : list-cause house-list ≡ 0
 unfolding list-cause cause-26 settings-of unknown
 list-fine = refl
 
-module _ (kinds : List ℕ) (literals : List ℤ) (work : List ℕ) (passes : checked kinds literals ≡ Accepted (sizes kinds literals)) where
+module _ (list : List ℕ) (fine : list-cause list ≡ 0) where
   -- Of a formula that passes, cause 5 is left.
-  pub house-cause : cause kinds literals house-list (own-areas work) ≡ cond (eqb (length work) work-size) 0 5
+  pub cause-left : (kinds : List ℕ) (literals : List ℤ) (work : List ℕ) → checked kinds literals ≡ Accepted (sizes kinds literals)
+      → cause kinds literals list (own-areas work) ≡ cond (eqb (length work) work-size) 0 5
   unfolding cause
-  house-cause =
-      ap (λ (n : ℕ). cond (eqb n 0) (list-cause house-list) n) (cause-so kinds literals work 1 passes) ∙ by-length (eqb (length work) work-size)
+  cause-left kinds literals work passes =
+      ap (λ (n : ℕ). cond (eqb n 0) (list-cause list) n) (cause-so kinds literals work 1 passes) ∙ by-length (eqb (length work) work-size)
     where
-      by-length : (long : Bool) → _≡_ {A = ℕ} (cond (eqb (cond (not long) 5 0) 0) (list-cause house-list) (cond (not long) 5 0)) (cond long 0 5)
-      by-length true = list-fine
+      by-length : (long : Bool) → _≡_ {A = ℕ} (cond (eqb (cond (not long) 5 0) 0) (list-cause list) (cond (not long) 5 0)) (cond long 0 5)
+      by-length true = fine
       by-length false = refl
 
 pub whole : eqb (length (replicate {A = ℕ} work-size 0)) work-size ≡ true
@@ -48,11 +48,11 @@ whole = ap (λ (n : ℕ). eqb n work-size) (length-replicate {A = ℕ} work-size
 pub no-cause : (kinds : List ℕ) (literals : List ℤ) → checked kinds literals ≡ Accepted (sizes kinds literals)
     → cause kinds literals house-list (own-areas (replicate work-size 0)) ≡ 0
 no-cause kinds literals passes =
-    house-cause kinds literals (replicate work-size 0) passes ∙ ap (λ (long : Bool). cond long 0 5) whole
+    cause-left house-list list-fine kinds literals (replicate work-size 0) passes ∙ ap (λ (long : Bool). cond long 0 5) whole
 
 -- ---- the run that gave the outcome
 
-rows-lent : (table : List ℕ) → table-fits table ≡ true → (1 ≤ room table) × (room table ≤ max-rows)
+pub rows-lent : (table : List ℕ) → table-fits table ≡ true → (1 ≤ room table) × (room table ≤ max-rows)
 unfolding table-fits
 rows-lent table e =
     let both = and-eq-true-iff (leb 16 (length table) && leb (length table) 4096) (eqb (length table % 16) 0) .0 e in
@@ -72,7 +72,7 @@ module _ (g : Given) (fine : accepted g ≡ true) where
   unfolding returned
   reported-so = rw fine refl
 
-  fitting : (table-fits (g .found .universal-rows) ≡ true) × (table-fits (g .found .existential-rows) ≡ true)
+  pub fitting : (table-fits (g .found .universal-rows) ≡ true) × (table-fits (g .found .existential-rows) ≡ true)
   fitting = sides-fit _ _ _ _ (passes-if-none g (eqb-true (run-cause g) 0 fine) .fits .tables)
 
   few-universal : returned g .universal ≤ max-rows

@@ -8,15 +8,13 @@ use lib.IntN.{ℤ}
 use lib.ListN.{length, replicate}
 use Rattle.formula.specs.Formula.{work-size, prefix}
 use Rattle.formula.specs.Meaning.{verdict}
-use Rattle.named.specs.Named.{Values, named-meaning}
-use Rattle.named.specs.Gates.{circuit}
-use Rattle.text.specs.Reading.{Read, taken, refused}
-use Rattle.text.specs.GatesRight.{drawing, output-of}
+use Rattle.text.specs.Reading.{Read, taken, refused, read-as}
+use Rattle.text.specs.GatesRight.{CircuitIs}
 use Rattle.report.specs.Report.{refusal-line}
 use Rattle.answer.specs.AnswerRight.{Begins}
 use Rattle.study.specs.StudyRight.{StudyRight}
 use Rattle.study_answer.specs.House.{house-list, own-areas, house-study, Answered}
-use Rattle.study_answer.specs.Printed.{read-as, lines-of, printed}
+use Rattle.study_answer.specs.Printed.{lines-of, printed}
 
 -- The study of a formula, from a work area of zeros: it answers, and true or false only if that is the verdict.
 pub record Settles (kinds : List ℕ) (literals : List ℤ) : Type 0 where
@@ -41,8 +39,7 @@ pub record Result (gates : Bool) (text : List ℕ) : Type 0 where
 -- that the list does not bind.
 abbrev pub Means : Bool → List ℕ → Read → Bool → Type 0
 Means false text r value = verdict (r .kinds) (r .literals) ≡ value
-Means true text r value =
-    (g : Values) → named-meaning (prefix (drawing text .kinds)) (drawing text .names) (circuit (drawing text .gates) (output-of text)) g ≡ value
+Means true text r value = CircuitIs text value
 
 pub record StudyAnswerRight (gates : Bool) (text : List ℕ) : Type 0 where
   -- What is printed has one of these beginnings, no two of which agree, and fits 192 bytes.

@@ -1,25 +1,17 @@
 -- What a study prints for the bytes of a text or of a gate list: 01's first line with the verdict, the setting that gave it, 01's second line of that
 -- setting's run; or 01's refusal line. Assumes nothing.
 use Prim.Native.Nat.{ℕ, suc}
-use mathlib.Core.Bool.{Bool, true, false}
+use mathlib.Core.Bool.{Bool}
 use mathlib.Core.List.{List}
 use lib.IntN.{ℤ}
 use lib.ListN.{replicate}
-use Rattle.formula.specs.Formula.{max-unknowns, max-entries, work-size}
+use Rattle.formula.specs.Formula.{work-size}
 use Rattle.run.specs.Outcome.{number-of}
-use Rattle.text.specs.Reading.{Result, taken, refused, read, read-gates}
+use Rattle.text.specs.Reading.{Result, taken, refused, read-as}
 use Rattle.report.specs.Report.{refusal-line}
 use Rattle.report.specs.Studied.{study-lines}
 use Rattle.study.specs.declared.Studied.{Studied}
 use Rattle.study_answer.specs.House.{house-study}
-
--- The reader of clauses, or that of gates, with tables of these lengths.
-abbrev pub reading : Bool → List ℕ → ℕ → ℕ → ℕ → Result
-reading false text kinds literals names = read text kinds literals names
-reading true text kinds literals names = read-gates text kinds literals names
-
-abbrev pub read-as : Bool → List ℕ → Result
-read-as gates text = reading gates text max-unknowns max-entries max-unknowns
 
 -- Settings are numbered from 1 where people read them.
 abbrev pub lines-of : ℕ → ℕ → Studied → List ℕ

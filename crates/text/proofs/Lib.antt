@@ -1,5 +1,6 @@
 -- Gate lists worked by hand; the laws that the proofs of the functions cite, callees first; then what a caller of `read` goes on with.
 pub mod ByHand
+pub mod OrderLaws
 pub mod Places
 pub mod ProblemLaws
 pub mod NameLaws
@@ -15,5 +16,6 @@ pub mod ClosedRight
 pub mod DrawnLaws
 pub mod GatesRight
 pub mod GatesPass
+pub mod ReadAsLaws
 pub mod ReadingLaws
 pub mod FrontLaws

@@ -2,7 +2,7 @@
 -- those of the text's own lines, by name; no clause and no position occurs in them. Assumes nothing.
 use Prim.Native.Nat.{ℕ}
 use mathlib.Core.Path.{_≡_}
-use mathlib.Core.Bool.{cond}
+use mathlib.Core.Bool.{Bool, cond}
 use mathlib.Core.List.{List, [], _∷_, _++_}
 use lib.IntN.{ℤ}
 use lib.ListN.{length, replicate}
@@ -73,3 +73,7 @@ abbrev pub GatesRight : Bytes → Type 0
 GatesRight text =
     (r : Read) → gates-read text ≡ taken r → (g : Values)
     → verdict (r .kinds) (r .literals) ≡ named-meaning (prefix (drawing text .kinds)) (drawing text .names) (circuit (drawing text .gates) (output-of text)) g
+
+-- That value is this one.
+abbrev pub CircuitIs : Bytes → Bool → Type 0
+CircuitIs text value = (g : Values) → named-meaning (prefix (drawing text .kinds)) (drawing text .names) (circuit (drawing text .gates) (output-of text)) g ≡ value

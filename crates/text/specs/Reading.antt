@@ -377,6 +377,10 @@ text-scan text = scan false text max-unknowns max-entries max-unknowns
 abbrev pub gates-read : Bytes → Result
 gates-read text = read-gates text max-unknowns max-entries max-unknowns
 
+-- Either, told whether the text is a gate list.
+abbrev pub read-as : Bool → Bytes → Result
+read-as gates text = result-of (scan gates text max-unknowns max-entries max-unknowns)
+
 -- The numbers with which a text, and a gate list, is refused.
 abbrev pub text-causes : List ℕ
 text-causes = 9 ∷ 10 ∷ 11 ∷ 12 ∷ 14 ∷ []

@@ -1,7 +1,7 @@
 // The readers of texts after QDIMACS 1.1, narrowed as in 'Text', and of gate lists: from a text's bytes to kinds, literals and names, with causes 9 to
 // 12, 14, 19 and 20. `read` and `read_gates` promise, for every input, the outcome and every entry of the three lent tables; `read` that names bound
 // nowhere are existential in front of everything, `read_gates` that the verdict of what it writes is the circuit's value under the prefix.
-// They are one reader, which is told the form of the text. What a formula means is left to others.
+// They are one reader, `read_as`, which is told the form of the text. What a formula means is left to others.
 ghost use lib.ListN.{length};
 ghost use Rattle.text.specs.Reading.{read as definition, read-gates as gates-definition, scan, result-of, Read-so};
 ghost use Rattle.text.specs.ClosedRight.{ClosedRight};
@@ -46,15 +46,15 @@ pub fn read_gates(text: &[u8], kinds: &mut [u8], literals: &mut [i32], names: &m
     read_as(text, true, kinds, literals, names)
 }
 
-// Reads a text of clauses or of gates.
-fn read_as(
+// Reads a text of clauses, or of gates if so told.
+pub fn read_as(
     text: &[u8],
     gates: bool,
     kinds: &mut [u8],
     literals: &mut [i32],
     names: &mut [u16],
 ) -> Reading
-    ensures { λ r. ⌜ Read-so (result-of (scan gates (now (text .entry)) (length (now (kinds .entry))) (length (now (literals .entry))) (length (now (names .entry))))) r (now (kinds .entry)) (now (literals .entry)) (now (names .entry)) (now (kinds .exit)) (now (literals .exit)) (now (names .exit)) ⌝ }
+    ensures written { λ r. ⌜ Read-so (result-of (scan gates (now (text .entry)) (length (now (kinds .entry))) (length (now (literals .entry))) (length (now (names .entry))))) r (now (kinds .entry)) (now (literals .entry)) (now (names .entry)) (now (kinds .exit)) (now (literals .exit)) (now (names .exit)) ⌝ }
 {
     let o = opening::read_opening(text, gates, kinds.len(), literals.len(), names.len());
     if o.cause != 0 {

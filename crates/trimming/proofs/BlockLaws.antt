@@ -8,7 +8,7 @@ use mathlib.Core.List.{List, [], _∷_, _++_, map, append-assoc}
 use borrow.Author.Tests.{le-ltb, ltb-true, ne-eqb}
 use lib.IntN.{ℤ, pos}
 use lib.ListN.{length}
-use Rattle.formula.specs.Formula.{Clause, clauses}
+use Rattle.formula.specs.Formula.{max-unknowns, Clause, clauses}
 use Rattle.trimming_rules.specs.Trimming.{keep, entries}
 use Rattle.trimming_rules.proofs.ClauseLaws.{Every, Named}
 use Rattle.trimming_rules.proofs.RuleLaws.{Within}
@@ -127,15 +127,15 @@ pub left-entries : (bs : List Block) → Every Fine bs → left (laid bs) ≡ en
 left-entries [] f = refl
 left-entries (b ∷ bs) f = left-block b (f .0) (laid bs) (all-shown bs) (left-entries bs (f .1))
 
-named-left : (c : List ℕ) → Every Entry c → Every (Named 128) (map literal-of (keep is-left c))
+named-left : (c : List ℕ) → Every Entry c → Every (Named max-unknowns) (map literal-of (keep is-left c))
 named-left [] all = tt
 named-left (x ∷ c) all = go (is-left x) refl (named-left c (all .1))
   where
-    go : (t : Bool) → is-left x ≡ t → Every (Named 128) (map literal-of (keep is-left c)) → Every (Named 128) (map literal-of (cond t (x ∷ keep is-left c) (keep is-left c)))
+    go : (t : Bool) → is-left x ≡ t → Every (Named max-unknowns) (map literal-of (keep is-left c)) → Every (Named max-unknowns) (map literal-of (cond t (x ∷ keep is-left c) (keep is-left c)))
     go true l later = let s = left-code x (all .0) l in (named-code x (s .0) (s .1), later)
     go false l later = later
 
-pub shown-within : (bs : List Block) → Every Fine bs → Within 128 (all-shown bs)
+pub shown-within : (bs : List Block) → Every Fine bs → Within max-unknowns (all-shown bs)
 shown-within [] f = tt
 shown-within (standing c ∷ bs) f = (named-left c (f .0), shown-within bs (f .1))
 shown-within (gone c ∷ bs) f = shown-within bs (f .1)
@@ -143,4 +143,4 @@ shown-within (gone c ∷ bs) f = shown-within bs (f .1)
 -- .. and their clauses are those.
 pub laid-clauses : (bs : List Block) → Every Fine bs → clauses-left (laid bs) ≡ all-shown bs
 unfolding clauses-left
-laid-clauses bs f = ap clauses (left-entries bs f) ∙ clauses-entries 128 (all-shown bs) (shown-within bs f)
+laid-clauses bs f = ap clauses (left-entries bs f) ∙ clauses-entries max-unknowns (all-shown bs) (shown-within bs f)

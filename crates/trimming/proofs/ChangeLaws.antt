@@ -8,6 +8,7 @@ use mathlib.Core.List.{List, [], _∷_, _++_, append-assoc}
 use borrow.Author.Tests.{ne-eqb}
 use lib.Dec.{eqb}
 use lib.ListN.{length, length-map}
+use Rattle.formula.specs.Formula.{max-entries}
 use Rattle.trimming_rules.proofs.ClauseLaws.{Every}
 use Rattle.index.specs.Occurrences.{listed-under, has-left, listed}
 use Rattle.index.specs.Index.{code-count, index-of, without, removed}
@@ -59,10 +60,10 @@ module _ (xs ys : List Block) (b d : Block) (same-codes : codes (whole d) ≡ co
         ∙ names-fewer c xs ys b d as-long own
         ∙ ap (without (length (laid xs))) (sym (listed-laid c (xs ++ (b ∷ ys)) (all-fine b fine-b)) ∙ sym (lists c b fine-b))
 
-    pub same-index : length (around xs b ys) ≤ 8192 → ((c : ℕ) → c < code-count → block-has c d ≡ block-has c b) → index-of (around xs d ys) ≡ index-of (around xs b ys)
+    pub same-index : length (around xs b ys) ≤ max-entries → ((c : ℕ) → c < code-count → block-has c d ≡ block-has c b) → index-of (around xs d ys) ≡ index-of (around xs b ys)
     same-index few same = index-same (around xs b ys) (around xs d ys) few around-codes (λ c h. list-same c (same c h))
 
-    pub removed-index : (x : ℕ) → x < code-count → length (around xs b ys) ≤ 8192 → ((c : ℕ) → c < code-count → (c ≡ x → ⊥) → block-has c d ≡ block-has c b) → block-has x d ≡ false
+    pub removed-index : (x : ℕ) → x < code-count → length (around xs b ys) ≤ max-entries → ((c : ℕ) → c < code-count → (c ≡ x → ⊥) → block-has c d ≡ block-has c b) → block-has x d ≡ false
         → removed (index-of (around xs b ys)) x (length (laid xs)) ≡ index-of (around xs d ys)
     removed-index x small few others own =
         index-removed (around xs b ys) (around xs d ys) few around-codes x small (λ c h other. list-same c (others c h other)) (length (laid xs)) (list-fewer x own)

@@ -9,7 +9,7 @@ use borrow.Author.Tests.{eqb-true, eqb-false, eq-eqb, ne-eqb}
 use lib.Dec.{eqb}
 use lib.IntN.{ℤ, pos, negsuc, negℤ}
 use lib.ListN.{getD, List·getD-map}
-use Rattle.formula.specs.Formula.{kind-of, prefix}
+use Rattle.formula.specs.Formula.{max-unknowns, kind-of, prefix}
 use Rattle.codes.specs.Codes.{code-of, opposite}
 use Rattle.trimming_rules.specs.Trimming as Trimming
 use Rattle.trimming_rules.proofs.ClauseLaws.{Named}
@@ -109,10 +109,10 @@ position-code c two = go (form c two)
     go (even v) = rw (literal-even (suc v)) (omega arith)
     go (odd v) = rw (literal-odd v) (omega arith)
 
-pub named-code : (c : ℕ) → 2 ≤ c → c < 258 → Named 128 (literal-of c)
+pub named-code : (c : ℕ) → 2 ≤ c → c < 258 → Named max-unknowns (literal-of c)
 named-code c two small = go (form c two) small
   where
-    go : {c : ℕ} → Form c → c < 258 → Named 128 (literal-of c)
+    go : {c : ℕ} → Form c → c < 258 → Named max-unknowns (literal-of c)
     go (even v) s = rw (literal-even (suc v)) (record { from-one = omega arith; to-last = omega arith })
     go (odd v) s = rw (literal-odd v) (record { from-one = omega arith; to-last = omega arith })
 

@@ -9,6 +9,7 @@ use borrow.Author.Tests.{ne-eqb, ltb-true, ltb-false}
 use lib.Dec.{ltb}
 use lib.ListN.{length, getD, set, drop, length-append, length-map}
 use lib.Seq.{drop-at}
+use Rattle.formula.specs.Formula.{max-entries}
 use Rattle.trimming_rules.proofs.ClauseLaws.{Every}
 use Rattle.trimming_marks.specs.Marks.{marked, first-clause, first-length}
 use Rattle.index.specs.Occurrences.{whole-clause, has-left, begins}
@@ -198,7 +199,7 @@ module _ {table index : List ℕ} {start : ℕ} (h : Here table index start) (ta
       ends-same : codes (whole (gone es)) ≡ codes (whole (standing es))
       ends-same = map-append (λ x. x % 512) es (512 ∷ []) ∙ sym (map-append (λ x. x % 512) es (0 ∷ []))
 
-      few : length (around (s .xs) (standing es) (s .ys)) ≤ 8192
+      few : length (around (s .xs) (standing es) (s .ys)) ≤ max-entries
       few =
           let a = ap length (sym emptied) in
           let b = ap length (s .is) in

@@ -12,7 +12,7 @@ use lib.Dec.{eqb, ltb, leb}
 use lib.IntN.{ℤ}
 use lib.ListN.{length, getD, set, drop, replicate, length-append, length-set, getD-replicate}
 use lib.Seq.{getD-set-same, getD-set-other, drop-at}
-use Rattle.formula.specs.Formula.{prefix}
+use Rattle.formula.specs.Formula.{max-entries, prefix}
 use Rattle.formula.specs.Causes.{any}
 use Rattle.codes.specs.Codes.{opposite, has}
 use Rattle.trimming_rules.specs.Trimming as Trimming
@@ -332,7 +332,7 @@ module _ (kinds firsts : List ℕ) where
       before nothing = refl
       before (something y h) = ap (λ (t : Bool). cond t (some y) (some z)) (lt-leb (Trimming.position y) (Trimming.position z) (omega arith))
 
-  module _ {table : List ℕ} (u : Units kinds firsts [] [] 0 table) (few : length table ≤ 8192) where
+  module _ {table : List ℕ} (u : Units kinds firsts [] [] 0 table) (few : length table ≤ max-entries) where
     all-clauses : clauses-left table ≡ all-shown (u .blocks)
     all-clauses = ap clauses-left (u .is) ∙ laid-clauses (u .blocks) (u .fine)
 
@@ -394,7 +394,7 @@ module _ (kinds firsts : List ℕ) where
 
         behind-higher : AtLeast v (lowest-unit (prefix kinds) (all-shown (p .behind)))
         behind-higher =
-            blocks-at-least v 8192 (λ w positive under. let f = lower-none-noted w positive under in omega arith) ((0 + length (laid (p .before))) + length (whole (p .block))) (p .behind) (parts .1 .1)
+            blocks-at-least v max-entries (λ w positive under. let f = lower-none-noted w positive under in omega arith) ((0 + length (laid (p .before))) + length (whole (p .block))) (p .behind) (parts .1 .1)
             (let t = total in let l = length-append (whole (p .block)) (laid (p .behind)) in omega arith) (both .1 .1)
 
         block-unit : lowest-unit (prefix kinds) (shown (p .block)) ≡ some (literal-of c)
@@ -407,7 +407,7 @@ module _ (kinds firsts : List ℕ) where
             ∙ ap (lower (lowest-unit (prefix kinds) (all-shown (p .before)))) (lowest-append kinds (shown (p .block)) (all-shown (p .behind)) ∙ ap (λ (o : Option ℤ). lower o (lowest-unit (prefix kinds) (all-shown (p .behind)))) block-unit)
             ∙ lower-first v (literal-of c) own before-higher behind-higher
 
-    no-units : (o : ℕ) (bs : List Block) → ((w : ℕ) → 0 < w → w < 129 → getD firsts w 0 ≡ 65535) → Every Fine bs → o + length (laid bs) ≤ 8192 → AllBut (UnitKnown kinds firsts) [] o bs → lowest-unit (prefix kinds) (all-shown bs) ≡ none
+    no-units : (o : ℕ) (bs : List Block) → ((w : ℕ) → 0 < w → w < 129 → getD firsts w 0 ≡ 65535) → Every Fine bs → o + length (laid bs) ≤ max-entries → AllBut (UnitKnown kinds firsts) [] o bs → lowest-unit (prefix kinds) (all-shown bs) ≡ none
     no-units o [] all-none f within all = refl
     no-units o (b ∷ bs) all-none f within all =
         lowest-append kinds (shown b) (all-shown bs)

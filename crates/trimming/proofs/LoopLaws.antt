@@ -10,12 +10,12 @@ use borrow.Author.Tests.{eqb-true, eqb-false, eq-eqb, ne-eqb, le-leb}
 use lib.Dec.{eqb}
 use lib.ListN.{length, getD, set, take, drop, drop-of-length-le}
 use lib.Seq.{getD-set-same, getD-set-other}
-use Rattle.formula.specs.Formula.{Clause}
+use Rattle.formula.specs.Formula.{max-entries, Clause}
 use Rattle.formula.proofs.Places.{drop-front}
 use Rattle.trimming_rules.proofs.ClauseLaws.{Every, In, every-in, every-from}
 use Rattle.trimming_marks.specs.Marks.{ends, mark-clause, first-clause, always-true}
 use Rattle.index.specs.Occurrences.{listed, Names}
-use Rattle.index.specs.Index.{code-count, index-of, begin-of, end-of, is-code, all-codes, table-fits, filled, cleared}
+use Rattle.index.specs.Index.{index-size, code-count, index-of, begin-of, end-of, is-code, all-codes, table-fits, filled, cleared}
 use Rattle.index.proofs.IndexLaws as indexes
 use Rattle.index.proofs.EditLaws.{Listed, has-is}
 use Rattle.trimming_rules.specs.Trimming.{without-literal}
@@ -66,11 +66,11 @@ saved-more index names from i v inside so-far e k below = go (eqb k i) refl
 
 -- ---- where a list stands
 
-pub list-bounds : (table : List ℕ) {index : List ℕ} → length table ≤ 8192 → Indexed table index → (c : ℕ) → c < code-count → Listed index c
+pub list-bounds : (table : List ℕ) {index : List ℕ} → length table ≤ max-entries → Indexed table index → (c : ℕ) → c < code-count → Listed index c
 list-bounds table {index} few indexed c small = subst (λ (i : List ℕ). Listed i c) (sym indexed) (has-is (index-of table) c (indexes.index-has table few c small))
 
-pub list-saved : (table : List ℕ) {index : List ℕ} → length table ≤ 8192 → Indexed table index → (c : ℕ) → c < code-count → (names : List ℕ) (count : ℕ) → length names ≡ 8192
-    → (begin-of index c + count ≡ end-of index c) × ((k : ℕ) → k < count → getD names k 0 ≡ getD index (begin-of index c + k) 0) → (take count names ≡ listed c table) × (count ≤ 8192)
+pub list-saved : (table : List ℕ) {index : List ℕ} → length table ≤ max-entries → Indexed table index → (c : ℕ) → c < code-count → (names : List ℕ) (count : ℕ) → length names ≡ max-entries
+    → (begin-of index c + count ≡ end-of index c) × ((k : ℕ) → k < count → getD names k 0 ≡ getD index (begin-of index c + k) 0) → (take count names ≡ listed c table) × (count ≤ max-entries)
 list-saved table {index} few indexed c small names count sized saved =
     let r : Read table index c = subst (λ (i : List ℕ). Read table i c) (sym indexed) (reads table few c small) in
     let b = list-bounds table few indexed c small in
@@ -81,7 +81,7 @@ list-saved table {index} few indexed c small names count sized saved =
     let n : count ≡ length (listed c table) = omega arith in
     (ap (λ (k : ℕ). take k names) n ∙ saved-names names (listed c table) (omega arith) (λ k below. saved .1 k (omega arith) ∙ r .at k below), omega arith)
 
-pub literals-dropped : (table names : List ℕ) {index table′ : List ℕ} (code count : ℕ) → 2 ≤ code → code < 258 → Laid table → Indexed table index → length table ≤ 8192 → take count names ≡ listed code table → Cleared code table table′ []
+pub literals-dropped : (table names : List ℕ) {index table′ : List ℕ} (code count : ℕ) → 2 ≤ code → code < 258 → Laid table → Indexed table index → length table ≤ max-entries → take count names ≡ listed code table → Cleared code table table′ []
     → (index′ : List ℕ) → index′ ≡ cleared index code → Dropped (without-literal (literal-of code)) (code / 2) (take count names) table table′ index′
 literals-dropped table names {index} {table′} code count two small l indexed few saved t index′ e =
     subst (λ (i : List ℕ). Dropped (without-literal (literal-of code)) (code / 2) (take count names) table table′ i) (sym e)
@@ -89,7 +89,7 @@ literals-dropped table names {index} {table′} code count two small l indexed f
 
 -- ---- at first all clauses are named
 
-pub pending-begins : (kinds : List ℕ) {table index : List ℕ} → Laid table → length table ≤ 8192 → Indexed table index → (names : List ℕ) → names ≡ listed 1 table → Pending kinds names table index
+pub pending-begins : (kinds : List ℕ) {table index : List ℕ} → Laid table → length table ≤ max-entries → Indexed table index → (names : List ℕ) → names ≡ listed 1 table → Pending kinds names table index
 pending-begins kinds {table} {index} l few indexed names e =
     record {
       laid-out = l;
@@ -133,17 +133,17 @@ blocks-codes [] f = refl
 blocks-codes (standing es ∷ bs) f = all-append (es ++ (0 ∷ [])) (laid bs) (all-append es (0 ∷ []) (entries-codes es (f .0)) refl) (blocks-codes bs (f .1))
 blocks-codes (gone es ∷ bs) f = all-append (es ++ (512 ∷ [])) (laid bs) (all-append es (512 ∷ []) (entries-codes es (entries-of (gone es) (f .0))) refl) (blocks-codes bs (f .1))
 
-pub first-index : (table index : List ℕ) → Laid table → length table ≤ 8192 → length index ≡ 8710 → (index′ : List ℕ) → index′ ≡ filled table index → Indexed table index′
+pub first-index : (table index : List ℕ) → Laid table → length table ≤ max-entries → length index ≡ index-size → (index′ : List ℕ) → index′ ≡ filled table index → Indexed table index′
 unfolding filled table-fits
 first-index table index l few sized index′ e =
-    e ∙ ap (λ (b : Bool). cond b (index-of table) index) (ap₂ (λ (a b : Bool). a && b) (ap₂ (λ (a b : Bool). a && b) (le-leb (length table) 8192 few) (eq-eqb (length index) 8710 sized)) (ap all-codes (l .is) ∙ blocks-codes (l .blocks) (l .fine)))
+    e ∙ ap (λ (b : Bool). cond b (index-of table) index) (ap₂ (λ (a b : Bool). a && b) (ap₂ (λ (a b : Bool). a && b) (le-leb (length table) max-entries few) (eq-eqb (length index) index-size sized)) (ap all-codes (l .is) ∙ blocks-codes (l .blocks) (l .fine)))
 
 -- ---- an always-true clause is left
 
 unfoldable pub at-laid : {table : List ℕ} {s : ℕ} → At table s → Laid table
 at-laid a = record { blocks = a .done ++ a .todo; is = a .is ∙ sym (laid-append (a .done) (a .todo)); fine = every-append Fine (a .done) (a .todo) (a .fine-done) (a .fine-todo) }
 
-pub true-here : {table index : List ℕ} {s : ℕ} (a : At table s) (inside : s < length table) → Indexed table index → length table ≤ 8192 → always-true (first-clause (drop s table)) ≡ true → Here table index s
+pub true-here : {table index : List ℕ} {s : ℕ} (a : At table s) (inside : s < length table) → Indexed table index → length table ≤ max-entries → always-true (first-clause (drop s table)) ≡ true → Here table index s
 unfolding at-laid
 true-here {table} {index} {s} a inside indexed few true? = go (f .b) refl (front-fine a inside .0)
   where
@@ -179,7 +179,7 @@ true-kept-at table s f = sym (ap (λ (b : Bool). marked-at (cond b 0 512) 511 s 
 
 -- ---- after a literal is made true
 
-pub pending-again : (kinds : List ℕ) {change : List Clause → List Clause} {off : ℕ} {names before after index : List ℕ} → length before ≤ 8192 → Except (Irreducible kinds) [] before → Dropped change off names before after index → Pending kinds names after index
+pub pending-again : (kinds : List ℕ) {change : List Clause → List Clause} {off : ℕ} {names before after index : List ℕ} → length before ≤ max-entries → Except (Irreducible kinds) [] before → Dropped change off names before after index → Pending kinds names after index
 pending-again kinds few irreducible d =
     record {
       laid-out = d .passed .laid-out;
@@ -192,7 +192,7 @@ pending-again kinds few irreducible d =
 -- ---- the clauses that are named
 
 -- The clause that is named there is left.
-pub named-stands : {table : List ℕ} → Laid table → length table ≤ 8192 → (names : List ℕ) (count i : ℕ) → i < count → count ≤ length names → Every (λ s. In s (listed 1 table)) (take count names) → Names table 1 (getD names i 0)
+pub named-stands : {table : List ℕ} → Laid table → length table ≤ max-entries → (names : List ℕ) (count i : ℕ) → i < count → count ≤ length names → Every (λ s. In s (listed 1 table)) (take count names) → Names table 1 (getD names i 0)
 named-stands {table} l few names count i below inside all = here-named l {index = index-of table} few refl 1 (getD names i 0) (omega arith) (every-in (λ s. In s (listed 1 table)) (take count names) (getD names i 0) all (name-in names count i below inside)) .stands
 
 pub standing-still : (table′ : List ℕ) {kinds names table index : List ℕ} → Pending kinds names table index → listed 1 table′ ≡ listed 1 table → Every (λ s. In s (listed 1 table′)) names

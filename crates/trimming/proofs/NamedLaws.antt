@@ -10,6 +10,7 @@ use borrow.Author.Tests.{ne-eqb, ltb-true, ltb-false, le-ltb, lt-ltb}
 use lib.Dec.{eqb, ltb}
 use lib.ListN.{length, getD, drop, length-append}
 use lib.Seq.{drop-at}
+use Rattle.formula.specs.Formula.{max-entries}
 use Rattle.codes.specs.Codes.{has}
 use Rattle.trimming_rules.specs.Trimming.{found}
 use Rattle.trimming_rules.proofs.ClauseLaws.{Every, In}
@@ -122,7 +123,7 @@ module _ {table : List ℕ} (l : Laid table) where
   unfolding nonempty
   none-listed c two small e = sym (listed-found c two small) ∙ ap nonempty e
 
-  module _ {index : List ℕ} (few : length table ≤ 8192) (indexed : Indexed table index) where
+  module _ {index : List ℕ} (few : length table ≤ max-entries) (indexed : Indexed table index) where
     pub read : (c : ℕ) → c < code-count → Read table index c
     read c small = subst (λ (i : List ℕ). Read table i c) (sym indexed) (reads table few c small)
 

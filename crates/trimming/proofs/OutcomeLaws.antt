@@ -3,7 +3,7 @@
 use Prim.Native.Nat.{ℕ, _≤_, _<_}
 use native.Mathlib.Omega.{arith}
 use mathlib.Core.Path.{_≡_, refl, sym, _∙_, ap}
-use mathlib.Core.Bool.{Bool, true, false, cond}
+use mathlib.Core.Bool.{Bool, false, cond}
 use mathlib.Core.List.{List, _++_}
 use borrow.Author.Tests.{ne-eqb, lt-ltb, le-ltb}
 use lib.Dec.{eqb, ltb}
@@ -13,7 +13,8 @@ use Rattle.formula.specs.declared.Check.{Check}
 use Rattle.formula.specs.declared.Check.the-variants.{Accepted, Refused as CheckRefused}
 use Rattle.formula.specs.declared.Formula.{Formula}
 use Rattle.formula.specs.Causes as Causes
-use Rattle.formula.specs.Causes.{checked, cause-1, cause-2, cause-3, sizes, refused-if}
+use Rattle.formula.specs.Causes.{checked}
+use Rattle.formula.proofs.Order.{refused-from-1}
 use Rattle.formula.proofs.Accepted.{accepted}
 use Rattle.trimming_rules.specs.Trimming.{trimmed}
 use Rattle.trimming_rules.specs.Proved.{Proved}
@@ -21,12 +22,6 @@ use Rattle.trimming_rules.proofs.Carried.{proved}
 use Rattle.trimming.specs.declared.Trimmed.{Trimmed}
 use Rattle.trimming.specs.declared.Trimmed.the-variants.{Entries, Refused}
 use Rattle.trimming.specs.Outcome.{formula-cause, cause, outcome, output-after, number}
-
-refused-from-1 : (a b c : Bool) (f : Formula) (n : ℕ) → refused-if a 1 (refused-if b 2 (refused-if c 3 (Accepted f))) ≡ CheckRefused n → 1 ≤ n
-refused-from-1 true b c f n e = let same : 1 ≡ n = cc in omega arith
-refused-from-1 false true c f n e = let same : 2 ≡ n = cc in omega arith
-refused-from-1 false false true f n e = let same : 3 ≡ n = cc in omega arith
-refused-from-1 false false false f n e = absurd (let z : _≡_ {A = ℕ} 0 1 = cc in omega arith)
 
 module _ (kinds : List ℕ) (literals output : List ℤ) where
   -- All that `trim` ensures.
@@ -46,15 +41,11 @@ module _ (kinds : List ℕ) (literals output : List ℤ) where
     ),
   )
 
-  formula-number : (n : ℕ) → checked kinds literals ≡ CheckRefused n → 1 ≤ n
-  unfolding checked
-  formula-number n e = refused-from-1 (cause-1 kinds) (cause-2 literals) (cause-3 (length kinds) literals) (sizes kinds literals) n e
-
   -- Causes 1 to 3 come first ..
   pub formula-refused : (n : ℕ) → checked kinds literals ≡ CheckRefused n → End (Refused n) output
   unfolding cause
   formula-refused n e =
-      let some-cause = formula-number n e in
+      let some-cause = refused-from-1 kinds literals n e in
       let other = ne-eqb n 0 (λ z. omega arith) in
       by-cause n
       (ap (λ (k : Check). cond (eqb (Causes.number k) 0) (cond (ltb (length output) (length literals)) 15 0) (Causes.number k)) e ∙ ap (λ (b : Bool). cond b (cond (ltb (length output) (length literals)) 15 0) n) other)

@@ -9,7 +9,7 @@ use mathlib.Core.List.{List, [], _∷_, _++_, map}
 use mathlib.Core.Option.{Option, some}
 use lib.IntN.{ℤ, pos, negsuc, negℤ}
 use lib.ListN.{length, drop, length-map, drop-of-length-le}
-use Rattle.formula.specs.Formula.{Kind, existential, universal, kind-of, prefix, Clause}
+use Rattle.formula.specs.Formula.{max-unknowns, Kind, existential, universal, kind-of, prefix, Clause}
 use Rattle.formula.proofs.Places.{drop-front}
 use Rattle.codes.specs.Codes.{opposite, has}
 use Rattle.trimming_rules.specs.Trimming as Trimming
@@ -45,7 +45,7 @@ unfolding pure-code
 one-is index k a b p q = sym (ap₂ (λ (c d : Bool). one-code c d k) p q)
 
 module _ (seen : List ℕ) (cs : List Clause) (h : Found seen cs) where
-  one-picks : (k : ℕ) → k < 128 → (a b : Bool) → Picked (one-of a b k) (one-code a b k)
+  one-picks : (k : ℕ) → k < max-unknowns → (a b : Bool) → Picked (one-of a b k) (one-code a b k)
   one-picks k below true true = record { chosen = nothing-chosen; is = refl }
   one-picks k below true false =
       record {
@@ -59,7 +59,7 @@ module _ (seen : List ℕ) (cs : List Clause) (h : Found seen cs) where
       }
   one-picks k below false false = record { chosen = nothing-chosen; is = refl }
 
-  pub pure-picks : (k : ℕ) → k < 128 → Picked (one-of (found (pos (suc k)) cs) (found (negsuc k) cs) k) (pure-code seen k)
+  pub pure-picks : (k : ℕ) → k < max-unknowns → Picked (one-of (found (pos (suc k)) cs) (found (negsuc k) cs) k) (pure-code seen k)
   unfolding pure-code
   pure-picks k below =
       rw (
@@ -68,7 +68,7 @@ module _ (seen : List ℕ) (cs : List Clause) (h : Found seen cs) where
       )
       (one-picks k below (found (pos (suc k)) cs) (found (negsuc k) cs))
 
-  module _ (kinds : List ℕ) (few : length kinds ≤ 128) where
+  module _ (kinds : List ℕ) (few : length kinds ≤ max-unknowns) where
     -- What is asked of the positions from v on.
     abbrev pub FromHere : ℕ → Type 0
     FromHere v = lowest-pure zero (prefix kinds) cs ≡ lowest-pure v (drop v (prefix kinds)) cs
@@ -190,7 +190,7 @@ module _ (kinds : List ℕ) (cs : List Clause) where
           bounds : (2 ≤ opposite c) × (opposite c < 258)
           bounds = opposite-bounds c two (p .chosen .small)
 
-          twice : (z : ℤ) → Named 128 z → negℤ (negℤ z) ≡ z
+          twice : (z : ℤ) → Named max-unknowns z → negℤ (negℤ z) ≡ z
           twice (pos zero) n = absurd (let h = n .from-one in omega arith)
           twice (pos (suc v)) n = refl
           twice (negsuc v) n = refl

@@ -10,7 +10,7 @@ use borrow.Author.Tests.{eq-eqb}
 use lib.Dec.{eqb, ltb}
 use lib.IntN.{ℤ}
 use lib.ListN.{length, getD, take, length-append}
-use Rattle.formula.specs.Formula.{Clause}
+use Rattle.formula.specs.Formula.{max-entries, Clause}
 use Rattle.codes.specs.Codes.{opposite, has}
 use Rattle.trimming_rules.specs.Trimming as Trimming
 use Rattle.trimming_rules.specs.Trimming.{keep, without-clauses, without-literal, set-true}
@@ -152,12 +152,12 @@ clauses-local z = record { none = refl; spread = λ xs ys. keep-append (λ c. no
 module _ (code : ℕ) (two : 2 ≤ code) (small : code < 258) where
   pub record Thinning (table₀ table index : List ℕ) : Type 0 where
     pub toward : Toward (without-clauses (literal-of code)) table₀ table
-    pub few : length table ≤ 8192
+    pub few : length table ≤ max-entries
     pub indexed : Indexed table index
     pub irreducible : (kinds : List ℕ) → Except (Irreducible kinds) [] table₀ → Except (Irreducible kinds) [] table
     pub units : (kinds firsts : List ℕ) → Units kinds firsts [] [] (code / 2) table₀ → Units kinds firsts [] [] (code / 2) table
 
-  pub thinning-begins : (table index : List ℕ) → Laid table → length table ≤ 8192 → Indexed table index → Thinning table table index
+  pub thinning-begins : (table index : List ℕ) → Laid table → length table ≤ max-entries → Indexed table index → Thinning table table index
   thinning-begins table index l few indexed =
       record { toward = toward-begins (without-clauses (literal-of code)) table l; few = few; indexed = indexed; irreducible = λ kinds p. p; units = λ kinds firsts u. u }
 
@@ -296,9 +296,6 @@ module _ (o : ℕ) (two : 2 ≤ o) (small : o < 258) where
     q : Spot table o start
     q = spot (t .toward .laid-out) o start two small (subst (In start) (sym (t .own)) (inl refl))
 
-    pub clear-inside : start < length table
-    clear-inside = spot-inside q
-
     pub clearing-more : (table′ : List ℕ) → table′ ≡ marked-at o o start table → Cleared o table₀ table′ rest
     unfolding q loses
     clearing-more table′ e =
@@ -350,7 +347,7 @@ module _ (o : ℕ) (two : 2 ≤ o) (small : o < 258) where
               then = inl (t .known start (inl refl));
             }
 
-  pub clearing-ends : {table₀ table index : List ℕ} → Cleared o table₀ table [] → length table₀ ≤ 8192 → Laid table₀ → Indexed table₀ index → Dropped (without-literal (literal-of o)) (o / 2) (listed o table₀) table₀ table (cleared index o)
+  pub clearing-ends : {table₀ table index : List ℕ} → Cleared o table₀ table [] → length table₀ ≤ max-entries → Laid table₀ → Indexed table₀ index → Dropped (without-literal (literal-of o)) (o / 2) (listed o table₀) table₀ table (cleared index o)
   clearing-ends {table₀} {table} {index} t few l indexed =
       record {
         passed = toward-ends (without-literal (literal-of o)) (t .toward) (without-literal-none (literal-of o) (clauses-left table) (none-listed (t .toward .laid-out) o two small (t .own)));

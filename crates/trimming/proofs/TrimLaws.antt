@@ -8,7 +8,7 @@ use mathlib.Core.List.{List, [], _∷_, _++_, map, append-nil, append-assoc}
 use borrow.Author.Tests.{lt-ltb}
 use lib.IntN.{ℤ, pos, negsuc, natAbs}
 use lib.ListN.{length, getD, drop, length-map, drop-of-length-le}
-use Rattle.formula.specs.Formula.{prefix, Clause, clauses}
+use Rattle.formula.specs.Formula.{max-unknowns, prefix, Clause, clauses}
 use Rattle.formula.specs.Causes.{is-zero, ended}
 use Rattle.formula.proofs.Accepted.{Accepted}
 use Rattle.codes.specs.Codes.{code-of, entry-by-entry}
@@ -37,7 +37,7 @@ all-rules kinds {table₁} {table₂} a b =
 
 -- ---- the table as it is filled
 
-code-entry : (z : ℤ) → Named 128 z → Entry (code-of z)
+code-entry : (z : ℤ) → Named max-unknowns z → Entry (code-of z)
 code-entry (pos v) n = let a = n .from-one in let b = n .to-last in record { literal = omega arith; known = omega arith; once = omega arith }
 code-entry (negsuc v) n = let a = n .from-one in let b = n .to-last in record { literal = omega arith; known = omega arith; once = omega arith }
 
@@ -52,29 +52,29 @@ laid-codes (c ∷ cs) =
     ∙ ap (λ (l : List ℕ). map code-of c ++ (0 ∷ l)) (laid-codes cs)
     ∙ sym (append-assoc (map code-of c) (0 ∷ []) (laid (map block-of cs)))
 
-fine-codes : (cs : List Clause) → Within 128 cs → Every Fine (map block-of cs)
+fine-codes : (cs : List Clause) → Within max-unknowns cs → Every Fine (map block-of cs)
 unfolding block-of
 fine-codes [] w = tt
 fine-codes (c ∷ cs) w = (each c (w .0), fine-codes cs (w .1))
   where
-    each : (c : Clause) → Every (Named 128) c → Every Entry (map code-of c)
+    each : (c : Clause) → Every (Named max-unknowns) c → Every Entry (map code-of c)
     each [] n = tt
     each (z ∷ c) n = (code-entry z (n .0), each c (n .1))
 
-small-code : (z : ℤ) → natAbs z ≤ 128 → code-of z < 512
+small-code : (z : ℤ) → natAbs z ≤ max-unknowns → code-of z < 512
 small-code (pos v) h = omega arith
 small-code (negsuc v) h = omega arith
 
-left-codes : (zs : List ℤ) → ((i : ℕ) → natAbs (getD zs i (pos 0)) ≤ 128) → left (map code-of zs) ≡ zs
+left-codes : (zs : List ℤ) → ((i : ℕ) → natAbs (getD zs i (pos 0)) ≤ max-unknowns) → left (map code-of zs) ≡ zs
 left-codes [] h = refl
 left-codes (z ∷ zs) h = rw (lt-ltb (code-of z) 512 (small-code z (h 0))) (ap₂ _∷_ (literal-code z) (left-codes zs (λ i. h (suc i))))
 
-same-codes : (zs : List ℤ) → ((i : ℕ) → natAbs (getD zs i (pos 0)) ≤ 128) → codes (map code-of zs) ≡ map code-of zs
+same-codes : (zs : List ℤ) → ((i : ℕ) → natAbs (getD zs i (pos 0)) ≤ max-unknowns) → codes (map code-of zs) ≡ map code-of zs
 same-codes [] h = refl
 same-codes (z ∷ zs) h = ap₂ _∷_ (let s = small-code z (h 0) in let e : code-of z % 512 ≡ code-of z = omega arith in e) (same-codes zs (λ i. h (suc i)))
 
 module _ (kinds : List ℕ) (literals : List ℤ) (a : Accepted kinds literals) where
-  named : (i : ℕ) → natAbs (getD literals i (pos 0)) ≤ 128
+  named : (i : ℕ) → natAbs (getD literals i (pos 0)) ≤ max-unknowns
   named i = let h = a .within i in let k = a .few-unknowns in omega arith
 
   is-ended : ended literals ≡ true
@@ -91,7 +91,7 @@ module _ (kinds : List ℕ) (literals : List ℤ) (a : Accepted kinds literals) 
       record {
         blocks = map block-of (clauses literals);
         is = e ∙ ap (map code-of) (sym (entries-clauses literals is-ended)) ∙ laid-codes (clauses literals);
-        fine = fine-codes (clauses literals) (within-clauses 128 literals named);
+        fine = fine-codes (clauses literals) (within-clauses max-unknowns literals named);
       }
 
   -- ---- the table at the end

@@ -10,7 +10,7 @@ use mathlib.Core.Option.{Option, none, some}
 use lib.Dec.{eqb, leb, ltb}
 use lib.IntN.{ℤ, pos, negsuc}
 use lib.ListN.{length, getD, set, take, drop}
-use Rattle.formula.specs.Formula.{Kind, prefix, Clause, clauses}
+use Rattle.formula.specs.Formula.{max-entries, Kind, prefix, Clause, clauses}
 use Rattle.trimming_rules.specs.Trimming.{keep, first-of, without-literal, set-true, rule-3, found, rule-4}
 use Rattle.trimming_rules.specs.Rounds.{reduced}
 use Rattle.trimming_rules.proofs.ClauseLaws.{Every, In}
@@ -105,7 +105,7 @@ Indexed table index = index ≡ index-of table
 -- A clause that is left begins at `start`, in a table with its index.
 pub record Here (table index : List ℕ) (start : ℕ) : Type 0 where
   pub laid-out : Laid table
-  pub few : length table ≤ 8192
+  pub few : length table ≤ max-entries
   pub indexed : Indexed table index
   pub stands : Names table 1 start
 
@@ -137,7 +137,7 @@ pub record Dropping (low start : ℕ) (table index counts : List ℕ) (at : ℕ)
   pub fine-pre : Every Entry pre
   pub fine-post : Every Entry post
   pub below : Every (λ y. (y < 512 → y < low)) pre
-  pub few : length table ≤ 8192
+  pub few : length table ≤ max-entries
   pub indexed : Indexed table index
   pub sized : length counts ≡ 258
   pub counted : (y : ℕ) → low ≤ y → y < 258 → getD counts y 0 ≡ times y post
@@ -190,7 +190,7 @@ pub record Units (kinds firsts names apart : List ℕ) (off : ℕ) (table : List
 -- Named clauses that are left, in a table with its index; all others are irreducible.
 pub record Pending (kinds names table index : List ℕ) : Type 0 where
   pub laid-out : Laid table
-  pub few : length table ≤ 8192
+  pub few : length table ≤ max-entries
   pub indexed : Indexed table index
   pub standing : Every (λ s. In s (listed 1 table)) names
   pub others : Except (Irreducible kinds) names table

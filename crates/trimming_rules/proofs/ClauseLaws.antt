@@ -14,7 +14,7 @@ use Rattle.formula.specs.Formula.{Clause}
 use Rattle.formula.specs.Causes.{any}
 use Rattle.formula.specs.Meaning.{literal, clause, matrix}
 use Rattle.trimming_rules.specs.Trimming.{same, has, position, keep, behind, without-first, always-true, without-clauses, without-literal, set-true, found}
-use Rattle.trimming_rules.proofs.MeaningLaws.{Implies, Below, AgreeOff, Ignores, literal-at}
+use Rattle.trimming_rules.proofs.MeaningLaws.{Below, AgreeOff, Ignores, literal-at}
 
 -- ---- tests
 
@@ -229,13 +229,6 @@ matrix-in vs (d ∷ cs) c e (inr i) = matrix-in vs cs c (later (clause vs d) e) 
 pub in-matrix : (vs : List Bool) (cs : List Clause) → ((c : Clause) → In c cs → clause vs c ≡ true) → matrix cs vs ≡ true
 in-matrix vs [] f = refl
 in-matrix vs (c ∷ cs) f = rw (f c (inl refl), in-matrix vs cs (λ d i. f d (inr i)))
-
--- Two tests that hold together are equal.
-pub both-ways : (a b : Bool) → Implies a b → Implies b a → a ≡ b
-both-ways true true f g = refl
-both-ways true false f g = sym (f refl)
-both-ways false true f g = g refl
-both-ways false false f g = refl
 
 not-true : (b : Bool) → b ≡ false → not b ≡ true
 not-true true e = absurd (true≢false e)

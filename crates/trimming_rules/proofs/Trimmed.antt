@@ -34,10 +34,6 @@ pub clauses-entries : (n : ℕ) (cs : List Clause) → Within n cs → clauses (
 clauses-entries n [] within = refl
 clauses-entries n (c ∷ cs) within = clauses-clause n c (entries cs) (within .0) ∙ ap (λ x. c ∷ x) (clauses-entries n cs (within .1))
 
--- The clauses of entries that end in 0 have as many entries, and name none but the first n unknowns.
-abbrev AllWithin : ℕ → List ℤ → Type 0
-AllWithin n zs = Every (λ z. natAbs z ≤ n) zs
-
 -- A clause that is not the last has its end, so a literal goes in front of one.
 abbrev Started : List Clause → Type 0
 Started cs = 0 < length cs
@@ -62,6 +58,7 @@ started (pos zero) zs = omega arith
 started (pos (suc v)) zs = started-onto (pos (suc v)) (clauses zs)
 started (negsuc v) zs = started-onto (negsuc v) (clauses zs)
 
+-- The clauses of entries that end in 0 have as many entries.
 pub size-clauses : (zs : List ℤ) → ended zs ≡ true → size (clauses zs) ≡ length zs
 size-clauses [] e = refl
 size-clauses (pos zero ∷ []) e = refl

@@ -8,11 +8,11 @@ use borrow.Author.Tests.{leb-true, leb-false, ne-eqb}
 use lib.Dec.{eqb, leb, ltb}
 use lib.ListN.{length, getD, take, drop}
 use lib.Seq.{length-take-le, getD-drop}
-use Rattle.text.specs.Reading.{Result, taken, refused, text-read}
+use Rattle.text.specs.Reading.{Result, taken, refused}
 use Rattle.witness.specs.File.{if-stands, word, has, universal-at, universal-count, existential-at, existential-count, end-of, record-of, content-cause, file-cause}
 use Rattle.judgement.specs.declared.Finding.{Finding}
 use Rattle.judgement.specs.declared.Finding.the-variants.{Refused}
-use Rattle.judgement.specs.Finding.{on-formula, on-text, finding}
+use Rattle.judgement.specs.Finding.{on-formula, on-text, finding-of}
 use Rattle.vulzhenn_judge.specs.Cut.{taken-in, CutRight}
 
 abbrev Bytes : List ℕ → Type 0
@@ -95,5 +95,5 @@ front-same n enough r f work bytes = go (leb (length f) n) refl
         (some-cause (ltb 31 (getD f 0 0)))
 
 pub cut-right : CutRight
-unfolding finding
-cut-right text f work bytes = front-same taken-in (omega arith) (text-read text) f work bytes
+unfolding finding-of
+cut-right reading f work bytes = front-same taken-in (omega arith) reading f work bytes

@@ -8,6 +8,11 @@ use Rattle.answer.proofs.AnswerLaws.{universal-few, existential-few, li
 use Rattle.answer.proofs.decided.Statement.{statement}
 use Rattle.answer.proofs.decided.Tie as tie
 
+returns : tie.Need-returns
+returns c =
+    let lines = lines-so (c .before .before .before .before .before .before .before .before .before .before .before .before .args .kinds .now) (c .before .before .before .before .before .before .before .before .before .before .before .before .args .literals .now) (c .before .before .before .before .before .before .before .before .before .before .before .before .pre) (c .before .before .before .before .before .before .before .before .decide .ensures .0) (c .before .before .before .before .before .before .before .before .before .before .before .before .args .variables) (c .before .before .before .before .before .before .before .before .before .before .before .before .args .clauses) (c .before .before .before .before .before .number .ensures) in
+    (c .before .before .result .ensures .0 ∙ ap (λ bytes. put-count bytes (c .before .before .before .before .before .before .before .before .before .before .before .before .args .out .now)) lines, c .before .before .result .ensures .1 ∙ ap (λ bytes. put bytes (c .before .before .before .before .before .before .before .before .before .before .before .before .args .out .now)) lines)
+
 slice-aggregate-decide : tie.Need-slice-aggregate-decide
 slice-aggregate-decide c = search needs
 
@@ -28,11 +33,6 @@ result-requires c κs = search needs
 
 same-length : tie.Need-same-length
 same-length c = search needs
-
-returns : tie.Need-returns
-returns c =
-    let lines = lines-so (c .before .before .before .before .before .before .before .before .before .before .before .before .args .kinds .now) (c .before .before .before .before .before .before .before .before .before .before .before .before .args .literals .now) (c .before .before .before .before .before .before .before .before .before .before .before .before .pre) (c .before .before .before .before .before .before .before .before .decide .ensures .0) (c .before .before .before .before .before .before .before .before .before .before .before .before .args .variables) (c .before .before .before .before .before .before .before .before .before .before .before .before .args .clauses) (c .before .before .before .before .before .number .ensures) in
-    (c .before .before .result .ensures .0 ∙ ap (λ bytes. put-count bytes (c .before .before .before .before .before .before .before .before .before .before .before .before .args .out .now)) lines, c .before .before .result .ensures .1 ∙ ap (λ bytes. put bytes (c .before .before .before .before .before .before .before .before .before .before .before .before .args .out .now)) lines)
 
 pub decided-spec : {M : Type 1} → statement M
 decided-spec =

@@ -1,41 +1,12 @@
--- `certificate::certify` meets its contract, from what `read` promises of the tables and `decided` of their fronts. Assumes nothing.
-use native.Mathlib.Omega.{arith}
-use mathlib.Core.Path.{sym}
-use mir.Syntax.{w32}
-use lib.Seq.{length-take-le}
-use Rattle.text.proofs.FrontLaws.{read-refused, read-taken}
-use Rattle.certificate.proofs.CertificateLaws.{line-small, text-refused, work-refused, text-decided, front-passes, variables-small, clauses-small}
+-- The shared function, told the form of the text. Assumes nothing.
+use borrow.Author.Needs.{needs}
+use Rattle.text.specs.Reading.{read}
 use Rattle.certificate.proofs.CertificateRight.{certificate-right}
-use borrow.Author.Needs.{needs, fits-under}
 use Rattle.certificate.proofs.certify.Statement.{statement}
 use Rattle.certificate.proofs.certify.Tie as tie
 
-slice-aggregate-read : tie.Need-slice-aggregate-read
-slice-aggregate-read c = search needs
-
-slice-aggregate-read-2 : tie.Need-slice-aggregate-read-2
-slice-aggregate-read-2 c = search needs
-
-slice-aggregate-read-3 : tie.Need-slice-aggregate-read-3
-slice-aggregate-read-3 c = search needs
-
-read-requires : tie.Need-read-requires
-read-requires c κs = search needs
-
-enum-known-number : tie.Need-enum-known-number
-enum-known-number c = search needs
-
-cast-refuse : tie.Need-cast-refuse
-cast-refuse c = fits-under w32 _ 4294967296 (omega (arith, line-small (c .before .before .before .before .before .before .before .before .before .before .before .before .before .before .args .text .now) (c .before .before .before .before .before .before .before .before .before .before .before .before .before .before .args .work .now) (read-refused (c .before .before .before .before .before .before .read .ensures .0) (c .before .number .given .1)))) tt
-
-refuse-requires : tie.Need-refuse-requires
-refuse-requires c κs = search needs
-
-enum-known-unknowns : tie.Need-enum-known-unknowns
-enum-known-unknowns c = search needs
-
-refuse-requires-2 : tie.Need-refuse-requires-2
-refuse-requires-2 c κs = search needs
+certify-as-requires : tie.Need-certify-as-requires
+certify-as-requires c κs = search needs
 
 same-length : tie.Need-same-length
 same-length c = search needs
@@ -43,78 +14,12 @@ same-length c = search needs
 same-length-2 : tie.Need-same-length-2
 same-length-2 c = search needs
 
-returns : tie.Need-returns
-returns c = work-refused (c .before .before .before .before .before .before .before .before .before .before .before .before .before .before .before .before .before .before .before .before .before .before .args .text .now) (c .before .before .before .before .before .before .before .before .before .before .before .before .before .before .before .before .before .before .before .before .before .before .args .work .now) (c .before .before .before .before .before .before .before .before .before .before .before .before .before .before .before .before .before .before .before .before .before .before .args .file .now) (c .before .before .before .before .before .before .before .before .before .before .before .before .before .before .before .before .before .before .before .before .before .before .args .lines .now) (certificate-right (c .before .before .before .before .before .before .before .before .before .before .before .before .before .before .before .before .before .before .before .before .before .before .args .text .now)) (read-taken (c .before .before .before .before .before .before .before .before .before .before .before .before .before .before .read .ensures .0) (c .before .before .before .before .before .before .before .before .before .unknowns .given .1)) (c .before .before .before .before .before .before .before .if1 .taken) (c .before .before .before .before .refuse2 .ensures)
-
-array-share-prefix-kinds : tie.Need-array-share-prefix-kinds
-array-share-prefix-kinds c = (read-taken (c .before .before .before .before .before .before .before .read .ensures .0) (c .before .before .unknowns .given .1)) .kinds-there
-
-slice-aggregate-decided : tie.Need-slice-aggregate-decided
-slice-aggregate-decided c = sym (length-take-le (c .before .before .before .unknowns .given .0 .0) (c .before .before .before .before .before .before .before .before .read .last .1 .0) ((read-taken (c .before .before .before .before .before .before .before .before .read .ensures .0) (c .before .before .before .unknowns .given .1)) .kinds-there))
-
-array-share-prefix-literals : tie.Need-array-share-prefix-literals
-array-share-prefix-literals c = (read-taken (c .before .before .before .before .before .before .before .before .read .ensures .0) (c .before .before .before .unknowns .given .1)) .literals-there
-
-slice-aggregate-decided-2 : tie.Need-slice-aggregate-decided-2
-slice-aggregate-decided-2 c = sym (length-take-le (c .before .before .before .before .unknowns .given .0 .1 .0) (c .before .before .before .before .before .before .before .before .before .read .last .1 .1 .0) ((read-taken (c .before .before .before .before .before .before .before .before .before .read .ensures .0) (c .before .before .before .before .unknowns .given .1)) .literals-there))
-
-cast-decided : tie.Need-cast-decided
-cast-decided c = fits-under w32 _ 4294967296 (omega (arith, variables-small (c .before .before .before .before .before .before .before .before .before .before .before .before .before .before .before .before .before .args .text .now) (c .before .before .before .before .before .before .before .before .before .before .before .before .before .before .before .before .before .args .work .now) (read-taken (c .before .before .before .before .before .before .before .before .before .read .ensures .0) (c .before .before .before .before .unknowns .given .1)))) tt
-
-cast-decided-2 : tie.Need-cast-decided-2
-cast-decided-2 c = fits-under w32 _ 4294967296 (omega (arith, clauses-small (c .before .before .before .before .before .before .before .before .before .before .before .before .before .before .before .before .before .args .text .now) (c .before .before .before .before .before .before .before .before .before .before .before .before .before .before .before .before .before .args .work .now) (read-taken (c .before .before .before .before .before .before .before .before .before .read .ensures .0) (c .before .before .before .before .unknowns .given .1)))) tt
-
-decided-requires : tie.Need-decided-requires
-decided-requires c κs = (front-passes (c .before .before .before .before .before .before .before .before .before .before .before .before .before .before .before .before .before .before .before .before .args .text .now) (c .before .before .before .before .before .before .before .before .before .before .before .before .before .before .before .before .before .before .before .before .args .work .now) (read-taken (c .before .before .before .before .before .before .before .before .before .before .before .before .read .ensures .0) (c .before .before .before .before .before .before .before .unknowns .given .1)), c .before .before .before .before .before .if1 .left, clauses-small (c .before .before .before .before .before .before .before .before .before .before .before .before .before .before .before .before .before .before .before .before .args .text .now) (c .before .before .before .before .before .before .before .before .before .before .before .before .before .before .before .before .before .before .before .before .args .work .now) (read-taken (c .before .before .before .before .before .before .before .before .before .before .before .before .read .ensures .0) (c .before .before .before .before .before .before .before .unknowns .given .1)))
-
 same-length-3 : tie.Need-same-length-3
 same-length-3 c = search needs
 
-same-length-4 : tie.Need-same-length-4
-same-length-4 c = search needs
-
-returns-2 : tie.Need-returns-2
-returns-2 c = text-refused (c .before .before .before .before .before .before .before .before .before .before .before .before .before .before .before .before .before .before .before .before .before .args .text .now) (c .before .before .before .before .before .before .before .before .before .before .before .before .before .before .before .before .before .before .before .before .before .args .work .now) (c .before .before .before .before .before .before .before .before .before .before .before .before .before .before .before .before .before .before .before .before .before .args .file .now) (c .before .before .before .before .before .before .before .before .before .before .before .before .before .before .before .before .before .before .before .before .before .args .lines .now) (certificate-right (c .before .before .before .before .before .before .before .before .before .before .before .before .before .before .before .before .before .before .before .before .before .args .text .now)) (read-refused (c .before .before .before .before .before .before .before .before .before .before .before .before .before .read .ensures .0) (c .before .before .before .before .before .before .before .before .number .given .1)) (c .before .before .before .before .refuse .ensures)
-
-same-length-5 : tie.Need-same-length-5
-same-length-5 c = search needs
-
-same-length-6 : tie.Need-same-length-6
-same-length-6 c = search needs
-
-same-length-7 : tie.Need-same-length-7
-same-length-7 c = search needs
-
-returns-3 : tie.Need-returns-3
-returns-3 c = text-decided (c .before .before .before .before .before .before .before .before .before .before .before .before .before .before .before .before .before .before .before .before .before .before .before .before .before .before .before .args .text .now) (c .before .before .before .before .before .before .before .before .before .before .before .before .before .before .before .before .before .before .before .before .before .before .before .before .before .before .before .args .work .now) (c .before .before .before .before .before .before .before .before .before .before .before .before .before .before .before .before .before .before .before .before .before .before .before .before .before .before .before .args .file .now) (c .before .before .before .before .before .before .before .before .before .before .before .before .before .before .before .before .before .before .before .before .before .before .before .before .before .before .before .args .lines .now) (certificate-right (c .before .before .before .before .before .before .before .before .before .before .before .before .before .before .before .before .before .before .before .before .before .before .before .before .before .before .before .args .text .now)) (read-taken (c .before .before .before .before .before .before .before .before .before .before .before .before .before .before .before .before .before .before .before .read .ensures .0) (c .before .before .before .before .before .before .before .before .before .before .before .before .before .before .unknowns .given .1)) (c .before .before .before .before .before .before .before .before .before .before .before .before .if1 .left) (c .before .before .before .before .before .before .decided .ensures .1) (c .before .before .before .before .before .before .decided .ensures .0)
+returns : tie.Need-returns
+unfolding read
+returns c = (c .before .before .before .before .before .before .certify-as .ensures .0, (c .before .before .before .before .before .before .certify-as .ensures .1, certificate-right (c .before .before .before .before .before .before .before .before .before .before .before .before .before .before .args .text .now)))
 
 pub certify-spec : {M : Type 1} → statement M
-certify-spec =
-    tie.close
-    (tie.spec
-    slice-aggregate-read
-    slice-aggregate-read-2
-    slice-aggregate-read-3
-    read-requires
-    enum-known-number
-    cast-refuse
-    refuse-requires
-    enum-known-unknowns
-    refuse-requires-2
-    same-length
-    same-length-2
-    returns
-    array-share-prefix-kinds
-    slice-aggregate-decided
-    array-share-prefix-literals
-    slice-aggregate-decided-2
-    cast-decided
-    cast-decided-2
-    decided-requires
-    same-length-3
-    same-length-4
-    returns-2
-    same-length-5
-    same-length-6
-    same-length-7
-    returns-3)
+certify-spec = tie.close (tie.spec certify-as-requires same-length same-length-2 same-length-3 returns)

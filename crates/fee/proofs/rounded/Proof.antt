@@ -23,7 +23,7 @@ add-result-2 c = search needs
 
 returns-3 : tie.Need-returns-3
 unfolding nearest-even
-returns-3 c = let rest = c .before .before .args .thousandths % 1000 in rw (le-ltb rest 500 (omega arith), le-ltb 500 rest (omega arith))
+returns-3 c = let rest = c .before .before .args .thousandths % 1000 in rw (le-ltb rest 500 (omega arith), le-ltb 500 rest (omega arith)) (omega arith)
 
 pub rounded-spec : {M : Type 1} → statement M
 rounded-spec = tie.close (tie.spec returns add-result returns-2 add-result-2 returns-3)

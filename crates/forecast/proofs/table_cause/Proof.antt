@@ -4,7 +4,8 @@ use mathlib.Core.Path.{_≡_, sym, _∙_}
 use mathlib.Core.Bool.{true, false}
 use lib.Dec.{ltb}
 use borrow.Author.Tests.{lt-ltb, le-ltb}
-use Rattle.rows.specs.Table.{room, table-fits, stray-rows}
+use Rattle.rows.specs.Table.{room, table-fits}
+use Rattle.rows.specs.Stray.{stray-rows}
 use Rattle.forecast.specs.Outcome.{table-cause}
 use borrow.Author.Needs.{needs}
 use Rattle.forecast.proofs.table_cause.Statement.{statement}

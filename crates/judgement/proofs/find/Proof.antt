@@ -1,76 +1,20 @@
--- `judgement::find` meets its contract, from what `read` promises of the tables and `on_formula` of their fronts. Assumes nothing.
-use native.Mathlib.Omega.{arith}
-use mathlib.Core.Path.{sym}
-use mir.Syntax.{w32}
-use lib.Seq.{length-take-le}
-use Rattle.text.proofs.FrontLaws.{read-refused, read-taken}
-use Rattle.judgement.proofs.FindingLaws.{text-refused, text-taken, line-small, with-finding}
+-- The shared function, told the form of the text. Assumes nothing.
+use borrow.Author.Needs.{needs}
+use Rattle.text.specs.Reading.{read}
+use Rattle.judgement.specs.Finding.{finding-of, left-of}
 use Rattle.judgement.proofs.JudgementRight.{finding-right}
-use borrow.Author.Needs.{needs, fits-under}
 use Rattle.judgement.proofs.find.Statement.{statement}
 use Rattle.judgement.proofs.find.Tie as tie
 
-slice-aggregate-read : tie.Need-slice-aggregate-read
-slice-aggregate-read c = search needs
-
-slice-aggregate-read-2 : tie.Need-slice-aggregate-read-2
-slice-aggregate-read-2 c = search needs
-
-slice-aggregate-read-3 : tie.Need-slice-aggregate-read-3
-slice-aggregate-read-3 c = search needs
-
-read-requires : tie.Need-read-requires
-read-requires c κs = search needs
-
-enum-known-number : tie.Need-enum-known-number
-enum-known-number c = search needs
-
-cast-t20 : tie.Need-cast-t20
-cast-t20 c = fits-under w32 _ 4294967296 (omega (arith, line-small (c .before .before .before .before .before .before .before .before .before .before .before .before .before .args .text .now) (read-refused (c .before .before .before .before .before .before .read .ensures .0) (c .before .number .given .1)))) tt
-
-enum-known-unknowns : tie.Need-enum-known-unknowns
-enum-known-unknowns c = search needs
-
-array-share-prefix-kinds : tie.Need-array-share-prefix-kinds
-array-share-prefix-kinds c = read-taken (c .before .before .before .before .before .before .read .ensures .0) (c .before .unknowns .given .1) .kinds-there
-
-slice-aggregate-on-formula : tie.Need-slice-aggregate-on-formula
-slice-aggregate-on-formula c = sym (length-take-le (c .before .before .unknowns .given .0 .0) (c .before .before .before .before .before .before .before .read .last .1 .0) (read-taken (c .before .before .before .before .before .before .before .read .ensures .0) (c .before .before .unknowns .given .1) .kinds-there))
-
-array-share-prefix-literals : tie.Need-array-share-prefix-literals
-array-share-prefix-literals c = read-taken (c .before .before .before .before .before .before .before .read .ensures .0) (c .before .before .unknowns .given .1) .literals-there
-
-slice-aggregate-on-formula-2 : tie.Need-slice-aggregate-on-formula-2
-slice-aggregate-on-formula-2 c = sym (length-take-le (c .before .before .before .unknowns .given .0 .1 .0) (c .before .before .before .before .before .before .before .before .read .last .1 .1 .0) (read-taken (c .before .before .before .before .before .before .before .before .read .ensures .0) (c .before .before .before .unknowns .given .1) .literals-there))
-
-on-formula-requires : tie.Need-on-formula-requires
-on-formula-requires c κs = search needs
-
-returns : tie.Need-returns
-returns c = with-finding (finding-right (c .before .before .before .before .before .before .before .before .before .before .before .before .before .args .text .now) (c .before .before .before .before .before .before .before .before .before .before .before .before .before .args .file .now) (c .before .before .before .before .before .before .before .before .before .before .before .before .before .args .work .now)) (text-refused (c .before .before .before .before .before .before .before .before .before .before .before .before .before .args .text .now) (c .before .before .before .before .before .before .before .before .before .before .before .before .before .args .file .now) (c .before .before .before .before .before .before .before .before .before .before .before .before .before .args .work .now) (read-refused (c .before .before .before .before .before .before .read .ensures .0) (c .before .number .given .1)))
+find-as-requires : tie.Need-find-as-requires
+find-as-requires c κs = search needs
 
 same-length : tie.Need-same-length
 same-length c = search needs
 
-returns-2 : tie.Need-returns-2
-returns-2 c = with-finding (finding-right (c .before .before .before .before .before .before .before .before .before .before .before .before .before .before .before .before .before .before .before .args .text .now) (c .before .before .before .before .before .before .before .before .before .before .before .before .before .before .before .before .before .before .before .args .file .now) (c .before .before .before .before .before .before .before .before .before .before .before .before .before .before .before .before .before .before .before .args .work .now)) (text-taken (c .before .before .before .before .before .before .before .before .before .before .before .before .before .before .before .before .before .before .before .args .text .now) (c .before .before .before .before .before .before .before .before .before .before .before .before .before .before .before .before .before .before .before .args .file .now) (c .before .before .before .before .before .before .before .before .before .before .before .before .before .before .before .before .before .before .before .args .work .now) (read-taken (c .before .before .before .before .before .before .before .before .before .before .before .before .read .ensures .0) (c .before .before .before .before .before .before .before .unknowns .given .1)) (c .before .before .on-formula .ensures))
+returns : tie.Need-returns
+unfolding read finding-of left-of
+returns c = (c .before .before .find-as .ensures .found, (c .before .before .find-as .ensures .area, finding-right (c .before .before .before .before .before .before .before .args .text .now) (c .before .before .before .before .before .before .before .args .file .now) (c .before .before .before .before .before .before .before .args .work .now)))
 
 pub find-spec : {M : Type 1} → statement M
-find-spec =
-    tie.close
-    (tie.spec
-    slice-aggregate-read
-    slice-aggregate-read-2
-    slice-aggregate-read-3
-    read-requires
-    enum-known-number
-    cast-t20
-    enum-known-unknowns
-    array-share-prefix-kinds
-    slice-aggregate-on-formula
-    array-share-prefix-literals
-    slice-aggregate-on-formula-2
-    on-formula-requires
-    returns
-    same-length
-    returns-2)
+find-spec = tie.close (tie.spec find-as-requires same-length returns)

@@ -1,11 +1,9 @@
 -- `rows::give_up` meets its contract. Assumes nothing.
-use mathlib.Core.Path.{_≡_, sym, ap, _∙_}
+use mathlib.Core.Path.{sym, ap, _∙_}
 use Prim.Native.Nat.{ℕ, _*_}
 use native.Mathlib.Omega.{arith}
-use lib.ListN.{length}
 use borrow.Author.Needs.{needs}
-use Rattle.rows.specs.Table.{zeroed-from}
-use Rattle.rows.specs.Access.{places-below, rows-given-up, marks-given-up}
+use Rattle.rows.specs.Access.{zeroed-from, places-below, rows-given-up, marks-given-up}
 use Rattle.rows.proofs.ZeroedLaws.{zeroed-from-none}
 use Rattle.rows.proofs.give_up.Statement.{statement}
 use Rattle.rows.proofs.give_up.Tie as tie

@@ -5,6 +5,7 @@ use lib.Bits.{bitOr}
 use lib.ListN.{getD, set}
 use borrow.Author.Needs.{needs}
 use borrow.Author.Tests.{le-ltb}
+use Rattle.rows.specs.Stray.{row-bits}
 use Rattle.rows.specs.Access.{bit-set}
 use Rattle.rows.proofs.BitLaws.{bit-weight}
 use Rattle.rows.proofs.TableLaws.{inside-true, inside-false}
@@ -20,7 +21,7 @@ returns-2 : tie.Need-returns-2
 unfolding bit-set
 returns-2 c =
     let given = c .before .before .args in
-    rw (inside-true (given .rows .now) (given .i) (c .before .if1 .left), le-ltb (given .k) 128 (c .if2 .taken))
+    rw (inside-true (given .rows .now) (given .i) (c .before .if1 .left), le-ltb (given .k) row-bits (c .if2 .taken))
 
 mul-place : tie.Need-mul-place
 mul-place c = search needs

@@ -4,7 +4,7 @@ use mathlib.Core.Bool.{false}
 use Prim.Native.Nat.{ℕ, _-_, _≤_, _<_}
 use native.Mathlib.Omega.{arith}
 use borrow.Author.Count.{below-none, below-more}
-use Rattle.rows.specs.Row.{stray}
+use Rattle.rows.specs.Stray.{stray}
 use Rattle.rows.specs.Table.{row-at}
 use Rattle.rows.proofs.TableLaws.{below-count, row-at-inside, no-stray-outside, none-stray-rows, found-stray-rows}
 use Rattle.rows.proofs.stray_bit.Statement.{statement}

@@ -7,7 +7,7 @@ use native.Mathlib.Nat.{div-one}
 use native.Mathlib.Omega.{arith}
 use lib.ListN.{getD, take, drop}
 use borrow.Author.Count.{below-more}
-use Rattle.rows.specs.Row.{stray}
+use Rattle.rows.specs.Stray.{stray}
 use Rattle.rows.proofs.RowLaws.{none-stray, byte-beyond, none-stray-bytes}
 use Rattle.rows.proofs.TableLaws.{getD-part}
 use Rattle.rows.proofs.stray_in_row.Statement.{statement}

@@ -5,7 +5,7 @@ use Prim.Native.Nat.{ℕ, _-_, _≤_}
 use native.Mathlib.Numerals.{add-one}
 use native.Mathlib.Omega.{arith}
 use lib.ListN.{length, set, length-set}
-use Rattle.rows.specs.Table.{zeroed-from}
+use Rattle.rows.specs.Access.{zeroed-from}
 use Rattle.rows.proofs.ZeroedLaws.{zeroed-from-none, set-zeroed-from}
 use Rattle.rows.proofs.zero_bytes.Statement.{statement}
 use Rattle.rows.proofs.zero_bytes.Tie as tie

@@ -6,7 +6,7 @@ use native.Mathlib.Numerals.{add-one}
 use native.Mathlib.Omega.{arith}
 use lib.ListN.{length, set, length-set}
 use borrow.Author.Needs.{needs}
-use Rattle.rows.specs.Table.{zeroed-from}
+use Rattle.rows.specs.Access.{zeroed-from}
 use Rattle.rows.proofs.ZeroedLaws.{zeroed-from-none, set-zeroed-from}
 use Rattle.rows.proofs.zero_marks.Statement.{statement}
 use Rattle.rows.proofs.zero_marks.Tie as tie

@@ -16,12 +16,12 @@ same-length c = search needs
 
 returns : tie.Need-returns
 returns c =
-    let given = c .before .before .before .before .before .before .before .before .before .before .before .args in (
-      λ from t from-found found found-marks passes counted counted-t held held-t long.
-          no-model-extended (given .kinds .now) (given .literals .now) (given .preferences .now) (given .others .now) (given .other-count) (given .universal) (given .work .now) from from-found passes counted held long
+    let given = c .before .before .before .before .before .before .before .before .before .before .before .before .before .before .args in (
+      λ literals of from t from-found found found-marks passes counted counted-t held held-t long.
+          no-model-extended (given .kinds .now) literals (given .preferences .now) (given .others .now) (given .other-count) (given .universal) (given .work .now) from from-found passes counted held long
           (given .mark) (given .rows .now) (given .marks .now) (given .count) t found found-marks counted-t held-t
-          _ _ (c .before .before .before .finds .ensures .0) (c .before .before .before .finds .ensures .1) (c .if1 .left),
-      packs (given .kinds .now) (given .literals .now) (given .preferences .now) (given .others .now) (given .other-count) (given .universal) (given .work .now) _ (c .before .before .before .finds .ensures .1),
+          _ _ (c .before .before .before .finds .ensures .0 literals of) (c .before .before .before .finds .ensures .1 literals of) (c .if1 .left),
+      λ literals of. packs (given .kinds .now) literals (given .preferences .now) (given .others .now) (given .other-count) (given .universal) (given .work .now) _ (c .before .before .before .finds .ensures .1 literals of),
     )
 
 grow-requires : tie.Need-grow-requires
@@ -41,13 +41,13 @@ same-length-4 c = search needs
 
 returns-2 : tie.Need-returns-2
 returns-2 c =
-    let given = c .before .before .before .before .before .before .before .before .before .before .before .before .before .before .before .before .before .before .before .before .args in (
-      λ from t from-found found found-marks passes counted counted-t held held-t long.
-          model-extended (given .kinds .now) (given .literals .now) (given .preferences .now) (given .others .now) (given .other-count) (given .universal) (given .work .now) from from-found passes counted held long
+    let given = c .before .before .before .before .before .before .before .before .before .before .before .before .before .before .before .before .before .before .before .before .before .before .before .args in (
+      λ literals of from t from-found found found-marks passes counted counted-t held held-t long.
+          model-extended (given .kinds .now) literals (given .preferences .now) (given .others .now) (given .other-count) (given .universal) (given .work .now) from from-found passes counted held long
           (given .mark) (given .rows .now) (given .marks .now) (given .count) t found found-marks counted-t held-t
-          _ _ (c .before .before .before .before .before .before .before .before .before .before .before .before .finds .ensures .0) (c .before .before .before .before .before .before .before .before .before .before .before .before .finds .ensures .1) (c .before .before .before .before .before .before .before .before .before .if1 .taken)
+          _ _ (c .before .before .before .before .before .before .before .before .before .before .before .before .finds .ensures .0 literals of) (c .before .before .before .before .before .before .before .before .before .before .before .before .finds .ensures .1 literals of) (c .before .before .before .before .before .before .before .before .before .if1 .taken)
           _ _ _ (c .after-growth .ensures ∙ ap (λ (g : Growth). step-of g (given .count)) (c .before .before .before .before .before .grow .ensures .0)) (c .before .before .before .before .before .grow .ensures .1 .0) (c .before .before .before .before .before .grow .ensures .1 .1),
-      packs (given .kinds .now) (given .literals .now) (given .preferences .now) (given .others .now) (given .other-count) (given .universal) (given .work .now) _ (c .before .before .before .before .before .before .before .before .before .before .before .before .finds .ensures .1),
+      λ literals of. packs (given .kinds .now) literals (given .preferences .now) (given .others .now) (given .other-count) (given .universal) (given .work .now) _ (c .before .before .before .before .before .before .before .before .before .before .before .before .finds .ensures .1 literals of),
     )
 
 pub extend-spec : {M : Type 1} → statement M

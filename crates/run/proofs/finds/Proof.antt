@@ -5,8 +5,8 @@ use borrow.Author.Needs.{needs}
 use Rattle.run.proofs.finds.Statement.{statement}
 use Rattle.run.proofs.finds.Tie as tie
 
-first-model-requires : tie.Need-first-model-requires
-first-model-requires c κs = search needs
+first-model-over-requires : tie.Need-first-model-over-requires
+first-model-over-requires c κs = search needs
 
 enum-told : tie.Need-enum-told
 enum-told c = search needs
@@ -21,25 +21,34 @@ same-length : tie.Need-same-length
 same-length c = search needs
 
 returns : tie.Need-returns
-returns c = (ap is-found (sym (c .enum-told .given .1) ∙ c .before .before .before .before .first-model .ensures .returned), c .before .before .before .before .first-model .ensures .area)
+returns c = (
+  λ literals of. ap is-found (sym (c .enum-told .given .1) ∙ c .before .before .before .before .first-model-over .ensures .prepared literals of .returned),
+  λ literals of. c .before .before .before .before .first-model-over .ensures .prepared literals of .area,
+)
 
 same-length-2 : tie.Need-same-length-2
 same-length-2 c = search needs
 
 returns-2 : tie.Need-returns-2
-returns-2 c = (ap is-found (sym (c .enum-told2 .given .1) ∙ c .before .before .before .before .first-model .ensures .returned), c .before .before .before .before .first-model .ensures .area)
+returns-2 c = (
+  λ literals of. ap is-found (sym (c .enum-told2 .given .1) ∙ c .before .before .before .before .first-model-over .ensures .prepared literals of .returned),
+  λ literals of. c .before .before .before .before .first-model-over .ensures .prepared literals of .area,
+)
 
 same-length-3 : tie.Need-same-length-3
 same-length-3 c = search needs
 
 returns-3 : tie.Need-returns-3
-returns-3 c = (ap is-found (sym (c .enum-told3 .given .1) ∙ c .before .before .before .before .first-model .ensures .returned), c .before .before .before .before .first-model .ensures .area)
+returns-3 c = (
+  λ literals of. ap is-found (sym (c .enum-told3 .given .1) ∙ c .before .before .before .before .first-model-over .ensures .prepared literals of .returned),
+  λ literals of. c .before .before .before .before .first-model-over .ensures .prepared literals of .area,
+)
 
 pub finds-spec : {M : Type 1} → statement M
 finds-spec =
     tie.close
     (tie.spec
-    first-model-requires
+    first-model-over-requires
     enum-told
     enum-told-2
     enum-told-3

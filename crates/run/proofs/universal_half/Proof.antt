@@ -8,20 +8,20 @@ extend-universal-requires : tie.Need-extend-universal-requires
 extend-universal-requires c κs = tt
 
 same-length : tie.Need-same-length
-same-length c = c .before .before .before .before .before .before .before .extend-universal .kept .1 .1 .1 .1 .1 .0
+same-length c = c .before .before .before .before .before .before .before .extend-universal .kept .1 .1 .1 .1 .1 .1 .1 .0
 
 same-length-2 : tie.Need-same-length-2
-same-length-2 c = c .before .before .before .before .before .before .before .extend-universal .kept .1 .1 .1 .1 .1 .1 .0
+same-length-2 c = c .before .before .before .before .before .before .before .extend-universal .kept .1 .1 .1 .1 .1 .1 .1 .1 .0
 
 same-length-3 : tie.Need-same-length-3
-same-length-3 c = c .before .before .before .before .before .before .before .extend-universal .kept .1 .1 .1 .1 .1 .1 .1 .1 .1 .1 .1 .0
+same-length-3 c = c .before .before .before .before .before .before .before .extend-universal .kept .1 .1 .1 .1 .1 .1 .1 .1 .1 .1 .1 .1 .1 .0
 
 returns : tie.Need-returns
 returns c =
-    let q = c .before .before .before .before .before .before .before .before .before .before .before .before .before .before .before .before .before .before .args in (
+    let q = c .before .before .before .before .before .before .before .before .before .before .before .before .before .before .before .before .before .before .before .before .before .args in (
       c .before .before .before .before .before .before .before .extend-universal .ensures .0,
-      universal-uncounted (q .kinds .now) (q .literals .now) (q .preferences .now) (q .others .now) (q .other-count) (q .rows .now) (q .marks .now) (q .count) (q .mark) (q .work .now) (q .counts .now)
-          (c .before .before .before .before .before .before .before .extend-universal .result) _ _ _ (q .clear-every) (q .round) (c .before .before .before .before .before .before .before .extend-universal .ensures .0) (c .if1 .taken),
+      λ literals of. universal-uncounted (q .kinds .now) literals (q .preferences .now) (q .others .now) (q .other-count) (q .rows .now) (q .marks .now) (q .count) (q .mark) (q .work .now) (q .counts .now)
+          (c .before .before .before .before .before .before .before .extend-universal .result) _ _ _ (q .clear-every) (q .round) (c .before .before .before .before .before .before .before .extend-universal .ensures .0 literals of) (c .if1 .taken),
     )
 
 stood-requires : tie.Need-stood-requires
@@ -31,23 +31,23 @@ update-requires : tie.Need-update-requires
 update-requires c κs = tt
 
 same-length-4 : tie.Need-same-length-4
-same-length-4 c = c .before .before .before .before .before .before .before .before .before .before .before .before .before .before .extend-universal .kept .1 .1 .1 .1 .1 .0
+same-length-4 c = c .before .before .before .before .before .before .before .before .before .before .before .before .before .before .extend-universal .kept .1 .1 .1 .1 .1 .1 .1 .0
 
 same-length-5 : tie.Need-same-length-5
-same-length-5 c = c .before .before .before .before .before .before .before .before .before .before .before .before .before .before .extend-universal .kept .1 .1 .1 .1 .1 .1 .0
+same-length-5 c = c .before .before .before .before .before .before .before .before .before .before .before .before .before .before .extend-universal .kept .1 .1 .1 .1 .1 .1 .1 .1 .0
 
 same-length-6 : tie.Need-same-length-6
 same-length-6 c = c .before .before .update .kept .1 .1 .1 .1 .1 .1 .0
 
 same-length-7 : tie.Need-same-length-7
-same-length-7 c = c .before .before .before .before .before .before .before .before .before .before .before .before .before .before .extend-universal .kept .1 .1 .1 .1 .1 .1 .1 .1 .1 .1 .1 .0
+same-length-7 c = c .before .before .before .before .before .before .before .before .before .before .before .before .before .before .extend-universal .kept .1 .1 .1 .1 .1 .1 .1 .1 .1 .1 .1 .1 .1 .0
 
 returns-2 : tie.Need-returns-2
 returns-2 c =
-    let q = c .before .before .before .before .before .before .before .before .before .before .before .before .before .before .before .before .before .before .before .before .before .before .before .before .before .args in (
+    let q = c .before .before .before .before .before .before .before .before .before .before .before .before .before .before .before .before .before .before .before .before .before .before .before .before .before .before .before .before .args in (
       c .before .before .before .before .before .before .before .before .before .before .before .before .before .before .extend-universal .ensures .0,
-      universal-counted (q .kinds .now) (q .literals .now) (q .preferences .now) (q .others .now) (q .other-count) (q .rows .now) (q .marks .now) (q .count) (q .mark) (q .work .now) (q .counts .now)
-          (c .before .before .before .before .before .before .before .before .before .before .before .before .before .before .extend-universal .result) _ _ _ (q .clear-every) (q .round) (c .before .before .before .before .before .before .before .before .before .before .before .before .before .before .extend-universal .ensures .0) (c .before .before .before .before .before .before .before .before .before .before .before .before .before .before .extend-universal .ensures .1) (c .before .before .before .before .before .before .before .if1 .left) _ (c .before .before .before .before .before .before .stood .ensures) _ (c .before .before .update .ensures),
+      λ literals of. universal-counted (q .kinds .now) literals (q .preferences .now) (q .others .now) (q .other-count) (q .rows .now) (q .marks .now) (q .count) (q .mark) (q .work .now) (q .counts .now)
+          (c .before .before .before .before .before .before .before .before .before .before .before .before .before .before .extend-universal .result) _ _ _ (q .clear-every) (q .round) (c .before .before .before .before .before .before .before .before .before .before .before .before .before .before .extend-universal .ensures .0 literals of) (c .before .before .before .before .before .before .before .before .before .before .before .before .before .before .extend-universal .ensures .1 literals of) (c .before .before .before .before .before .before .before .if1 .left) _ (c .before .before .before .before .before .before .stood .ensures) _ (c .before .before .update .ensures),
     )
 
 pub universal-half-spec : {M : Type 1} → statement M

@@ -1,29 +1,55 @@
+-- `first_model` meets its contract. Assumes nothing.
+use Prim.Native.Nat.{ℕ}
+use mathlib.Core.Path.{_≡_, sym, _∙_}
+use native.Mathlib.Omega.{arith}
 use borrow.Author.Needs.{needs}
-use Prim.Native.Nat.{_-_}
-use mathlib.Core.Path.{sym, _∙_, ap}
-use lib.ListN.{length}
-use Rattle.expansion.specs.Side.{side-of}
-use Rattle.search.proofs.OutcomeLaws.{refused-searched, answered-searched, universals-most, accepting-existential, accepting-universal}
+use lib.ListN.{length, replicate, length-take, length-replicate}
+use Rattle.search_terms.specs.Tables.{table-size}
+use Rattle.search.proofs.OutcomeLaws.{refused-searched}
+use Rattle.search.proofs.PreparedLaws.{passes, used-within}
 use Rattle.search.proofs.first_model.Statement.{statement}
 use Rattle.search.proofs.first_model.Tie as tie
 
 check-requires : tie.Need-check-requires
-check-requires c κs = search needs
+check-requires c κs = tt
 
 enum-known-cause : tie.Need-enum-known-cause
 enum-known-cause c = search needs
 
-enum-known-formula : tie.Need-enum-known-formula
-enum-known-formula c = search needs
+enum-told : tie.Need-enum-told
+enum-told c = search needs
 
-sub-others : tie.Need-sub-others
-sub-others c = universals-most (c .before .before .before .before .before .before .before .before .before .args .kinds .now) (c .before .before .before .before .before .before .before .before .before .args .literals .now) (c .before .before .formula .given .0 .0) (sym (c .before .before .before .before .check .ensures .0) ∙ c .before .before .formula .given .1)
+slice-aggregate-prepare : tie.Need-slice-aggregate-prepare
+slice-aggregate-prepare c = search needs
 
-over-rows-requires : tie.Need-over-rows-requires
-over-rows-requires c κs = accepting-universal (c .before .before .before .before .before .before .before .before .before .before .args .kinds .now) (c .before .before .before .before .before .before .before .before .before .before .args .literals .now) (c .before .before .before .formula .given .0 .0) (sym (c .before .before .before .before .before .check .ensures .0) ∙ c .before .before .before .formula .given .1)
+slice-aggregate-prepare-2 : tie.Need-slice-aggregate-prepare-2
+slice-aggregate-prepare-2 c = search needs
 
-over-rows-requires-2 : tie.Need-over-rows-requires-2
-over-rows-requires-2 c κs = accepting-existential (c .before .before .before .before .before .before .before .before .before .before .args .kinds .now) (c .before .before .before .before .before .before .before .before .before .before .args .literals .now) (c .before .before .before .formula .given .0 .0) (sym (c .before .before .before .before .before .check .ensures .0) ∙ c .before .before .before .formula .given .1)
+slice-aggregate-prepare-3 : tie.Need-slice-aggregate-prepare-3
+slice-aggregate-prepare-3 c = search needs
+
+prepare-requires : tie.Need-prepare-requires
+prepare-requires c κs = tt
+
+-- The entries used are places of the table.
+array-share-prefix-codes : tie.Need-array-share-prefix-codes
+array-share-prefix-codes c =
+    let size : length (replicate {A = ℕ} 8192 0) ≡ 8192 = length-replicate {A = ℕ} 8192 0 in
+    omega (arith, used-within (c .before .before .before .before .before .before .before .before .before .before .before .before .before .before .args .literals .now) (length (replicate {A = ℕ} 8192 0)), c .before .before .before .prepare .ensures .entries, c .before .before .before .prepare .kept .1 .1 .0, size)
+
+slice-aggregate-first-model-over : tie.Need-slice-aggregate-first-model-over
+slice-aggregate-first-model-over c =
+    let size : length (replicate {A = ℕ} 8192 0) ≡ 8192 = length-replicate {A = ℕ} 8192 0 in
+    simp length-take (omega (arith, used-within (c .before .before .before .before .before .before .before .before .before .before .before .before .before .before .before .args .literals .now) (length (replicate {A = ℕ} 8192 0)), c .before .before .before .before .prepare .ensures .entries, c .before .before .before .before .prepare .kept .1 .1 .0, size))
+
+slice-aggregate-first-model-over-2 : tie.Need-slice-aggregate-first-model-over-2
+slice-aggregate-first-model-over-2 c = search needs
+
+slice-aggregate-first-model-over-3 : tie.Need-slice-aggregate-first-model-over-3
+slice-aggregate-first-model-over-3 c = search needs
+
+first-model-over-requires : tie.Need-first-model-over-requires
+first-model-over-requires c κs = tt
 
 returns : tie.Need-returns
 returns c =
@@ -32,28 +58,14 @@ returns c =
     (sym (c .before .before .before .check .ensures .0) ∙ c .before .cause .given .1)
 
 same-length : tie.Need-same-length
-same-length c = search needs
+same-length c = c .before .before .first-model-over .kept .1 .1 .1 .1 .1 .1 .1 .1 .0
 
 returns-2 : tie.Need-returns-2
 returns-2 c =
-    let q = c .before .before .before .before .before .before .before .before .before .before .before .before .before .args in
-    let formula = c .before .before .before .before .before .before .formula .given .0 .0 in
-    let passed = sym (c .before .before .before .before .before .before .before .before .check .ensures .0) ∙ c .before .before .before .before .before .before .formula .given .1 in
-    answered-searched (q .kinds .now) (q .literals .now) (q .preferences .now) (q .rows .now) (q .count) (q .universal) (q .work .now) formula passed
-    (length (q .kinds .now) - formula .universals) 1 (ap side-of (sym (c .before .before .before .before .if1 .taken))) (accepting-universal (q .kinds .now) (q .literals .now) formula passed .others-known) _ _
-    (c .before .before .over-rows .ensures)
-
-same-length-2 : tie.Need-same-length-2
-same-length-2 c = search needs
-
-returns-3 : tie.Need-returns-3
-returns-3 c =
-    let q = c .before .before .before .before .before .before .before .before .before .before .before .before .before .args in
-    let formula = c .before .before .before .before .before .before .formula .given .0 .0 in
-    let passed = sym (c .before .before .before .before .before .before .before .before .check .ensures .0) ∙ c .before .before .before .before .before .before .formula .given .1 in
-    answered-searched (q .kinds .now) (q .literals .now) (q .preferences .now) (q .rows .now) (q .count) (q .universal) (q .work .now) formula passed
-    (formula .universals) 0 (ap side-of (sym (c .before .before .before .before .if1 .left))) (accepting-existential (q .kinds .now) (q .literals .now) formula passed .others-known) _ _
-    (c .before .before .over-rows2 .ensures)
+    let q = c .before .before .before .before .before .before .before .before .before .before .before .before .before .before .before .before .before .before .before .before .before .args in
+    c .before .before .first-model-over .ensures .prepared (q .literals .now)
+    (c .before .before .before .before .before .before .before .before .before .before .prepare .ensures .prepared (passes (q .kinds .now) (q .literals .now) (sym (c .before .before .before .before .before .before .before .before .before .before .before .before .before .before .before .before .check .ensures .0) ∙ c .before .before .before .before .before .before .before .before .before .before .before .before .before .before .enum-told .given .1))
+    (length-replicate {A = ℕ} 8192 0) (length-replicate {A = ℕ} 8710 0) (length-replicate {A = ℕ} table-size 0))
 
 pub first-model-spec : {M : Type 1} → statement M
 first-model-spec =
@@ -61,12 +73,16 @@ first-model-spec =
     (tie.spec
     check-requires
     enum-known-cause
-    enum-known-formula
-    sub-others
-    over-rows-requires
-    over-rows-requires-2
+    enum-told
+    slice-aggregate-prepare
+    slice-aggregate-prepare-2
+    slice-aggregate-prepare-3
+    prepare-requires
+    array-share-prefix-codes
+    slice-aggregate-first-model-over
+    slice-aggregate-first-model-over-2
+    slice-aggregate-first-model-over-3
+    first-model-over-requires
     returns
     same-length
-    returns-2
-    same-length-2
-    returns-3)
+    returns-2)

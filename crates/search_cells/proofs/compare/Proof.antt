@@ -5,6 +5,7 @@ use native.Mathlib.Omega.{arith}
 use borrow.Author.Needs.{needs}
 use borrow.Author.Tests.{ne-eqb}
 use lib.ListN.{length, length-set}
+use Rattle.formula.specs.Formula.{work-size, max-rows, max-unknowns}
 use Rattle.search_cells.specs.Steps.{steps, with-split, rows-compared}
 use Rattle.search_cells.proofs.StepLaws.{fitting-sizes, steps-all, steps-none, steps-next}
 use Rattle.search_cells.proofs.DifferenceLaws.{first-difference-found, rows-compared-inside}
@@ -13,11 +14,11 @@ use Rattle.search_cells.proofs.compare.Tie as tie
 
 abbrev Inv-loop : tie.InvT-loop
 Inv-loop kinds work count side splits₀ i₀ splits i =
-    (length work ≡ 65536)
-    × (length kinds ≤ 128)
-    × (count ≤ 256)
-    × (i ≤ 256)
-    × (length splits ≡ 256)
+    (length work ≡ work-size)
+    × (length kinds ≤ max-unknowns)
+    × (count ≤ max-rows)
+    × (i ≤ max-rows)
+    × (length splits ≡ max-rows)
     × (steps (with-split kinds side work) (count - 1) 0 splits₀ ≡ steps (with-split kinds side work) (count - 1 - i) i splits)
 
 abbrev μ-loop : tie.MeasureT-loop
@@ -32,7 +33,7 @@ returns c = rw (sym (c .before .is-table .ensures) ∙ c .if1 .left)
 
 returns-2 : tie.Need-returns-2 Inv-loop μ-loop
 unfolding rows-compared
-returns-2 c = rw (sym (c .before .before .is-table .ensures) ∙ c .before .if1 .taken, ne-eqb (length (c .before .before .before .before .before .before .args .splits .now)) 256 (c .if2 .taken))
+returns-2 c = rw (sym (c .before .before .is-table .ensures) ∙ c .before .if1 .taken, ne-eqb (length (c .before .before .before .before .before .before .args .splits .now)) max-rows (c .if2 .taken))
 
 loop-holds : tie.Need-loop-holds Inv-loop μ-loop
 loop-holds c =

@@ -4,6 +4,7 @@ use mathlib.Core.Path.{_≡_, sym, _∙_}
 use native.Mathlib.Omega.{arith}
 use borrow.Author.Needs.{needs}
 use lib.ListN.{length}
+use Rattle.formula.specs.Formula.{work-size, max-rows, max-unknowns}
 use Rattle.search_cells.specs.Steps.{steps, rows-filled}
 use Rattle.search_cells.proofs.StepLaws.{fitting-sizes, steps-all, steps-none, steps-next}
 use Rattle.search_cells.proofs.FillLaws.{row-step, rows-filled-inside}
@@ -12,11 +13,11 @@ use Rattle.search_cells.proofs.fill.Tie as tie
 
 abbrev Inv-loop : tie.InvT-loop
 Inv-loop kinds rows place side work₀ row₀ work row =
-    (length work₀ ≡ 65536)
-    × (length kinds ≤ 128)
-    × (length place ≤ 256)
+    (length work₀ ≡ work-size)
+    × (length kinds ≤ max-unknowns)
+    × (length place ≤ max-rows)
     × (row ≤ length place)
-    × (length work ≡ 65536)
+    × (length work ≡ work-size)
     × (steps (row-step kinds rows place side) (length place) 0 work₀ ≡ steps (row-step kinds rows place side) (length place - row) row work)
 
 abbrev μ-loop : tie.MeasureT-loop

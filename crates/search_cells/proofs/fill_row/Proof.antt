@@ -6,6 +6,7 @@ use mathlib.Core.Logic.{⊎-elim}
 use native.Mathlib.Omega.{arith}
 use borrow.Author.Needs.{needs}
 use lib.ListN.{length}
+use Rattle.formula.specs.Formula.{work-size}
 use Rattle.expansion.specs.Cells.{others-before}
 use Rattle.search_cells.specs.Cells.{owned}
 use Rattle.search_cells.specs.Steps.{steps, with-given, with-given-row}
@@ -19,7 +20,7 @@ abbrev Inv-loop : tie.InvT-loop
 Inv-loop kinds rows row i side work₀ bit₀ k₀ work bit k =
     (k ≤ length kinds)
     × (bit ≡ others-before (owned kinds side) k)
-    × (length work ≡ 65536)
+    × (length work ≡ work-size)
     × (with-given-row kinds rows side row i work₀ ≡ steps (with-given kinds rows side row i) (length kinds - k) k work)
 
 abbrev μ-loop : tie.MeasureT-loop

@@ -4,6 +4,7 @@ use mathlib.Core.Path.{_≡_, refl, sym, _∙_}
 use native.Mathlib.Omega.{arith}
 use borrow.Author.Needs.{needs}
 use lib.ListN.{length}
+use Rattle.formula.specs.Formula.{work-size, max-rows, max-unknowns}
 use Rattle.search_cells.specs.Steps.{packed}
 use Rattle.search_cells.proofs.StepLaws.{fitting-sizes}
 use Rattle.search_cells.proofs.PackLaws.{part-cleared, rows-packed, rows-packed-more, rows-packed-whole, packed-inside}
@@ -12,11 +13,11 @@ use Rattle.search_cells.proofs.pack.Tie as tie
 
 abbrev Inv-loop : tie.InvT-loop
 Inv-loop kinds place side work₀ row₀ work row =
-    (length work₀ ≡ 65536)
-    × (length kinds ≤ 128)
-    × (length place ≤ 256)
+    (length work₀ ≡ work-size)
+    × (length kinds ≤ max-unknowns)
+    × (length place ≤ max-rows)
     × (row ≤ length place)
-    × (length work ≡ 65536)
+    × (length work ≡ work-size)
     × (work ≡ rows-packed kinds place side work₀ row)
 
 abbrev μ-loop : tie.MeasureT-loop

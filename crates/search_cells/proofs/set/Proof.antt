@@ -2,6 +2,8 @@
 use Prim.Native.Nat.{_+_, _*_}
 use native.Mathlib.Omega.{arith}
 use lib.ListN.{length-set}
+use Rattle.search_cells.specs.Cells.{flags as flags-from}
+use Rattle.formula.specs.Formula.{max-unknowns}
 use Rattle.search_cells.proofs.CellLaws.{weight-small}
 use Rattle.search_cells.proofs.SetLaws.{with-cell-stored}
 use borrow.Author.Needs.{needs}
@@ -24,13 +26,13 @@ slice-read-work : tie.Need-slice-read-work
 slice-read-work c = simp length-set (omega arith)
 
 mul-work : tie.Need-mul-work
-mul-work c = omega (arith, c .slice-known2 .given (32768 + (128 * c .before .before .args .i + c .before .before .args .k)))
+mul-work c = omega (arith, c .slice-known2 .given (flags-from + (max-unknowns * c .before .before .args .i + c .before .before .args .k)))
 
 bit-requires : tie.Need-bit-requires
 bit-requires c κs = search needs
 
 add-work-2 : tie.Need-add-work-2
-add-work-2 c = omega (arith, c .before .slice-known2 .given (32768 + (128 * c .before .before .before .args .i + c .before .before .before .args .k)), c .bit .ensures, weight-small (c .before .before .before .args .value))
+add-work-2 c = omega (arith, c .before .slice-known2 .given (flags-from + (max-unknowns * c .before .before .before .args .i + c .before .before .before .args .k)), c .bit .ensures, weight-small (c .before .before .before .args .value))
 
 add-work-3 : tie.Need-add-work-3
 add-work-3 c = search needs

@@ -4,6 +4,7 @@ use mathlib.Core.Path.{_≡_, refl, sym, _∙_}
 use native.Mathlib.Omega.{arith}
 use borrow.Author.Needs.{needs}
 use lib.ListN.{length}
+use Rattle.formula.specs.Formula.{work-size, max-rows, max-unknowns}
 use Rattle.search_cells.specs.Steps.{steps, with-cell, rows-set}
 use Rattle.search_cells.proofs.StepLaws.{fitting-sizes, steps-none, steps-next}
 use Rattle.search_cells.proofs.SetLaws.{rows-set-inside}
@@ -13,9 +14,9 @@ use Rattle.search_cells.proofs.set_rows.Tie as tie
 
 abbrev Inv-loop : tie.InvT-loop
 Inv-loop work₀ k lo hi mark value i₀ work i =
-    (hi ≤ 256)
-    × (length work₀ ≡ 65536)
-    × (length work ≡ 65536)
+    (hi ≤ max-rows)
+    × (length work₀ ≡ work-size)
+    × (length work ≡ work-size)
     × (steps (λ j. with-cell j k mark value) (hi - lo) lo work₀ ≡ steps (λ j. with-cell j k mark value) (hi - i) i work)
 
 abbrev μ-loop : tie.MeasureT-loop
@@ -30,7 +31,7 @@ returns c = rw (sym (c .before .is-table .ensures) ∙ c .if1 .left)
 
 returns-2 : tie.Need-returns-2 Inv-loop μ-loop
 unfolding rows-set
-returns-2 c = rw (sym (c .before .before .is-table .ensures) ∙ c .before .if1 .taken, le-ltb (c .before .before .before .before .args .k) 128 (c .if2 .taken))
+returns-2 c = rw (sym (c .before .before .is-table .ensures) ∙ c .before .if1 .taken, le-ltb (c .before .before .before .before .args .k) max-unknowns (c .if2 .taken))
 
 loop-holds : tie.Need-loop-holds Inv-loop μ-loop
 loop-holds c =

@@ -4,6 +4,7 @@ use mathlib.Core.Path.{_≡_, refl, sym, _∙_}
 use native.Mathlib.Omega.{arith}
 use borrow.Author.Needs.{needs}
 use lib.ListN.{length, length-set}
+use Rattle.formula.specs.Formula.{work-size, max-rows, max-unknowns}
 use Rattle.search_cells.specs.Steps.{steps, with-bounded, rows-opened}
 use Rattle.search_cells.proofs.StepLaws.{fitting-sizes, steps-none, steps-next}
 use Rattle.search_cells.proofs.OpenLaws.{rows-opened-inside}
@@ -12,13 +13,13 @@ use Rattle.search_cells.proofs.undo.Tie as tie
 
 abbrev Inv-loop : tie.InvT-loop
 Inv-loop work₀ lo hi bound at₀ work at =
-    (hi ≤ 256)
-    × (length work₀ ≡ 65536)
-    × (length work ≡ 65536)
-    × (steps (with-bounded bound) (128 * hi - 128 * lo) (128 * lo) work₀ ≡ steps (with-bounded bound) (128 * hi - at) at work)
+    (hi ≤ max-rows)
+    × (length work₀ ≡ work-size)
+    × (length work ≡ work-size)
+    × (steps (with-bounded bound) (max-unknowns * hi - max-unknowns * lo) (max-unknowns * lo) work₀ ≡ steps (with-bounded bound) (max-unknowns * hi - at) at work)
 
 abbrev μ-loop : tie.MeasureT-loop
-μ-loop work₀ lo hi bound at₀ work at = 128 * hi - at
+μ-loop work₀ lo hi bound at₀ work at = max-unknowns * hi - at
 
 is-table-requires : tie.Need-is-table-requires Inv-loop μ-loop
 is-table-requires c κs = search needs
@@ -32,7 +33,7 @@ unfolding rows-opened
 returns-2 c =
     let given = c .before .before .before .before .args in
     rw (sym (c .before .before .is-table .ensures) ∙ c .before .if1 .taken)
-    (sym (steps-none (with-bounded (given .bound)) (128 * given .hi) (128 * given .lo) (given .work .now) (omega arith)))
+    (sym (steps-none (with-bounded (given .bound)) (max-unknowns * given .hi) (max-unknowns * given .lo) (given .work .now) (omega arith)))
 
 mul-at : tie.Need-mul-at Inv-loop μ-loop
 mul-at c = omega (arith, fitting-sizes (length (c .before .before .before .before .args .work .now)) 0 (c .before .before .before .before .args .hi) (sym (c .before .before .is-table .ensures) ∙ c .before .if1 .taken))
@@ -68,7 +69,7 @@ loop-again c =
       loop .inv .1,
       simp length-set (omega arith),
       loop .inv .3
-          ∙ steps-next (with-bounded (given .bound)) (128 * given .hi) (loop .at) (loop .work) (omega arith)
+          ∙ steps-next (with-bounded (given .bound)) (max-unknowns * given .hi) (loop .at) (loop .work) (omega arith)
           ∙ rw (c .within .ensures),
     )
 
@@ -79,7 +80,7 @@ returns-3 : tie.Need-returns-3 Inv-loop μ-loop
 returns-3 c =
     let given = c .before .before .before .before .before .before .args in
     let loop = c .before .loop in
-    sym (steps-none (with-bounded (given .bound)) (128 * given .hi) (loop .at) (loop .work) (omega arith))
+    sym (steps-none (with-bounded (given .bound)) (max-unknowns * given .hi) (loop .at) (loop .work) (omega arith))
     ∙ sym (loop .inv .3)
     ∙ sym (rows-opened-inside (given .lo) (given .hi) (given .bound) (given .work .now) (loop .inv .1) (loop .inv .0))
 

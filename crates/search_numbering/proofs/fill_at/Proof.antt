@@ -1,5 +1,6 @@
 -- `search_numbering::fill_at` meets its contract. Assumes nothing.
 use native.Mathlib.Omega.{arith}
+use Rattle.formula.specs.Formula.{max-rows}
 use Rattle.search_numbering.proofs.FillSteps.{zeros-at, number-behind, notes-fill}
 use borrow.Author.Needs.{needs}
 use Rattle.search_numbering.proofs.fill_at.Statement.{statement}
@@ -9,7 +10,7 @@ slice-aggregate-group : tie.Need-slice-aggregate-group
 slice-aggregate-group c = search needs
 
 group-requires : tie.Need-group-requires
-group-requires c κs = let p = c .before .before .before .before .before .pre in (omega arith, zeros-at 256)
+group-requires c κs = let p = c .before .before .before .before .before .pre in (omega arith, zeros-at max-rows)
 
 slice-aggregate-number-copies : tie.Need-slice-aggregate-number-copies
 slice-aggregate-number-copies c = search needs
@@ -20,7 +21,7 @@ slice-aggregate-number-copies-2 c = search needs
 number-copies-requires : tie.Need-number-copies-requires
 number-copies-requires c κs =
     let p = c .before .before .before .before .before .before .before .before .before .pre in
-    (omega (arith, c .before .before .before .group .kept .1 .1 .1 .0), zeros-at 256)
+    (omega (arith, c .before .before .before .group .kept .1 .1 .1 .0), zeros-at max-rows)
 
 slice-aggregate-write : tie.Need-slice-aggregate-write
 slice-aggregate-write c = search needs

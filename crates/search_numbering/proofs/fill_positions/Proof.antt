@@ -6,13 +6,14 @@ use mathlib.Core.Logic.{⊎-elim}
 use native.Mathlib.Omega.{arith}
 use lib.ListN.{length, drop}
 use lib.Seq.{drop-length}
+use Rattle.formula.specs.Formula.{work-size, max-rows}
 use Rattle.search_numbering.specs.Numbering.{filled-from}
 use Rattle.search_numbering.proofs.FillSteps.{copies-at-most, filled-own, filled-other}
 use Rattle.search_numbering.proofs.fill_positions.Statement.{statement}
 use Rattle.search_numbering.proofs.fill_positions.Tie as tie
 
 abbrev Inv-loop : tie.InvT-loop
-Inv-loop kinds preferences place splits side work₀ number₀ k₀ work number k = (k ≤ length kinds) × (length work ≡ 65536) × (number ≤ 256 * k) × (filled-from preferences place splits side (drop k kinds) k number work ≡ filled-from preferences place splits side kinds 0 0 work₀)
+Inv-loop kinds preferences place splits side work₀ number₀ k₀ work number k = (k ≤ length kinds) × (length work ≡ work-size) × (number ≤ max-rows * k) × (filled-from preferences place splits side (drop k kinds) k number work ≡ filled-from preferences place splits side kinds 0 0 work₀)
 
 abbrev μ-loop : tie.MeasureT-loop
 μ-loop kinds preferences place splits side work₀ number₀ k₀ work number k = length kinds - k

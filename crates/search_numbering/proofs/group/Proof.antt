@@ -6,6 +6,7 @@ use mathlib.Core.Logic.{⊎-elim}
 use native.Mathlib.Omega.{arith}
 use borrow.Author.Needs.{needs}
 use lib.ListN.{length, length-set}
+use Rattle.formula.specs.Formula.{max-rows}
 use Rattle.search_numbering.specs.Numbering.{first-place}
 use Rattle.search_numbering.specs.Wants.{Grouped}
 use Rattle.search_numbering.proofs.FillSteps.{grouped-none, first-place-here, first-place-kept, grouped-more}
@@ -13,7 +14,7 @@ use Rattle.search_numbering.proofs.group.Statement.{statement}
 use Rattle.search_numbering.proofs.group.Tie as tie
 
 abbrev Inv-loop : tie.InvT-loop
-Inv-loop splits k count first₀ start₀ i₀ first start i = (i ≤ count) × (length first ≡ 256) × Grouped splits k i first × (start ≡ first-place splits k (i - 1))
+Inv-loop splits k count first₀ start₀ i₀ first start i = (i ≤ count) × (length first ≡ max-rows) × Grouped splits k i first × (start ≡ first-place splits k (i - 1))
 
 abbrev μ-loop : tie.MeasureT-loop
 μ-loop splits k count first₀ start₀ i₀ first start i = count - i

@@ -6,13 +6,14 @@ use native.Mathlib.Omega.{arith}
 use borrow.Author.Needs.{needs}
 use lib.ListN.{length, take, length-set}
 use lib.Seq.{take-all}
+use Rattle.formula.specs.Formula.{max-rows}
 use Rattle.search_numbering.specs.Wants.{firsts, Numbered}
 use Rattle.search_numbering.proofs.FillSteps.{numbered-none, numbered-old, numbered-new}
 use Rattle.search_numbering.proofs.number_copies.Statement.{statement}
 use Rattle.search_numbering.proofs.number_copies.Tie as tie
 
 abbrev Inv-loop : tie.InvT-loop
-Inv-loop preferences place first number notes₀ next₀ row₀ notes next row = (row ≤ length place) × (length notes ≡ 256) × (next ≤ number + row) × Numbered preferences number (firsts first (take row place)) next notes
+Inv-loop preferences place first number notes₀ next₀ row₀ notes next row = (row ≤ length place) × (length notes ≡ max-rows) × (next ≤ number + row) × Numbered preferences number (firsts first (take row place)) next notes
 
 abbrev μ-loop : tie.MeasureT-loop
 μ-loop preferences place first number notes₀ next₀ row₀ notes next row = length place - row

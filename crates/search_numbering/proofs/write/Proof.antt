@@ -5,6 +5,7 @@ use native.Mathlib.Omega.{arith}
 use borrow.Author.Needs.{needs}
 use lib.Dec.{eqb}
 use lib.ListN.{length, getD, length-set}
+use Rattle.formula.specs.Formula.{work-size}
 use Rattle.rows.specs.Row.{weight}
 use Rattle.search_numbering.specs.Numbering.{written}
 use Rattle.search_numbering.proofs.FillSteps.{written-next}
@@ -12,7 +13,7 @@ use Rattle.search_numbering.proofs.write.Statement.{statement}
 use Rattle.search_numbering.proofs.write.Tie as tie
 
 abbrev Inv-loop : tie.InvT-loop
-Inv-loop first notes k count work₀ i₀ work i = (i ≤ count) × (length work ≡ 65536) × (work ≡ written (λ h. eqb (getD notes (getD first h 0) 0) 2) k i work₀)
+Inv-loop first notes k count work₀ i₀ work i = (i ≤ count) × (length work ≡ work-size) × (work ≡ written (λ h. eqb (getD notes (getD first h 0) 0) 2) k i work₀)
 
 abbrev μ-loop : tie.MeasureT-loop
 μ-loop first notes k count work₀ i₀ work i = count - i

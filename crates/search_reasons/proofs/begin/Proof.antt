@@ -7,12 +7,13 @@ use lib.ListN.{length, length-set}
 use Rattle.search_reasons.specs.Held.{Held}
 use Rattle.search_reasons.proofs.HeldLaws.{held-none}
 use native.Mathlib.Omega.{arith}
+use Rattle.search_sets.specs.Sets.{sets-size}
 use Rattle.search_reasons.proofs.begin.Statement.{statement}
 use Rattle.search_reasons.proofs.begin.Tie as tie
 
 abbrev Inv-loop : tie.InvT-loop
 Inv-loop work sets line₀ own₀ i k p₀ line own p =
-    (p ≤ 128) × (length line ≡ 128) × (length own ≡ 524) × ((codes : List ℕ) → Held codes work sets i line own)
+    (p ≤ 128) × (length line ≡ 128) × (length own ≡ sets-size) × ((codes : List ℕ) → Held codes work sets i line own)
 
 abbrev μ-loop : tie.MeasureT-loop
 μ-loop work sets line₀ own₀ i k p₀ line own p = 128 - p

@@ -6,12 +6,13 @@ use Rattle.search_reasons.specs.Held.{Same}
 use Rattle.search_reasons.proofs.StepLaws.{same-refl, same-store, same-trans}
 use native.Mathlib.Omega.{arith}
 use borrow.Author.Needs.{needs}
+use Rattle.search_sets.specs.Sets.{sets-size}
 use Rattle.search_reasons.proofs.culprit.Statement.{statement}
 use Rattle.search_reasons.proofs.culprit.Tie as tie
 
 abbrev Inv-loop : tie.InvT-loop
 Inv-loop own₀ d₀ own d =
-    (d ≤ 128) × (length own ≡ 524) × Same own₀ own
+    (d ≤ 128) × (length own ≡ sets-size) × Same own₀ own
 
 abbrev μ-loop : tie.MeasureT-loop
 μ-loop own₀ d₀ own d = d

@@ -5,12 +5,13 @@ use lib.ListN.{length}
 use Rattle.search_reasons.specs.Held.{Inheriting}
 use Rattle.search_reasons.proofs.StepLaws.{inheriting-none, inheriting-all}
 use native.Mathlib.Omega.{arith}
+use Rattle.search_sets.specs.Sets.{sets-size}
 use Rattle.search_reasons.proofs.inherit.Statement.{statement}
 use Rattle.search_reasons.proofs.inherit.Tie as tie
 
 abbrev Inv-loop : tie.InvT-loop
 Inv-loop own₀ p l₀ own l =
-    (l ≤ 128) × (length own ≡ 524) × Inheriting p l own₀ own
+    (l ≤ 128) × (length own ≡ sets-size) × Inheriting p l own₀ own
 
 abbrev μ-loop : tie.MeasureT-loop
 μ-loop own₀ p l₀ own l = 128 - l

@@ -9,12 +9,13 @@ use Rattle.search_reasons.specs.Reasons.{IsReason}
 use Rattle.expansion.proofs.Booleans.{never-both}
 use Rattle.search_reasons.proofs.StepLaws.{reason-later}
 use native.Mathlib.Omega.{arith}
+use Rattle.search_sets.specs.Sets.{sets-size}
 use Rattle.search_reasons.proofs.narrow.Statement.{statement}
 use Rattle.search_reasons.proofs.narrow.Tie as tie
 
 abbrev Inv-loop : tie.InvT-loop
 Inv-loop codes index work sets line₀ own₀ i k steps found₀ low₀ high₀ left₀ from₀ to₀ line own found low high left from to =
-    (to ≤ k) × (length line ≡ 128) × (length own ≡ 524) × (Coded 128 codes → found ≡ true → IsReason codes work sets i k (words low high))
+    (to ≤ k) × (length line ≡ 128) × (length own ≡ sets-size) × (Coded 128 codes → found ≡ true → IsReason codes work sets i k (words low high))
 
 abbrev μ-loop : tie.MeasureT-loop
 μ-loop codes index work sets line₀ own₀ i k steps found₀ low₀ high₀ left₀ from₀ to₀ line own found low high left from to = to - from

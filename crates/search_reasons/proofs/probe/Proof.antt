@@ -8,12 +8,13 @@ use Rattle.expansion.proofs.Booleans.{never-both}
 use Rattle.search_reasons.proofs.StepLaws.{moved-same, ends}
 use mathlib.Core.Path.{sym, _∙_}
 use native.Mathlib.Omega.{arith}
+use Rattle.search_sets.specs.Sets.{sets-size}
 use Rattle.search_reasons.proofs.probe.Statement.{statement}
 use Rattle.search_reasons.proofs.probe.Tie as tie
 
 abbrev Inv-loop : tie.InvT-loop
 Inv-loop codes index work sets line₀ own₀ i k steps going₀ left₀ line own going left =
-    (length line ≡ 128) × (length own ≡ 524) × (Coded 128 codes → Moved codes work sets i line own going)
+    (length line ≡ 128) × (length own ≡ sets-size) × (Coded 128 codes → Moved codes work sets i line own going)
 
 abbrev μ-loop : tie.MeasureT-loop
 μ-loop codes index work sets line₀ own₀ i k steps going₀ left₀ line own going left = left

@@ -7,12 +7,13 @@ use Rattle.search_reasons.specs.Held.{Moves}
 use Rattle.search_reasons.proofs.StepLaws.{moves-nothing, moves-then, moves-at}
 use native.Mathlib.Omega.{arith}
 use borrow.Author.Needs.{needs}
+use Rattle.search_sets.specs.Sets.{sets-size}
 use Rattle.search_reasons.proofs.visit.Statement.{statement}
 use Rattle.search_reasons.proofs.visit.Tie as tie
 
 abbrev Inv-loop : tie.InvT-loop
 Inv-loop codes index line₀ own₀ mark c end at₀ line own at =
-    (end ≤ length index) × (length line ≡ 128) × (length own ≡ 524) × Moves codes line₀ line own₀ own true
+    (end ≤ length index) × (length line ≡ 128) × (length own ≡ sets-size) × Moves codes line₀ line own₀ own true
 
 abbrev μ-loop : tie.MeasureT-loop
 μ-loop codes index line₀ own₀ mark c end at₀ line own at = end - at

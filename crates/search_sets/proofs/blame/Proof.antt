@@ -5,14 +5,14 @@ use mathlib.Core.Path.{_≡_, refl, sym, _∙_}
 use native.Mathlib.Omega.{arith}
 use lib.ListN.{length, getD, drop}
 use Rattle.codes.specs.Clauses.{clause-of}
-use Rattle.search_sets.specs.Sets.{codes-joined, blamed}
+use Rattle.search_sets.specs.Sets.{sets-size, codes-joined, blamed}
 use Rattle.search_sets.proofs.TestLaws.{place-there}
 use Rattle.search_sets.proofs.LoopLaws.{code-itself, code-other, codes-more, codes-stop, codes-end}
 use Rattle.search_sets.proofs.blame.Statement.{statement}
 use Rattle.search_sets.proofs.blame.Tie as tie
 
 abbrev Inv-loop : tie.InvT-loop
-Inv-loop codes sets₀ start to e₀ sets e = (length sets ≡ 524) × (codes-joined to (clause-of (drop e codes)) sets ≡ codes-joined to (clause-of (drop start codes)) sets₀)
+Inv-loop codes sets₀ start to e₀ sets e = (length sets ≡ sets-size) × (codes-joined to (clause-of (drop e codes)) sets ≡ codes-joined to (clause-of (drop start codes)) sets₀)
 
 abbrev μ-loop : tie.MeasureT-loop
 μ-loop codes sets₀ start to e₀ sets e = length codes - e

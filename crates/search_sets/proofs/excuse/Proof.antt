@@ -3,14 +3,14 @@ use Prim.Native.Nat.{_-_, _≤_, _<_}
 use mathlib.Core.Path.{_≡_, sym, _∙_}
 use native.Mathlib.Omega.{arith}
 use lib.ListN.{length}
-use Rattle.search_sets.specs.Sets.{each-from, followed, excused}
+use Rattle.search_sets.specs.Sets.{sets-size, each-from, followed, excused}
 use Rattle.search_sets.proofs.TestLaws.{numbers-within}
 use Rattle.search_sets.proofs.LoopLaws.{each-start, each-more, each-done, followed-in, followed-not}
 use Rattle.search_sets.proofs.excuse.Statement.{statement}
 use Rattle.search_sets.proofs.excuse.Tie as tie
 
 abbrev Inv-loop : tie.InvT-loop
-Inv-loop sets₀ of k at p₀ sets p = (length sets ≡ 524) × (of < 130) × (at ≤ 128) × (k ≤ p) × (p - k ≤ at - k) × (sets ≡ each-from (followed of) k (p - k) sets₀)
+Inv-loop sets₀ of k at p₀ sets p = (length sets ≡ sets-size) × (of < 130) × (at ≤ 128) × (k ≤ p) × (p - k ≤ at - k) × (sets ≡ each-from (followed of) k (p - k) sets₀)
 
 abbrev μ-loop : tie.MeasureT-loop
 μ-loop sets₀ of k at p₀ sets p = at - p

@@ -3,14 +3,14 @@ use Prim.Native.Nat.{ℕ, _-_, _≤_}
 use mathlib.Core.Path.{_≡_, sym, ap₂, _∙_}
 use native.Mathlib.Omega.{arith}
 use lib.ListN.{length}
-use Rattle.search_sets.specs.Sets.{words-met, each-from, cut-at, trimmed}
+use Rattle.search_sets.specs.Sets.{sets-size, words-met, each-from, cut-at, trimmed}
 use Rattle.search_sets.proofs.TestLaws.{numbers-within}
 use Rattle.search_sets.proofs.LoopLaws.{each-start, each-more, each-done}
 use Rattle.search_sets.proofs.trim.Statement.{statement}
 use Rattle.search_sets.proofs.trim.Tie as tie
 
 abbrev Inv-loop : tie.InvT-loop
-Inv-loop sets₀ k n low high p₀ sets p = (length sets ≡ 524) × (n ≤ 128) × (k ≤ p) × (p - k ≤ n - k) × (sets ≡ each-from (cut-at k) k (p - k) sets₀)
+Inv-loop sets₀ k n low high p₀ sets p = (length sets ≡ sets-size) × (n ≤ 128) × (k ≤ p) × (p - k ≤ n - k) × (sets ≡ each-from (cut-at k) k (p - k) sets₀)
 
 abbrev μ-loop : tie.MeasureT-loop
 μ-loop sets₀ k n low high p₀ sets p = n - p

@@ -6,7 +6,8 @@ use lib.Seq.{length-take-le}
 use borrow.Author.Needs.{needs, fits-under}
 use Rattle.report.specs.Report.{put, put-count}
 use Rattle.text.proofs.FrontLaws.{read-refused, read-taken}
-use Rattle.study_answer.proofs.AnswerLaws.{refused-printed, line-small, front-passes, variables-small, clauses-small, taken-printed, formula-settles}
+use Rattle.text.proofs.ReadAsLaws.{reading-line}
+use Rattle.study_answer.proofs.AnswerLaws.{refused-printed, front-passes, variables-small, clauses-small, taken-printed, formula-settles}
 use Rattle.study_answer.proofs.AnswerRight.{when-refused, when-taken}
 use Rattle.study_answer.proofs.answer_as.Statement.{statement}
 use Rattle.study_answer.proofs.answer_as.Tie as tie
@@ -27,7 +28,7 @@ enum-known-number : tie.Need-enum-known-number
 enum-known-number c = search needs
 
 cast-refusal : tie.Need-cast-refusal
-cast-refusal c = fits-under w32 _ 4294967296 (omega (arith, line-small (c .before .before .before .before .before .before .before .before .before .before .before .before .before .args .gates) (c .before .before .before .before .before .before .before .before .before .before .before .before .before .args .text .now) (read-refused (c .before .before .before .before .before .before .before .read-as .ensures) (c .before .before .number .given .1)))) tt
+cast-refusal c = fits-under w32 _ 4294967296 (omega (arith, reading-line (c .before .before .before .before .before .before .before .before .before .before .before .before .before .args .gates) (c .before .before .before .before .before .before .before .before .before .before .before .before .before .args .text .now) _ _ (read-refused (c .before .before .before .before .before .before .before .read-as .ensures) (c .before .before .number .given .1)))) tt
 
 refusal-requires : tie.Need-refusal-requires
 refusal-requires c κs = search needs

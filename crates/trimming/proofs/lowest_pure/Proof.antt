@@ -5,14 +5,14 @@ use Prim.Native.Nat.{_-_, _≤_}
 use mathlib.Core.Path.{refl}
 use mathlib.Core.List.{List}
 use lib.ListN.{length}
-use Rattle.formula.specs.Formula.{Clause}
+use Rattle.formula.specs.Formula.{max-unknowns, Clause}
 use Rattle.trimming.specs.Table.{Found}
 use Rattle.trimming.proofs.PureLaws.{FromHere, pure-found, pure-later, pure-nowhere}
 use Rattle.trimming.proofs.lowest_pure.Statement.{statement}
 use Rattle.trimming.proofs.lowest_pure.Tie as tie
 
 abbrev Inv-loop : tie.InvT-loop
-Inv-loop kinds index position₀ position = (few : length kinds ≤ 128) (cs : List Clause) (h : Found index cs) → FromHere index cs h kinds few position
+Inv-loop kinds index position₀ position = (few : length kinds ≤ max-unknowns) (cs : List Clause) (h : Found index cs) → FromHere index cs h kinds few position
 
 abbrev μ-loop : tie.MeasureT-loop
 μ-loop kinds index position₀ position = length kinds - position

@@ -5,7 +5,7 @@ use Prim.Native.Nat.{ℕ, _+_, _/_, _≤_}
 use mathlib.Core.Path.{_≡_, refl, sym, _∙_, ap, subst}
 use mathlib.Core.List.{List}
 use lib.ListN.{length, take, length-set, length-replicate}
-use Rattle.formula.specs.Formula.{prefix}
+use Rattle.formula.specs.Formula.{max-entries, prefix}
 use Rattle.trimming.specs.Table.{Pending, Units}
 use Rattle.trimming.proofs.LoopLaws.{list-bounds, list-saved, pending-begins, pending-again, standing-still}
 use Rattle.trimming.proofs.CodeLaws.{opposite-bounds}
@@ -16,7 +16,7 @@ use Rattle.trimming.proofs.settle.Tie as tie
 
 abbrev Inv-loop : tie.InvT-loop
 Inv-loop kinds table₀ index₀ names₀ firsts₀ rounds₀ count₀ table index names firsts rounds count =
-    Settling (prefix kinds) (length table₀ + 1) table₀ table rounds × Pending kinds (take count names) table index × (count ≤ 8192) × (length names ≡ 8192) × (length index ≡ length index₀)
+    Settling (prefix kinds) (length table₀ + 1) table₀ table rounds × Pending kinds (take count names) table index × (count ≤ max-entries) × (length names ≡ max-entries) × (length index ≡ length index₀)
     × Units kinds firsts (take count names) (take count names) 0 table × (length firsts ≡ 129)
 
 abbrev μ-loop : tie.MeasureT-loop

@@ -30,8 +30,8 @@ same-length-2 c = c .before .before .before .before .settle .kept .1 .1 .1 .0 �
 
 returns : tie.Need-returns
 returns c =
-    noted-first (c .before .before .before .before .before .before .before .before .before .before .before .before .before .before .before .before .before .before .before .before .args .splits .now) (c .before .before .before .before .before .before .before .before .before .before .before .before .before .before .before .before .before .before .before .before .args .codes .now) (c .before .before .before .before .before .before .before .before .before .before .before .before .before .before .before .before .before .before .before .before .args .lo) (c .before .before .before .before .before .before .before .before .before .before .before .before .before .before .before .before .before .before .before .before .args .hi) (c .before .before .before .before .before .before .before .before .before .before .before .before .before .before .before .before .before .before .before .before .args .k + 2) (c .before .before .before .before .before .before .before .before .before .before .before .before .before .before .before .before .before .before .before .before .args .work .now) (c .before .before .before .before .settle .last .1 .1 .0) (c .before .before .before .before .before .before .before .before .before .before .before .before .before .before .before .before .before .before .before .before .args .sets .now) (c .before .before .before .before .before .before .before .before .before .before .before .before .before .empty .last .0) (c .before .before .before .before .settle .last .1 .1 .1 .0) (c .before .before .before .before .settle .result) (empties _ (c .before .before .before .before .before .before .before .before .before .before .before .before .before .before .before .before .before .before .before .before .pre .0 .sets-lent) 129 (omega arith) (omega arith) (c .before .before .before .before .before .before .before .before .before .before .before .before .before .empty .ensures))
-    (noted-first (c .before .before .before .before .before .before .before .before .before .before .before .before .before .before .before .before .before .before .before .before .args .splits .now) (c .before .before .before .before .before .before .before .before .before .before .before .before .before .before .before .before .before .before .before .before .args .codes .now) (c .before .before .before .before .before .before .before .before .before .before .before .before .before .before .before .before .before .before .before .before .args .lo) (c .before .before .before .before .before .before .before .before .before .before .before .before .before .before .before .before .before .before .before .before .args .hi) (c .before .before .before .before .before .before .before .before .before .before .before .before .before .before .before .before .before .before .before .before .args .k + 2) (c .before .before .before .before .before .before .before .before .before .before .before .before .before .before .before .before .before .before .before .before .args .work .now) (c .before .before .before .before .settle .last .1 .1 .0) (c .before .before .before .before .before .before .before .before .before .before .before .before .before .empty .last .0) (c .before .before .before .before .before .before .before .before .before .note .last .0) (c .before .before .before .before .settle .last .1 .1 .1 .0) (c .before .before .before .before .settle .result) (c .before .before .before .before .before .before .before .before .before .note .ensures) (c .before .before .before .before .settle .ensures))
+    λ listed. noted-first (c .before .before .before .before .before .before .before .before .before .before .before .before .before .before .before .before .before .before .before .before .args .splits .now) (c .before .before .before .before .before .before .before .before .before .before .before .before .before .before .before .before .before .before .before .before .args .codes .now) (c .before .before .before .before .before .before .before .before .before .before .before .before .before .before .before .before .before .before .before .before .args .lo) (c .before .before .before .before .before .before .before .before .before .before .before .before .before .before .before .before .before .before .before .before .args .hi) (c .before .before .before .before .before .before .before .before .before .before .before .before .before .before .before .before .before .before .before .before .args .k + 2) (c .before .before .before .before .before .before .before .before .before .before .before .before .before .before .before .before .before .before .before .before .args .work .now) (c .before .before .before .before .settle .last .1 .1 .0) (c .before .before .before .before .before .before .before .before .before .before .before .before .before .before .before .before .before .before .before .before .args .sets .now) (c .before .before .before .before .before .before .before .before .before .before .before .before .before .empty .last .0) (c .before .before .before .before .settle .last .1 .1 .1 .0) (c .before .before .before .before .settle .result) (empties _ (c .before .before .before .before .before .before .before .before .before .before .before .before .before .before .before .before .before .before .before .before .pre .0 .sets-lent) 129 (omega arith) (omega arith) (c .before .before .before .before .before .before .before .before .before .before .before .before .before .empty .ensures))
+    (noted-first (c .before .before .before .before .before .before .before .before .before .before .before .before .before .before .before .before .before .before .before .before .args .splits .now) (c .before .before .before .before .before .before .before .before .before .before .before .before .before .before .before .before .before .before .before .before .args .codes .now) (c .before .before .before .before .before .before .before .before .before .before .before .before .before .before .before .before .before .before .before .before .args .lo) (c .before .before .before .before .before .before .before .before .before .before .before .before .before .before .before .before .before .before .before .before .args .hi) (c .before .before .before .before .before .before .before .before .before .before .before .before .before .before .before .before .before .before .before .before .args .k + 2) (c .before .before .before .before .before .before .before .before .before .before .before .before .before .before .before .before .before .before .before .before .args .work .now) (c .before .before .before .before .settle .last .1 .1 .0) (c .before .before .before .before .before .before .before .before .before .before .before .before .before .empty .last .0) (c .before .before .before .before .before .before .before .before .before .note .last .0) (c .before .before .before .before .settle .last .1 .1 .1 .0) (c .before .before .before .before .settle .result) (c .before .before .before .before .before .before .before .before .before .note .ensures) (c .before .before .before .before .settle .ensures listed))
 
 pub propagate-spec : {M : Type 1} → statement M
 propagate-spec =

@@ -1,12 +1,13 @@
 -- `force::settle` meets its contract. The invariant: no look has failed. Assumes nothing.
 use mathlib.Core.Path.{_∙_}
 use native.Mathlib.Omega.{arith}
+use Rattle.search.specs.Steps.{Indexed}
 use Rattle.search.proofs.ForceLaws.{Going, going-start, going-noted, going-then, going-ends, lent-still}
 use Rattle.search.proofs.force.settle.Statement.{statement}
 use Rattle.search.proofs.force.settle.Tie as tie
 
 abbrev Inv-loop : tie.InvT-loop
-Inv-loop splits codes work₀ sets₀ index mark lo hi left₀ work sets left = Going splits codes lo hi mark work₀ work sets₀ sets
+Inv-loop splits codes work₀ sets₀ index mark lo hi left₀ work sets left = Going (Indexed 0 codes index) splits codes lo hi mark work₀ work sets₀ sets
 
 abbrev μ-loop : tie.MeasureT-loop
 μ-loop splits codes work₀ sets₀ index mark lo hi left₀ work sets left = left

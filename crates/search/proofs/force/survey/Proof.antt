@@ -1,79 +1,40 @@
--- `force::survey` meets its contract. The invariant: no look has failed. Assumes nothing.
-use Prim.Native.Nat.{_-_}
-use mathlib.Core.Path.{_∙_}
-use mathlib.Core.Bool.{false}
+-- `force::survey` meets its contract. Assumes nothing.
+use mathlib.Core.Path.{refl}
 use native.Mathlib.Omega.{arith}
-use lib.ListN.{length}
-use Rattle.search.proofs.CallLaws.{empties}
-use Rattle.search.proofs.ForceLaws.{Going, going-start, going-then, going-last, going-ends, noted-first, lent-noted, lent-still}
+use borrow.Author.Needs.{needs}
+use Rattle.search.proofs.ForceLaws.{lent-starts}
 use Rattle.search.proofs.force.survey.Statement.{statement}
 use Rattle.search.proofs.force.survey.Tie as tie
 
-abbrev Inv-loop : tie.InvT-loop
-Inv-loop splits codes work₀ sets₀ index i₀ work sets i = Going splits codes 0 (length splits) 1 work₀ work sets₀ sets
+slice-aggregate-list-short : tie.Need-slice-aggregate-list-short
+slice-aggregate-list-short c = search needs
 
-abbrev μ-loop : tie.MeasureT-loop
-μ-loop splits codes work₀ sets₀ index i₀ work sets i = length splits - i
+list-short-requires : tie.Need-list-short-requires
+list-short-requires c κs = c .before .before .before .before .before .before .before .pre .index-lent
 
-empty-requires : tie.Need-empty-requires Inv-loop μ-loop
-empty-requires c κs = tt
+slice-aggregate-survey-rows : tie.Need-slice-aggregate-survey-rows
+slice-aggregate-survey-rows c = search needs
 
-loop-holds : tie.Need-loop-holds Inv-loop μ-loop
-loop-holds c = going-start
+survey-rows-requires : tie.Need-survey-rows-requires
+survey-rows-requires c κs = (c .before .before .before .before .before .before .before .before .before .before .before .before .pre, c .before .before .before .before .list-short .ensures .0)
 
-visit-row-requires : tie.Need-visit-row-requires Inv-loop μ-loop
-visit-row-requires c κs = (lent-still (c .before .before .before .loop .inv) (lent-noted (c .before .before .before .before .before .before .before .before .before .before .before .before .before .pre) (c .before .before .before .before .before .before .empty .kept .0)), (omega arith, omega arith, omega arith, omega arith, omega arith))
+same-length : tie.Need-same-length
+same-length c = c .before .before .before .before .survey-rows .kept .1 .1 .0
 
-same-length : tie.Need-same-length Inv-loop μ-loop
-same-length c = c .before .before .before .before .before .visit-row .kept .1 .1 .0 ∙ c .before .before .before .before .before .before .before .before .before .loop .inv .work
+same-length-2 : tie.Need-same-length-2
+same-length-2 c = c .before .before .before .before .survey-rows .kept .1 .1 .1 .0
 
-same-length-2 : tie.Need-same-length-2 Inv-loop μ-loop
-same-length-2 c = c .before .before .before .before .before .visit-row .kept .1 .1 .1 .0 ∙ c .before .before .before .before .before .before .before .before .before .loop .inv .sets ∙ c .before .before .before .before .before .before .before .before .before .before .before .before .empty .kept .0
-
-returns : tie.Need-returns Inv-loop μ-loop
-returns c =
-    noted-first (c .before .before .before .before .before .before .before .before .before .before .before .before .before .before .before .before .before .before .before .args .splits .now) (c .before .before .before .before .before .before .before .before .before .before .before .before .before .before .before .before .before .before .before .args .codes .now) 0 (length (c .before .before .before .before .before .before .before .before .before .before .before .before .before .before .before .before .before .before .before .args .splits .now)) 1 (c .before .before .before .before .before .before .before .before .before .before .before .before .before .before .before .before .before .before .before .args .work .now) (c .before .before .before .before .before .visit-row .last .1 .1 .0) (c .before .before .before .before .before .before .before .before .before .before .before .before .before .before .before .before .before .before .before .args .sets .now) (c .before .before .before .before .before .before .before .before .before .before .before .before .empty .last .0) (c .before .before .before .before .before .visit-row .last .1 .1 .1 .0) false (empties _ (c .before .before .before .before .before .before .before .before .before .before .before .before .before .before .before .before .before .before .before .pre .sets-lent) 129 (omega arith) (omega arith) (c .before .before .before .before .before .before .before .before .before .before .before .before .empty .ensures))
-    (going-ends (c .before .before .before .before .before .before .before .before .before .loop .inv) (c .before .before .before .before .before .visit-row .last .1 .1 .0) (c .before .before .before .before .before .visit-row .last .1 .1 .1 .0) (c .before .before .before .before .before .visit-row .result) (c .before .before .before .before .before .visit-row .ensures) (c .if1 .left))
-
-add-i : tie.Need-add-i Inv-loop μ-loop
-add-i c = omega arith
-
-loop-less : tie.Need-loop-less Inv-loop μ-loop
-loop-less c = omega arith
-
-loop-again : tie.Need-loop-again Inv-loop μ-loop
-loop-again c = going-then (c .before .before .before .before .before .before .before .before .before .loop .inv) (c .before .before .before .before .before .visit-row .result) (c .before .before .before .before .before .visit-row .ensures) (c .if1 .taken) (c .before .before .before .before .before .visit-row .kept .1 .1 .0) (c .before .before .before .before .before .visit-row .kept .1 .1 .1 .0)
-
-settle-requires : tie.Need-settle-requires Inv-loop μ-loop
-settle-requires c κs = (lent-still (c .before .before .before .loop .inv) (lent-noted (c .before .before .before .before .before .before .before .before .before .before .before .before .before .pre) (c .before .before .before .before .before .before .empty .kept .0)), omega arith)
-
-same-length-3 : tie.Need-same-length-3 Inv-loop μ-loop
-same-length-3 c = c .before .before .before .before .settle .kept .1 .1 .0 ∙ c .before .before .before .before .before .before .before .before .loop .inv .work
-
-same-length-4 : tie.Need-same-length-4 Inv-loop μ-loop
-same-length-4 c = c .before .before .before .before .settle .kept .1 .1 .1 .0 ∙ c .before .before .before .before .before .before .before .before .loop .inv .sets ∙ c .before .before .before .before .before .before .before .before .before .before .before .empty .kept .0
-
-returns-2 : tie.Need-returns-2 Inv-loop μ-loop
-returns-2 c =
-    noted-first (c .before .before .before .before .before .before .before .before .before .before .before .before .before .before .before .before .before .before .args .splits .now) (c .before .before .before .before .before .before .before .before .before .before .before .before .before .before .before .before .before .before .args .codes .now) 0 (length (c .before .before .before .before .before .before .before .before .before .before .before .before .before .before .before .before .before .before .args .splits .now)) 1 (c .before .before .before .before .before .before .before .before .before .before .before .before .before .before .before .before .before .before .args .work .now) (c .before .before .before .before .settle .last .1 .1 .0) (c .before .before .before .before .before .before .before .before .before .before .before .before .before .before .before .before .before .before .args .sets .now) (c .before .before .before .before .before .before .before .before .before .before .before .empty .last .0) (c .before .before .before .before .settle .last .1 .1 .1 .0) (c .before .before .before .before .settle .result) (empties _ (c .before .before .before .before .before .before .before .before .before .before .before .before .before .before .before .before .before .before .pre .sets-lent) 129 (omega arith) (omega arith) (c .before .before .before .before .before .before .before .before .before .before .before .empty .ensures))
-    (going-last (c .before .before .before .before .before .before .before .before .loop .inv) (c .before .before .before .before .settle .last .1 .1 .0) (c .before .before .before .before .settle .last .1 .1 .1 .0) (c .before .before .before .before .settle .result) (c .before .before .before .before .settle .ensures))
+returns : tie.Need-returns
+returns c = λ listed. c .before .before .before .before .survey-rows .ensures (listed, c .before .before .before .before .before .before .before .before .before .list-short .ensures .1 (lent-starts (c .before .before .before .before .before .before .before .before .before .before .before .before .before .before .before .before .before .pre) listed 1 _ _ (omega arith) refl (omega arith)))
 
 pub survey-spec : {M : Type 1} → statement M
 survey-spec =
     tie.close
     (tie.spec
-    Inv-loop
-    μ-loop
-    empty-requires
-    loop-holds
-    visit-row-requires
+    slice-aggregate-list-short
+    list-short-requires
+    slice-aggregate-survey-rows
+    survey-rows-requires
     same-length
     same-length-2
-    returns
-    add-i
-    loop-less
-    loop-again
-    settle-requires
-    same-length-3
-    same-length-4
-    returns-2)
+    returns)

@@ -5,6 +5,7 @@ use Rattle.search.proofs.CallLaws.{looks, empties, blames}
 use Rattle.search.proofs.ForceLaws.{settles-nothing, settles-dead}
 use Rattle.search.proofs.ReasonLaws.{settles-shortened}
 use native.Mathlib.Omega.{arith}
+use Rattle.search_reasons.proofs.StepLaws.{same-kept}
 use Rattle.search.proofs.force.touch.Statement.{statement}
 use Rattle.search.proofs.force.touch.Tie as tie
 
@@ -15,7 +16,10 @@ same-length : tie.Need-same-length
 same-length c = refl
 
 returns : tie.Need-returns
-returns c = settles-nothing (c .before .before .before .before .before .before .before .before .args .splits .now) (c .before .before .before .before .before .before .before .before .args .codes .now) (c .before .before .before .before .before .before .before .before .args .lo) (c .before .before .before .before .before .before .before .before .args .hi) (c .before .before .before .before .before .before .before .before .args .mark) (c .before .before .before .before .before .before .before .before .args .work .now) (c .before .before .before .before .before .before .before .before .args .sets .now)
+returns c = λ begins. settles-nothing (c .before .before .before .before .before .before .before .before .args .splits .now) (c .before .before .before .before .before .before .before .before .args .codes .now) (c .before .before .before .before .before .before .before .before .args .lo) (c .before .before .before .before .before .before .before .before .args .hi) (c .before .before .before .before .before .before .before .before .args .mark) (c .before .before .before .before .before .before .before .before .args .work .now) (c .before .before .before .before .before .before .before .before .args .sets .now)
+
+failed-requires : tie.Need-failed-requires
+failed-requires c κs = (c .before .before .before .before .before .before .before .before .before .before .pre .0 .sets-lent, omega (arith, c .before .before .before .before .before .before .before .before .before .before .pre .0 .rows))
 
 empty-requires : tie.Need-empty-requires
 empty-requires c κs = tt
@@ -24,22 +28,22 @@ blame-requires : tie.Need-blame-requires
 blame-requires c κs = tt
 
 shorten-requires : tie.Need-shorten-requires
-shorten-requires c κs = c .before .before .before .before .blame .kept .1 .0 ∙ c .before .before .before .before .before .before .before .before .empty .kept .0 ∙ c .before .before .before .before .before .before .before .before .before .before .before .before .before .before .before .before .before .before .before .pre .0 .sets-lent
+shorten-requires c κs = c .before .before .before .before .blame .kept .1 .0 ∙ c .before .before .before .before .before .before .before .before .empty .kept .0 ∙ c .before .before .before .before .before .before .before .before .before .before .before .before .failed .kept .0 ∙ c .before .before .before .before .before .before .before .before .before .before .before .before .before .before .before .before .before .before .before .before .before .before .before .pre .0 .sets-lent
 
 same-length-2 : tie.Need-same-length-2
 same-length-2 c = refl
 
 same-length-3 : tie.Need-same-length-3
-same-length-3 c = c .before .before .shorten .kept .1 .1 .0 ∙ c .before .before .before .before .before .before .before .blame .kept .1 .0 ∙ c .before .before .before .before .before .before .before .before .before .before .before .empty .kept .0
+same-length-3 c = c .before .before .shorten .kept .1 .1 .0 ∙ c .before .before .before .before .before .before .before .blame .kept .1 .0 ∙ c .before .before .before .before .before .before .before .before .before .before .before .empty .kept .0 ∙ c .before .before .before .before .before .before .before .before .before .before .before .before .before .before .before .failed .kept .0
 
 returns-2 : tie.Need-returns-2
-returns-2 c =
-    let emptied = empties _ (c .before .before .before .before .before .before .before .before .before .before .before .before .before .before .before .before .before .before .before .before .before .before .pre .0 .sets-lent) 128 (omega arith) (omega arith) (c .before .before .before .before .before .before .before .before .before .before .before .empty .ensures) in
-    let blamed = blames _ (c .before .before .before .before .before .before .before .before .before .before .before .empty .kept .0 ∙ c .before .before .before .before .before .before .before .before .before .before .before .before .before .before .before .before .before .before .before .before .before .before .pre .0 .sets-lent) (c .before .before .before .before .before .before .before .before .before .before .before .before .before .before .before .before .before .before .before .before .before .before .args .codes .now) (c .before .before .before .before .before .before .before .before .before .before .before .before .before .before .before .before .before .before .before .before .before .before .args .start) 128 (omega arith) (c .before .before .before .before .before .before .before .before .before .before .before .before .before .before .before .before .before .before .before .before .before .before .pre .0 .coded) (c .before .before .before .before .before .before .before .blame .ensures) in
-    settles-shortened (c .before .before .before .before .before .before .before .before .before .before .before .before .before .before .before .before .before .before .before .before .before .before .args .splits .now) (c .before .before .before .before .before .before .before .before .before .before .before .before .before .before .before .before .before .before .before .before .before .before .args .codes .now) (c .before .before .before .before .before .before .before .before .before .before .before .before .before .before .before .before .before .before .before .before .before .before .pre .0 .coded) (c .before .before .before .before .before .before .before .before .before .before .before .before .before .before .before .before .before .before .before .before .before .before .args .lo) (c .before .before .before .before .before .before .before .before .before .before .before .before .before .before .before .before .before .before .before .before .before .before .args .hi) (c .before .before .before .before .before .before .before .before .before .before .before .before .before .before .before .before .before .before .before .before .before .before .args .mark) (c .before .before .before .before .before .before .before .before .before .before .before .before .before .before .before .before .before .before .before .before .before .before .args .work .now) (c .before .before .before .before .before .before .before .before .before .before .before .before .before .before .before .before .before .before .before .before .before .before .args .sets .now) (c .before .before .before .before .before .before .before .blame .last .1 .0) (c .before .before .shorten .last .1 .1 .0) (c .before .before .before .before .before .before .before .before .before .before .before .before .before .before .before .before .before .before .before .before .before .before .args .i)
-    (c .before .before .before .before .before .before .before .before .before .before .before .before .before .before .before .before .before .before .before .before .before .before .pre .1 .0) (c .before .before .before .before .before .before .before .before .before .before .before .before .before .before .before .before .before .before .before .before .before .before .pre .1 .1) (kept-trans emptied (kept-grown (omega arith) (blamed .grown)))
-    (settles-dead (c .before .before .before .before .before .before .before .before .before .before .before .before .before .before .before .before .before .before .before .before .before .before .args .splits .now) (c .before .before .before .before .before .before .before .before .before .before .before .before .before .before .before .before .before .before .before .before .before .before .args .codes .now) (c .before .before .before .before .before .before .before .before .before .before .before .before .before .before .before .before .before .before .before .before .before .before .pre .0 .coded) (c .before .before .before .before .before .before .before .before .before .before .before .before .before .before .before .before .before .before .before .before .before .before .args .lo) (c .before .before .before .before .before .before .before .before .before .before .before .before .before .before .before .before .before .before .before .before .before .before .args .hi) (c .before .before .before .before .before .before .before .before .before .before .before .before .before .before .before .before .before .before .before .before .before .before .args .mark) (c .before .before .before .before .before .before .before .before .before .before .before .before .before .before .before .before .before .before .before .before .before .before .args .work .now) (c .before .before .before .before .before .before .before .before .before .before .before .before .before .before .before .before .before .before .before .before .before .before .args .sets .now) (c .before .before .before .before .before .before .before .before .before .before .before .before .before .before .before .before .before .before .before .before .before .before .args .i) (c .before .before .before .before .before .before .before .before .before .before .before .before .before .before .before .before .before .before .before .before .before .before .args .start) (c .before .before .before .before .before .before .before .before .before .before .before .before .before .before .before .before .before .before .before .before .before .before .pre .1 .0) (c .before .before .before .before .before .before .before .before .before .before .before .before .before .before .before .before .before .before .before .before .before .before .pre .1 .1) (c .before .before .before .before .before .before .before .before .before .before .before .before .before .before .before .before .before .before .before .before .before .before .pre .1 .3)
-    (c .before .before .before .before .before .before .before .before .before .before .before .before .before .before .before .look .result) (omega arith) (looks (c .before .before .before .before .before .before .before .before .before .before .before .before .before .before .before .before .before .before .before .before .before .before .args .codes .now) (c .before .before .before .before .before .before .before .before .before .before .before .before .before .before .before .before .before .before .before .before .before .before .args .work .now) (c .before .before .before .before .before .before .before .before .before .before .before .before .before .before .before .before .before .before .before .before .before .before .args .i) (c .before .before .before .before .before .before .before .before .before .before .before .before .before .before .before .before .before .before .before .before .before .before .pre .0 .area) (omega arith) (c .before .before .before .before .before .before .before .before .before .before .before .before .before .before .before .before .before .before .before .before .before .before .pre .0 .coded) (c .before .before .before .before .before .before .before .before .before .before .before .before .before .before .before .before .before .before .before .before .before .before .args .start) (c .before .before .before .before .before .before .before .before .before .before .before .before .before .before .before .look .ensures)) (c .before .before .before .before .before .before .before .before .before .before .before .empty .last .0) (c .before .before .before .before .before .before .before .blame .last .1 .0) emptied blamed)
+returns-2 c = λ begins.
+    let emptied = kept-trans (same-kept (c .before .before .before .before .before .before .before .before .before .before .before .before .before .before .before .failed .ensures)) (empties _ (c .before .before .before .before .before .before .before .before .before .before .before .before .before .before .before .failed .kept .0 ∙ c .before .before .before .before .before .before .before .before .before .before .before .before .before .before .before .before .before .before .before .before .before .before .before .before .before .before .pre .0 .sets-lent) 128 (omega arith) (omega arith) (c .before .before .before .before .before .before .before .before .before .before .before .empty .ensures)) in
+    let blamed = blames _ (c .before .before .before .before .before .before .before .before .before .before .before .empty .kept .0 ∙ c .before .before .before .before .before .before .before .before .before .before .before .before .before .before .before .failed .kept .0 ∙ c .before .before .before .before .before .before .before .before .before .before .before .before .before .before .before .before .before .before .before .before .before .before .before .before .before .before .pre .0 .sets-lent) (c .before .before .before .before .before .before .before .before .before .before .before .before .before .before .before .before .before .before .before .before .before .before .before .before .before .before .args .codes .now) (c .before .before .before .before .before .before .before .before .before .before .before .before .before .before .before .before .before .before .before .before .before .before .before .before .before .before .args .start) 128 (omega arith) (c .before .before .before .before .before .before .before .before .before .before .before .before .before .before .before .before .before .before .before .before .before .before .before .before .before .before .pre .0 .coded) (c .before .before .before .before .before .before .before .blame .ensures) in
+    settles-shortened (c .before .before .before .before .before .before .before .before .before .before .before .before .before .before .before .before .before .before .before .before .before .before .before .before .before .before .args .splits .now) (c .before .before .before .before .before .before .before .before .before .before .before .before .before .before .before .before .before .before .before .before .before .before .before .before .before .before .args .codes .now) (c .before .before .before .before .before .before .before .before .before .before .before .before .before .before .before .before .before .before .before .before .before .before .before .before .before .before .pre .0 .coded) (c .before .before .before .before .before .before .before .before .before .before .before .before .before .before .before .before .before .before .before .before .before .before .before .before .before .before .args .lo) (c .before .before .before .before .before .before .before .before .before .before .before .before .before .before .before .before .before .before .before .before .before .before .before .before .before .before .args .hi) (c .before .before .before .before .before .before .before .before .before .before .before .before .before .before .before .before .before .before .before .before .before .before .before .before .before .before .args .mark) (c .before .before .before .before .before .before .before .before .before .before .before .before .before .before .before .before .before .before .before .before .before .before .before .before .before .before .args .work .now) (c .before .before .before .before .before .before .before .before .before .before .before .before .before .before .before .before .before .before .before .before .before .before .before .before .before .before .args .sets .now) (c .before .before .before .before .before .before .before .blame .last .1 .0) (c .before .before .shorten .last .1 .1 .0) (c .before .before .before .before .before .before .before .before .before .before .before .before .before .before .before .before .before .before .before .before .before .before .before .before .before .before .args .i)
+    (c .before .before .before .before .before .before .before .before .before .before .before .before .before .before .before .before .before .before .before .before .before .before .before .before .before .before .pre .1 .0) (c .before .before .before .before .before .before .before .before .before .before .before .before .before .before .before .before .before .before .before .before .before .before .before .before .before .before .pre .1 .1) (kept-trans emptied (kept-grown (omega arith) (blamed .grown)))
+    (settles-dead (c .before .before .before .before .before .before .before .before .before .before .before .before .before .before .before .before .before .before .before .before .before .before .before .before .before .before .args .splits .now) (c .before .before .before .before .before .before .before .before .before .before .before .before .before .before .before .before .before .before .before .before .before .before .before .before .before .before .args .codes .now) (c .before .before .before .before .before .before .before .before .before .before .before .before .before .before .before .before .before .before .before .before .before .before .before .before .before .before .pre .0 .coded) (c .before .before .before .before .before .before .before .before .before .before .before .before .before .before .before .before .before .before .before .before .before .before .before .before .before .before .args .lo) (c .before .before .before .before .before .before .before .before .before .before .before .before .before .before .before .before .before .before .before .before .before .before .before .before .before .before .args .hi) (c .before .before .before .before .before .before .before .before .before .before .before .before .before .before .before .before .before .before .before .before .before .before .before .before .before .before .args .mark) (c .before .before .before .before .before .before .before .before .before .before .before .before .before .before .before .before .before .before .before .before .before .before .before .before .before .before .args .work .now) (c .before .before .before .before .before .before .before .before .before .before .before .before .before .before .before .before .before .before .before .before .before .before .before .before .before .before .args .sets .now) (c .before .before .before .before .before .before .before .before .before .before .before .before .before .before .before .before .before .before .before .before .before .before .before .before .before .before .args .i) (c .before .before .before .before .before .before .before .before .before .before .before .before .before .before .before .before .before .before .before .before .before .before .before .before .before .before .args .start) (c .before .before .before .before .before .before .before .before .before .before .before .before .before .before .before .before .before .before .before .before .before .before .before .before .before .before .pre .1 .0) (c .before .before .before .before .before .before .before .before .before .before .before .before .before .before .before .before .before .before .before .before .before .before .before .before .before .before .pre .1 .1) begins
+    (c .before .before .before .before .before .before .before .before .before .before .before .before .before .before .before .before .before .before .before .look .result) (omega arith) (looks (c .before .before .before .before .before .before .before .before .before .before .before .before .before .before .before .before .before .before .before .before .before .before .before .before .before .before .args .codes .now) (c .before .before .before .before .before .before .before .before .before .before .before .before .before .before .before .before .before .before .before .before .before .before .before .before .before .before .args .work .now) (c .before .before .before .before .before .before .before .before .before .before .before .before .before .before .before .before .before .before .before .before .before .before .before .before .before .before .args .i) (c .before .before .before .before .before .before .before .before .before .before .before .before .before .before .before .before .before .before .before .before .before .before .before .before .before .before .pre .0 .area) (omega arith) (c .before .before .before .before .before .before .before .before .before .before .before .before .before .before .before .before .before .before .before .before .before .before .before .before .before .before .pre .0 .coded) (c .before .before .before .before .before .before .before .before .before .before .before .before .before .before .before .before .before .before .before .before .before .before .before .before .before .before .args .start) (c .before .before .before .before .before .before .before .before .before .before .before .before .before .before .before .before .before .before .before .look .ensures)) (c .before .before .before .before .before .before .before .before .before .before .before .empty .last .0) (c .before .before .before .before .before .before .before .blame .last .1 .0) emptied blamed)
     (c .before .before .shorten .ensures)
 
 force-requires : tie.Need-force-requires
@@ -52,7 +56,7 @@ same-length-5 : tie.Need-same-length-5
 same-length-5 c = c .before .before .before .before .force .kept .1 .1 .1 .0
 
 returns-3 : tie.Need-returns-3
-returns-3 c = c .before .before .before .before .force .ensures (c .before .before .before .before .before .before .before .before .before .before .before .before .before .before .before .before .pre .1 .3) (looks (c .before .before .before .before .before .before .before .before .before .before .before .before .before .before .before .before .args .codes .now) (c .before .before .before .before .before .before .before .before .before .before .before .before .before .before .before .before .args .work .now) (c .before .before .before .before .before .before .before .before .before .before .before .before .before .before .before .before .args .i) (c .before .before .before .before .before .before .before .before .before .before .before .before .before .before .before .before .pre .0 .area) (omega arith) (c .before .before .before .before .before .before .before .before .before .before .before .before .before .before .before .before .pre .0 .coded) (c .before .before .before .before .before .before .before .before .before .before .before .before .before .before .before .before .args .start) (c .before .before .before .before .before .before .before .before .before .look .ensures))
+returns-3 c = λ begins. c .before .before .before .before .force .ensures begins (looks (c .before .before .before .before .before .before .before .before .before .before .before .before .before .before .before .before .args .codes .now) (c .before .before .before .before .before .before .before .before .before .before .before .before .before .before .before .before .args .work .now) (c .before .before .before .before .before .before .before .before .before .before .before .before .before .before .before .before .args .i) (c .before .before .before .before .before .before .before .before .before .before .before .before .before .before .before .before .pre .0 .area) (omega arith) (c .before .before .before .before .before .before .before .before .before .before .before .before .before .before .before .before .pre .0 .coded) (c .before .before .before .before .before .before .before .before .before .before .before .before .before .before .before .before .args .start) (c .before .before .before .before .before .before .before .before .before .look .ensures))
 
 pub touch-spec : {M : Type 1} → statement M
 touch-spec =
@@ -61,6 +65,7 @@ touch-spec =
     look-requires
     same-length
     returns
+    failed-requires
     empty-requires
     blame-requires
     shorten-requires

@@ -1,30 +1,47 @@
--- `solve::reached` meets its contract: the matrix is the goal on the existential side, and its opposite on the other. Assumes nothing.
-use mathlib.Core.Logic.{inl, inr, ⊎-elim}
+-- `solve::reached` meets its contract: a false clause reaches the universal side's goal. Assumes nothing.
 use native.Mathlib.Omega.{arith}
-use Rattle.search.proofs.CallLaws.{matrix-of, fills-kept, fills}
-use Rattle.search.proofs.GoalLaws.{reached-goal, reached-not}
+use Rattle.search.proofs.GoalLaws.{reached-false, reached-after}
 use borrow.Author.Needs.{needs}
 use Rattle.search.proofs.solve.reached.Statement.{statement}
 use Rattle.search.proofs.solve.reached.Tie as tie
 
-matrix-requires : tie.Need-matrix-requires
-matrix-requires c κs = tt
-
-returns : tie.Need-returns
-returns c = reached-goal (c .before .before .before .before .before .before .args .codes .now) (c .before .before .before .before .before .before .args .side) (c .before .before .before .before .before .before .args .work .now) (c .before .before .before .before .before .before .args .i) (c .before .before .before .before .before .before .args .sets .now) (c .before .before .matrix .result) (matrix-of (c .before .before .before .before .before .before .args .codes .now) (c .before .before .before .before .before .before .args .work .now) (c .before .before .before .before .before .before .args .i) (c .before .before .before .before .before .before .pre .0) (c .before .before .before .before .before .before .pre .2) (c .before .before .before .before .before .before .pre .4) (c .before .before .matrix .ensures)) (inl (c .before .if1 .taken, c .if2 .taken))
-
-returns-2 : tie.Need-returns-2
-returns-2 c = reached-goal (c .before .before .before .before .before .before .args .codes .now) (c .before .before .before .before .before .before .args .side) (c .before .before .before .before .before .before .args .work .now) (c .before .before .before .before .before .before .args .i) (c .before .before .before .before .before .before .args .sets .now) (c .before .before .matrix .result) (matrix-of (c .before .before .before .before .before .before .args .codes .now) (c .before .before .before .before .before .before .args .work .now) (c .before .before .before .before .before .before .args .i) (c .before .before .before .before .before .before .pre .0) (c .before .before .before .before .before .before .pre .2) (c .before .before .before .before .before .before .pre .4) (c .before .before .matrix .ensures)) (inr (c .before .if1 .left, c .if3 .left))
-
-fill-requires : tie.Need-fill-requires
-fill-requires c κs = tt
+values-reach-requires : tie.Need-values-reach-requires
+values-reach-requires c κs = c .before .before .before .before .before .pre
 
 same-length : tie.Need-same-length
 same-length c = search needs
 
+returns : tie.Need-returns
+returns c = c .before .before .values-reach .ensures
+
+finds-false-requires : tie.Need-finds-false-requires
+finds-false-requires c κs = tt
+
+same-length-2 : tie.Need-same-length-2
+same-length-2 c = search needs
+
+returns-2 : tie.Need-returns-2
+returns-2 c = reached-false (c .before .before .before .before .before .before .before .before .before .args .codes .now) (c .before .before .before .before .before .before .before .before .before .args .work .now) (c .before .before .before .before .before .before .before .before .before .args .i) (c .before .before .before .before .before .before .before .before .before .pre .0) (c .before .before .before .before .before .before .before .before .before .pre .2) (c .before .before .before .before .before .before .before .before .before .pre .4) (c .before .before .before .before .before .before .before .before .before .args .side) _ _ (c .before .before .before .before .before .if1 .left) (c .before .before .before .finds-false .ensures) (c .if2 .taken)
+
+values-reach-requires-2 : tie.Need-values-reach-requires-2
+values-reach-requires-2 c κs = (c .before .before .before .before .before .before .before .before .before .before .pre .0, omega (arith, c .before .before .before .before .before .before .before .before .before .before .pre .1, c .before .before .before .before .finds-false .kept .1 .1 .0), c .before .before .before .before .before .before .before .before .before .before .pre .2, c .before .before .before .before .before .before .before .before .before .before .pre .3, c .before .before .before .before .before .before .before .before .before .before .pre .4)
+
+same-length-3 : tie.Need-same-length-3
+same-length-3 c = search needs
+
 returns-3 : tie.Need-returns-3
-returns-3 c = reached-not (c .before .before .before .before .before .before .before .before .before .args .codes .now) (c .before .before .before .before .before .before .before .before .before .args .side) (c .before .before .before .before .before .before .before .before .before .args .work .now) (c .before .before .before .before .before .before .before .before .before .args .i) (c .before .before .before .before .before .before .before .before .before .args .sets .now) (c .before .before .before .before .before .matrix .result) (matrix-of (c .before .before .before .before .before .before .before .before .before .args .codes .now) (c .before .before .before .before .before .before .before .before .before .args .work .now) (c .before .before .before .before .before .before .before .before .before .args .i) (c .before .before .before .before .before .before .before .before .before .pre .0) (c .before .before .before .before .before .before .before .before .before .pre .2) (c .before .before .before .before .before .before .before .before .before .pre .4) (c .before .before .before .before .before .matrix .ensures)) (c .before .before .fill .last .0) (⊎-elim (λ w. inl (w .0 .taken, w .1 .left)) (λ w. inr (w .0 .left, w .1 .taken)) (c .before .before .before .before .if1 .came)) (fills-kept _ (c .before .before .before .before .before .before .before .before .before .pre .1) 128 (omega arith) (omega arith) (c .before .before .fill .ensures)) (fills (c .before .before .before .before .before .before .before .before .before .args .sets .now) (c .before .before .before .before .before .before .before .before .before .pre .1) 128 (omega arith) (c .before .before .fill .ensures))
+returns-3 c = reached-after (c .before .before .before .before .before .before .before .before .before .before .before .before .before .args .codes .now) (c .before .before .before .before .before .before .before .before .before .before .before .before .before .args .side) (c .before .before .before .before .before .before .before .before .before .before .before .before .before .args .work .now) (c .before .before .before .before .before .before .before .before .before .before .before .before .before .args .i) _ _ _ (c .before .before .before .before .before .before .before .finds-false .ensures .kept) (c .before .before .values-reach2 .ensures)
 
 pub reached-spec : {M : Type 1} → statement M
 reached-spec =
-    tie.close (tie.spec matrix-requires returns returns-2 fill-requires same-length returns-3)
+    tie.close
+    (tie.spec
+    values-reach-requires
+    same-length
+    returns
+    finds-false-requires
+    same-length-2
+    returns-2
+    values-reach-requires-2
+    same-length-3
+    returns-3)

@@ -1,0 +1,2 @@
+-- The laws of reading the codes of a row once.
+pub mod LiveLaws

@@ -1,0 +1,70 @@
+-- `main` hands on what fits: `print_gates` says how many bytes of the buffer it wrote. No answer is searched for, since a search would write out the two million
+-- zeros of the file's buffer. Assumes nothing.
+use Prim.Native.Nat.{ℕ}
+use mathlib.Core.Path.{sym}
+use lib.ListN.{length-replicate}
+use lib.Seq.{length-take-le}
+use Rattle.report.proofs.Lengths.{within}
+use Rattle.vulzhenn_judge_gates.proofs.main.Statement.{statement}
+use Rattle.vulzhenn_judge_gates.proofs.main.Tie as tie
+
+slice-aggregate-read-full : tie.Need-slice-aggregate-read-full
+slice-aggregate-read-full c = sym (length-replicate {A = ℕ} 65537 0)
+
+read-full-requires : tie.Need-read-full-requires
+read-full-requires c κs = tt
+
+slice-aggregate-read-full-2 : tie.Need-slice-aggregate-read-full-2
+slice-aggregate-read-full-2 c = sym (length-replicate {A = ℕ} 2097133 0)
+
+read-full-requires-2 : tie.Need-read-full-requires-2
+read-full-requires-2 c κs = tt
+
+array-share-prefix-input : tie.Need-array-share-prefix-input
+array-share-prefix-input c = c .before .before .before .before .read-full .ensures .0
+
+slice-aggregate-print-gates : tie.Need-slice-aggregate-print-gates
+slice-aggregate-print-gates c = sym (length-take-le _ _ (c .before .before .before .before .before .read-full .ensures .0))
+
+array-share-prefix-file : tie.Need-array-share-prefix-file
+array-share-prefix-file c = c .before .before .read-full2 .ensures .0
+
+slice-aggregate-print-gates-2 : tie.Need-slice-aggregate-print-gates-2
+slice-aggregate-print-gates-2 c = sym (length-take-le _ _ (c .before .before .before .read-full2 .ensures .0))
+
+slice-aggregate-print-gates-3 : tie.Need-slice-aggregate-print-gates-3
+slice-aggregate-print-gates-3 c = sym (length-replicate {A = ℕ} 64 0)
+
+print-gates-requires : tie.Need-print-gates-requires
+print-gates-requires c κs = tt
+
+array-share-prefix-out : tie.Need-array-share-prefix-out
+array-share-prefix-out c = within _ _ (c .before .print-gates .ensures .0) (c .before .print-gates .ensures .1 .0)
+
+slice-aggregate-write-all : tie.Need-slice-aggregate-write-all
+slice-aggregate-write-all c = sym (length-take-le _ _ (within _ _ (c .before .before .print-gates .ensures .0) (c .before .before .print-gates .ensures .1 .0)))
+
+write-all-requires : tie.Need-write-all-requires
+write-all-requires c κs = tt
+
+returns : tie.Need-returns
+returns c = tt
+
+pub main-spec : {M : Type 1} → statement M
+main-spec =
+    tie.close
+    (tie.spec
+    slice-aggregate-read-full
+    read-full-requires
+    slice-aggregate-read-full-2
+    read-full-requires-2
+    array-share-prefix-input
+    slice-aggregate-print-gates
+    array-share-prefix-file
+    slice-aggregate-print-gates-2
+    slice-aggregate-print-gates-3
+    print-gates-requires
+    array-share-prefix-out
+    slice-aggregate-write-all
+    write-all-requires
+    returns)

@@ -1,0 +1,18 @@
+// The program: a gate list on standard input, the witness file of the side that settled it on standard output, or 01's lines on
+// standard error. What is written for which bytes is proved in `certificate`; here they are read and written.
+use formula::Formula;
+use libc::STDERR_FILENO;
+use libc::STDIN_FILENO;
+use libc::STDOUT_FILENO;
+
+fn main() {
+    // One byte more than a text may have: a longer one is then refused, and not cut.
+    let mut input = [0u8; text::BYTES + 1];
+    let length = io::read_full(STDIN_FILENO, &mut input);
+    let mut file = [0u8; certificate::FILE];
+    let mut lines = [0u8; certificate::LINES];
+    let mut work = [0u8; Formula::WORK];
+    let counts = certificate::certify_gates(&input[..length], &mut file, &mut lines, &mut work);
+    io::write_all(STDOUT_FILENO, &file[..counts.file]);
+    io::write_all(STDERR_FILENO, &lines[..counts.lines]);
+}
