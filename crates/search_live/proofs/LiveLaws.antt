@@ -22,7 +22,7 @@ use borrow.Rule.Slice.PartMut.{putMid, postOf}
 use Rattle.search_sets.specs.Masks.{words, set-at, SetGrown, SetsKept, United}
 use Rattle.search_sets.proofs.MaskLaws.{store-elsewhere, store-behind, kept-trans, kept-grown, set-grown-refl, set-grown-trans}
 use Rattle.search_sets.proofs.SetLaws.{unite-unites, empty-keeps}
-use Rattle.search_live.specs.Live.{given-mark, IsGiven, TakenIn, TrueBy, RowDead, Checked, RowLooked, RowBlamed, TakesIn, FalseFound}
+use Rattle.search_live.specs.Live.{given-mark, IsGiven, TakenIn, TrueBy, RowKnown, RowLost, RowDead, Checked, RowTold, RowLooked, RowBlamed, TakesIn, FalseFound}
 
 pub not-true : (b : Bool) → not b ≡ true → b ≡ false
 not-true true e = absurd (never-both e refl)
@@ -223,14 +223,6 @@ module _ (kinds codes w : List ℕ) (i : ℕ) where
       (code-clauses codes)
       (every-some-with IsLiteral (TrueBy kinds w i t u) (code-clauses codes) (coded-every max-unknowns codes coded) (dead coded ended))
 
-  -- after a store behind the sets
-  dead-noted : (s t : List ℕ) (at x : ℕ) → 2 * max-unknowns + 2 ≤ at → RowDead kinds codes w i s t → RowDead kinds codes w i s (set t at x)
-  dead-noted s t at x behind dead coded ended =
-      every-map (Some (TrueBy kinds w i s t)) (Some (TrueBy kinds w i s (set t at x)))
-      (λ cs. some-map (TrueBy kinds w i s t) (TrueBy kinds w i s (set t at x))
-      (λ c q. (q .0, ⊎-elim (λ g. inl g) (λ taken. inr (λ l h. store-elsewhere t at x max-unknowns l (λ e. omega arith) (λ e. omega arith) ∙ taken l h)) (q .1))) cs)
-      (code-clauses codes) (dead coded ended)
-
   pub row-lives : (s t : List ℕ) → SetsKept s t → RowLooked kinds codes w i s t false
   row-lives s t kept = record { kept = kept; dead = λ e. absurd (never-both e refl) }
 
@@ -244,28 +236,58 @@ module _ (kinds codes w : List ℕ) (i : ℕ) where
   pub row-is-dead : (s t : List ℕ) {r : Bool} → RowLooked kinds codes w i s t r → r ≡ true → RowLooked kinds codes w i s t true
   row-is-dead s t looked e = record { kept = looked .kept; dead = λ yes-true. looked .dead e }
 
+-- ---- the row by its open terms
+
+pub known-coded : {kinds codes opened w : List ℕ} {i : ℕ} → RowKnown kinds codes opened w i → Coded max-unknowns codes
+known-coded {kinds} {codes} known e inside some =
+    let here : (2 ≤ getD codes e 0) × (position (getD codes e 0) < length kinds) = known .coded e inside some in
+    (here .0, let a : position (getD codes e 0) < length kinds = here .1 in let b : length kinds ≤ max-unknowns = known .unknowns in omega arith)
+
+module _ (kinds codes opened w : List ℕ) (i : ℕ) where
+  pub dead-lost : (s t : List ℕ) → RowDead kinds codes w i s t → RowLost kinds codes opened w i s t
+  dead-lost s t dead known = dead (known-coded known) (known .ended)
+
+  -- after changes that keep the sets of the positions
+  pub lost-before : (s t u : List ℕ) → SetsKept s t → RowLost kinds codes opened w i t u → RowLost kinds codes opened w i s u
+  lost-before s t u kept lost known = dead-before kinds codes w i s t u kept (λ coded ended. lost known) (known-coded known) (known .ended)
+
+  -- after a store behind the sets
+  lost-noted : (s t : List ℕ) (at x : ℕ) → 2 * max-unknowns + 2 ≤ at → RowLost kinds codes opened w i s t → RowLost kinds codes opened w i s (set t at x)
+  lost-noted s t at x behind lost known =
+      every-map (Some (TrueBy kinds w i s t)) (Some (TrueBy kinds w i s (set t at x)))
+      (λ cs. some-map (TrueBy kinds w i s t) (TrueBy kinds w i s (set t at x))
+      (λ c q. (q .0, ⊎-elim (λ g. inl g) (λ taken. inr (λ l h. store-elsewhere t at x max-unknowns l (λ e. omega arith) (λ e. omega arith) ∙ taken l h)) (q .1))) cs)
+      (code-clauses codes) (lost known)
+
+  pub told-lives : (s t : List ℕ) → SetsKept s t → RowTold kinds codes opened w i s t false
+  told-lives s t kept = record { kept = kept; dead = λ e. absurd (never-both e refl) }
+
+  pub told-looked : (s t : List ℕ) {r : Bool} → RowLooked kinds codes w i s t r → RowTold kinds codes opened w i s t r
+  told-looked s t looked = record { kept = looked .kept; dead = λ e. dead-lost s t (looked .dead e) }
+
 -- ---- the group
 
-pub rows-live : (kinds codes w : List ℕ) (lo hi : ℕ) (s t : List ℕ) → SetsKept s t → Checked kinds codes w lo hi s t true
-rows-live kinds codes w lo hi s t kept = record { kept = kept; dead = λ e. absurd (never-both refl e) }
+pub rows-live : (kinds codes opened w : List ℕ) (lo hi : ℕ) (s t : List ℕ) → SetsKept s t → Checked kinds codes opened w lo hi s t true
+rows-live kinds codes opened w lo hi s t kept = record { kept = kept; dead = λ e. absurd (never-both refl e) }
 
 -- .. with a note behind the sets
-pub a-row-dead : (kinds codes w : List ℕ) (lo hi i : ℕ) (s t u : List ℕ) (at x : ℕ) {r : Bool} → 2 * max-unknowns + 2 ≤ at → lo ≤ i → i < hi → SetsKept s t
-    → RowLooked kinds codes w i t u r → r ≡ true → Checked kinds codes w lo hi s (set u at x) false
-a-row-dead kinds codes w lo hi i s t u at x behind low high kept looked e = record {
-  kept = kept-trans (kept-trans kept (looked .kept)) (store-behind u at x (omega arith));
-  dead = λ no-false. (i, low, high, dead-noted kinds codes w i s u at x behind (dead-before kinds codes w i s t u kept (looked .dead e)));
+pub a-row-dead : (kinds codes opened w : List ℕ) (lo hi i : ℕ) (s t u : List ℕ) (at x : ℕ) {r : Bool} → 2 * max-unknowns + 2 ≤ at → lo ≤ i → i < hi → SetsKept s t
+    → RowTold kinds codes opened w i t u r → r ≡ true → Checked kinds codes opened w lo hi s (set u at x) false
+a-row-dead kinds codes opened w lo hi i s t u at x behind low high kept told e = record {
+  kept = kept-trans (kept-trans kept (told .kept)) (store-behind u at x (omega arith));
+  dead = λ no-false. (i, low, high, lost-noted kinds codes opened w i s u at x behind (lost-before kinds codes opened w i s t u kept (told .dead e)));
 }
 
 -- after notes behind the sets
-pub checked-after : (kinds codes w : List ℕ) (lo hi : ℕ) (s t u : List ℕ) {r : Bool} → SetsKept s t → Checked kinds codes w lo hi t u r → Checked kinds codes w lo hi s u r
-checked-after kinds codes w lo hi s t u kept checked = record {
+pub checked-after : (kinds codes opened w : List ℕ) (lo hi : ℕ) (s t u : List ℕ) {r : Bool} → SetsKept s t → Checked kinds codes opened w lo hi t u r
+    → Checked kinds codes opened w lo hi s u r
+checked-after kinds codes opened w lo hi s t u kept checked = record {
   kept = kept-trans kept (checked .kept);
   dead = λ no-false. before (checked .dead no-false);
 }
   where
-    before : (i : ℕ) × (lo ≤ i) × (i < hi) × RowDead kinds codes w i t u → (i : ℕ) × (lo ≤ i) × (i < hi) × RowDead kinds codes w i s u
-    before q = (q .0, q .1, q .2, dead-before kinds codes w (q .0) s t u kept (q .3))
+    before : (i : ℕ) × (lo ≤ i) × (i < hi) × RowLost kinds codes opened w i t u → (i : ℕ) × (lo ≤ i) × (i < hi) × RowLost kinds codes opened w i s u
+    before q = (q .0, q .1, q .2, lost-before kinds codes opened w (q .0) s t u kept (q .3))
 
 -- ---- a part of the hints is filled
 

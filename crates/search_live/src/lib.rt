@@ -1,22 +1,26 @@
-// Rows on the universal side in which every clause is true, and with them no goal can be reached. Behind the sets stand hints: for each row a
-// clause that lived there, one without a true literal, and the terms that are open there; for each code the terms that have it; and for each
-// position the terms that have a true literal by the decisions up to it (see search_terms).
-// Every public function is total. Promised is that a row that is found dead is dead by the decisions of the set at CUT, and that a clause that
-// is found false is false; the sets of the positions stay. Which rows and clauses are looked at is not promised: nothing rests on hints.
+// Rows on the universal side in which every clause is true, and with them no goal can be reached: each term that is open there has a true literal
+// (see search_terms). Behind the sets stand hints: for each row a clause that lived there, one without a true literal, and the terms that are open
+// there; for each code the terms that have it; and for each position the terms that have a true literal by the decisions up to it.
+// Every public function is total. Promised is that a row that is found dead is dead by the decisions of the set at CUT, if the open terms that are
+// lent are the row's, and that a clause that is found false is false; the sets of the positions stay. Which rows and clauses are looked at is not
+// promised: nothing rests on hints.
 use codes::LAST_CODE;
 use formula::Formula;
+use search_terms::OTHERS;
 ghost use mathlib.Core.Path.{_≡_};
 ghost use Prim.Native.Nat.{_≤_, _<_};
 ghost use mathlib.Core.Logic.{_⊎_};
 ghost use mathlib.Core.Bool.{true};
 ghost use lib.ListN.{length};
 ghost use Rattle.formula.specs.Formula.{max-unknowns, max-rows};
+ghost use Rattle.search_terms.specs.Tables.{others, open-size, is-open, name-of};
+ghost use Rattle.search_terms.specs.Terms.{own};
 ghost use Rattle.codes.specs.Codes.{last-code, row-position};
 ghost use Rattle.codes.specs.Clauses.{Begins};
 ghost use Rattle.search_sets.specs.Sets.{sets-size};
 ghost use Rattle.search_sets.specs.Masks.{SetsKept};
 ghost use Rattle.search_evaluation.specs.Evaluation.{look-at, satisfied-at};
-ghost use Rattle.search_live.specs.Live.{given-mark, IsGiven, Checked, RowLooked, RowBlamed, TakesIn, FalseFound};
+ghost use Rattle.search_live.specs.Live.{given-mark, IsGiven, IsOwn, OwnTrue, Checked, RowTold, RowLooked, RowBlamed, TermsMet, TermPassed, TermMet, TakesIn, FalseFound};
 
 // The place behind the positions: its set has the decisions by which a row is dead.
 const CUT: usize = Formula::UNKNOWNS;
@@ -33,10 +37,10 @@ const LIVED: usize = 2 * search_sets::PLACES;
 // The row that was found dead last, plus 1.
 const FAILED: usize = LIVED + Formula::ROWS + 4;
 
-// Word i from here has the terms that are open in row i, with the bit OTHERS for the clauses of no term.
+// Word i from here has the terms that are open in row i, with the bit NO_TERM for the clauses of no term.
 const OPEN: usize = LIVED + Formula::ROWS + 8;
 
-const OTHERS: u64 = 9_223_372_036_854_775_808;
+const NO_TERM: u64 = 9_223_372_036_854_775_808;
 
 // Word c from here has the terms with the literal of code c.
 const HOLDS: usize = OPEN + Formula::ROWS;
@@ -66,13 +70,20 @@ pub fn begin(
 }
 
 // Whether each row below the count has a live clause before any decision. False: CUT says by which decisions one has none.
-pub fn check_given(kinds: &[u8], codes: &[u16], work: &[u8], sets: &mut [u64], count: usize) -> bool
-    ensures { λ r. ⌜ Checked (now (kinds .entry)) (now (codes .entry)) (now (work .entry)) 0 count (now (sets .entry)) (now (sets .exit)) r ⌝ }
+pub fn check_given(
+    kinds: &[u8],
+    codes: &[u16],
+    work: &[u8],
+    sets: &mut [u64],
+    opened: &[u64],
+    count: usize,
+) -> bool
+    ensures { λ r. ⌜ Checked (now (kinds .entry)) (now (codes .entry)) (now (opened .entry)) (now (work .entry)) 0 count (now (sets .entry)) (now (sets .exit)) r ⌝ }
 {
-    if sizes_fit(sets.len(), count) {} else {
+    if sizes_fit(sets.len(), opened.len(), count) {} else {
         return true;
     }
-    check_rows(kinds, codes, work, sets, 0, 0, count)
+    check_rows(kinds, codes, work, sets, opened, 0, 0, count)
 }
 
 // The same for each row from lo to hi after the decision at position k.
@@ -81,24 +92,33 @@ pub fn check(
     codes: &[u16],
     work: &[u8],
     sets: &mut [u64],
+    opened: &[u64],
     k: usize,
     lo: usize,
     hi: usize,
 ) -> bool
-    ensures { λ r. ⌜ Checked (now (kinds .entry)) (now (codes .entry)) (now (work .entry)) lo hi (now (sets .entry)) (now (sets .exit)) r ⌝ }
+    ensures { λ r. ⌜ Checked (now (kinds .entry)) (now (codes .entry)) (now (opened .entry)) (now (work .entry)) lo hi (now (sets .entry)) (now (sets .exit)) r ⌝ }
 {
-    if sizes_fit(sets.len(), hi) {} else {
+    if sizes_fit(sets.len(), opened.len(), hi) {} else {
         return true;
     }
     let met = note_true(kinds, work, sets, k, lo);
-    check_rows(kinds, codes, work, sets, met, lo, hi)
+    check_rows(kinds, codes, work, sets, opened, met, lo, hi)
 }
 
-// Whether a clause that lived in row i, or one near it, is false there. False: nothing is known.
-pub fn finds_false(codes: &[u16], work: &[u8], sets: &mut [u64], i: usize) -> bool
+// Whether a clause that lived in row i, or another that may be false there, is false. False: nothing is known.
+pub fn finds_false(
+    codes: &[u16],
+    work: &[u8],
+    sets: &mut [u64],
+    kinds: &[u8],
+    index: &[u16],
+    opened: &[u64],
+    i: usize,
+) -> bool
     ensures { λ r. ⌜ FalseFound (now (codes .entry)) (now (work .entry)) i (now (sets .entry)) (now (sets .exit)) r ⌝ }
 {
-    if sets.len() == search_sets::WORDS {} else {
+    if sizes_fit(sets.len(), opened.len(), i) {} else {
         return false;
     }
     if i < Formula::ROWS {} else {
@@ -107,7 +127,7 @@ pub fn finds_false(codes: &[u16], work: &[u8], sets: &mut [u64], i: usize) -> bo
     if is_false(codes, work, i, lived(sets, i)) {
         return true;
     }
-    let start = other_live(codes, work, sets, i);
+    let start = likely(codes, work, sets, kinds, index, opened, i);
     if is_false(codes, work, i, start) {
         sets[LIVED + i] = start as u64;
         return true;
@@ -115,14 +135,16 @@ pub fn finds_false(codes: &[u16], work: &[u8], sets: &mut [u64], i: usize) -> bo
     false
 }
 
-fn sizes_fit(size: usize, rows: usize) -> bool
-    ensures { λ r. ⌜ (r ≡ true → (size ≡ sets-size) × (rows ≤ max-rows)) ⌝ }
+fn sizes_fit(size: usize, terms: usize, rows: usize) -> bool
+    ensures { λ r. ⌜ (r ≡ true → (size ≡ sets-size) × (terms ≡ open-size) × (rows ≤ max-rows)) ⌝ }
 {
-    if size == search_sets::WORDS {
-        rows <= Formula::ROWS
-    } else {
-        false
+    if size != search_sets::WORDS {
+        return false;
     }
+    if terms != search_terms::WORDS {
+        return false;
+    }
+    rows <= Formula::ROWS
 }
 
 // The terms that have a true literal by the decisions up to the one at position k, in the rows of row i's group.
@@ -169,16 +191,17 @@ fn check_rows(
     codes: &[u16],
     work: &[u8],
     sets: &mut [u64],
+    opened: &[u64],
     met: u64,
     lo: usize,
     hi: usize,
 ) -> bool
-    requires { ⌜ (length (now sets) ≡ sets-size) × (hi ≤ max-rows) ⌝ }
-    ensures { λ r. ⌜ Checked (now (kinds .entry)) (now (codes .entry)) (now (work .entry)) lo hi (now (sets .entry)) (now (sets .exit)) r ⌝ }
+    requires { ⌜ (length (now sets) ≡ sets-size) × (length (now opened) ≡ open-size) × (hi ≤ max-rows) ⌝ }
+    ensures { λ r. ⌜ Checked (now (kinds .entry)) (now (codes .entry)) (now (opened .entry)) (now (work .entry)) lo hi (now (sets .entry)) (now (sets .exit)) r ⌝ }
 {
     let mut i = lo;
     while i < hi {
-        if is_dead(kinds, codes, work, sets, met, i) {
+        if is_dead(kinds, codes, work, sets, opened, met, i) {
             sets[FAILED] = i as u64 + 1;
             return false;
         }
@@ -188,18 +211,156 @@ fn check_rows(
 }
 
 // Whether every clause has a true literal in row i. True: CUT says by which decisions. An open term that is not met has a live clause.
-fn is_dead(kinds: &[u8], codes: &[u16], work: &[u8], sets: &mut [u64], met: u64, i: usize) -> bool
-    requires { ⌜ (length (now sets) ≡ sets-size) × (i < max-rows) ⌝ }
-    ensures { λ r. ⌜ RowLooked (now (kinds .entry)) (now (codes .entry)) (now (work .entry)) i (now (sets .entry)) (now (sets .exit)) r ⌝ }
+fn is_dead(
+    kinds: &[u8],
+    codes: &[u16],
+    work: &[u8],
+    sets: &mut [u64],
+    opened: &[u64],
+    met: u64,
+    i: usize,
+) -> bool
+    requires { ⌜ (length (now sets) ≡ sets-size) × (length (now opened) ≡ open-size) × (i < max-rows) ⌝ }
+    ensures { λ r. ⌜ RowTold (now (kinds .entry)) (now (codes .entry)) (now (opened .entry)) (now (work .entry)) i (now (sets .entry)) (now (sets .exit)) r ⌝ }
 {
     let left = sets[OPEN + i] & !met;
     if left == 0 {
-        return is_blamed(kinds, codes, work, sets, i);
+        return is_lost(kinds, codes, work, sets, opened, i);
     }
-    if left == OTHERS {
+    if left == NO_TERM {
         return none_lives(kinds, codes, work, sets, i);
     }
     false
+}
+
+// The same by the terms that are open in row i, or else by reading all clauses.
+fn is_lost(
+    kinds: &[u8],
+    codes: &[u16],
+    work: &[u8],
+    sets: &mut [u64],
+    opened: &[u64],
+    i: usize,
+) -> bool
+    requires { ⌜ (length (now sets) ≡ sets-size) × (length (now opened) ≡ open-size) × (i < max-rows) ⌝ }
+    ensures { λ r. ⌜ RowTold (now (kinds .entry)) (now (codes .entry)) (now (opened .entry)) (now (work .entry)) i (now (sets .entry)) (now (sets .exit)) r ⌝ }
+{
+    search_sets::empty(sets, CUT);
+    if terms_met(kinds, codes, work, sets, opened, i) {
+        return true;
+    }
+    is_blamed(kinds, codes, work, sets, i)
+}
+
+// Whether each term that is open in row i has a true own literal there, whose set is taken in at CUT, and no clause of no term is open.
+fn terms_met(
+    kinds: &[u8],
+    codes: &[u16],
+    work: &[u8],
+    sets: &mut [u64],
+    opened: &[u64],
+    i: usize,
+) -> bool
+    requires { ⌜ (length (now sets) ≡ sets-size) × (length (now opened) ≡ open-size) × (i < max-rows) ⌝ }
+    ensures { λ r. ⌜ TermsMet (now (kinds .entry)) (now (codes .entry)) (now (opened .entry)) (now (work .entry)) i (now (sets .entry)) (now (sets .exit)) r ⌝ }
+{
+    let mut t = 0;
+    while t < OTHERS {
+        if is_passed(kinds, codes, work, sets, opened, i, t) {} else {
+            return false;
+        }
+        t += 1;
+    }
+    if is_open(opened, OTHERS, i) {
+        return false;
+    }
+    true
+}
+
+// The same of the term t alone.
+fn is_passed(
+    kinds: &[u8],
+    codes: &[u16],
+    work: &[u8],
+    sets: &mut [u64],
+    opened: &[u64],
+    i: usize,
+    t: usize,
+) -> bool
+    requires { ⌜ (length (now sets) ≡ sets-size) × (length (now opened) ≡ open-size) × (i < max-rows) × (t < others) ⌝ }
+    ensures { λ r. ⌜ TermPassed (now (kinds .entry)) (now (codes .entry)) (now (opened .entry)) (now (work .entry)) i t (now (sets .entry)) (now (sets .exit)) r ⌝ }
+{
+    if is_open(opened, t, i) {
+        return is_met(kinds, codes, work, sets, i, first(opened, t));
+    }
+    true
+}
+
+// Whether the place t is open in row i.
+fn is_open(opened: &[u64], t: usize, i: usize) -> bool
+    requires { ⌜ (length (now opened) ≡ open-size) × (t ≤ others) × (i < max-rows) ⌝ }
+    ensures { λ r. ⌜ r ≡ is-open (now (opened .entry)) t i ⌝ }
+{
+    (opened[search_terms::ACROSS * t + i / 64] >> (i % 64)) % 2 == 1
+}
+
+// The start of the clause that stands for the term t.
+fn first(opened: &[u64], t: usize) -> usize
+    requires { ⌜ (length (now opened) ≡ open-size) × (t < others) ⌝ }
+    ensures { λ r. ⌜ r ≡ name-of (now (opened .entry)) t ⌝ }
+{
+    opened[search_terms::NAMES + t] as usize
+}
+
+// Whether the clause at `start` has an own literal that is true in row i. True: the set of the earliest is taken in at CUT.
+fn is_met(
+    kinds: &[u8],
+    codes: &[u16],
+    work: &[u8],
+    sets: &mut [u64],
+    i: usize,
+    start: usize,
+) -> bool
+    requires { ⌜ length (now sets) ≡ sets-size ⌝ }
+    ensures { λ r. ⌜ TermMet (now (kinds .entry)) (now (codes .entry)) (now (work .entry)) i start (now (sets .entry)) (now (sets .exit)) r ⌝ }
+{
+    let best = earliest_own(kinds, codes, work, i, start);
+    if best == CUT {
+        return false;
+    }
+    take_in(sets, best);
+    true
+}
+
+// Of the own literals of the clause at `start` that are true in row i the position that was set at the lowest level; CUT if there is none.
+fn earliest_own(kinds: &[u8], codes: &[u16], work: &[u8], i: usize, start: usize) -> usize
+    ensures { λ r. ⌜ (r ≡ max-unknowns) ⊎ OwnTrue (now (kinds .entry)) (now (codes .entry)) (now (work .entry)) i start r ⌝ }
+{
+    let mut best = CUT;
+    let mut e = start;
+    while e < codes.len() {
+        let c = wide(codes[e]);
+        e += 1;
+        if c == 0 {
+            return best;
+        }
+        best = earlier_own(kinds, work, i, best, c);
+    }
+    best
+}
+
+// The best position so far, or that of the literal of code c if it is own, true in row i and was set at a lower level.
+fn earlier_own(kinds: &[u8], work: &[u8], i: usize, best: usize, c: usize) -> usize
+    ensures { λ r. ⌜ (r ≡ best) ⊎ ((r ≡ row-position c) × (own (now (kinds .entry)) c ≡ true) × (satisfied-at (now (work .entry)) i c ≡ true)) ⌝ }
+{
+    let p = position(c);
+    if is_own(kinds, p) {} else {
+        return best;
+    }
+    if search_evaluation::satisfied(work, i, c) {} else {
+        return best;
+    }
+    earlier(work, i, best, p)
 }
 
 // The same by a clause that lived there, or the next one that does.
@@ -243,6 +404,17 @@ fn lived(sets: &[u64], i: usize) -> usize
 fn other_live(codes: &[u16], work: &[u8], sets: &[u64], i: usize) -> usize
     requires { ⌜ (length (now sets) ≡ sets-size) × (i < max-rows) ⌝ }
 {
+    let near = near_live(codes, work, sets, i);
+    if near < codes.len() {
+        return near;
+    }
+    search_evaluation::next_live(codes, work, i, lived(sets, i))
+}
+
+// That of the row before or behind; the number of entries if neither lives in row i.
+fn near_live(codes: &[u16], work: &[u8], sets: &[u64], i: usize) -> usize
+    requires { ⌜ (length (now sets) ≡ sets-size) × (i < max-rows) ⌝ }
+{
     if i > 0 {
         let before = lived(sets, i - 1);
         if search_evaluation::lives(codes, work, i, before) {
@@ -255,7 +427,90 @@ fn other_live(codes: &[u16], work: &[u8], sets: &[u64], i: usize) -> usize
             return behind;
         }
     }
+    codes.len()
+}
+
+// Where all cells of row i are set, the start of a clause that may be false there: that of the row before or behind, one with a literal of a term
+// that is open and not met, or the next one from row i's on.
+fn likely(
+    codes: &[u16],
+    work: &[u8],
+    sets: &[u64],
+    kinds: &[u8],
+    index: &[u16],
+    opened: &[u64],
+    i: usize,
+) -> usize
+    requires { ⌜ (length (now sets) ≡ sets-size) × (length (now opened) ≡ open-size) × (i < max-rows) ⌝ }
+{
+    let near = near_live(codes, work, sets, i);
+    if near < codes.len() {
+        return near;
+    }
+    let t = unmet_term(sets, kinds, i);
+    if t < OTHERS {
+        let c = own_code(kinds, codes, first(opened, t));
+        let listed = live_with(codes, work, index, i, c);
+        if listed < codes.len() {
+            return listed;
+        }
+    }
     search_evaluation::next_live(codes, work, i, lived(sets, i))
+}
+
+// A term that is open in row i and has no true literal by all decisions; no term if there is none.
+fn unmet_term(sets: &[u64], kinds: &[u8], i: usize) -> usize
+    requires { ⌜ (length (now sets) ≡ sets-size) × (i < max-rows) ⌝ }
+{
+    if kinds.len() <= Formula::UNKNOWNS {} else {
+        return OTHERS;
+    }
+    let met = sets[TRUE + decided_before(kinds, kinds.len())];
+    lowest(sets[OPEN + i] & !met)
+}
+
+// The lowest bit of a word; 64 if there is none.
+fn lowest(word: u64) -> usize {
+    u64::trailing_zeros(word) as usize
+}
+
+// The first own literal of the clause at `start`; 0 if there is none.
+fn own_code(kinds: &[u8], codes: &[u16], start: usize) -> usize {
+    let mut e = start;
+    while e < codes.len() {
+        let c = wide(codes[e]);
+        e += 1;
+        if c == 0 {
+            return 0;
+        }
+        if is_own(kinds, position(c)) {
+            return c;
+        }
+    }
+    0
+}
+
+// The start of a clause with the code c that has no true literal in row i, found through the index; the number of entries if there is none.
+fn live_with(codes: &[u16], work: &[u8], index: &[u16], i: usize, c: usize) -> usize {
+    if index.len() != index::SIZE {
+        return codes.len();
+    }
+    if c > LAST_CODE {
+        return codes.len();
+    }
+    let end = wide(index[index::CODES + c]);
+    let mut at = wide(index[c]);
+    while at < end {
+        if at < index.len() {} else {
+            return codes.len();
+        }
+        let start = wide(index[at]);
+        if search_evaluation::lives(codes, work, i, start) {
+            return start;
+        }
+        at += 1;
+    }
+    codes.len()
 }
 
 // Whether a clause begins at `start`, and all its literals are false in row i.
@@ -344,6 +599,17 @@ fn earlier(work: &[u8], i: usize, k: usize, l: usize) -> usize
         return k;
     }
     l
+}
+
+// Whether the unknown at position p is universal.
+fn is_own(kinds: &[u8], p: usize) -> bool
+    ensures { λ r. ⌜ (r ≡ true → IsOwn (now (kinds .entry)) p) ⌝ }
+{
+    if p < kinds.len() {
+        kinds[p] == UNIVERSAL
+    } else {
+        false
+    }
 }
 
 // Whether the rows give the value at position p.

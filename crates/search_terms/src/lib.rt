@@ -21,7 +21,7 @@ ghost use Rattle.search_terms.specs.Steps.{Past, EntryMade, Closed, Name
 pub const OTHERS: usize = 63;
 
 // Words of 64 rows.
-const ACROSS: usize = Formula::ROWS / 64;
+pub const ACROSS: usize = Formula::ROWS / 64;
 
 // In the table of terms: the clauses' terms behind their starts, a clause for each term, and the number of clauses.
 const ROOM: usize = Formula::CLAUSES;
@@ -39,7 +39,7 @@ const REST: u16 = OTHERS as u16;
 const NONE: u16 = 65_535;
 
 // In the table of open rows: the first clauses behind the rows.
-const NAMES: usize = ACROSS * (OTHERS + 1);
+pub const NAMES: usize = ACROSS * (OTHERS + 1);
 
 pub const WORDS: usize = NAMES + OTHERS + 1;
 

@@ -9,7 +9,7 @@ sizes-fit-requires : tie.Need-sizes-fit-requires
 sizes-fit-requires c κs = tt
 
 returns : tie.Need-returns
-returns c = rows-live _ _ _ _ _ _ _ (record { same = λ p lt l. refl })
+returns c = rows-live _ _ _ _ _ _ _ _ (record { same = λ p lt l. refl })
 
 check-rows-requires : tie.Need-check-rows-requires
 check-rows-requires c κs = c .before .before .sizes-fit .ensures (c .before .if1 .taken)

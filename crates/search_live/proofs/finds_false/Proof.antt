@@ -7,6 +7,9 @@ use borrow.Author.Needs.{needs}
 use Rattle.search_live.proofs.finds_false.Statement.{statement}
 use Rattle.search_live.proofs.finds_false.Tie as tie
 
+sizes-fit-requires : tie.Need-sizes-fit-requires
+sizes-fit-requires c κs = tt
+
 returns : tie.Need-returns
 returns c = false-unknown _ _ _ _
 
@@ -14,7 +17,7 @@ returns-2 : tie.Need-returns-2
 returns-2 c = false-unknown _ _ _ _
 
 lived-requires : tie.Need-lived-requires
-lived-requires c κs = search needs
+lived-requires c κs = (c .before .before .before .sizes-fit .ensures (c .before .before .if1 .taken) .0, c .before .if2 .taken)
 
 is-false-requires : tie.Need-is-false-requires
 is-false-requires c κs = tt
@@ -25,8 +28,8 @@ same-length c = search needs
 returns-3 : tie.Need-returns-3
 returns-3 c = false-found _ _ _ _ _ _ (record { same = λ p lt l. refl }) (c .before .is-false .ensures (c .if3 .taken))
 
-other-live-requires : tie.Need-other-live-requires
-other-live-requires c κs = search needs
+likely-requires : tie.Need-likely-requires
+likely-requires c κs = (c .before .before .before .before .before .before .before .sizes-fit .ensures (c .before .before .before .before .before .before .if1 .taken) .0, c .before .before .before .before .before .before .before .sizes-fit .ensures (c .before .before .before .before .before .before .if1 .taken) .1, c .before .before .before .before .before .if2 .taken)
 
 is-false-requires-2 : tie.Need-is-false-requires-2
 is-false-requires-2 c κs = tt
@@ -38,7 +41,7 @@ mul-sets : tie.Need-mul-sets
 mul-sets c = search needs
 
 slice-write-sets : tie.Need-slice-write-sets
-slice-write-sets c = search needs
+slice-write-sets c = let size = c .before .before .before .before .before .before .before .before .before .before .sizes-fit .ensures (c .before .before .before .before .before .before .before .before .before .if1 .taken) .0 in omega (arith, c .before .before .before .before .before .before .before .before .if2 .taken)
 
 same-length-2 : tie.Need-same-length-2
 same-length-2 c = search needs
@@ -56,13 +59,14 @@ pub finds-false-spec : {M : Type 1} → statement M
 finds-false-spec =
     tie.close
     (tie.spec
+    sizes-fit-requires
     returns
     returns-2
     lived-requires
     is-false-requires
     same-length
     returns-3
-    other-live-requires
+    likely-requires
     is-false-requires-2
     add-sets
     mul-sets
