@@ -6,21 +6,22 @@ use mathlib.Core.Logic.{_↔_, _⊎_}
 use mathlib.Core.Bool.{Bool, true, false, cond}
 use mathlib.Core.List.{List}
 use lib.Dec.{eqb}
-use lib.ListN.{length, getD}
+use lib.ListN.{length, getD, drop}
 use Rattle.formula.specs.Formula.{max-unknowns, max-rows, max-entries, work-size}
 use Rattle.expansion.proofs.Cuts.{Mask, Problem, Agree, Sound, Refuted}
 use Rattle.expansion.proofs.Node.{Node, Won, Grown, MasksWithin}
+use Rattle.expansion.proofs.ClauseCuts.{Some}
 use Rattle.search_cells.specs.Cells.{cells, wants}
 use Rattle.search_cells.specs.Changes.{SameWants}
 use Rattle.index.specs.Index.{code-count, index-size, index-of}
 use Rattle.search_sets.specs.Sets.{sets-size}
 use Rattle.search_sets.specs.Masks.{set-at, masks, cut, SetsKept}
 use Rattle.codes.specs.Codes.{last-code}
-use Rattle.codes.specs.Clauses.{Ended, code-goal, Begins, Coded}
+use Rattle.codes.specs.Clauses.{Ended, code-true, code-goal, clause-of, Begins, Coded}
 use Rattle.search_reasons.specs.Reasons.{IsReason}
 use Rattle.search_groups.specs.Parts.{Parting, PartedAt}
-use Rattle.search_terms.specs.Tables.{table-size}
-use Rattle.search_terms.specs.Terms.{Listed as TermsListed}
+use Rattle.search_terms.specs.Tables.{others, table-size, is-open}
+use Rattle.search_terms.specs.Terms.{own, TermOpen, Listed as TermsListed}
 
 -- The sorted rows: entry i of `splits` is the first position where row i and the row before it have different values, or past the last.
 -- The codes are the clauses; the side is 0 or 1.
@@ -34,6 +35,17 @@ pub record Fits (P : Problem) (kinds splits codes : List ℕ) (side : ℕ) : Typ
   pub together : (i h g k : ℕ) → i ≤ h → h ≤ g → g < length splits → k ≤ length kinds → Agree P i g k → Agree P i h k
   pub ended : Ended codes
   pub coded : Coded (P .n) codes
+
+-- The literal of code c is given, and true in row i.
+pub record GivenIn (P : Problem) (kinds : List ℕ) (i c : ℕ) : Type 0 where
+  pub given : own kinds c ≡ false
+  pub is : code-true (P .given i) c ≡ true
+
+-- .. and on the universal side a clause without a true given literal is in a term that is open in the row.
+pub record Viewed (P : Problem) (kinds splits codes opened : List ℕ) (side : ℕ) : Type 0 where
+  pub fits : Fits P kinds splits codes side
+  pub shown : side ≡ 1 → (i start : ℕ) → i < P .count → start < length codes → Begins codes start
+      → Some (GivenIn P kinds i) (clause-of (drop start codes)) ⊎ TermOpen kinds codes opened i start ⊎ (is-open opened others i ≡ true)
 
 -- From the work area w and the sets s to u and t: open cells of the group were set, the sets grew, and the group is still a node or is refuted.
 pub record Settled (P : Problem) (k lo hi : ℕ) (v : ℕ → Bool) (mark : ℕ) (w u s t : List ℕ) (r : Bool) : Type 0 where
@@ -49,11 +61,11 @@ Settles side splits codes lo hi mark w u s t r =
     → Fits P kinds splits codes side → Node P k lo hi v (cells w) (masks s) → 0 < mark → mark ≤ k + 1
     → Settled P k lo hi v mark w u s t r
 
--- The same over the kinds that are lent.
-abbrev pub SettlesFor : List ℕ → ℕ → List ℕ → List ℕ → ℕ → ℕ → ℕ → List ℕ → List ℕ → List ℕ → List ℕ → Bool → Type 0
-SettlesFor kinds side splits codes lo hi mark w u s t r =
+-- The same over the kinds and the open terms that are lent.
+abbrev pub SettlesFor : List ℕ → ℕ → List ℕ → List ℕ → List ℕ → ℕ → ℕ → ℕ → List ℕ → List ℕ → List ℕ → List ℕ → Bool → Type 0
+SettlesFor kinds side splits codes opened lo hi mark w u s t r =
     (P : Problem) (k : ℕ) (v : ℕ → Bool)
-    → Fits P kinds splits codes side → Node P k lo hi v (cells w) (masks s) → 0 < mark → mark ≤ k + 1
+    → Viewed P kinds splits codes opened side → Node P k lo hi v (cells w) (masks s) → 0 < mark → mark ≤ k + 1
     → Settled P k lo hi v mark w u s t r
 
 -- A search of the group lo to hi from position k on: it succeeds, or is refuted.
@@ -64,10 +76,10 @@ pub record Searched (P : Problem) (k lo hi : ℕ) (v : ℕ → Bool) (w u s t : 
   pub won : r ≡ true → Won P k lo hi (cells u)
   pub failed : r ≡ false → Refuted P k v (cut t) lo
 
-abbrev pub Searches : List ℕ → List ℕ → List ℕ → ℕ → ℕ → ℕ → ℕ → List ℕ → List ℕ → List ℕ → List ℕ → Bool → Type 0
-Searches kinds splits codes side k lo hi w u s t r =
+abbrev pub Searches : List ℕ → List ℕ → List ℕ → List ℕ → ℕ → ℕ → ℕ → ℕ → List ℕ → List ℕ → List ℕ → List ℕ → Bool → Type 0
+Searches kinds splits codes opened side k lo hi w u s t r =
     (P : Problem) (v : ℕ → Bool)
-    → Fits P kinds splits codes side → ((i j : ℕ) → i < P .count → j < P .n → P .own j ≡ true → wants w i j ≡ P .wanted i j) → Node P k lo hi v (cells w) (masks s)
+    → Viewed P kinds splits codes opened side → ((i j : ℕ) → i < P .count → j < P .n → P .own j ≡ true → wants w i j ≡ P .wanted i j) → Node P k lo hi v (cells w) (masks s)
     → Searched P k lo hi v w u s t r
 
 -- The values v with y at position k.
@@ -83,32 +95,32 @@ pub record Tried (P : Problem) (k lo hi : ℕ) (v : ℕ → Bool) (y : Bool) (w 
   pub won : r ≡ true → Won P (k + 1) lo hi (cells u)
   pub failed : r ≡ false → Refuted P (k + 1) (with-value k y v) (cut t) lo
 
-abbrev pub Tries : List ℕ → List ℕ → List ℕ → ℕ → ℕ → ℕ → ℕ → Bool → List ℕ → List ℕ → List ℕ → List ℕ → Bool → Type 0
-Tries kinds splits codes side k lo hi y w u s t r =
+abbrev pub Tries : List ℕ → List ℕ → List ℕ → List ℕ → ℕ → ℕ → ℕ → ℕ → Bool → List ℕ → List ℕ → List ℕ → List ℕ → Bool → Type 0
+Tries kinds splits codes opened side k lo hi y w u s t r =
     (P : Problem) (v : ℕ → Bool)
-    → Fits P kinds splits codes side → ((i j : ℕ) → i < P .count → j < P .n → P .own j ≡ true → wants w i j ≡ P .wanted i j) → Node P k lo hi v (cells w) (masks s)
+    → Viewed P kinds splits codes opened side → ((i j : ℕ) → i < P .count → j < P .n → P .own j ≡ true → wants w i j ≡ P .wanted i j) → Node P k lo hi v (cells w) (masks s)
     → P .own k ≡ true → cells w .level lo k ≡ 0
     → Tried P k lo hi v y w u s t r
 
 -- A choice at the own position k, open in the group.
-abbrev pub Chooses : List ℕ → List ℕ → List ℕ → ℕ → ℕ → ℕ → ℕ → List ℕ → List ℕ → List ℕ → List ℕ → Bool → Type 0
-Chooses kinds splits codes side k lo hi w u s t r =
+abbrev pub Chooses : List ℕ → List ℕ → List ℕ → List ℕ → ℕ → ℕ → ℕ → ℕ → List ℕ → List ℕ → List ℕ → List ℕ → Bool → Type 0
+Chooses kinds splits codes opened side k lo hi w u s t r =
     (P : Problem) (v : ℕ → Bool)
-    → Fits P kinds splits codes side → ((i j : ℕ) → i < P .count → j < P .n → P .own j ≡ true → wants w i j ≡ P .wanted i j) → Node P k lo hi v (cells w) (masks s)
+    → Viewed P kinds splits codes opened side → ((i j : ℕ) → i < P .count → j < P .n → P .own j ≡ true → wants w i j ≡ P .wanted i j) → Node P k lo hi v (cells w) (masks s)
     → P .own k ≡ true → cells w .level lo k ≡ 0
     → Searched P k lo hi v w u s t r
 
 -- The other value at k, over what the trial of y, the wanted one, left when it failed.
-abbrev pub Retries : List ℕ → List ℕ → List ℕ → ℕ → ℕ → ℕ → ℕ → Bool → List ℕ → List ℕ → List ℕ → List ℕ → Bool → Type 0
-Retries kinds splits codes side k lo hi y w1 u s1 t r =
-    (w s : List ℕ) → wants w lo k ≡ y → Tries kinds splits codes side k lo hi y w w1 s s1 false
-    → Chooses kinds splits codes side k lo hi w u s t r
+abbrev pub Retries : List ℕ → List ℕ → List ℕ → List ℕ → ℕ → ℕ → ℕ → ℕ → Bool → List ℕ → List ℕ → List ℕ → List ℕ → Bool → Type 0
+Retries kinds splits codes opened side k lo hi y w1 u s1 t r =
+    (w s : List ℕ) → wants w lo k ≡ y → Tries kinds splits codes opened side k lo hi y w w1 s s1 false
+    → Chooses kinds splits codes opened side k lo hi w u s t r
 
 -- The search at the position behind those that stand.
-abbrev pub Steps : List ℕ → List ℕ → List ℕ → ℕ → ℕ → ℕ → ℕ → ℕ → ℕ → List ℕ → List ℕ → List ℕ → List ℕ → Bool → Type 0
-Steps kinds splits codes side at until lo mid hi w u s t r =
+abbrev pub Steps : List ℕ → List ℕ → List ℕ → List ℕ → ℕ → ℕ → ℕ → ℕ → ℕ → ℕ → List ℕ → List ℕ → List ℕ → List ℕ → Bool → Type 0
+Steps kinds splits codes opened side at until lo mid hi w u s t r =
     (P : Problem) (v : ℕ → Bool)
-    → Fits P kinds splits codes side → ((i j : ℕ) → i < P .count → j < P .n → P .own j ≡ true → wants w i j ≡ P .wanted i j) → Node P at lo hi v (cells w) (masks s)
+    → Viewed P kinds splits codes opened side → ((i j : ℕ) → i < P .count → j < P .n → P .own j ≡ true → wants w i j ≡ P .wanted i j) → Node P at lo hi v (cells w) (masks s)
     → Parting splits lo hi mid → PartedAt splits lo mid (length kinds) until → at ≤ until
     → (at < until → (P .own at ≡ true) × (cells w .level lo at ≡ 0))
     → (until < length kinds → P .own until ≡ false)

@@ -37,8 +37,20 @@ pub(crate) fn from_start(
     let mut opened = [0u64; search_terms::WORDS];
     let hi = splits.len();
     open_terms(kinds, codes, terms, side, work, hi, &mut opened, &mut sets);
-    if look_around(kinds, splits, codes, work, &mut sets, index, side) {
-        solve(kinds, splits, codes, work, &mut sets, index, side, 0, 0, hi)
+    if look_around(kinds, splits, codes, work, &mut sets, index, &opened, side) {
+        solve(
+            kinds,
+            splits,
+            codes,
+            work,
+            &mut sets,
+            index,
+            &opened,
+            side,
+            0,
+            0,
+            hi,
+        )
     } else {
         false
     }
@@ -71,14 +83,15 @@ fn look_around(
     work: &mut [u8],
     sets: &mut [u64],
     index: &[u16],
+    opened: &[u64],
     side: u8,
 ) -> bool
     requires { ⌜ Lent side (now splits) (now codes) (now work) (now sets) (now index) ⌝ }
-    requires { ⌜ side ≤ 1 ⌝ }
-    ensures { λ r. ⌜ (Indexed side (now (codes .entry)) (now (index .entry)) → SettlesFor (now (kinds .entry)) side (now (splits .entry)) (now (codes .entry)) 0 (length (now (splits .entry))) 1 (now (work .entry)) (now (work .exit)) (now (sets .entry)) (now (sets .exit)) r) ⌝ }
+    requires { ⌜ (length (now kinds) ≤ max-unknowns) × (side ≤ 1) ⌝ }
+    ensures { λ r. ⌜ (Indexed side (now (codes .entry)) (now (index .entry)) → SettlesFor (now (kinds .entry)) side (now (splits .entry)) (now (codes .entry)) (now (opened .entry)) 0 (length (now (splits .entry))) 1 (now (work .entry)) (now (work .exit)) (now (sets .entry)) (now (sets .exit)) r) ⌝ }
 {
     if side == 1 {
-        search_live::check_given(kinds, codes, work, sets, splits.len())
+        search_live::check_given(kinds, codes, work, sets, opened, splits.len())
     } else {
         force::survey(kinds, splits, codes, work, sets, index)
     }
@@ -92,6 +105,7 @@ fn solve(
     work: &mut [u8],
     sets: &mut [u64],
     index: &[u16],
+    opened: &[u64],
     side: u8,
     k: usize,
     lo: usize,
@@ -99,7 +113,7 @@ fn solve(
 ) -> bool
     requires { ⌜ Lent side (now splits) (now codes) (now work) (now sets) (now index) ⌝ }
     requires { ⌜ (length (now kinds) ≤ max-unknowns) × (side ≤ 1) × (k ≤ length (now kinds)) × (lo < hi) × (hi ≤ length (now splits)) ⌝ }
-    ensures { λ r. ⌜ (Indexed side (now (codes .entry)) (now (index .entry)) → Searches (now (kinds .entry)) (now (splits .entry)) (now (codes .entry)) side k lo hi (now (work .entry)) (now (work .exit)) (now (sets .entry)) (now (sets .exit)) r) ⌝ }
+    ensures { λ r. ⌜ (Indexed side (now (codes .entry)) (now (index .entry)) → Searches (now (kinds .entry)) (now (splits .entry)) (now (codes .entry)) (now (opened .entry)) side k lo hi (now (work .entry)) (now (work .exit)) (now (sets .entry)) (now (sets .exit)) r) ⌝ }
 {
     let mid = search_groups::parting(splits, lo, hi);
     let until = search_groups::parted_at(splits, lo, mid, kinds.len());
@@ -111,6 +125,7 @@ fn solve(
         work,
         sets,
         index,
+        opened,
         side,
         at,
         until,
@@ -133,6 +148,7 @@ fn step(
     work: &mut [u8],
     sets: &mut [u64],
     index: &[u16],
+    opened: &[u64],
     side: u8,
     at: usize,
     until: usize,
@@ -143,13 +159,25 @@ fn step(
     requires { ⌜ Lent side (now splits) (now codes) (now work) (now sets) (now index) ⌝ }
     requires { ⌜ (length (now kinds) ≤ max-unknowns) × (side ≤ 1) × (at ≤ length (now kinds)) × (until ≤ length (now kinds)) × (lo < hi) × (hi ≤ length (now splits)) ⌝ }
     requires { ⌜ (lo ≤ mid) × (mid < hi) × (until < length (now kinds) → lo < mid) ⌝ }
-    ensures { λ r. ⌜ (Indexed side (now (codes .entry)) (now (index .entry)) → Steps (now (kinds .entry)) (now (splits .entry)) (now (codes .entry)) side at until lo mid hi (now (work .entry)) (now (work .exit)) (now (sets .entry)) (now (sets .exit)) r) ⌝ }
+    ensures { λ r. ⌜ (Indexed side (now (codes .entry)) (now (index .entry)) → Steps (now (kinds .entry)) (now (splits .entry)) (now (codes .entry)) (now (opened .entry)) side at until lo mid hi (now (work .entry)) (now (work .exit)) (now (sets .entry)) (now (sets .exit)) r) ⌝ }
 {
     if at == kinds.len() {
-        return reached(codes, work, sets, side, lo);
+        return reached(codes, work, sets, kinds, index, opened, side, lo);
     }
     if at < until {
-        return choose(kinds, splits, codes, work, sets, index, side, at, lo, hi);
+        return choose(
+            kinds,
+            splits,
+            codes,
+            work,
+            sets,
+            index,
+            opened,
+            side,
+            at,
+            lo,
+            hi,
+        );
     }
     let low = hints::failed_between(sets, lo, mid);
     let from = either(low, lo, mid);
@@ -163,6 +191,7 @@ fn step(
         work,
         sets,
         index,
+        opened,
         side,
         at + 1,
         from,
@@ -178,6 +207,7 @@ fn step(
         work,
         sets,
         index,
+        opened,
         side,
         at + 1,
         other_from,
@@ -199,6 +229,7 @@ fn choose(
     work: &mut [u8],
     sets: &mut [u64],
     index: &[u16],
+    opened: &[u64],
     side: u8,
     k: usize,
     lo: usize,
@@ -206,7 +237,7 @@ fn choose(
 ) -> bool
     requires { ⌜ Lent side (now splits) (now codes) (now work) (now sets) (now index) ⌝ }
     requires { ⌜ (length (now kinds) ≤ max-unknowns) × (side ≤ 1) × (k < length (now kinds)) × (lo < hi) × (hi ≤ length (now splits)) ⌝ }
-    ensures { λ r. ⌜ (Indexed side (now (codes .entry)) (now (index .entry)) → Chooses (now (kinds .entry)) (now (splits .entry)) (now (codes .entry)) side k lo hi (now (work .entry)) (now (work .exit)) (now (sets .entry)) (now (sets .exit)) r) ⌝ }
+    ensures { λ r. ⌜ (Indexed side (now (codes .entry)) (now (index .entry)) → Chooses (now (kinds .entry)) (now (splits .entry)) (now (codes .entry)) (now (opened .entry)) side k lo hi (now (work .entry)) (now (work .exit)) (now (sets .entry)) (now (sets .exit)) r) ⌝ }
 {
     let wanted = table::wanted(work, lo, k);
     if attempt(
@@ -216,6 +247,7 @@ fn choose(
         work,
         sets,
         index,
+        opened,
         side,
         k,
         lo,
@@ -234,6 +266,7 @@ fn choose(
         work,
         sets,
         index,
+        opened,
         side,
         k,
         lo,
@@ -250,6 +283,7 @@ fn retry(
     work: &mut [u8],
     sets: &mut [u64],
     index: &[u16],
+    opened: &[u64],
     side: u8,
     k: usize,
     lo: usize,
@@ -258,7 +292,7 @@ fn retry(
 ) -> bool
     requires { ⌜ Lent side (now splits) (now codes) (now work) (now sets) (now index) ⌝ }
     requires { ⌜ (length (now kinds) ≤ max-unknowns) × (side ≤ 1) × (k < length (now kinds)) × (lo < hi) × (hi ≤ length (now splits)) ⌝ }
-    ensures { λ r. ⌜ (Indexed side (now (codes .entry)) (now (index .entry)) → Retries (now (kinds .entry)) (now (splits .entry)) (now (codes .entry)) side k lo hi tried (now (work .entry)) (now (work .exit)) (now (sets .entry)) (now (sets .exit)) r) ⌝ }
+    ensures { λ r. ⌜ (Indexed side (now (codes .entry)) (now (index .entry)) → Retries (now (kinds .entry)) (now (splits .entry)) (now (codes .entry)) (now (opened .entry)) side k lo hi tried (now (work .entry)) (now (work .exit)) (now (sets .entry)) (now (sets .exit)) r) ⌝ }
 {
     search_cells::undo(work, lo, hi, k as u8 + 1);
     search_sets::trim(sets, k, kinds.len());
@@ -271,6 +305,7 @@ fn retry(
         work,
         sets,
         index,
+        opened,
         side,
         k,
         lo,
@@ -293,6 +328,7 @@ fn attempt(
     work: &mut [u8],
     sets: &mut [u64],
     index: &[u16],
+    opened: &[u64],
     side: u8,
     k: usize,
     lo: usize,
@@ -301,12 +337,36 @@ fn attempt(
 ) -> bool
     requires { ⌜ Lent side (now splits) (now codes) (now work) (now sets) (now index) ⌝ }
     requires { ⌜ (length (now kinds) ≤ max-unknowns) × (side ≤ 1) × (k < length (now kinds)) × (lo < hi) × (hi ≤ length (now splits)) ⌝ }
-    ensures { λ r. ⌜ (Indexed side (now (codes .entry)) (now (index .entry)) → Tries (now (kinds .entry)) (now (splits .entry)) (now (codes .entry)) side k lo hi value (now (work .entry)) (now (work .exit)) (now (sets .entry)) (now (sets .exit)) r) ⌝ }
+    ensures { λ r. ⌜ (Indexed side (now (codes .entry)) (now (index .entry)) → Tries (now (kinds .entry)) (now (splits .entry)) (now (codes .entry)) (now (opened .entry)) side k lo hi value (now (work .entry)) (now (work .exit)) (now (sets .entry)) (now (sets .exit)) r) ⌝ }
 {
     search_sets::add(sets, k, k);
     search_cells::set_rows(work, k, lo, hi, k as u8 + 2, value);
-    if follow(kinds, splits, codes, work, sets, index, side, k, lo, hi) {
-        solve(kinds, splits, codes, work, sets, index, side, k + 1, lo, hi)
+    if follow(
+        kinds,
+        splits,
+        codes,
+        work,
+        sets,
+        index,
+        opened,
+        side,
+        k,
+        lo,
+        hi,
+    ) {
+        solve(
+            kinds,
+            splits,
+            codes,
+            work,
+            sets,
+            index,
+            opened,
+            side,
+            k + 1,
+            lo,
+            hi,
+        )
     } else {
         false
     }
@@ -320,17 +380,18 @@ fn follow(
     work: &mut [u8],
     sets: &mut [u64],
     index: &[u16],
+    opened: &[u64],
     side: u8,
     k: usize,
     lo: usize,
     hi: usize,
 ) -> bool
     requires { ⌜ Lent side (now splits) (now codes) (now work) (now sets) (now index) ⌝ }
-    requires { ⌜ (side ≤ 1) × (k < max-unknowns) × (lo < hi) × (hi ≤ length (now splits)) ⌝ }
-    ensures { λ r. ⌜ (Indexed side (now (codes .entry)) (now (index .entry)) → SettlesFor (now (kinds .entry)) side (now (splits .entry)) (now (codes .entry)) lo hi (k + 2) (now (work .entry)) (now (work .exit)) (now (sets .entry)) (now (sets .exit)) r) ⌝ }
+    requires { ⌜ (length (now kinds) ≤ max-unknowns) × (side ≤ 1) × (k < max-unknowns) × (lo < hi) × (hi ≤ length (now splits)) ⌝ }
+    ensures { λ r. ⌜ (Indexed side (now (codes .entry)) (now (index .entry)) → SettlesFor (now (kinds .entry)) side (now (splits .entry)) (now (codes .entry)) (now (opened .entry)) lo hi (k + 2) (now (work .entry)) (now (work .exit)) (now (sets .entry)) (now (sets .exit)) r) ⌝ }
 {
     if side == 1 {
-        search_live::check(kinds, codes, work, sets, k, lo, hi)
+        search_live::check(kinds, codes, work, sets, opened, k, lo, hi)
     } else {
         force::propagate(splits, codes, work, sets, index, k, lo, hi)
     }
@@ -338,14 +399,23 @@ fn follow(
 
 // Whether the values of row i reach the side's goal. Where they do not, every position is to blame. The universal side's goal is a false
 // clause, which may be known.
-fn reached(codes: &[u16], work: &[u8], sets: &mut [u64], side: u8, i: usize) -> bool
+fn reached(
+    codes: &[u16],
+    work: &[u8],
+    sets: &mut [u64],
+    kinds: &[u8],
+    index: &[u16],
+    opened: &[u64],
+    side: u8,
+    i: usize,
+) -> bool
     requires { ⌜ (length (now work) ≡ work-size) × (length (now sets) ≡ sets-size) × (i < max-rows) × (side ≤ 1) × Coded max-unknowns (now codes) ⌝ }
     ensures { λ r. ⌜ Reached (now (codes .entry)) side (now (work .entry)) i (now (sets .entry)) (now (sets .exit)) r ⌝ }
 {
     if side == 0 {
         return values_reach(codes, work, sets, side, i);
     }
-    if search_live::finds_false(codes, work, sets, i) {
+    if search_live::finds_false(codes, work, sets, kinds, index, opened, i) {
         return true;
     }
     values_reach(codes, work, sets, side, i)

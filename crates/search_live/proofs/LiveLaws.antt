@@ -42,7 +42,7 @@ coded-every n (suc c ∷ cs) h =
     every-onto (λ x. (2 ≤ x) × (position x < n)) (suc c) (code-clauses cs) (h 0 (omega arith) (omega arith))
     (coded-every n cs (λ e lt. h (suc e) (suc-le-suc lt)))
 
-some-with : (Q R : ℕ → Type 0) (x : List ℕ) → Every Q x → Some R x → Some (λ c. Q c × R c) x
+pub some-with : (Q R : ℕ → Type 0) (x : List ℕ) → Every Q x → Some R x → Some (λ c. Q c × R c) x
 some-with Q R (c ∷ x) q (inl r) = inl (q .0, r)
 some-with Q R (c ∷ x) q (inr r) = inr (some-with Q R x (q .1) r)
 

@@ -31,9 +31,9 @@ pub own-is : (kinds : List ℕ) (c : ℕ) → IsOwn kinds (row-position c) → o
 unfolding own
 own-is kinds c h = h
 
-given-is : (kinds : List ℕ) (c : ℕ) → own kinds c ≡ false → IsGiven kinds (row-position c)
+pub own-of : (kinds : List ℕ) (c : ℕ) → own kinds c ≡ false → IsGiven kinds (row-position c)
 unfolding own
-given-is kinds c h = h
+own-of kinds c h = h
 
 -- ---- one term
 
@@ -153,13 +153,17 @@ module _ (kinds codes opened w : List ℕ) (i : ℕ) (s t : List ℕ) (terms : T
 
   by-given : (c : ℕ) → GivenTrue kinds w i c → Literal c → TrueBy kinds w i s t c
   by-given c g lit =
-      let given : IsGiven kinds (position c) = subst (λ (p : ℕ). IsGiven kinds p) (same c lit) (given-is kinds c (g .given)) in
+      let given : IsGiven kinds (position c) = subst (λ (p : ℕ). IsGiven kinds p) (same c lit) (own-of kinds c (g .given)) in
       (record { set = known .set (position c) (lit .1) given; is = g .is }, inl given)
 
   by-own : (c : ℕ) → OwnMet kinds w i s t c → (own kinds c ≡ true) × (Literal c → TrueBy kinds w i s t c)
-  by-own c q =
-      (q .owned, λ lit. (satisfied-is-at w i c (lit .0, let a : position c < length kinds = lit .1 in let b : length kinds ≤ max-unknowns = known .unknowns in omega arith) (q .satisfied),
-      inr (subst (λ (p : ℕ). TakenIn s t p) (same c lit) (q .taken))))
+  by-own c q = (
+    q .owned,
+    λ lit. (
+      satisfied-is-at w i c (lit .0, let a : position c < length kinds = lit .1 in let b : length kinds ≤ max-unknowns = known .unknowns in omega arith) (q .satisfied),
+      inr (subst (λ (p : ℕ). TakenIn s t p) (same c lit) (q .taken)),
+    ),
+  )
 
   every-true : Every (Some (TrueBy kinds w i s t)) (code-clauses codes)
   every-true =
@@ -167,7 +171,7 @@ module _ (kinds codes opened w : List ℕ) (i : ℕ) (s t : List ℕ) (terms : T
       (λ x. some-map (λ c. Literal c × (Literal c → TrueBy kinds w i s t c)) (TrueBy kinds w i s t) (λ c q. q .1 (q .0)) x)
       (code-clauses codes)
       (every-some-with Literal (λ c. Literal c → TrueBy kinds w i s t c) (code-clauses codes) (coded-every (length kinds) codes (known .coded))
-      (row-covered (known .terms) (known .ended) i (known .row) (λ c. Literal c → TrueBy kinds w i s t c) by-given
+      (row-covered i (known .terms) (known .ended) (λ c. Literal c → TrueBy kinds w i s t c) by-given
       (λ p lt o. some-map (OwnMet kinds w i s t) (λ c. (own kinds c ≡ true) × (Literal c → TrueBy kinds w i s t c)) by-own (clause-of (drop (name-of opened p) codes)) (terms .met refl p lt o))
       (terms .none refl)))
 

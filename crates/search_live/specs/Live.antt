@@ -18,7 +18,7 @@ use Rattle.search_evaluation.specs.Looked.{IsAt}
 use Rattle.search_sets.specs.Sets.{set-places}
 use Rattle.search_sets.specs.Masks.{set-at, SetGrown, SetsKept}
 use Rattle.search_terms.specs.Tables.{others, is-open, name-of}
-use Rattle.search_terms.specs.Terms.{own, Opened}
+use Rattle.search_terms.specs.Terms.{own, RowOpened}
 
 -- The rows give the value at position p: its unknown is not universal.
 abbrev pub IsGiven : List ℕ → ℕ → Type 0
@@ -32,15 +32,13 @@ TakenIn s t p = (l : ℕ) → set-at s p l ≡ true → set-at t max-unknowns l 
 abbrev pub TrueBy : List ℕ → List ℕ → ℕ → List ℕ → List ℕ → ℕ → Type 0
 TrueBy kinds w i s t c = IsAt w i true c × (IsGiven kinds (position c) ⊎ TakenIn s t (position c))
 
--- What is known of row i: its given cells are set, and the open terms are those of the table of cells.
+-- What is known of row i: its given cells are set, and the terms that are open there are lent.
 pub record RowKnown (kinds codes opened w : List ℕ) (i : ℕ) : Type 0 where
   pub unknowns : length kinds ≤ max-unknowns
   pub coded : Coded (length kinds) codes
   pub ended : Ended codes
   pub set : (p : ℕ) → p < length kinds → IsGiven kinds p → 0 < cells w .level i p
-  pub count : ℕ
-  pub row : i < count
-  pub terms : Opened kinds codes w count opened
+  pub terms : RowOpened kinds codes w opened i
 
 -- In row i, if so much is known of it, every clause has such a literal.
 abbrev pub RowLost : List ℕ → List ℕ → List ℕ → List ℕ → ℕ → List ℕ → List ℕ → Type 0

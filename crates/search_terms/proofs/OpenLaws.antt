@@ -14,7 +14,7 @@ use Rattle.expansion.proofs.ClauseCuts.{Every, Some, every-map, some-map}
 use Rattle.codes.specs.Clauses.{position, clause-of, code-clauses, Ended, Coded}
 use Rattle.codes.proofs.CodeLaws.{clause-coded, every-some}
 use Rattle.search_terms.specs.Tables.{others, start-of, term-of, first-of, listed-in, row-words, names-from, bit, is-open, name-of}
-use Rattle.search_terms.specs.Terms.{own, StandsFor, Entered, Listed, GivenTrue, TermOpen, Opened}
+use Rattle.search_terms.specs.Terms.{own, StandsFor, Entered, Listed, GivenTrue, TermOpen, Opened, RowOpened}
 use Rattle.search_terms.specs.Steps.{Missed, RowsLooked, Hits, WordFilled, Filled, Named}
 use Rattle.search_terms.proofs.ClauseLaws.{every-start}
 
@@ -83,7 +83,7 @@ named-more {terms} {before} {after} {n} v so-far inside is = record {
 pub opened-all : {kinds codes terms work before after : List ℕ} {count : ℕ} → count ≤ max-rows → Listed kinds codes terms → Filled kinds codes terms work count before
     → Named terms others before after → Opened kinds codes work count after
 opened-all {kinds} {codes} {terms} {work} {before} {after} {count} fits listed filled named = record {
-  every = λ i start row inside b. ⊎-elim (go i start row) (λ e. nowhere i start (go i (length codes) row e)) (listed .every start inside b);
+  every = λ i row start inside b. ⊎-elim (go i start row) (λ e. nowhere i start (go i (length codes) row e)) (listed .every start inside b);
 }
   where
     Row : ℕ → ℕ → Type 0
@@ -135,12 +135,12 @@ opened-all {kinds} {codes} {terms} {work} {before} {after} {count} fits listed f
 
 -- If what is given and true has a property, each open term's clause has an own literal with it, and the place of the others is not open,
 -- then every clause has a literal with it.
-pub row-covered : {kinds codes work opened : List ℕ} {count : ℕ} → Opened kinds codes work count opened → Ended codes → (i : ℕ) → i < count → (Q : ℕ → Type 0)
+pub row-covered : {kinds codes work opened : List ℕ} (i : ℕ) → RowOpened kinds codes work opened i → Ended codes → (Q : ℕ → Type 0)
     → ((c : ℕ) → GivenTrue kinds work i c → Q c)
     → ((t : ℕ) → t < others → is-open opened t i ≡ true → Some (λ c. (own kinds c ≡ true) × Q c) (clause-of (drop (name-of opened t) codes)))
     → is-open opened others i ≡ false → Every (Some Q) (code-clauses codes)
-row-covered {kinds} {codes} {work} {opened} {count} promised ended i row Q given terms none =
-    every-start (Some Q) codes ended (λ start inside b. go start (promised .every i start row inside b))
+row-covered {kinds} {codes} {work} {opened} i promised ended Q given terms none =
+    every-start (Some Q) codes ended (λ start inside b. go start (promised start inside b))
   where
     moved : (start : ℕ) (c : ℕ) → (own kinds c ≡ true → Some (λ d. d ≡ c) (clause-of (drop start codes))) → (own kinds c ≡ true) × Q c → Some Q (clause-of (drop start codes))
     moved start c within here =

@@ -57,10 +57,15 @@ pub record TermOpen (kinds codes opened : List ℕ) (i start : ℕ) : Type 0 whe
   pub there : is-open opened term i ≡ true
   pub stands : StandsFor kinds codes (name-of opened term) start
 
--- Every clause has in every row a given literal that is true, or it is in an open term, or the place of the others is open.
+-- Every clause has in row i a given literal that is true, or it is in an open term, or the place of the others is open.
+abbrev pub RowOpened : List ℕ → List ℕ → List ℕ → List ℕ → ℕ → Type 0
+RowOpened kinds codes work opened i =
+    (start : ℕ) → start < length codes → Begins codes start
+    → Some (GivenTrue kinds work i) (clause-of (drop start codes)) ⊎ TermOpen kinds codes opened i start ⊎ (is-open opened others i ≡ true)
+
+-- .. in every row.
 pub record Opened (kinds codes work : List ℕ) (count : ℕ) (opened : List ℕ) : Type 0 where
-  pub every : (i start : ℕ) → i < count → start < length codes → Begins codes start
-      → Some (GivenTrue kinds work i) (clause-of (drop start codes)) ⊎ TermOpen kinds codes opened i start ⊎ (is-open opened others i ≡ true)
+  pub every : (i : ℕ) → i < count → RowOpened kinds codes work opened i
 
 -- What `list` promises of a table of its size, for codes that fit theirs.
 abbrev pub ListedIn : List ℕ → List ℕ → List ℕ → Type 0
