@@ -40,7 +40,7 @@ module _ (codes : List ℕ) (side : ℕ) (w : List ℕ) (i : ℕ) (s : List ℕ)
   }
 
   pub reached-not : (t : List ℕ) → ((side ≡ 0) × (all ≡ false)) ⊎ ((side ≡ 0 → ⊥) × (all ≡ true)) → SetsKept s t
-      → ((l : ℕ) → l < 128 → set-at t 128 l ≡ true) → Reached codes side w i s t false
+      → ((l : ℕ) → l < max-unknowns → set-at t max-unknowns l ≡ true) → Reached codes side w i s t false
   reached-not t came kept full = record {
     kept = kept;
     goal = λ ended. goal-is side codes (cells w .value i) all false (is-matrix ended) came;

@@ -1,5 +1,5 @@
 -- What each function of the search returns, over every problem, from what its calls return. Assumes nothing.
-use Prim.Native.Nat.{ℕ, _+_, _≤_, _<_}
+use Prim.Native.Nat.{ℕ, _+_, _*_, _≤_, _<_}
 use mathlib.Core.Path.{_≡_, refl, sym, _∙_, subst}
 use mathlib.Core.Bool.{Bool, true, false, not}
 use mathlib.Core.List.{List}
@@ -30,8 +30,8 @@ use Rattle.search.proofs.SolveLaws.{tried-node, tried-refuted, tried-se
 unknown : (P : Problem) (kinds splits codes : List ℕ) (side k : ℕ) → Fits P kinds splits codes side → k < length kinds → k < P .n
 unknown P kinds splits codes side k F h = let e : P .n ≡ length kinds = F .unknowns in omega arith
 
-module _ (kinds splits codes open-terms : List ℕ) (side k lo hi : ℕ) (kk : k < length kinds) (short : length kinds ≤ 128) where
-  below : k < 128
+module _ (kinds splits codes open-terms : List ℕ) (side k lo hi : ℕ) (kk : k < length kinds) (short : length kinds ≤ max-unknowns) where
+  below : k < max-unknowns
   below = omega arith
 
   -- ---- a trial
@@ -93,13 +93,13 @@ module _ (kinds splits codes open-terms : List ℕ) (side k lo hi : ℕ) (kk : k
       chooses-last e lacks P v F W A o z =
           failed-second kinds splits codes side k lo hi below P v (F .fits) w s W A (kn P v F W A o z) o y wanted w1 w2 s1 s2 (once P v F W A o z) opened trimmed w3 s3 r (twice P v F W A o z) e lacks
 
-      pub chooses-neither : (s4 : List ℕ) → r ≡ false → WordsUnited 128 (getD s2 256 0) (getD s2 257 0) s3 s4 → Chooses kinds splits codes open-terms side k lo hi w w3 s s4 false
+      pub chooses-neither : (s4 : List ℕ) → r ≡ false → WordsUnited max-unknowns (getD s2 (2 * max-unknowns) 0) (getD s2 (2 * max-unknowns + 1) 0) s3 s4 → Chooses kinds splits codes open-terms side k lo hi w w3 s s4 false
       unfolding cut
       chooses-neither s4 e united P v F W A o z =
           failed-both kinds splits codes side k lo hi below P v (F .fits) w s W A (kn P v F W A o z) o y wanted w1 w2 s1 s2 (once P v F W A o z) opened trimmed w3 s3 r (twice P v F W A o z) s4 e
-          (λ l lk d. united .takes l (trimmed .behind 128 l (omega arith) ∙ d))
+          (λ l lk d. united .takes l (trimmed .behind max-unknowns l (omega arith) ∙ d))
           (λ l lk d. united .grown .keeps l d)
-          (masks-grown k 128 s3 s4 (united .grown))
+          (masks-grown k max-unknowns s3 s4 (united .grown))
 
 -- ---- a split
 
@@ -128,7 +128,7 @@ module _ (kinds splits codes open-terms : List ℕ) (side k lo mid hi a b d e : 
 
 -- ---- the position behind those that stand
 
-module _ (kinds splits codes open-terms : List ℕ) (side at until lo mid hi : ℕ) (short : length kinds ≤ 128) (w u s t : List ℕ) (r : Bool) where
+module _ (kinds splits codes open-terms : List ℕ) (side at until lo mid hi : ℕ) (short : length kinds ≤ max-unknowns) (w u s t : List ℕ) (r : Bool) where
   pub steps-reached : at ≡ length kinds → Reached codes side w lo s t r → Steps kinds splits codes open-terms side at until lo mid hi w w s t r
   unfolding cut
   steps-reached e reached P v F W A parting parted most opens others =
@@ -147,7 +147,7 @@ module _ (kinds splits codes open-terms : List ℕ) (side at until lo mid hi : �
 
 -- ---- the whole
 
-module _ (kinds splits codes open-terms : List ℕ) (side k at until lo mid hi : ℕ) (short : length kinds ≤ 128) (w u s t : List ℕ) (r : Bool) (parting : Parting splits lo hi mid) (parted : PartedAt splits lo mid (length kinds) until)
+module _ (kinds splits codes open-terms : List ℕ) (side k at until lo mid hi : ℕ) (short : length kinds ≤ max-unknowns) (w u s t : List ℕ) (r : Bool) (parting : Parting splits lo hi mid) (parted : PartedAt splits lo mid (length kinds) until)
     (stood : Stands kinds w side k lo until at) (stepped : Steps kinds splits codes open-terms side at until lo mid hi w u s t r) where
   taken : (P : Problem) (v : ℕ → Bool) (F : Viewed P kinds splits codes open-terms side) (W : (i j : ℕ) → i < P .count → j < P .n → P .own j ≡ true → wants w i j ≡ P .wanted i j) (A : Node P k lo hi v (cells w) (masks s)) → Searched P at lo hi (cells w .value lo) w u s t r
   taken P v F W A =

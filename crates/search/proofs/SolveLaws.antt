@@ -9,6 +9,7 @@ use native.Mathlib.Omega.{arith}
 use native.Mathlib.Decide.{ℕ-discrete, decLt}
 use borrow.Author.Tests.{eq-eqb, ne-eqb}
 use lib.ListN.{length, getD}
+use Rattle.formula.specs.Formula.{max-unknowns}
 use Rattle.expansion.proofs.Booleans.{true-or-false, never-both}
 use Rattle.expansion.proofs.Cuts.{Mask, Problem, Agree, Refuted, Within, SameBelow, agree-own, agree-given, agree-shorter, refuted-without, refuted-both, refuted-row, refuted-given}
 use Rattle.expansion.proofs.Node.{Node, Won, SameCell, Grown, MasksWithin, grown-outside, grown-refl, grown-trans, grown-wider, grown-stored, grown-keeps, cleared-back}
@@ -31,7 +32,7 @@ with-at : (k : ℕ) (y : Bool) (v : ℕ → Bool) → with-value k y v k ≡ y
 unfolding with-value
 with-at k y v = ap (λ (b : Bool). cond b y (v k)) (eq-eqb k k refl)
 
-module _ (kinds splits codes : List ℕ) (side k lo hi : ℕ) (k128 : k < 128) where
+module _ (kinds splits codes : List ℕ) (side k lo hi : ℕ) (k-short : k < max-unknowns) where
   -- ---- a trial of one value
 
   -- the group's cells at k are all open
@@ -54,7 +55,7 @@ module _ (kinds splits codes : List ℕ) (side k lo hi : ℕ) (k128 : k < 128) w
     pub tried-node : Node P (k + 1) lo hi (with-value k y v) (cells w1) (masks s1)
     tried-node =
         node-decide P k lo hi (k + 2) v (with-value k y v) y (cells w) (cells w1) (masks s) (masks s1) A kn o (omega arith) (omega arith) (stored .stored) (with-same k y v) (with-at k y v) (masks-grown k k s s1 added)
-        (ap (λ (m : Mask). m k) (masks-below s1 k k128) ∙ named)
+        (ap (λ (m : Mask). m k) (masks-below s1 k k-short) ∙ named)
 
     tried-grown : Grown (k + 2) lo hi (cells w) (cells w1)
     tried-grown = grown-stored (k + 2) lo hi lo hi k y (cells w) (cells w1) (omega arith) (omega arith) (all-open P v w s A kn o z) (stored .stored)
@@ -337,7 +338,7 @@ module _ (P : Problem) (kinds splits codes : List ℕ) (side : ℕ) (F : Fits P 
 
   -- ---- positions that stand
 
-  module _ (k at until lo mid hi : ℕ) (v : ℕ → Bool) (w s : List ℕ) (short : length kinds ≤ 128) (A : Node P k lo hi v (cells w) (masks s)) (parting : Parting splits lo hi mid) (parted : PartedAt splits lo mid (length kinds) until) (stood : Stands kinds w side k lo until at) where
+  module _ (k at until lo mid hi : ℕ) (v : ℕ → Bool) (w s : List ℕ) (short : length kinds ≤ max-unknowns) (A : Node P k lo hi v (cells w) (masks s)) (parting : Parting splits lo hi mid) (parted : PartedAt splits lo mid (length kinds) until) (stood : Stands kinds w side k lo until at) where
     known : P .n ≡ length kinds
     known = F .unknowns
 
@@ -459,7 +460,7 @@ module _ (P : Problem) (kinds splits codes : List ℕ) (side : ℕ) (F : Fits P 
     stood-searched u t t′ r searched excused = record {
       grown = wider;
       wanted = searched .wanted;
-      masked = within-trans k (masks s) (masks t) (masks t′) (within-shorter k at (masks s) (masks t) (stood .low) (searched .masked)) (masks-grown k 128 t t′ (excused .grown));
+      masked = within-trans k (masks s) (masks t) (masks t′) (within-shorter k at (masks s) (masks t) (stood .low) (searched .masked)) (masks-grown k max-unknowns t t′ (excused .grown));
       won = λ e. won-stand P k at lo hi v (cells w) (masks s) A (stood .low) (omega arith) agree-at stands-set (k + 2) lo hi (cells u) wider (searched .won e);
       failed = λ e.
           refuted-stand P k at lo hi v (cells w) (masks s) A (stood .low) (omega arith) agree-at stands-set (cut t) (cut t′) (λ l lk d. kept l d)

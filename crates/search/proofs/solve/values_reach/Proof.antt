@@ -1,6 +1,7 @@
 -- `solve::values_reach` meets its contract: the matrix is the goal on the existential side, and its opposite on the other. Assumes nothing.
 use mathlib.Core.Logic.{inl, inr, ⊎-elim}
 use native.Mathlib.Omega.{arith}
+use Rattle.formula.specs.Formula.{max-unknowns}
 use Rattle.search.proofs.CallLaws.{matrix-of, fills-kept, fills}
 use Rattle.search.proofs.GoalLaws.{reached-goal, reached-not}
 use borrow.Author.Needs.{needs}
@@ -23,7 +24,7 @@ same-length : tie.Need-same-length
 same-length c = search needs
 
 returns-3 : tie.Need-returns-3
-returns-3 c = reached-not (c .before .before .before .before .before .before .before .before .before .args .codes .now) (c .before .before .before .before .before .before .before .before .before .args .side) (c .before .before .before .before .before .before .before .before .before .args .work .now) (c .before .before .before .before .before .before .before .before .before .args .i) (c .before .before .before .before .before .before .before .before .before .args .sets .now) (c .before .before .before .before .before .matrix .result) (matrix-of (c .before .before .before .before .before .before .before .before .before .args .codes .now) (c .before .before .before .before .before .before .before .before .before .args .work .now) (c .before .before .before .before .before .before .before .before .before .args .i) (c .before .before .before .before .before .before .before .before .before .pre .0) (c .before .before .before .before .before .before .before .before .before .pre .2) (c .before .before .before .before .before .before .before .before .before .pre .4) (c .before .before .before .before .before .matrix .ensures)) (c .before .before .fill .last .0) (⊎-elim (λ w. inl (w .0 .taken, w .1 .left)) (λ w. inr (w .0 .left, w .1 .taken)) (c .before .before .before .before .if1 .came)) (fills-kept _ (c .before .before .before .before .before .before .before .before .before .pre .1) 128 (omega arith) (omega arith) (c .before .before .fill .ensures)) (fills (c .before .before .before .before .before .before .before .before .before .args .sets .now) (c .before .before .before .before .before .before .before .before .before .pre .1) 128 (omega arith) (c .before .before .fill .ensures))
+returns-3 c = reached-not (c .before .before .before .before .before .before .before .before .before .args .codes .now) (c .before .before .before .before .before .before .before .before .before .args .side) (c .before .before .before .before .before .before .before .before .before .args .work .now) (c .before .before .before .before .before .before .before .before .before .args .i) (c .before .before .before .before .before .before .before .before .before .args .sets .now) (c .before .before .before .before .before .matrix .result) (matrix-of (c .before .before .before .before .before .before .before .before .before .args .codes .now) (c .before .before .before .before .before .before .before .before .before .args .work .now) (c .before .before .before .before .before .before .before .before .before .args .i) (c .before .before .before .before .before .before .before .before .before .pre .0) (c .before .before .before .before .before .before .before .before .before .pre .2) (c .before .before .before .before .before .before .before .before .before .pre .4) (c .before .before .before .before .before .matrix .ensures)) (c .before .before .fill .last .0) (⊎-elim (λ w. inl (w .0 .taken, w .1 .left)) (λ w. inr (w .0 .left, w .1 .taken)) (c .before .before .before .before .if1 .came)) (fills-kept _ (c .before .before .before .before .before .before .before .before .before .pre .1) max-unknowns (omega arith) (omega arith) (c .before .before .fill .ensures)) (fills (c .before .before .before .before .before .before .before .before .before .args .sets .now) (c .before .before .before .before .before .before .before .before .before .pre .1) max-unknowns (omega arith) (c .before .before .fill .ensures))
 
 pub values-reach-spec : {M : Type 1} → statement M
 values-reach-spec =
