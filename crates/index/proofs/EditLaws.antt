@@ -13,7 +13,7 @@ use lib.Seq.{slice, slice-empty, slice-cons, length-slice, length-take-le, take-
 use borrow.Rule.Slice.PartMut.{midOf, putMid, post-is}
 use borrow.Author.Tests.{eqb-true, eqb-false, eq-eqb, ne-eqb, lt-ltb, le-ltb, ltb-true, leb-true, le-leb, lt-leb}
 use Rattle.formula.proofs.Any.{or-none}
-use Rattle.index.specs.Index.{begin-of, end-of, list-of, in-rooms, has-list, with-list, without, removed, cleared}
+use Rattle.index.specs.Index.{code-count, first-room, index-size, begin-of, end-of, list-of, in-rooms, has-list, with-list, without, removed, cleared}
 use Rattle.index.specs.Passes.{blanked, before, Absent, closed-up}
 use Rattle.index.proofs.LayoutLaws.{end-is}
 
@@ -158,51 +158,51 @@ module _ (t : List ℕ) (from i : ℕ) (order : from ≤ i) where
 -- ---- the list of a code
 
 pub record Listed (t : List ℕ) (c : ℕ) : Type 0 where
-  pub sized : length t ≡ 8710
-  pub small : c < 259
-  pub from : 518 ≤ begin-of t c
+  pub sized : length t ≡ index-size
+  pub small : c < code-count
+  pub from : first-room ≤ begin-of t c
   pub order : begin-of t c ≤ end-of t c
-  pub to : end-of t c ≤ 8710
+  pub to : end-of t c ≤ index-size
 
 pub has-is : (t : List ℕ) (c : ℕ) → has-list t c ≡ true → Listed t c
 unfolding has-list in-rooms
 has-is t c h =
-    let one = and-eq-true-iff (eqb (length t) 8710) (ltb c 259 && (leb 518 (begin-of t c) && (leb (begin-of t c) (end-of t c) && leb (end-of t c) 8710))) .0 h in
-    let two = and-eq-true-iff (ltb c 259) (leb 518 (begin-of t c) && (leb (begin-of t c) (end-of t c) && leb (end-of t c) 8710)) .0 (one .1) in
-    let three = and-eq-true-iff (leb 518 (begin-of t c)) (leb (begin-of t c) (end-of t c) && leb (end-of t c) 8710) .0 (two .1) in
-    let four = and-eq-true-iff (leb (begin-of t c) (end-of t c)) (leb (end-of t c) 8710) .0 (three .1) in
+    let one = and-eq-true-iff (eqb (length t) index-size) (ltb c code-count && (leb first-room (begin-of t c) && (leb (begin-of t c) (end-of t c) && leb (end-of t c) index-size))) .0 h in
+    let two = and-eq-true-iff (ltb c code-count) (leb first-room (begin-of t c) && (leb (begin-of t c) (end-of t c) && leb (end-of t c) index-size)) .0 (one .1) in
+    let three = and-eq-true-iff (leb first-room (begin-of t c)) (leb (begin-of t c) (end-of t c) && leb (end-of t c) index-size) .0 (two .1) in
+    let four = and-eq-true-iff (leb (begin-of t c) (end-of t c)) (leb (end-of t c) index-size) .0 (three .1) in
     record {
-      sized = eqb-true (length t) 8710 (one .0);
-      small = ltb-true c 259 (two .0);
-      from = leb-true 518 (begin-of t c) (three .0);
+      sized = eqb-true (length t) index-size (one .0);
+      small = ltb-true c code-count (two .0);
+      from = leb-true first-room (begin-of t c) (three .0);
       order = leb-true (begin-of t c) (end-of t c) (four .0);
-      to = leb-true (end-of t c) 8710 (four .1);
+      to = leb-true (end-of t c) index-size (four .1);
     }
 
-pub other-size : (t : List ℕ) (c : ℕ) → (length t ≡ 8710 → ⊥) → has-list t c ≡ false
+pub other-size : (t : List ℕ) (c : ℕ) → (length t ≡ index-size → ⊥) → has-list t c ≡ false
 unfolding has-list
-other-size t c other = ap (λ (b : Bool). b && (ltb c 259 && in-rooms (begin-of t c) (end-of t c))) (ne-eqb (length t) 8710 other)
+other-size t c other = ap (λ (b : Bool). b && (ltb c code-count && in-rooms (begin-of t c) (end-of t c))) (ne-eqb (length t) index-size other)
 
-pub no-code : (t : List ℕ) (c : ℕ) → length t ≡ 8710 → 259 ≤ c → has-list t c ≡ false
+pub no-code : (t : List ℕ) (c : ℕ) → length t ≡ index-size → code-count ≤ c → has-list t c ≡ false
 unfolding has-list
-no-code t c size above = rw (eq-eqb (length t) 8710 size, le-ltb c 259 above) refl
+no-code t c size above = rw (eq-eqb (length t) index-size size, le-ltb c code-count above) refl
 
-pub code-list : (t : List ℕ) (c : ℕ) → length t ≡ 8710 → c < 259 → has-list t c ≡ in-rooms (begin-of t c) (end-of t c)
+pub code-list : (t : List ℕ) (c : ℕ) → length t ≡ index-size → c < code-count → has-list t c ≡ in-rooms (begin-of t c) (end-of t c)
 unfolding has-list
-code-list t c size small = rw (eq-eqb (length t) 8710 size, lt-ltb c 259 small) refl
+code-list t c size small = rw (eq-eqb (length t) index-size size, lt-ltb c code-count small) refl
 
 module _ (from to : ℕ) where
-  pub low-rooms : from < 518 → in-rooms from to ≡ false
+  pub low-rooms : from < first-room → in-rooms from to ≡ false
   unfolding in-rooms
-  low-rooms h = ap (λ (b : Bool). b && (leb from to && leb to 8710)) (lt-leb 518 from h)
+  low-rooms h = ap (λ (b : Bool). b && (leb from to && leb to index-size)) (lt-leb first-room from h)
 
-  pub crossed-rooms : 518 ≤ from → to < from → in-rooms from to ≡ false
+  pub crossed-rooms : first-room ≤ from → to < from → in-rooms from to ≡ false
   unfolding in-rooms
-  crossed-rooms h k = rw (le-leb 518 from h, lt-leb from to k) refl
+  crossed-rooms h k = rw (le-leb first-room from h, lt-leb from to k) refl
 
-  pub rooms-end : 518 ≤ from → from ≤ to → in-rooms from to ≡ leb to 8710
+  pub rooms-end : first-room ≤ from → from ≤ to → in-rooms from to ≡ leb to index-size
   unfolding in-rooms
-  rooms-end h k = rw (le-leb 518 from h, le-leb from to k) refl
+  rooms-end h k = rw (le-leb first-room from h, le-leb from to k) refl
 
 -- ---- what is left of a list
 
@@ -261,10 +261,10 @@ module _ (t : List ℕ) (c : ℕ) (has : has-list t c ≡ true) where
       (ap (λ (l : List ℕ). l ++ list-of t c) (sym (take-take from to t (is .order))) ∙ take-append-drop from (take to t))
       ∙ take-append-drop to t
 
-  pub blank-cleared : set (blanked t from to) (259 + c) from ≡ cleared t c
+  pub blank-cleared : set (blanked t from to) (code-count + c) from ≡ cleared t c
   unfolding blanked cleared with-list
   blank-cleared =
-      ap₂ (λ (n m : ℕ). set (take from t ++ (replicate n 0 ++ drop to t)) (259 + c) m) (let a : to - from ≡ to - from - 0 = omega arith in a) (let a : from ≡ from + 0 = omega arith in a)
+      ap₂ (λ (n m : ℕ). set (take from t ++ (replicate n 0 ++ drop to t)) (code-count + c) m) (let a : to - from ≡ to - from - 0 = omega arith in a) (let a : from ≡ from + 0 = omega arith in a)
       ∙ sym (ap (λ (b : Bool). cond b (with-list t c []) t) has)
 
   module _ (s : ℕ) where
@@ -277,10 +277,10 @@ module _ (t : List ℕ) (c : ℕ) (has : has-list t c ≡ true) where
     none-removed past =
         sym (ap (λ (b : Bool). cond b (with-list t c (without s (list-of t c))) t) has
         ∙ ap (with-list t c) (without-none s (list-of t c) (omega (arith, list-long)))
-        ∙ ap₂ (λ (n m : ℕ). set (take from t ++ (list-of t c ++ (replicate n 0 ++ drop to t))) (259 + c) m)
-        (let a : to - from - length (list-of t c) ≡ 0 = omega (arith, list-long) in a) (let a : from + length (list-of t c) ≡ getD t (259 + c) 0 = omega (arith, list-long, is .order, end-is t c (is .small)) in a)
-        ∙ ap (λ (l : List ℕ). set l (259 + c) (getD t (259 + c) 0)) list-back
-        ∙ set-getD t (259 + c) 0)
+        ∙ ap₂ (λ (n m : ℕ). set (take from t ++ (list-of t c ++ (replicate n 0 ++ drop to t))) (code-count + c) m)
+        (let a : to - from - length (list-of t c) ≡ 0 = omega (arith, list-long) in a) (let a : from + length (list-of t c) ≡ getD t (code-count + c) 0 = omega (arith, list-long, is .order, end-is t c (is .small)) in a)
+        ∙ ap (λ (l : List ℕ). set l (code-count + c) (getD t (code-count + c) 0)) list-back
+        ∙ set-getD t (code-count + c) 0)
 
     -- It is taken out.
     module _ (found : from + j < to) where
@@ -301,18 +301,18 @@ module _ (t : List ℕ) (c : ℕ) (has : has-list t c ≡ true) where
           length-append (take j (list-of t c)) (drop (suc j) (list-of t c))
           ∙ omega (arith, length-take-le j (list-of t c) (omega (arith, there)), length-drop (suc j) (list-of t c), list-long, there)
 
-      pub one-removed : (at end : ℕ) (part : List ℕ) → at ≡ from + j → end ≡ to → part ≡ closed-up (midOf at (end - at) t) → set (putMid at (end - at) t part) (259 + c) (end - 1) ≡ removed t c s
+      pub one-removed : (at end : ℕ) (part : List ℕ) → at ≡ from + j → end ≡ to → part ≡ closed-up (midOf at (end - at) t) → set (putMid at (end - at) t part) (code-count + c) (end - 1) ≡ removed t c s
       unfolding removed with-list
       one-removed at end part at-is end-is is-part =
-          ap₂ (λ (x y : ℕ). set (putMid x (y - x) t part) (259 + c) (y - 1)) at-is end-is
-          ∙ ap (λ (l : List ℕ). set l (259 + c) (to - 1))
+          ap₂ (λ (x y : ℕ). set (putMid x (y - x) t part) (code-count + c) (y - 1)) at-is end-is
+          ∙ ap (λ (l : List ℕ). set l (code-count + c) (to - 1))
           (ap₂ (λ (l m : List ℕ). take (from + j) t ++ (l ++ m)) (is-part ∙ ap₂ (λ (x y : ℕ). closed-up (midOf x (y - x) t)) at-is end-is) (post-is (from + j) to t (omega arith))
           ∙ ap₂ (λ (l m : List ℕ). l ++ ((drop 1 m ++ (0 ∷ [])) ++ drop to t)) front-there back-there
           ∙ ap (λ (m : List ℕ). (take from t ++ take j (list-of t c)) ++ ((m ++ (0 ∷ [])) ++ drop to t)) (drop-drop 1 j (list-of t c) ∙ ap (λ (n : ℕ). drop n (list-of t c)) (add-one j))
           ∙ ap (λ (m : List ℕ). (take from t ++ take j (list-of t c)) ++ m) (append-assoc (drop (suc j) (list-of t c)) (0 ∷ []) (drop to t))
           ∙ append-assoc (take from t) (take j (list-of t c)) (drop (suc j) (list-of t c) ++ (0 ∷ drop to t))
           ∙ ap (λ (l : List ℕ). take from t ++ l) (sym (append-assoc (take j (list-of t c)) (drop (suc j) (list-of t c)) (0 ∷ drop to t))))
-          ∙ ap₂ (λ (n m : ℕ). set (take from t ++ ((take j (list-of t c) ++ drop (suc j) (list-of t c)) ++ (replicate n 0 ++ drop to t))) (259 + c) m)
+          ∙ ap₂ (λ (n m : ℕ). set (take from t ++ ((take j (list-of t c) ++ drop (suc j) (list-of t c)) ++ (replicate n 0 ++ drop to t))) (code-count + c) m)
           (let a : 1 ≡ to - from - length (take j (list-of t c) ++ drop (suc j) (list-of t c)) = omega (arith, left-long) in a)
           (let a : to - 1 ≡ from + length (take j (list-of t c) ++ drop (suc j) (list-of t c)) = omega (arith, left-long) in a)
           ∙ ap (with-list t c) (sym (without-at s (list-of t c) there))

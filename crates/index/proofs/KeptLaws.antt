@@ -12,9 +12,10 @@ use mathlib.Core.List.{List, [], _∷_, _++_, map}
 use borrow.Author.Tests.{eqb-true, eqb-false, eq-eqb, ne-eqb, lt-ltb, le-ltb, leb-true, le-leb}
 use lib.Dec.{eqb, leb}
 use lib.ListN.{length, length-append, length-map}
+use Rattle.formula.specs.Formula.{max-entries}
 use Rattle.trimming_marks.specs.Marks.{is-left, ends, marked}
 use Rattle.index.specs.Occurrences.{whole-clause, listed-under, has-left, listed-from, listed, In}
-use Rattle.index.specs.Index.{tally, index-of, list-of, has-list, with-list, without, removed, cleared}
+use Rattle.index.specs.Index.{code-count, index-size, tally, index-of, list-of, has-list, with-list, without, removed, cleared}
 use Rattle.index.specs.Passes.{LaidOut}
 use Rattle.index.proofs.OccurrenceLaws.{listed-exact, listed-low}
 use Rattle.index.proofs.LayoutLaws.{Fitting, laid-has, laid-list, laid-with}
@@ -131,10 +132,10 @@ abbrev pub names-removed : List ℕ → ℕ → List ℕ → List ℕ
 names-removed index s [] = index
 names-removed index s (x ∷ xs) = names-removed (removed index (listed-under x) s) s xs
 
-pub no-list : (index : List ℕ) (c s : ℕ) → 259 ≤ c → removed index c s ≡ index
+pub no-list : (index : List ℕ) (c s : ℕ) → code-count ≤ c → removed index c s ≡ index
 unfolding removed has-list
 no-list index c s h =
-    rw (le-ltb c 259 h) (go (eqb (length index) 8710))
+    rw (le-ltb c code-count h) (go (eqb (length index) index-size))
   where
     go : (a : Bool) → cond (a && false) (with-list index c (without s (list-of index c))) index ≡ index
     go true = refl
@@ -148,11 +149,11 @@ module _ (size : ℕ → ℕ) (names : ℕ → List ℕ) (fit : Fitting size nam
   fewer-fits : Fitting size fewer
   fewer-fits = record { short = λ d h. go d h (eqb d c); room = fit .room }
     where
-      go : (d : ℕ) → d < 259 → (b : Bool) → length (cond b (without s (names d)) (names d)) ≤ size d
+      go : (d : ℕ) → d < code-count → (b : Bool) → length (cond b (without s (names d)) (names d)) ≤ size d
       go d h true = let a = without-few s (names d) in let b = fit .short d h in omega arith
       go d h false = fit .short d h
 
-  fewer-laid : c < 259 → LaidOut size fewer (removed index c s)
+  fewer-laid : c < code-count → LaidOut size fewer (removed index c s)
   unfolding removed
   fewer-laid small =
       subst (λ (t : List ℕ). LaidOut size fewer t)
@@ -164,9 +165,9 @@ module _ (size : ℕ → ℕ) (names : ℕ → List ℕ) (fit : Fitting size nam
 
 -- What the lists come to.
 pub record Out (s : ℕ) (xs : List ℕ) (names final : ℕ → List ℕ) : Type 0 where
-  pub lost : (d : ℕ) → d < 259 → has-left d xs ≡ true → final d ≡ without s (names d)
-  pub kept : (d : ℕ) → d < 259 → has-left d xs ≡ false → final d ≡ names d
-  pub gone : (d : ℕ) → d < 259 → has-left d xs ≡ true → without s (final d) ≡ final d
+  pub lost : (d : ℕ) → d < code-count → has-left d xs ≡ true → final d ≡ without s (names d)
+  pub kept : (d : ℕ) → d < code-count → has-left d xs ≡ false → final d ≡ names d
+  pub gone : (d : ℕ) → d < code-count → has-left d xs ≡ true → without s (final d) ≡ final d
 
 out-next : (s x : ℕ) (xs : List ℕ) (names final : ℕ → List ℕ) → Out s (x ∷ xs) names final → Out s xs (λ d. cond (eqb d (listed-under x)) (without s (names d)) (names d)) final
 out-next s x xs names final o =
@@ -180,18 +181,18 @@ out-next s x xs names final o =
     behind-front d has true = refl
     behind-front d has false = has
 
-    lost-by : (d : ℕ) → d < 259 → has-left d xs ≡ true → (b : Bool) → eqb d (listed-under x) ≡ b → final d ≡ without s (cond b (without s (names d)) (names d))
+    lost-by : (d : ℕ) → d < code-count → has-left d xs ≡ true → (b : Bool) → eqb d (listed-under x) ≡ b → final d ≡ without s (cond b (without s (names d)) (names d))
     lost-by d h has true e =
         let first = o .lost d h (ap (λ (b : Bool). b || has-left d xs) e) in
         sym (o .gone d h (ap (λ (b : Bool). b || has-left d xs) e)) ∙ ap (without s) first
     lost-by d h has false e = o .lost d h (ap (λ (b : Bool). b || has-left d xs) e ∙ has)
 
-    kept-by : (d : ℕ) → d < 259 → has-left d xs ≡ false → (b : Bool) → eqb d (listed-under x) ≡ b → final d ≡ cond b (without s (names d)) (names d)
+    kept-by : (d : ℕ) → d < code-count → has-left d xs ≡ false → (b : Bool) → eqb d (listed-under x) ≡ b → final d ≡ cond b (without s (names d)) (names d)
     kept-by d h has true e = o .lost d h (ap (λ (b : Bool). b || has-left d xs) e)
     kept-by d h has false e = o .kept d h (ap (λ (b : Bool). b || has-left d xs) e ∙ has)
 
 -- An entry whose code has no list is passed.
-out-past : (s x : ℕ) (xs : List ℕ) (names final : ℕ → List ℕ) → 259 ≤ listed-under x → Out s (x ∷ xs) names final → Out s xs names final
+out-past : (s x : ℕ) (xs : List ℕ) (names final : ℕ → List ℕ) → code-count ≤ listed-under x → Out s (x ∷ xs) names final → Out s xs names final
 out-past s x xs names final above o =
     record {
       lost = λ d h has. o .lost d h (skip d h ∙ has);
@@ -199,26 +200,26 @@ out-past s x xs names final above o =
       gone = λ d h has. o .gone d h (skip d h ∙ has);
     }
   where
-    skip : (d : ℕ) → d < 259 → has-left d (x ∷ xs) ≡ has-left d xs
+    skip : (d : ℕ) → d < code-count → has-left d (x ∷ xs) ≡ has-left d xs
     skip d h = ap (λ (b : Bool). b || has-left d xs) (ne-eqb d (listed-under x) (λ e. omega arith))
 
 pub removed-laid : (size : ℕ → ℕ) (names final : ℕ → List ℕ) (index : List ℕ) (s : ℕ) (xs : List ℕ) → Fitting size names → LaidOut size names index → Out s xs names final
     → LaidOut size final (names-removed index s xs)
 removed-laid size names final index s [] fit laid o = laid-names size names final (λ d h. o .kept d h refl) index laid
-removed-laid size names final index s (x ∷ xs) fit laid o = by-code (decLt (listed-under x) 259)
+removed-laid size names final index s (x ∷ xs) fit laid o = by-code (decLt (listed-under x) code-count)
     (λ small. removed-laid size (fewer size names fit index laid (listed-under x) s) final (removed index (listed-under x) s) s xs
     (fewer-fits size names fit index laid (listed-under x) s) (fewer-laid size names fit index laid (listed-under x) s small) (out-next s x xs names final o))
     (λ above. removed-laid size names final index s xs fit laid (out-past s x xs names final above o))
   where
-    by-code : Dec (listed-under x < 259) → (listed-under x < 259 → LaidOut size final (names-removed (removed index (listed-under x) s) s xs)) → (259 ≤ listed-under x → LaidOut size final (names-removed index s xs))
+    by-code : Dec (listed-under x < code-count) → (listed-under x < code-count → LaidOut size final (names-removed (removed index (listed-under x) s) s xs)) → (code-count ≤ listed-under x → LaidOut size final (names-removed index s xs))
         → LaidOut size final (names-removed (removed index (listed-under x) s) s xs)
     by-code (yes small) there past = there small
     by-code (no above) there past =
-        let h : 259 ≤ listed-under x = omega arith in
+        let h : code-count ≤ listed-under x = omega arith in
         subst (λ (t : List ℕ). LaidOut size final (names-removed t s xs)) (sym (no-list index (listed-under x) s h)) (past h)
 
 -- A clause k becomes k′: it has lost the codes of xs, and keeps the others. Its name goes out of their lists.
-module _ (pre post : List ℕ) (closed : begins-after true pre ≡ true) (k k′ : List ℕ) (w : Whole k) (w′ : Whole k′) (few : length (pre ++ (k ++ post)) ≤ 8192) (codes : map (λ x. x % 512) k′ ≡ map (λ x. x % 512) k) where
+module _ (pre post : List ℕ) (closed : begins-after true pre ≡ true) (k k′ : List ℕ) (w : Whole k) (w′ : Whole k′) (few : length (pre ++ (k ++ post)) ≤ max-entries) (codes : map (λ x. x % 512) k′ ≡ map (λ x. x % 512) k) where
   long : length k′ ≡ length k
   long = sym (length-map k′ (λ x. x % 512)) ∙ ap length codes ∙ length-map k (λ x. x % 512)
 
@@ -241,7 +242,7 @@ module _ (pre post : List ℕ) (closed : begins-after true pre ≡ true) (k k′
       ∙ ap (λ (l : List ℕ). map (λ x. x % 512) pre ++ l) (map-over k′ post ∙ ap (λ (l : List ℕ). l ++ map (λ x. x % 512) post) codes ∙ sym (map-over k post))
       ∙ sym (map-over pre (k ++ post))
 
-  pub entries-dropped : (xs : List ℕ) → ((d : ℕ) → d < 259 → has-left d xs ≡ true → has-left d k′ ≡ false) → ((d : ℕ) → d < 259 → has-left d xs ≡ false → has-left d k′ ≡ has-left d k)
+  pub entries-dropped : (xs : List ℕ) → ((d : ℕ) → d < code-count → has-left d xs ≡ true → has-left d k′ ≡ false) → ((d : ℕ) → d < code-count → has-left d xs ≡ false → has-left d k′ ≡ has-left d k)
       → index-of (pre ++ (k′ ++ post)) ≡ names-removed (index-of (pre ++ (k ++ post))) (length pre) xs
   entries-dropped xs lost kept =
       sym (index-is (pre ++ (k′ ++ post)) (few-after (pre ++ (k ++ post)) (pre ++ (k′ ++ post)) few long-table codes-table) (names-removed (index-of (pre ++ (k ++ post))) (length pre) xs)
@@ -266,7 +267,7 @@ module _ (pre post : List ℕ) (closed : begins-after true pre ≡ true) (k k′
           ∙ ap (λ (l : List ℕ). before pre post closed d ++ l) (without-above (length pre) (behind pre post closed d (length k′)) (above d))
           ∙ sym parts
 
-      lost-by : (d : ℕ) → d < 259 → has-left d xs ≡ true → (b : Bool) → has-left d k ≡ b → listed d (pre ++ (k′ ++ post)) ≡ without (length pre) (listed d (pre ++ (k ++ post)))
+      lost-by : (d : ℕ) → d < code-count → has-left d xs ≡ true → (b : Bool) → has-left d k ≡ b → listed d (pre ++ (k′ ++ post)) ≡ without (length pre) (listed d (pre ++ (k ++ post)))
       lost-by d h has true e = clause-lost pre post closed d k k′ w w′ long e (lost d h has)
       lost-by d h has false e =
           let same = clause-kept pre post closed d k k′ w w′ long (lost d h has ∙ sym e) in
@@ -283,7 +284,7 @@ module _ (pre post : List ℕ) (closed : begins-after true pre ≡ true) (k k′
 -- ---- one entry
 
 -- An entry that is dropped is above every code that has a list.
-dropped-above : (d x : ℕ) → d < 259 → eqb d (listed-under (x + 512)) ≡ false
+dropped-above : (d x : ℕ) → d < code-count → eqb d (listed-under (x + 512)) ≡ false
 dropped-above d x h = ne-eqb d (listed-under (x + 512)) (λ e. let a = above (x + 512) (omega arith) in omega arith)
   where
     above : (y : ℕ) → 512 ≤ y → 512 ≤ listed-under y
@@ -299,7 +300,7 @@ has-append d (x ∷ a) b = go (eqb d (listed-under x)) (has-append d a b)
     go false h = h
 
 -- The entry x of a clause is dropped.
-module _ (pre post : List ℕ) (closed : begins-after true pre ≡ true) (a b : List ℕ) (x : ℕ) (w : Whole (a ++ (x ∷ b))) (few : length (pre ++ ((a ++ (x ∷ b)) ++ post)) ≤ 8192) (left : x < 512) where
+module _ (pre post : List ℕ) (closed : begins-after true pre ≡ true) (a b : List ℕ) (x : ℕ) (w : Whole (a ++ (x ∷ b))) (few : length (pre ++ ((a ++ (x ∷ b)) ++ post)) ≤ max-entries) (left : x < 512) where
   abbrev k₀ : List ℕ
   k₀ = a ++ (x ∷ b)
 
@@ -323,7 +324,7 @@ module _ (pre post : List ℕ) (closed : begins-after true pre ≡ true) (a b : 
   still-whole (y ∷ l) (inr e) = inr (e .0, still-whole l (e .1))
 
   -- The lists of other codes stay.
-  others : (d : ℕ) → d < 259 → (d ≡ listed-under x → ⊥) → has-left d k₁ ≡ has-left d k₀
+  others : (d : ℕ) → d < code-count → (d ≡ listed-under x → ⊥) → has-left d k₁ ≡ has-left d k₀
   others d h other =
       has-append d a ((x + 512) ∷ b)
       ∙ ap (λ (v : Bool). has-left d a || (v || has-left d b)) (dropped-above d x h ∙ sym (ne-eqb d (listed-under x) other))
@@ -340,7 +341,7 @@ module _ (pre post : List ℕ) (closed : begins-after true pre ≡ true) (a b : 
   entry-again again =
       entries-dropped pre post closed k₀ k₁ w (still-whole a w) few (same-codes a) [] (λ d h e. absurd (true≢false (sym e))) (λ d h e. by-code d h (eqb d (listed-under x)) refl)
     where
-      by-code : (d : ℕ) → d < 259 → (v : Bool) → eqb d (listed-under x) ≡ v → has-left d k₁ ≡ has-left d k₀
+      by-code : (d : ℕ) → d < code-count → (v : Bool) → eqb d (listed-under x) ≡ v → has-left d k₁ ≡ has-left d k₀
       by-code d h true e = let same = eqb-true d (listed-under x) e in ap (λ (n : ℕ). has-left n k₁) same ∙ again ∙ sym (ap (λ (n : ℕ). has-left n k₀) same ∙ had)
       by-code d h false e = others d h (eqb-false d (listed-under x) e)
 
@@ -349,11 +350,11 @@ module _ (pre post : List ℕ) (closed : begins-after true pre ≡ true) (a b : 
   entry-dropped last =
       entries-dropped pre post closed k₀ k₁ w (still-whole a w) few (same-codes a) (x ∷ []) (λ d h e. lost d h (eqb d (listed-under x)) refl e) (λ d h e. kept d h (eqb d (listed-under x)) refl e)
     where
-      lost : (d : ℕ) → d < 259 → (v : Bool) → eqb d (listed-under x) ≡ v → (v || false) ≡ true → has-left d k₁ ≡ false
+      lost : (d : ℕ) → d < code-count → (v : Bool) → eqb d (listed-under x) ≡ v → (v || false) ≡ true → has-left d k₁ ≡ false
       lost d h true e t = ap (λ (n : ℕ). has-left n k₁) (eqb-true d (listed-under x) e) ∙ last
       lost d h false e t = absurd (true≢false (sym t))
 
-      kept : (d : ℕ) → d < 259 → (v : Bool) → eqb d (listed-under x) ≡ v → (v || false) ≡ false → has-left d k₁ ≡ has-left d k₀
+      kept : (d : ℕ) → d < code-count → (v : Bool) → eqb d (listed-under x) ≡ v → (v || false) ≡ false → has-left d k₁ ≡ has-left d k₀
       kept d h true e t = absurd (true≢false t)
       kept d h false e t = others d h (eqb-false d (listed-under x) e)
 
@@ -392,7 +393,7 @@ module _ (f : ℕ → ℕ) (stay : (x : ℕ) → ends (f x) ≡ ends x) (d : ℕ
       go false = refl
 
 -- The code is dropped wherever it stands: its list is empty, and the others stay.
-module _ (t : List ℕ) (few : length t ≤ 8192) (c : ℕ) (two : 2 ≤ c) (small : c < 259) where
+module _ (t : List ℕ) (few : length t ≤ max-entries) (c : ℕ) (two : 2 ≤ c) (small : c < code-count) where
   marked-by : (x : ℕ) (v : Bool) → eqb c x ≡ v → marked c c x ≡ cond v (x + 512) x
   unfolding marked
   marked-by x true e = let same = eqb-true c x e in rw (le-leb c x (omega arith), le-leb x c (omega arith), lt-ltb x 512 (omega arith)) refl
@@ -421,7 +422,7 @@ module _ (t : List ℕ) (few : length t ≤ 8192) (c : ℕ) (two : 2 ≤ c) (sma
       go true e = dropped-above c x small
       go false e = ne-eqb c (listed-under x) (other x (eqb-false c x e))
 
-  marked-else : (d : ℕ) → d < 259 → (d ≡ c → ⊥) → (x : ℕ) → eqb d (listed-under (marked c c x)) ≡ eqb d (listed-under x)
+  marked-else : (d : ℕ) → d < code-count → (d ≡ c → ⊥) → (x : ℕ) → eqb d (listed-under (marked c c x)) ≡ eqb d (listed-under x)
   marked-else d h other x = ap (λ (y : ℕ). eqb d (listed-under y)) (marked-by x (eqb c x) refl) ∙ go (eqb c x) refl
     where
       code : (y : ℕ) → c ≡ y → listed-under y ≡ c

@@ -8,6 +8,7 @@ use native.Mathlib.Omega.{arith}
 use native.Mathlib.Decide.{decLt}
 use borrow.Author.Tests.{le-leb, eq-eqb, ne-eqb, eqb-true}
 use lib.ListN.{length, getD, drop, replicate, List·getD-eq-default}
+use Rattle.formula.specs.Formula.{max-unknowns, max-entries, max-rows, work-size}
 use Rattle.expansion.proofs.ClauseCuts.{matrix-at}
 use Rattle.search_cells.specs.Cells.{cells}
 use Rattle.search_cells.specs.Changes.{CellsSet, CellsOpened, FirstDifference}
@@ -21,12 +22,13 @@ use Rattle.search_order.proofs.PlaceLaws.{places-sorted}
 use Rattle.search_numbering.specs.Numbering.{filled as numbered}
 use Rattle.search_numbering.specs.Wants.{WantsFilled}
 use Rattle.search_numbering.proofs.WantsFill.{wants-filled}
+use Rattle.codes.specs.Codes.{last-code}
 use Rattle.codes.specs.Clauses.{code-true, code-clauses, clause-of, Ended, Begins, Coded}
 use Rattle.index.specs.Occurrences.{begins}
-use Rattle.index.specs.Index.{all-codes, table-fits, index-of, filled as indexed}
+use Rattle.index.specs.Index.{code-count, index-size, all-codes, table-fits, index-of, filled as indexed}
 use Rattle.index.proofs.LayoutLaws.{end-is}
 use Rattle.index.proofs.IndexLaws.{read-names}
-use Rattle.search_sets.specs.Sets.{sets-size, united, united-words, added, has, emptied, filled, trimmed, excused, blamed}
+use Rattle.search_sets.specs.Sets.{set-places, sets-size, united, united-words, added, has, emptied, filled, trimmed, excused, blamed}
 use Rattle.search_sets.specs.Masks.{set-at, SetGrown, SetsKept, United, WordsUnited, Trimmed, Excused, Blamed}
 use Rattle.search_sets.proofs.SetLaws.{unite-unites, words-unite, add-grows, add-adds, has-is, empty-keeps, fill-keeps, fill-fills, trim-trims, excuse-excuses, blame-blames}
 use Rattle.search_evaluation.specs.Evaluation.{look-at, matrix-in}
@@ -41,43 +43,43 @@ use Rattle.search_groups.proofs.PartLaws.{copy-start-from, copy-end-to, parting
 -- ---- sets of positions
 
 module _ (s : List ℕ) {t : List ℕ} (size : length s ≡ sets-size) where
-  pub unites : (to from : ℕ) → to < 130 → from < 130 → t ≡ united s to from → United to from s t
+  pub unites : (to from : ℕ) → to < set-places → from < set-places → t ≡ united s to from → United to from s t
   unites to from place other e = subst (λ (x : List ℕ). United to from s x) (sym e) (unite-unites s size to from place other)
 
-  pub unites-words : (to low high : ℕ) → to < 130 → t ≡ united-words s to low high → WordsUnited to low high s t
+  pub unites-words : (to low high : ℕ) → to < set-places → t ≡ united-words s to low high → WordsUnited to low high s t
   unites-words to low high place e = subst (λ (x : List ℕ). WordsUnited to low high s x) (sym e) (words-unite s size to low high place)
 
-  pub grows : (to p : ℕ) → to < 130 → p < 128 → t ≡ added s to p → SetGrown to s t
+  pub grows : (to p : ℕ) → to < set-places → p < max-unknowns → t ≡ added s to p → SetGrown to s t
   grows to p place below e = subst (λ (x : List ℕ). SetGrown to s x) (sym e) (add-grows s size to p place below)
 
-  pub adds : (to p : ℕ) → to < 130 → p < 128 → t ≡ added s to p → set-at t to p ≡ true
+  pub adds : (to p : ℕ) → to < set-places → p < max-unknowns → t ≡ added s to p → set-at t to p ≡ true
   adds to p place below e = subst (λ (x : List ℕ). set-at x to p ≡ true) (sym e) (add-adds s size to p place below)
 
-  pub empties : (to : ℕ) → 128 ≤ to → to < 130 → t ≡ emptied s to → SetsKept s t
+  pub empties : (to : ℕ) → max-unknowns ≤ to → to < set-places → t ≡ emptied s to → SetsKept s t
   empties to behind place e = subst (λ (x : List ℕ). SetsKept s x) (sym e) (empty-keeps s size to behind place)
 
-  pub fills-kept : (to : ℕ) → 128 ≤ to → to < 130 → t ≡ filled s to → SetsKept s t
+  pub fills-kept : (to : ℕ) → max-unknowns ≤ to → to < set-places → t ≡ filled s to → SetsKept s t
   fills-kept to behind place e = subst (λ (x : List ℕ). SetsKept s x) (sym e) (fill-keeps s size to behind place)
 
-  pub fills : (to : ℕ) → to < 130 → t ≡ filled s to → (l : ℕ) → l < 128 → set-at t to l ≡ true
+  pub fills : (to : ℕ) → to < set-places → t ≡ filled s to → (l : ℕ) → l < max-unknowns → set-at t to l ≡ true
   fills to place e l below = subst (λ (x : List ℕ). set-at x to l ≡ true) (sym e) (fill-fills s size to place l below)
 
-  pub trims : (k n : ℕ) → k ≤ n → n ≤ 128 → t ≡ trimmed s k n → Trimmed k s t
+  pub trims : (k n : ℕ) → k ≤ n → n ≤ max-unknowns → t ≡ trimmed s k n → Trimmed k s t
   trims k n low high e = subst (λ (x : List ℕ). Trimmed k s x) (sym e) (trim-trims s size k n low high)
 
-  pub excuses : (k at : ℕ) → at ≤ 128 → t ≡ excused s 128 k at → Excused k at s t
+  pub excuses : (k at : ℕ) → at ≤ max-unknowns → t ≡ excused s max-unknowns k at → Excused k at s t
   excuses k at high e = subst (λ (x : List ℕ). Excused k at s x) (sym e) (excuse-excuses s size k at high)
 
-  pub blames : (codes : List ℕ) (start to : ℕ) → to < 130 → Coded 128 codes → t ≡ blamed codes s start to → Blamed (clause-of (drop start codes)) to s t
+  pub blames : (codes : List ℕ) (start to : ℕ) → to < set-places → Coded max-unknowns codes → t ≡ blamed codes s start to → Blamed (clause-of (drop start codes)) to s t
   blames codes start to place coded e =
       subst (λ (x : List ℕ). Blamed (clause-of (drop start codes)) to s x) (sym e) (blame-blames s size codes start to place coded)
 
-pub has-at : (s : List ℕ) → length s ≡ sets-size → (of p : ℕ) {r : Bool} → of < 130 → p < 128 → r ≡ has s of p → r ≡ set-at s of p
+pub has-at : (s : List ℕ) → length s ≡ sets-size → (of p : ℕ) {r : Bool} → of < set-places → p < max-unknowns → r ≡ has s of p → r ≡ set-at s of p
 has-at s size of p place below e = e ∙ has-is s size of p place below
 
 -- ---- clauses in a row
 
-module _ (codes w : List ℕ) (i : ℕ) (area : length w ≡ 65536) (row : i < 256) (coded : Coded 128 codes) where
+module _ (codes w : List ℕ) (i : ℕ) (area : length w ≡ work-size) (row : i < max-rows) (coded : Coded max-unknowns codes) where
   pub looks : (start : ℕ) {r : ℕ} → r ≡ look-at codes w i start → Looked codes w i start r
   looks start e = subst (λ (x : ℕ). Looked codes w i start x) (sym e) (look-looked codes w i start area row coded)
 
@@ -99,55 +101,55 @@ module _ (splits : List ℕ) where
   pub parts-there : (lo mid n : ℕ) {r : ℕ} → mid < length splits → r ≡ parted-at splits lo mid n → PartedAt splits lo mid n r
   parts-there lo mid n high e = subst (λ (x : ℕ). PartedAt splits lo mid n x) (sym e) (parted-at-there splits lo mid n high)
 
-pub stands : (kinds w : List ℕ) (side k lo until : ℕ) {r : ℕ} → length w ≡ 65536 → length kinds ≤ 128 → until ≤ length kinds → k ≤ length kinds → lo < 256
+pub stands : (kinds w : List ℕ) (side k lo until : ℕ) {r : ℕ} → length w ≡ work-size → length kinds ≤ max-unknowns → until ≤ length kinds → k ≤ length kinds → lo < max-rows
     → r ≡ open-position kinds w side k lo until → Stands kinds w side k lo until r
 stands kinds w side k lo until area few within known row e =
     subst (λ (x : ℕ). Stands kinds w side k lo until x) (sym e) (open-position-stands kinds w side k lo until area few within known row)
 
 -- ---- cells
 
-module _ {w u : List ℕ} (area : length w ≡ 65536) where
-  pub sets-rows : (k lo hi mark : ℕ) (value : Bool) → k < 128 → lo ≤ hi → hi ≤ 256 → u ≡ rows-set k lo hi mark value w → CellsSet k lo hi mark value w u
+module _ {w u : List ℕ} (area : length w ≡ work-size) where
+  pub sets-rows : (k lo hi mark : ℕ) (value : Bool) → k < max-unknowns → lo ≤ hi → hi ≤ max-rows → u ≡ rows-set k lo hi mark value w → CellsSet k lo hi mark value w u
   sets-rows k lo hi mark value small low high e = subst (λ (x : List ℕ). CellsSet k lo hi mark value w x) (sym e) (rows-are-set k lo hi mark value w area small high low)
 
-  pub opens-rows : (lo hi bound : ℕ) → lo ≤ hi → hi ≤ 256 → u ≡ rows-opened lo hi bound w → CellsOpened lo hi bound w u
+  pub opens-rows : (lo hi bound : ℕ) → lo ≤ hi → hi ≤ max-rows → u ≡ rows-opened lo hi bound w → CellsOpened lo hi bound w u
   opens-rows lo hi bound low high e = subst (λ (x : List ℕ). CellsOpened lo hi bound w x) (sym e) (rows-are-opened lo hi bound w area high low)
 
 -- ---- the tables that a search begins with
 
-pub sorts : (rows : List ℕ) (count m : ℕ) (before : List ℕ) {place : List ℕ} → count ≤ 256 → count ≤ length before → place ≡ places rows count m before
+pub sorts : (rows : List ℕ) (count m : ℕ) (before : List ℕ) {place : List ℕ} → count ≤ max-rows → count ≤ length before → place ≡ places rows count m before
     → Sorted rows count m place
 sorts rows count m before few fits e = subst (λ (x : List ℕ). Sorted rows count m x) (sym e) (places-sorted rows count m before few fits)
 
-pub compares : (kinds w : List ℕ) (count side : ℕ) (before : List ℕ) {splits : List ℕ} → length w ≡ 65536 → length kinds ≤ 128 → count ≤ 256 → length before ≡ 256
+pub compares : (kinds w : List ℕ) (count side : ℕ) (before : List ℕ) {splits : List ℕ} → length w ≡ work-size → length kinds ≤ max-unknowns → count ≤ max-rows → length before ≡ max-rows
     → splits ≡ rows-compared kinds w count side before → (i : ℕ) → i + 1 < count → FirstDifference kinds side w i (getD splits (i + 1) 0)
 compares kinds w count side before area few most room e i less =
     subst (λ (x : List ℕ). FirstDifference kinds side w i (getD x (i + 1) 0)) (sym e) (rows-are-compared kinds w count side before area few most room i less)
 
-pub numbers : (kinds preferences place splits : List ℕ) (side : ℕ) {w u : List ℕ} → length kinds ≤ 128 → length place ≤ 256
-    → ((i : ℕ) → i < length place → (r : ℕ) × (r < length place) × (getD place r 0 ≡ i)) → length splits ≡ 256 → length w ≡ 65536
+pub numbers : (kinds preferences place splits : List ℕ) (side : ℕ) {w u : List ℕ} → length kinds ≤ max-unknowns → length place ≤ max-rows
+    → ((i : ℕ) → i < length place → (r : ℕ) × (r < length place) × (getD place r 0 ≡ i)) → length splits ≡ max-rows → length w ≡ work-size
     → u ≡ numbered kinds preferences place splits side w → WantsFilled kinds preferences place splits side w u
 numbers kinds preferences place splits side {w} few most met room area e =
     subst (λ (x : List ℕ). WantsFilled kinds preferences place splits side w x) (sym e) (wants-filled kinds preferences place splits side w few most met room area)
 
-all-are-codes : (codes : List ℕ) → Coded 128 codes → all-codes codes ≡ true
+all-are-codes : (codes : List ℕ) → Coded max-unknowns codes → all-codes codes ≡ true
 all-are-codes [] coded = refl
 all-are-codes (zero ∷ codes) coded = all-are-codes codes (λ e less. coded (suc e) (omega arith))
 all-are-codes (suc c ∷ codes) coded =
     let here = coded 0 (omega arith) (omega arith) in
     let same : suc c % 512 ≡ suc c = omega arith in
-    rw (same, le-leb (suc c) 257 (omega arith), ne-eqb (suc c) 1 (λ e. omega arith)) (all-are-codes codes (λ e less. coded (suc e) (omega arith)))
+    rw (same, le-leb (suc c) last-code (omega arith), ne-eqb (suc c) 1 (λ e. omega arith)) (all-are-codes codes (λ e less. coded (suc e) (omega arith)))
 
 -- The index that is filled is the one of the codes.
-pub lists : (codes before : List ℕ) {index : List ℕ} → length codes ≤ 8192 → Coded 128 codes → length before ≡ 8710 → index ≡ indexed codes before → index ≡ index-of codes
+pub lists : (codes before : List ℕ) {index : List ℕ} → length codes ≤ max-entries → Coded max-unknowns codes → length before ≡ index-size → index ≡ indexed codes before → index ≡ index-of codes
 unfolding indexed table-fits
 lists codes before few coded size e = e ∙ whole
   where
     whole : indexed codes before ≡ index-of codes
-    whole = rw (le-leb (length codes) 8192 few, eq-eqb (length before) 8710 size, all-are-codes codes coded)
+    whole = rw (le-leb (length codes) max-entries few, eq-eqb (length before) index-size size, all-are-codes codes coded)
 
 -- No code is a dropped one's, so that an end is a 0.
-code-small : (codes : List ℕ) → Coded 128 codes → (e : ℕ) → getD codes e 0 < 512
+code-small : (codes : List ℕ) → Coded max-unknowns codes → (e : ℕ) → getD codes e 0 < 512
 code-small codes coded e = by-place (decLt e (length codes))
   where
     by-code : e < length codes → Dec (0 < getD codes e 0) → getD codes e 0 < 512
@@ -159,7 +161,7 @@ code-small codes coded e = by-place (decLt e (length codes))
     by-place (no h) = omega (arith, List·getD-eq-default codes 0 {n = e} (omega arith))
 
 -- So what stands between a list's begin and its end are starts of clauses.
-pub lists-starts : (codes index : List ℕ) → length codes ≤ 8192 → Coded 128 codes → index ≡ index-of codes → Listed codes index
+pub lists-starts : (codes index : List ℕ) → length codes ≤ max-entries → Coded max-unknowns codes → index ≡ index-of codes → Listed codes index
 lists-starts codes index few coded e = subst (λ (x : List ℕ). Listed codes x) (sym e) starts
   where
     start : (s : ℕ) → begins codes s ≡ true → s < length codes → Begins codes s
@@ -182,7 +184,7 @@ lists-starts codes index few coded e = subst (λ (x : List ℕ). Listed codes x)
         start (getD (index-of codes) at 0) (names .first) (names .inside)
 
 -- A number that is read there is one.
-pub starts-there : (codes index : List ℕ) → length codes ≤ 8192 → Coded 128 codes → (c at start : ℕ) → c ≤ 257 → getD index c 0 ≤ at → at < getD index (259 + c) 0 → start ≡ getD index at 0
+pub starts-there : (codes index : List ℕ) → length codes ≤ max-entries → Coded max-unknowns codes → (c at start : ℕ) → c ≤ last-code → getD index c 0 ≤ at → at < getD index (code-count + c) 0 → start ≡ getD index at 0
     → Indexed 0 codes index → Begins codes start
 starts-there codes index few coded c at start small low high read listed =
     subst (λ (x : ℕ). Begins codes x) (sym read) (lists-starts codes index few coded (listed refl) c at small low high)

@@ -10,6 +10,7 @@ use native.Mathlib.Decide.{ℕ-discrete, decLe, decLt}
 use lib.Dec.{eqb}
 use lib.ListN.{length, getD, set, drop}
 use lib.Seq.{getD-set-same, getD-set-other}
+use Rattle.formula.specs.Formula.{max-unknowns}
 use Rattle.expansion.proofs.Booleans.{true-or-false, never-both}
 use Rattle.expansion.proofs.Cuts.{Mask, Problem, Agree, Refuted, Implied, Within, agree-sym, refuted-row, implied-row, implied-larger}
 use Rattle.expansion.proofs.Node.{Node, MasksWithin, grown-refl, grown-stored}
@@ -18,7 +19,9 @@ use Rattle.expansion.proofs.ClauseCuts.{Every, Rests, dead-clause, unit-clause,
 use Rattle.search_cells.specs.Cells.{cells}
 use Rattle.search_cells.specs.Changes.{CellsSet}
 use Rattle.search_sets.specs.Masks.{set-at, masks, cut, SetsKept, Blamed}
+use Rattle.codes.specs.Codes.{last-code}
 use Rattle.codes.specs.Clauses.{position, code-true, code-clauses, clause-of, code-goal, Begins, Coded}
+use Rattle.index.specs.Index.{code-count}
 use Rattle.search.specs.Steps.{Fits, Settled, Settles, Starts, Indexed, Lent}
 use Rattle.search_evaluation.specs.Looked.{IsAt, Looked}
 use Rattle.search_groups.specs.Parts.{CopyFrom, CopyTo}
@@ -41,18 +44,18 @@ open-or-set (suc n) = inr (omega arith)
 
 -- The code is a literal of one of n unknowns, whose position has a set.
 abbrev Literal : ℕ → ℕ → Type 0
-Literal n c = ((2 ≤ c) × (position c < n)) × (position c < 128)
+Literal n c = ((2 ≤ c) × (position c < n)) × (position c < max-unknowns)
 
 -- the existential side's goal is the matrix
 pub goal-matrix : (P : Problem) (kinds splits codes : List ℕ) → Fits P kinds splits codes 0 → (f : ℕ → Bool) → P .goal f ≡ matrix-at code-true (code-clauses codes) f
 unfolding code-goal
 goal-matrix P kinds splits codes F f = F .goal f
 
-pub cut-is : (t : List ℕ) → cut t ≡ set-at t 128
+pub cut-is : (t : List ℕ) → cut t ≡ set-at t max-unknowns
 unfolding cut
 cut-is t = refl
 
-module _ (P : Problem) (kinds splits codes : List ℕ) (F : Fits P kinds splits codes 0) (coded : Coded 128 codes) (k lo hi : ℕ) (v : ℕ → Bool) (w s : List ℕ) (A : Node P k lo hi v (cells w) (masks s))
+module _ (P : Problem) (kinds splits codes : List ℕ) (F : Fits P kinds splits codes 0) (coded : Coded max-unknowns codes) (k lo hi : ℕ) (v : ℕ → Bool) (w s : List ℕ) (A : Node P k lo hi v (cells w) (masks s))
     (i start : ℕ) (il : lo ≤ i) (ih : i < hi) (begins : Begins codes start) where
   abbrev clause : List ℕ
   clause = clause-of (drop start codes)
@@ -60,13 +63,13 @@ module _ (P : Problem) (kinds splits codes : List ℕ) (F : Fits P kinds splits 
   -- a code's position is one of the problem's, and has a set
   named : Every (Literal (P .n)) clause
   named =
-      every-both (λ c. (2 ≤ c) × (position c < P .n)) (λ c. (2 ≤ c) × (position c < 128)) (Literal (P .n)) (λ c a b. (a, b .1)) clause
-      (clause-coded (P .n) codes start (F .coded)) (clause-coded 128 codes start coded)
+      every-both (λ c. (2 ≤ c) × (position c < P .n)) (λ c. (2 ≤ c) × (position c < max-unknowns)) (Literal (P .n)) (λ c a b. (a, b .1)) clause
+      (clause-coded (P .n) codes start (F .coded)) (clause-coded max-unknowns codes start coded)
 
   -- ---- a clause that is false
 
-  module _ (found : ℕ) (none : found ≡ 0) (looked : Looked codes w i start found) (s1 t : List ℕ) (emptied : SetsKept s s1) (blamed : Blamed clause 128 s1 t) where
-    within-cut : (c : ℕ) → position c < 128 → Takes s1 t 128 c → Within k (masks s (position c)) (cut t)
+  module _ (found : ℕ) (none : found ≡ 0) (looked : Looked codes w i start found) (s1 t : List ℕ) (emptied : SetsKept s s1) (blamed : Blamed clause max-unknowns s1 t) where
+    within-cut : (c : ℕ) → position c < max-unknowns → Takes s1 t max-unknowns c → Within k (masks s (position c)) (cut t)
     within-cut c lt takes l lk h =
         ⊎-elim
         (λ e. absurd (omega arith))
@@ -75,13 +78,13 @@ module _ (P : Problem) (kinds splits codes : List ℕ) (F : Fits P kinds splits 
 
     dead-rests : Every (Rests code-true position (P .n) k (cells w) (masks s) (cut t) i false) clause
     dead-rests =
-        every-both (λ c. Literal (P .n) c × FalseBut w i found c) (Takes s1 t 128) (Rests code-true position (P .n) k (cells w) (masks s) (cut t) i false)
+        every-both (λ c. Literal (P .n) c × FalseBut w i found c) (Takes s1 t max-unknowns) (Rests code-true position (P .n) k (cells w) (masks s) (cut t) i false)
         (λ c a b. rests c a b)
         clause
         (every-both (Literal (P .n)) (FalseBut w i found) (λ c. Literal (P .n) c × FalseBut w i found c) (λ c a b. (a, b)) clause named (looked .rest (λ e. omega arith)))
         (blamed .takes)
       where
-        rests : (c : ℕ) → Literal (P .n) c × FalseBut w i found c → Takes s1 t 128 c → Rests code-true position (P .n) k (cells w) (masks s) (cut t) i false c
+        rests : (c : ℕ) → Literal (P .n) c × FalseBut w i found c → Takes s1 t max-unknowns c → Rests code-true position (P .n) k (cells w) (masks s) (cut t) i false c
         rests c a b =
             ⊎-elim
             (λ e. absurd (let p : 2 ≤ c = a .0 .0 .0 in omega arith))
@@ -97,7 +100,7 @@ module _ (P : Problem) (kinds splits codes : List ℕ) (F : Fits P kinds splits 
     settled-dead mark = record {
       grown = grown-refl mark lo hi (cells w);
       wanted = λ h j. refl;
-      masked = within-trans k (masks s) (masks s1) (masks t) (masks-kept k s s1 emptied) (masks-grown k 128 s1 t (blamed .grown));
+      masked = within-trans k (masks s) (masks s1) (masks t) (masks-kept k s s1 emptied) (masks-grown k max-unknowns s1 t (blamed .grown));
       kept = λ e. absurd (never-both e refl);
       failed = λ e. refuted-row P i lo k v (cut t) (omega arith) (omega arith) (A .depth) (A .agree i lo il ih (omega arith) (omega arith)) refuted-here;
     }
@@ -112,7 +115,7 @@ module _ (P : Problem) (kinds splits codes : List ℕ) (F : Fits P kinds splits 
     unset : cells w .level i (position c) ≡ 0
     unset = looked .unset two
 
-    fits : position c < 128
+    fits : position c < max-unknowns
     fits = looked .fits two
 
     inside : position c ≤ length kinds
@@ -136,7 +139,7 @@ module _ (P : Problem) (kinds splits codes : List ℕ) (F : Fits P kinds splits 
         go (yes le) = le
         go (no n) = absurd (let z : 0 < cells w .level i (position c) = A .past i (position c) il ih (omega arith) .0 in let y : cells w .level i (position c) ≡ 0 = unset in omega arith)
 
-    within-blamed : (x : ℕ) → position x < 128 → 0 < cells w .level i (position x) → Takes s t (position c) x → Within k (masks s (position x)) (masks t (position c))
+    within-blamed : (x : ℕ) → position x < max-unknowns → 0 < cells w .level i (position x) → Takes s t (position c) x → Within k (masks s (position x)) (masks t (position c))
     within-blamed x lt set takes l lk h =
         ⊎-elim
         (λ e. absurd (let z : cells w .level i (position x) ≡ cells w .level i (position c) = ap (cells w .level i) e in let y : cells w .level i (position c) ≡ 0 = unset in omega arith))
@@ -220,8 +223,8 @@ module _ (P : Problem) (kinds splits codes : List ℕ) (F : Fits P kinds splits 
 
 -- ---- the same over every problem
 
-module _ (splits codes : List ℕ) (coded : Coded 128 codes) (lo hi mark : ℕ) (w s : List ℕ) (i start : ℕ) (il : lo ≤ i) (ih : i < hi) (begins : Begins codes start) where
-  pub settles-dead : (found : ℕ) → found ≡ 0 → Looked codes w i start found → (s1 t : List ℕ) → SetsKept s s1 → Blamed (clause-of (drop start codes)) 128 s1 t → Settles 0 splits codes lo hi mark w w s t false
+module _ (splits codes : List ℕ) (coded : Coded max-unknowns codes) (lo hi mark : ℕ) (w s : List ℕ) (i start : ℕ) (il : lo ≤ i) (ih : i < hi) (begins : Begins codes start) where
+  pub settles-dead : (found : ℕ) → found ≡ 0 → Looked codes w i start found → (s1 t : List ℕ) → SetsKept s s1 → Blamed (clause-of (drop start codes)) max-unknowns s1 t → Settles 0 splits codes lo hi mark w w s t false
   settles-dead found none looked s1 t emptied blamed P kinds k v F A pos most =
       settled-dead P kinds splits codes F coded k lo hi v w s A i start il ih begins found none looked s1 t emptied blamed mark
 
@@ -329,5 +332,5 @@ pub starts-at : (codes list : List ℕ) (begin end at start : ℕ) → begin ≤
 starts-at codes list begin end at start low high read starts = subst (λ (x : ℕ). Begins codes x) (sym read) (starts at low high)
 
 -- what the index lists for a code, up to an end that is no later
-pub lent-starts : {splits codes work sets index : List ℕ} → Lent 0 splits codes work sets index → Indexed 0 codes index → (c begin end : ℕ) → c ≤ 257 → begin ≡ getD index c 0 → end ≤ getD index (259 + c) 0 → Starts codes index begin end
+pub lent-starts : {splits codes work sets index : List ℕ} → Lent 0 splits codes work sets index → Indexed 0 codes index → (c begin end : ℕ) → c ≤ last-code → begin ≡ getD index c 0 → end ≤ getD index (code-count + c) 0 → Starts codes index begin end
 lent-starts {splits} {codes} {work} {sets} {index} lent listed c begin end le is early at low high = lists-starts codes index (lent .entries) (lent .coded) (listed refl) c at le (omega arith) (omega arith)

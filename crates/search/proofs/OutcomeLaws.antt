@@ -9,7 +9,7 @@ use borrow.Author.Tests.{eq-eqb, ne-eqb, lt-ltb, le-ltb, leb-true}
 use lib.Dec.{eqb, leb}
 use lib.IntN.{ℤ}
 use lib.ListN.{length, length-map}
-use Rattle.formula.specs.Formula.{Kind, existential, universal, kind-of, prefix, clauses, max-rows}
+use Rattle.formula.specs.Formula.{Kind, existential, universal, kind-of, prefix, clauses, max-rows, work-size}
 use Rattle.formula.specs.Meaning.{matrix}
 use Rattle.formula.specs.Causes.{count, checked, refused-if, cause-1, cause-2, cause-3, sizes}
 use Rattle.formula.specs.declared.Check.the-variants.{Accepted as Passed, Refused as Turned}
@@ -36,30 +36,30 @@ module _ (rows : List ℕ) (lent others : ℕ) (work : List ℕ) where
   cause-table e = rw e
 
   module _ (fits : table-fits rows ≡ true) where
-    pub cause-area : (length work ≡ 65536 → ⊥) → later-cause rows lent others work ≡ 5
+    pub cause-area : (length work ≡ work-size → ⊥) → later-cause rows lent others work ≡ 5
     unfolding later-cause
-    cause-area n = rw (fits, ne-eqb (length work) 65536 n)
+    cause-area n = rw (fits, ne-eqb (length work) work-size n)
 
-    module _ (area : length work ≡ 65536) where
+    module _ (area : length work ≡ work-size) where
       pub cause-count : room rows < lent → later-cause rows lent others work ≡ 7
       unfolding later-cause
-      cause-count lt = rw (fits, eq-eqb (length work) 65536 area, lt-ltb (room rows) lent lt)
+      cause-count lt = rw (fits, eq-eqb (length work) work-size area, lt-ltb (room rows) lent lt)
 
       module _ (inside : lent ≤ room rows) where
         pub cause-stray : stray-rows others lent rows ≡ true → later-cause rows lent others work ≡ 8
         unfolding later-cause
-        cause-stray e = rw (fits, eq-eqb (length work) 65536 area, le-ltb (room rows) lent inside, e)
+        cause-stray e = rw (fits, eq-eqb (length work) work-size area, le-ltb (room rows) lent inside, e)
 
         pub no-cause : stray-rows others lent rows ≡ false → later-cause rows lent others work ≡ 0
         unfolding later-cause
-        no-cause e = rw (fits, eq-eqb (length work) 65536 area, le-ltb (room rows) lent inside, e)
+        no-cause e = rw (fits, eq-eqb (length work) work-size area, le-ltb (room rows) lent inside, e)
 
-pub fits-few : (rows : List ℕ) → table-fits rows ≡ true → room rows ≤ 256
+pub fits-few : (rows : List ℕ) → table-fits rows ≡ true → room rows ≤ max-rows
 unfolding table-fits
 fits-few rows e =
     let a : leb 16 (length rows) && leb (length rows) (max-rows * 16) ≡ true = and-eq-true-iff (leb 16 (length rows) && leb (length rows) (max-rows * 16)) (eqb (length rows % 16) 0) .0 e .0 in
     let b : leb (length rows) (max-rows * 16) ≡ true = and-eq-true-iff (leb 16 (length rows)) (leb (length rows) (max-rows * 16)) .0 a .1 in
-    let c : length rows ≤ 4096 = leb-true (length rows) (max-rows * 16) b in
+    let c : length rows ≤ max-rows * 16 = leb-true (length rows) (max-rows * 16) b in
     omega arith
 
 -- ---- answers over tables that fit

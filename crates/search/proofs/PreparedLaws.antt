@@ -9,17 +9,17 @@ use borrow.Author.Tests.{ltb-false, lt-ltb, le-ltb, eq-eqb, ne-eqb, eqb-true, no
 use lib.Dec.{eqb, ltb, leb·suc-zero}
 use lib.IntN.{ℤ, pos, natAbs}
 use lib.ListN.{length, getD, take, List·getD-eq-default}
-use Rattle.formula.specs.Formula.{max-unknowns, prefix}
+use Rattle.formula.specs.Formula.{max-unknowns, max-entries, prefix}
 use Rattle.formula.specs.Causes.{any, beyond, cause-1, cause-2, cause-3, checked, sizes, refused-if, count}
 use Rattle.formula.specs.declared.Check.the-variants.{Accepted as Passed, Refused as Turned}
 use Rattle.formula.specs.declared.Formula.{Formula}
 use Rattle.formula.proofs.Accepted.{Accepted, accepted, accepting, accepted-sizes}
 use Rattle.formula.proofs.Any.{any-none, none-any, or-none}
 use Rattle.expansion.specs.OtherSide.{side-of, other}
-use Rattle.codes.specs.Codes.{encoding, refused, used as entries-used, filled as codes-filled}
+use Rattle.codes.specs.Codes.{last-code, encoding, refused, used as entries-used, filled as codes-filled}
 use Rattle.codes.specs.Clauses.{Coded, Names, Encoded}
 use Rattle.codes.proofs.EncodeLaws.{accepted as encodable, encoding-length, encoding-encoded, used-part}
-use Rattle.index.specs.Index.{index-of, filled as index-filled}
+use Rattle.index.specs.Index.{index-size, index-of, filled as index-filled}
 use Rattle.index.proofs.IndexLaws.{index-laid}
 use Rattle.search_terms.specs.Terms.{ListedIn}
 use Rattle.search.specs.declared.Search.{Search}
@@ -33,24 +33,24 @@ use Rattle.search.proofs.OutcomeLaws.{answered-searched}
 -- ---- what is made
 
 module _ (kinds : List ℕ) (literals : List ℤ) (of : Accepted kinds literals) where
-  names : Names 128 literals
+  names : Names max-unknowns literals
   names i lt = omega (arith, of .within i, of .few-unknowns)
 
   encoded : Encoded literals (encoding literals)
   encoded = encoding-encoded literals (accepted-ended kinds literals of)
 
-  codes-few : length (encoding literals) ≤ 8192
+  codes-few : length (encoding literals) ≤ max-entries
   codes-few = omega (arith, encoding-length literals, of .few-entries)
 
-  codes-coded : Coded 128 (encoding literals)
-  codes-coded = encoded .coded 128 names
+  codes-coded : Coded max-unknowns (encoding literals)
+  codes-coded = encoded .coded max-unknowns names
 
-  tables-made : (codes index : List ℕ) (used : ℕ) (codes-then index-then : List ℕ) → length codes ≡ 8192 → length index ≡ 8710
+  tables-made : (codes index : List ℕ) (used : ℕ) (codes-then index-then : List ℕ) → length codes ≡ max-entries → length index ≡ index-size
       → used ≡ entries-used literals (length codes) → codes-then ≡ codes-filled literals codes → index-then ≡ index-filled (take used codes-then) index
       → (take used codes-then ≡ encoding literals) × (index-then ≡ index-of (take used codes-then))
   tables-made codes index used codes-then index-then room place e f g = (
     made,
-    lists (take used codes-then) index (subst (λ (l : List ℕ). length l ≤ 8192) (sym made) codes-few) (subst (λ (l : List ℕ). Coded 128 l) (sym made) codes-coded) place g,
+    lists (take used codes-then) index (subst (λ (l : List ℕ). length l ≤ max-entries) (sym made) codes-few) (subst (λ (l : List ℕ). Coded max-unknowns l) (sym made) codes-coded) place g,
   )
     where
       made : take used codes-then ≡ encoding literals
@@ -68,7 +68,7 @@ module _ (kinds : List ℕ) (literals : List ℤ) (codes index terms : List ℕ)
     prepared = λ passes room place size.
         let of = accepted kinds literals passes in
         let made = tables-made kinds literals of codes index used codes-then index-then room place e f g in
-        let few : length (take used codes-then) ≤ 8192 = subst (λ (l : List ℕ). length l ≤ 8192) (sym (made .0)) (codes-few kinds literals of) in
+        let few : length (take used codes-then) ≤ max-entries = subst (λ (l : List ℕ). length l ≤ max-entries) (sym (made .0)) (codes-few kinds literals of) in
         record { accepted = passes; coded = made .0; listed = made .1; terms-sized = same ∙ size; terms-listed = told few (same ∙ size) };
   }
 
@@ -93,32 +93,32 @@ passes kinds literals e = e ∙ ap Passed (accepted-sizes kinds literals e)
 pub other-one : (c : ℕ) {x : ℕ} → x ≡ c → x ≡ 1 → true ≡ no-code c
 other-one c same is = sym (rw (eq-eqb c 1 (sym same ∙ is)))
 
-pub other-above : (c : ℕ) {x : ℕ} → x ≡ c → (x ≡ 1 → ⊥) → ltb 257 x ≡ no-code c
-other-above c same not-1 = ap (ltb 257) same ∙ sym (rw (ne-eqb c 1 (λ e. not-1 (same ∙ e))))
+pub other-above : (c : ℕ) {x : ℕ} → x ≡ c → (x ≡ 1 → ⊥) → ltb last-code x ≡ no-code c
+other-above c same not-1 = ap (ltb last-code) same ∙ sym (rw (ne-eqb c 1 (λ e. not-1 (same ∙ e))))
 
-code-known : (c : ℕ) → no-code c ≡ false → 0 < c → (2 ≤ c) × (c / 2 - 1 < 128)
+code-known : (c : ℕ) → no-code c ≡ false → 0 < c → (2 ≤ c) × (c / 2 - 1 < max-unknowns)
 code-known c e some =
-    let both = or-none (eqb c 1) (ltb 257 c) e in
-    let high : c ≤ 257 = ltb-false 257 c (both .1) in
+    let both = or-none (eqb c 1) (ltb last-code c) e in
+    let high : c ≤ last-code = ltb-false last-code c (both .1) in
     let other : c ≡ 1 → ⊥ = λ is. true≢false (sym (eq-eqb c 1 is) ∙ both .0) in
     go c some high other
   where
-    go : (x : ℕ) → 0 < x → x ≤ 257 → (x ≡ 1 → ⊥) → (2 ≤ x) × (x / 2 - 1 < 128)
+    go : (x : ℕ) → 0 < x → x ≤ last-code → (x ≡ 1 → ⊥) → (2 ≤ x) × (x / 2 - 1 < max-unknowns)
     go zero a b n = absurd (omega arith)
     go (suc zero) a b n = absurd (n refl)
     go (suc (suc x)) a b n = (omega arith, omega arith)
 
-known-code : (c : ℕ) → (0 < c → (2 ≤ c) × (c / 2 - 1 < 128)) → no-code c ≡ false
+known-code : (c : ℕ) → (0 < c → (2 ≤ c) × (c / 2 - 1 < max-unknowns)) → no-code c ≡ false
 known-code zero h = refl
 known-code (suc c) h =
     let p = h (omega arith) in
-    rw (ne-eqb (suc c) 1 (λ e. omega (arith, p .0)), le-ltb 257 (suc c) (omega (arith, p .1)))
+    rw (ne-eqb (suc c) 1 (λ e. omega (arith, p .0)), le-ltb last-code (suc c) (omega (arith, p .1)))
 
 module _ (codes : List ℕ) where
-  all-coded : any no-code codes ≡ false → Coded 128 codes
+  all-coded : any no-code codes ≡ false → Coded max-unknowns codes
   all-coded none e lt some = code-known (getD codes e 0) (any-none no-code 0 refl codes none e) some
 
-  coded-all : Coded 128 codes → any no-code codes ≡ false
+  coded-all : Coded max-unknowns codes → any no-code codes ≡ false
   coded-all coded = none-any no-code 0 codes (λ e. known-code (getD codes e 0) (λ some. coded e (inside e some) some))
     where
       inside : (e : ℕ) → 0 < getD codes e 0 → e < length codes
@@ -129,31 +129,31 @@ module _ (codes : List ℕ) where
           by-place (no h) = absurd (omega (arith, List·getD-eq-default codes 0 {n = e} (omega arith)))
 
   module _ (places : ℕ) where
-    pub fit-long : 8192 < length codes → false ≡ tables-fit codes places
+    pub fit-long : max-entries < length codes → false ≡ tables-fit codes places
     unfolding tables-fit
-    fit-long h = sym (rw (lt-ltb 8192 (length codes) h))
+    fit-long h = sym (rw (lt-ltb max-entries (length codes) h))
 
-    pub fit-other-size : (places ≡ 8710 → ⊥) → false ≡ tables-fit codes places
+    pub fit-other-size : (places ≡ index-size → ⊥) → false ≡ tables-fit codes places
     unfolding tables-fit
-    fit-other-size n = sym (rw (ne-eqb places 8710 n) (and-false (not (ltb 8192 (length codes)))))
+    fit-other-size n = sym (rw (ne-eqb places index-size n) (and-false (not (ltb max-entries (length codes)))))
 
-    pub fit-tested : length codes ≤ 8192 → places ≡ 8710 → (found : Bool) → found ≡ any no-code codes → not found ≡ tables-fit codes places
+    pub fit-tested : length codes ≤ max-entries → places ≡ index-size → (found : Bool) → found ≡ any no-code codes → not found ≡ tables-fit codes places
     unfolding tables-fit
-    fit-tested few size found e = sym (rw (le-ltb 8192 (length codes) few, eq-eqb places 8710 size, ← e))
+    fit-tested few size found e = sym (rw (le-ltb max-entries (length codes) few, eq-eqb places index-size size, ← e))
 
     module _ (fits : tables-fit codes places ≡ true) where
-      fit-parts : (not (ltb 8192 (length codes)) ≡ true) × (eqb places 8710 && not (any no-code codes) ≡ true)
+      fit-parts : (not (ltb max-entries (length codes)) ≡ true) × (eqb places index-size && not (any no-code codes) ≡ true)
       unfolding tables-fit
-      fit-parts = and-eq-true-iff (not (ltb 8192 (length codes))) (eqb places 8710 && not (any no-code codes)) .0 fits
+      fit-parts = and-eq-true-iff (not (ltb max-entries (length codes))) (eqb places index-size && not (any no-code codes)) .0 fits
 
-      fit-few : length codes ≤ 8192
-      fit-few = ltb-false 8192 (length codes) (not-true (ltb 8192 (length codes)) (fit-parts .0))
+      fit-few : length codes ≤ max-entries
+      fit-few = ltb-false max-entries (length codes) (not-true (ltb max-entries (length codes)) (fit-parts .0))
 
-      fit-size : places ≡ 8710
-      fit-size = eqb-true places 8710 (and-eq-true-iff (eqb places 8710) (not (any no-code codes)) .0 (fit-parts .1) .0)
+      fit-size : places ≡ index-size
+      fit-size = eqb-true places index-size (and-eq-true-iff (eqb places index-size) (not (any no-code codes)) .0 (fit-parts .1) .0)
 
-      fit-coded : Coded 128 codes
-      fit-coded = all-coded (not-true (any no-code codes) (and-eq-true-iff (eqb places 8710) (not (any no-code codes)) .0 (fit-parts .1) .1))
+      fit-coded : Coded max-unknowns codes
+      fit-coded = all-coded (not-true (any no-code codes) (and-eq-true-iff (eqb places index-size) (not (any no-code codes)) .0 (fit-parts .1) .1))
 
 -- ---- the prefix alone
 
@@ -222,8 +222,8 @@ module _ (kinds codes index terms : List ℕ) where
   prepared-fit : (literals : List ℤ) → Prepared kinds literals codes index terms → tables-fit codes (length index) ≡ true
   prepared-fit literals p =
       let of = accepted kinds literals (p .accepted) in
-      let few : length codes ≤ 8192 = subst (λ (l : List ℕ). length l ≤ 8192) (sym (p .coded)) (codes-few kinds literals of) in
-      let known : Coded 128 codes = subst (λ (l : List ℕ). Coded 128 l) (sym (p .coded)) (codes-coded kinds literals of) in
+      let few : length codes ≤ max-entries = subst (λ (l : List ℕ). length l ≤ max-entries) (sym (p .coded)) (codes-few kinds literals of) in
+      let known : Coded max-unknowns codes = subst (λ (l : List ℕ). Coded max-unknowns l) (sym (p .coded)) (codes-coded kinds literals of) in
       sym (fit-tested codes (length index) few (ap length (p .listed) ∙ index-laid codes few .sized) false (sym (coded-all codes known)))
 
   module _ (preferences rows : List ℕ) (lent : ℕ) (universal? : Bool) (w : List ℕ) where

@@ -9,6 +9,7 @@ use native.Mathlib.Decide.{decLt}
 use borrow.Author.Tests.{lt-ltb, le-ltb}
 use lib.Dec.{ltb}
 use lib.ListN.{length}
+use Rattle.formula.specs.Formula.{max-unknowns}
 use Rattle.expansion.specs.Cells.{Values}
 use Rattle.expansion.proofs.Booleans.{never-both}
 use Rattle.expansion.proofs.Cuts.{Mask, Problem, Model, Refuted, refuted-row}
@@ -26,7 +27,7 @@ use Rattle.search.proofs.CallLaws.{empties, unites-words}
 use Rattle.search.proofs.StepLaws.{masks-below, masks-kept, within-trans}
 use Rattle.search.proofs.ForceLaws.{goal-matrix, cut-is}
 
-module _ (P : Problem) (kinds splits codes : List ℕ) (F : Fits P kinds splits codes 0) (coded : Coded 128 codes) (k lo hi : ℕ) (v : ℕ → Bool) (w s : List ℕ) (A : Node P k lo hi v (cells w) (masks s))
+module _ (P : Problem) (kinds splits codes : List ℕ) (F : Fits P kinds splits codes 0) (coded : Coded max-unknowns codes) (k lo hi : ℕ) (v : ℕ → Bool) (w s : List ℕ) (A : Node P k lo hi v (cells w) (masks s))
     (i : ℕ) (il : lo ≤ i) (ih : i < hi) where
   -- a model's values of the row, and the table's behind the unknowns
   of-model : (ℕ → Bool) → ℕ → Bool
@@ -41,7 +42,7 @@ module _ (P : Problem) (kinds splits codes : List ℕ) (F : Fits P kinds splits 
   behind-is m j le = ap (λ (b : Bool). cond b (m j) (cells w .value i j)) (le-ltb j (P .n) le)
 
   -- what is reached by no decision is so in every model
-  fixed-is : (u : List ℕ) → SetsKept s u → (m : Values) → Model P m → (j : ℕ) → j < 128 → Fixed w u i j → of-model (m i) j ≡ cells w .value i j
+  fixed-is : (u : List ℕ) → SetsKept s u → (m : Values) → Model P m → (j : ℕ) → j < max-unknowns → Fixed w u i j → of-model (m i) j ≡ cells w .value i j
   fixed-is u kept m M j small fixed = go (decLt j (P .n))
     where
       empty : (l : ℕ) → set-at s j l ≡ false
@@ -68,7 +69,7 @@ module _ (P : Problem) (kinds splits codes : List ℕ) (F : Fits P kinds splits 
           below-is (m i) l (omega arith) ∙ heeds l (omega arith) d ∙ sym (A .past i l il ih (omega arith) .1)
 
 -- After a failure that has its set, a shorter reason may take its place.
-pub settles-shortened : (splits codes : List ℕ) → Coded 128 codes → (lo hi mark : ℕ) (w s s1 t : List ℕ) (i : ℕ) → lo ≤ i → i < hi → SetsKept s s1
+pub settles-shortened : (splits codes : List ℕ) → Coded max-unknowns codes → (lo hi mark : ℕ) (w s s1 t : List ℕ) (i : ℕ) → lo ≤ i → i < hi → SetsKept s s1
     → Settles 0 splits codes lo hi mark w w s s1 false → Shortened codes w i mark s1 t → Settles 0 splits codes lo hi mark w w s t false
 settles-shortened splits codes coded lo hi mark w s s1 t i il ih kept settles shortened P kinds k v F A pos most =
     let before = settles P kinds k v F A pos most in
@@ -91,21 +92,21 @@ settles-shortened splits codes coded lo hi mark w s s1 t i il ih kept settles sh
 
 -- ---- what a look for a reason leaves
 
-cut-at : (t : List ℕ) (l : ℕ) → cut t l ≡ set-at t 128 l
+cut-at : (t : List ℕ) (l : ℕ) → cut t l ≡ set-at t max-unknowns l
 cut-at t l = ap (λ (m : Mask). m l) (cut-is t)
 
 pub shortened-none : (codes w : List ℕ) (i mark : ℕ) (s t : List ℕ) → Same s t → Shortened codes w i mark s t
 shortened-none codes w i mark s t same = record {
   kept = same-kept same;
-  reason = inl (λ l. cut-at t l ∙ same .same 128 (omega arith) l ∙ sym (cut-at s l));
+  reason = inl (λ l. cut-at t l ∙ same .same max-unknowns (omega arith) l ∙ sym (cut-at s l));
 }
 
 pub shortened-new : (codes w : List ℕ) (i mark k low high : ℕ) (found : Bool) (s s1 s2 s3 t : List ℕ) → Same s s1 → Same s1 s2 → length s2 ≡ sets-size → length s3 ≡ sets-size
-    → k ≡ mark - 1 → Shorter codes w s1 i k found low high → found ≡ true → s3 ≡ emptied s2 128 → t ≡ united-words s3 128 low high → Shortened codes w i mark s t
+    → k ≡ mark - 1 → Shorter codes w s1 i k found low high → found ≡ true → s3 ≡ emptied s2 max-unknowns → t ≡ united-words s3 max-unknowns low high → Shortened codes w i mark s t
 shortened-new codes w i mark k low high found s s1 s2 s3 t first second size size′ ek shorter is-found ee eu =
-    let united = unites-words s3 size′ 128 low high (omega arith) eu in
+    let united = unites-words s3 size′ max-unknowns low high (omega arith) eu in
     record {
-      kept = kept-trans (same-kept (same-trans first second)) (kept-trans (empties s2 size 128 (omega arith) (omega arith) ee) (kept-grown (omega arith) (united .grown)));
+      kept = kept-trans (same-kept (same-trans first second)) (kept-trans (empties s2 size max-unknowns (omega arith) (omega arith) ee) (kept-grown (omega arith) (united .grown)));
       reason = inr (
         s1,
         same-kept first,

@@ -7,6 +7,7 @@ use mathlib.Core.List.{List}
 use native.Mathlib.Omega.{arith}
 use native.Mathlib.Decide.{ℕ-discrete, decLt}
 use borrow.Author.Tests.{lt-ltb, le-ltb}
+use Rattle.formula.specs.Formula.{max-unknowns}
 use Rattle.expansion.proofs.Booleans.{never-both}
 use Rattle.expansion.proofs.Cuts.{Mask, Problem}
 use Rattle.expansion.proofs.Node.{Node, MasksWithin, grown-refl, grown-trans}
@@ -18,19 +19,19 @@ use Rattle.search.specs.Steps.{Settled, Settles, Steps}
 
 -- ---- masks
 
-pub masks-below : (s : List ℕ) (p : ℕ) → p < 128 → masks s p ≡ set-at s p
+pub masks-below : (s : List ℕ) (p : ℕ) → p < max-unknowns → masks s p ≡ set-at s p
 unfolding masks
-masks-below s p lt = ap (λ (b : Bool). cond {A = Mask} b (set-at s p) (λ l. false)) (lt-ltb p 128 lt)
+masks-below s p lt = ap (λ (b : Bool). cond {A = Mask} b (set-at s p) (λ l. false)) (lt-ltb p max-unknowns lt)
 
-masks-behind : (s : List ℕ) (p : ℕ) → 128 ≤ p → masks s p ≡ (λ (l : ℕ). false)
+masks-behind : (s : List ℕ) (p : ℕ) → max-unknowns ≤ p → masks s p ≡ (λ (l : ℕ). false)
 unfolding masks
-masks-behind s p le = ap (λ (b : Bool). cond {A = Mask} b (set-at s p) (λ l. false)) (le-ltb p 128 le)
+masks-behind s p le = ap (λ (b : Bool). cond {A = Mask} b (set-at s p) (λ l. false)) (le-ltb p max-unknowns le)
 
--- what no set below 128 loses, no mask loses
-pub masks-within : (k : ℕ) (s t : List ℕ) → ((p : ℕ) → p < 128 → (l : ℕ) → l < k → set-at s p l ≡ true → set-at t p l ≡ true) → MasksWithin k (masks s) (masks t)
-masks-within k s t keeps p l lk h = go (decLt p 128)
+-- what no set of a position loses, no mask loses
+pub masks-within : (k : ℕ) (s t : List ℕ) → ((p : ℕ) → p < max-unknowns → (l : ℕ) → l < k → set-at s p l ≡ true → set-at t p l ≡ true) → MasksWithin k (masks s) (masks t)
+masks-within k s t keeps p l lk h = go (decLt p max-unknowns)
   where
-    go : Dec (p < 128) → masks t p l ≡ true
+    go : Dec (p < max-unknowns) → masks t p l ≡ true
     go (yes lt) = ap (λ (m : Mask). m l) (masks-below t p lt) ∙ keeps p lt l lk (sym (ap (λ (m : Mask). m l) (masks-below s p lt)) ∙ h)
     go (no n) = absurd (never-both h (ap (λ (m : Mask). m l) (masks-behind s p (omega arith))))
 

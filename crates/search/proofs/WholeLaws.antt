@@ -8,7 +8,7 @@ use native.Mathlib.Omega.{arith}
 use lib.IntN.{ℤ}
 use lib.ListN.{length, getD, take, replicate, length-append, length-replicate}
 use lib.Seq.{getD-take, length-take-le}
-use Rattle.formula.specs.Formula.{prefix, clauses}
+use Rattle.formula.specs.Formula.{max-rows, work-size, prefix, clauses}
 use Rattle.formula.specs.Meaning.{matrix}
 use Rattle.formula.specs.Causes.{count, ended, is-zero}
 use Rattle.formula.proofs.Accepted.{Accepted}
@@ -144,10 +144,10 @@ module _ (kinds : List ℕ) (literals : List ℤ) (preferences rows : List ℕ) 
     abbrev u : List ℕ
     u = over .searched
 
-    cleared-area : length z ≡ 65536
+    cleared-area : length z ≡ work-size
     cleared-area = ap length cleared ∙ length-replicate (length w₀) 0 ∙ ready .area
 
-    few-places : length (take lent place) ≤ 256
+    few-places : length (take lent place) ≤ max-rows
     few-places = omega (arith, length-take-le lent place long, ready .inside, ready .few)
 
     filled : Filled kinds rows (take lent place) side z w
@@ -185,12 +185,12 @@ module _ (kinds : List ℕ) (literals : List ℤ) (preferences rows : List ℕ) 
         (subst (λ (b : Bool). FromStart kinds (take (length (take lent place)) (decided .all)) codes side (decided .wanting-area) u b) e (decided .from tabled))))
         (refl, h ∙ ap (λ (n : ℕ). replicate n 0) (ready .area))
 
-    found-some : r ≡ true → x ≡ table-of (tabulate (length (take lent place)) (λ q. part (owned kinds side) (tabulate (length kinds) (cells u .value (getD (take lent place) q 0))))) ++ replicate (65536 - 16 * length (take lent place)) 0 → FoundIs result true x
+    found-some : r ≡ true → x ≡ table-of (tabulate (length (take lent place)) (λ q. part (owned kinds side) (tabulate (length kinds) (cells u .value (getD (take lent place) q 0))))) ++ replicate (work-size - 16 * length (take lent place)) 0 → FoundIs result true x
     found-some e h =
         subst (λ (o : Option (List Row)). FoundIs o true x)
         (sym (searched-some kinds literals preferences rows (take lent place) (decided .all) (take (length (take lent place)) (decided .all)) codes side lent others (ready .side-fits) (of .accepted) (ready .inside) some-row (sorted-take rows lent others place sorted) others-fit (of .encoded) placed split-length z w (decided .wanting-area) filled (cleared-levels w₀ z cleared) differences (decided .wanting) same-splits u
         (subst (λ (b : Bool). FromStart kinds (take (length (take lent place)) (decided .all)) codes side (decided .wanting-area) u b) e (decided .from tabled))))
-        (refl, h ∙ ap (λ (n : ℕ). table-of (yields n) ++ replicate (65536 - 16 * n) 0) placed ∙ ap (λ (n : ℕ). table-of (yields lent) ++ replicate (65536 - n) 0) (sym (length-table-of (yields lent) ∙ ap (λ (n : ℕ). 16 * n) (length-tabulate lent one))))
+        (refl, h ∙ ap (λ (n : ℕ). table-of (yields n) ++ replicate (work-size - 16 * n) 0) placed ∙ ap (λ (n : ℕ). table-of (yields lent) ++ replicate (work-size - n) 0) (sym (length-table-of (yields lent) ∙ ap (λ (n : ℕ). 16 * n) (length-tabulate lent one))))
       where
         one : ℕ → Row
         one q = part (owned kinds side) (tabulate (length kinds) (cells u .value (getD (take lent place) q 0)))
@@ -211,13 +211,13 @@ module _ (kinds : List ℕ) (literals : List ℤ) (preferences rows : List ℕ) 
             (found-none e (over .clears e ∙ ap (λ (n : ℕ). replicate n 0) (ap length cleared ∙ length-replicate (length w₀) 0)))
 
   -- over no rows there is a model, which yields none
-  pub found-empty : (w₀ x : List ℕ) → length w₀ ≡ 65536 → lent ≡ 0 → x ≡ replicate (length w₀) 0 → FoundIs result true x
+  pub found-empty : (w₀ x : List ℕ) → length w₀ ≡ work-size → lent ≡ 0 → x ≡ replicate (length w₀) 0 → FoundIs result true x
   unfolding search
   found-empty w₀ x area e h = subst (λ (n : ℕ). FoundIs (search (prefer preferences) (side-kind side) (prefix kinds) (matrix (clauses literals)) (rows-of others n rows)) true x) (sym e) (go (search (prefer preferences) (side-kind side) (prefix kinds) (matrix (clauses literals)) []) refl)
     where
       go : (o : Option (List Row)) → search (prefer preferences) (side-kind side) (prefix kinds) (matrix (clauses literals)) [] ≡ o → FoundIs o true x
       go none q = absurd (true≢false (search-none (prefer preferences) (side-kind side) (prefix kinds) (matrix (clauses literals)) [] .0 q (λ k s. false)))
-      go (some ys) q = (refl, h ∙ ap (λ (n : ℕ). replicate n 0) area ∙ ap (λ (l : List Row). table-of l ++ replicate (65536 - length (table-of l)) 0) (sym (empty-yield ys q)))
+      go (some ys) q = (refl, h ∙ ap (λ (n : ℕ). replicate n 0) area ∙ ap (λ (l : List Row). table-of l ++ replicate (work-size - length (table-of l)) 0) (sym (empty-yield ys q)))
         where
           empty-yield : (zs : List Row) → search (prefer preferences) (side-kind side) (prefix kinds) (matrix (clauses literals)) [] ≡ some zs → zs ≡ []
           empty-yield zs p = yielded-empty (flags (side-kind side) (prefix kinds)) (first-model (prefer preferences) (flags (side-kind side) (prefix kinds)) (goal (side-kind side) (matrix (clauses literals))) []) zs p

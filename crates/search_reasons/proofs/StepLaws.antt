@@ -11,16 +11,17 @@ use borrow.Author.Tests.{eq-eqb, ne-eqb, eqb-true}
 use lib.Dec.{eqb, ltb}
 use lib.ListN.{length, getD, set, drop}
 use lib.Seq.{drop-cons, getD-set-same, getD-set-other}
+use Rattle.formula.specs.Formula.{max-unknowns}
 use Rattle.preference.specs.Preference.{odd}
 use Rattle.rows.specs.Row.{weight}
 use Rattle.expansion.proofs.Booleans.{never-both}
 use Rattle.expansion.proofs.Cuts.{Mask}
 use Rattle.expansion.proofs.ClauseCuts.{Every}
-use Rattle.codes.specs.Codes.{row-position}
+use Rattle.codes.specs.Codes.{last-code, row-position}
 use Rattle.codes.specs.Clauses.{position, clause-of, HasEnd, Begins, Coded}
 use Rattle.codes.proofs.CodeLaws.{row-position-is, clause-step, clause-stop}
 use Rattle.search_cells.specs.Cells.{cells}
-use Rattle.search_sets.specs.Sets.{sets-size, added, has, emptied, blamed}
+use Rattle.search_sets.specs.Sets.{set-places, sets-size, added, has, emptied, blamed}
 use Rattle.search_sets.specs.Masks.{set-at, SetGrown, SetsKept, Put, Blamed}
 use Rattle.search_sets.proofs.SetLaws.{add-grows, add-adds, has-is, empty-empties, empty-keeps, blame-blames}
 use Rattle.search_sets.proofs.MaskLaws.{store-elsewhere}
@@ -31,7 +32,7 @@ use Rattle.search_reasons.proofs.HeldLaws.{held-same, held-store, held-
 
 -- ---- sets that stay
 
-pub same-store : (o : List ℕ) (at x : ℕ) → 258 ≤ at → Same o (set o at x)
+pub same-store : (o : List ℕ) (at x : ℕ) → 2 * (max-unknowns + 1) ≤ at → Same o (set o at x)
 same-store o at x behind = record { same = λ j le l. store-elsewhere o at x j l (omega arith) (omega arith) }
 
 pub same-refl : (o : List ℕ) → Same o o
@@ -47,7 +48,7 @@ same-kept a = record { same = λ p lt l. a .same p (omega arith) l }
 
 pub level-set : (w : List ℕ) (i k : ℕ) {r : ℕ} → r ≡ level-in w i k → 0 < r → 0 < cells w .level i k
 unfolding level-in
-level-set w i k e h = go (has-row w i && ltb k 128) (subst (λ (x : ℕ). 0 < x) e h)
+level-set w i k e h = go (has-row w i && ltb k max-unknowns) (subst (λ (x : ℕ). 0 < x) e h)
   where
     go : (t : Bool) → 0 < cond t (cells w .level i k) 0 → 0 < cells w .level i k
     go true p = p
@@ -56,30 +57,30 @@ level-set w i k e h = go (has-row w i && ltb k 128) (subst (λ (x : ℕ). 0 < x)
 -- ---- the calls, as relations
 
 module _ (o : List ℕ) {q : List ℕ} (size : length o ≡ sets-size) where
-  pub but-emptied : (p : ℕ) → p < 128 → q ≡ emptied o p → SetsBut p o q
+  pub but-emptied : (p : ℕ) → p < max-unknowns → q ≡ emptied o p → SetsBut p o q
   but-emptied p lt e = subst (λ (x : List ℕ). SetsBut p o x) (sym e) (record { same = λ j jl n l. empty-empties o size p (omega arith) .others j n l })
 
-  pub kept-emptied : q ≡ emptied o 128 → SetsKept o q
-  kept-emptied e = subst (λ (x : List ℕ). SetsKept o x) (sym e) (empty-keeps o size 128 (omega arith) (omega arith))
+  pub kept-emptied : q ≡ emptied o max-unknowns → SetsKept o q
+  kept-emptied e = subst (λ (x : List ℕ). SetsKept o x) (sym e) (empty-keeps o size max-unknowns (omega arith) (omega arith))
 
-  pub grown-added : (p l : ℕ) → p < 128 → l < 128 → q ≡ added o p l → SetGrown p o q
+  pub grown-added : (p l : ℕ) → p < max-unknowns → l < max-unknowns → q ≡ added o p l → SetGrown p o q
   grown-added p l pl ll e = subst (λ (x : List ℕ). SetGrown p o x) (sym e) (add-grows o size p l (omega arith) ll)
 
-  pub adds : (p l : ℕ) → p < 128 → l < 128 → q ≡ added o p l → set-at q p l ≡ true
+  pub adds : (p l : ℕ) → p < max-unknowns → l < max-unknowns → q ≡ added o p l → set-at q p l ≡ true
   adds p l pl ll e = subst (λ (x : List ℕ). set-at x p l ≡ true) (sym e) (add-adds o size p l (omega arith) ll)
 
-  pub blames : (codes : List ℕ) (start p : ℕ) → p < 130 → Coded 128 codes → q ≡ blamed codes o start p → Blamed (clause-of (drop start codes)) p o q
+  pub blames : (codes : List ℕ) (start p : ℕ) → p < set-places → Coded max-unknowns codes → q ≡ blamed codes o start p → Blamed (clause-of (drop start codes)) p o q
   blames codes start p place coded e = subst (λ (x : List ℕ). Blamed (clause-of (drop start codes)) p o x) (sym e) (blame-blames o size codes start p place coded)
 
-pub has-at : (o : List ℕ) → length o ≡ sets-size → (l : ℕ) {r : Bool} → l < 128 → r ≡ has o 128 l → r ≡ set-at o 128 l
-has-at o size l below e = e ∙ has-is o size 128 l (omega arith) below
+pub has-at : (o : List ℕ) → length o ≡ sets-size → (l : ℕ) {r : Bool} → l < max-unknowns → r ≡ has o max-unknowns l → r ≡ set-at o max-unknowns l
+has-at o size l below e = e ∙ has-is o size max-unknowns l (omega arith) below
 
 -- no position passed is in the set, nor the next one
-pub none-more : (o : List ℕ) (k l : ℕ) → ((j : ℕ) → k ≤ j → j < l → set-at o 128 j ≡ false) → set-at o 128 l ≡ false → (j : ℕ) → k ≤ j → j < l + 1 → set-at o 128 j ≡ false
+pub none-more : (o : List ℕ) (k l : ℕ) → ((j : ℕ) → k ≤ j → j < l → set-at o max-unknowns j ≡ false) → set-at o max-unknowns l ≡ false → (j : ℕ) → k ≤ j → j < l + 1 → set-at o max-unknowns j ≡ false
 none-more o k l none here j low high = go (ℕ-discrete j l)
   where
-    go : Dec (j ≡ l) → set-at o 128 j ≡ false
-    go (yes e) = subst (λ (x : ℕ). set-at o 128 x ≡ false) (sym e) here
+    go : Dec (j ≡ l) → set-at o max-unknowns j ≡ false
+    go (yes e) = subst (λ (x : ℕ). set-at o max-unknowns x ≡ false) (sym e) here
     go (no n) = none j low (omega arith)
 
 -- ---- the line
@@ -159,7 +160,7 @@ is-false a c p x there is set same =
 -- ---- values that are put
 
 -- the row's own value, as a decision
-pub put-held : (w a o b q1 q : List ℕ) (i p : ℕ) (y : Bool) → length o ≡ sets-size → length q1 ≡ sets-size → p < 128
+pub put-held : (w a o b q1 q : List ℕ) (i p : ℕ) (y : Bool) → length o ≡ sets-size → length q1 ≡ sets-size → p < max-unknowns
     → q1 ≡ emptied o p → q ≡ added q1 p p → y ≡ cells w .value i p → LineSet p y a b
     → (codes s : List ℕ) → Held codes w s i a o → Held codes w s i b q
 put-held w a o b q1 q i p y size size1 small e1 e2 ey stored codes s held =
@@ -169,7 +170,7 @@ put-held w a o b q1 q i p y size size1 small e1 e2 ey stored codes s held =
     (implied-decided codes w s i (set-at q p) p small (adds q1 size1 p p small small e2))
 
 -- what is fixed
-pub fixed-held : (w s a o b q : List ℕ) (i p : ℕ) (y : Bool) → length o ≡ sets-size → p < 128 → Fixed w s i p
+pub fixed-held : (w s a o b q : List ℕ) (i p : ℕ) (y : Bool) → length o ≡ sets-size → p < max-unknowns → Fixed w s i p
     → q ≡ emptied o p → y ≡ cells w .value i p → LineSet p y a b
     → (codes : List ℕ) → Held codes w s i a o → Held codes w s i b q
 fixed-held w s a o b q i p y size small fixed e1 ey stored codes held =
@@ -196,27 +197,27 @@ moves-at {codes} {a} {b} {o} {q} e moves = subst (λ (x : Bool). Moves codes a b
 
 -- a clause that is false
 pub false-moves : (codes a o q1 q : List ℕ) (start c : ℕ) → length o ≡ sets-size → length q1 ≡ sets-size → Begins codes start → FalseBut codes a start c → c ≡ 0
-    → q1 ≡ emptied o 128 → q ≡ blamed codes q1 start 128 → Moves codes a a o q false
+    → q1 ≡ emptied o max-unknowns → q ≡ blamed codes q1 start max-unknowns → Moves codes a a o q false
 false-moves codes a o q1 q start c size size1 begins looked none e1 e2 = record { on = moved }
   where
-    moved : (w s : List ℕ) (i : ℕ) → Coded 128 codes → Held codes w s i a o → Moved codes w s i a q false
+    moved : (w s : List ℕ) (i : ℕ) → Coded max-unknowns codes → Held codes w s i a o → Moved codes w s i a q false
     moved w s i coded held = record {
       held = held-same codes w s i a o held q (record { same = λ p lt l. blamed .grown .others p (λ e. omega arith) l ∙ kept-emptied o size e1 .same p lt l });
       denied = λ e.
           denied-false codes w s i a o held coded start c begins looked none q1 q (kept-emptied o size e1) blamed;
     }
       where
-        blamed : Blamed (clause-of (drop start codes)) 128 q1 q
-        blamed = blames q1 size1 codes start 128 (omega arith) coded e2
+        blamed : Blamed (clause-of (drop start codes)) max-unknowns q1 q
+        blamed = blames q1 size1 codes start max-unknowns (omega arith) coded e2
 
 -- a clause with one open literal
-module _ (codes a o b q1 q2 q : List ℕ) (p start c : ℕ) (size : length o ≡ sets-size) (size1 : length q1 ≡ sets-size) (small : p < 128) (two : 2 ≤ c) (last : c ≤ 257)
+module _ (codes a o b q1 q2 q : List ℕ) (p start c : ℕ) (size : length o ≡ sets-size) (size1 : length q1 ≡ sets-size) (small : p < max-unknowns) (two : 2 ≤ c) (last : c ≤ last-code)
     (ep : p ≡ row-position c) (unset : getD a p 0 ≡ 0) (e1 : q1 ≡ emptied o p) (e2 : q2 ≡ blamed codes q1 start p) (stored : LineSet p (eqb (c % 2) 0) a b) (noted : SetsKept q2 q)
     (begins : Begins codes start) (looked : FalseBut codes a start c) where
   there : position c ≡ p
   there = sym (row-position-is c two (omega arith)) ∙ sym ep
 
-  module _ (w s : List ℕ) (i : ℕ) (coded : Coded 128 codes) (held : Held codes w s i a o) where
+  module _ (w s : List ℕ) (i : ℕ) (coded : Coded max-unknowns codes) (held : Held codes w s i a o) where
     blamed-there : Blamed (clause-of (drop start codes)) p q1 q2
     blamed-there = blames q1 size1 codes start p (omega arith) coded e2
 
@@ -254,7 +255,7 @@ turns codes w a a1 b b′ o q1 q2 q i p y r opened inherited ey stored kept move
       (held-store codes w s i a1 o (held-open codes w s i a o (moved .held) a1 opened) b q1 p (not (cells w .value i p))
       (subst (λ (v : Bool). LineSet p v a1 b) ey stored)
       (inherited .others)
-      (implied-turned codes w s i (set-at o 128) (set-at q1 p) p (moved .denied refl) (inherited .takes)))
+      (implied-turned codes w s i (set-at o max-unknowns) (set-at q1 p) p (moved .denied refl) (inherited .takes)))
       q2 kept);
 }
 
@@ -266,16 +267,16 @@ steps-at {codes} {w} {i} {a} {b} {o} {q} {going} {going′} {r} e steps = subst 
 pub inheriting-none : (p : ℕ) (o : List ℕ) → Inheriting p 0 o o
 inheriting-none p o = record { others = λ j n l. refl; takes = λ l less. absurd (omega arith) }
 
-module _ {p e : ℕ} {o q : List ℕ} (small : p < 128) (so-far : Inheriting p e o q) where
-  pub inheriting-passed : (set-at q 128 e ≡ true → e ≢ p → ⊥) → Inheriting p (e + 1) o q
+module _ {p e : ℕ} {o q : List ℕ} (small : p < max-unknowns) (so-far : Inheriting p e o q) where
+  pub inheriting-passed : (set-at q max-unknowns e ≡ true → e ≢ p → ⊥) → Inheriting p (e + 1) o q
   inheriting-passed none = record { others = so-far .others; takes = λ l less n h. go l less n h (ℕ-discrete l e) }
     where
-      go : (l : ℕ) → l < e + 1 → l ≢ p → set-at o 128 l ≡ true → Dec (l ≡ e) → set-at q p l ≡ true
+      go : (l : ℕ) → l < e + 1 → l ≢ p → set-at o max-unknowns l ≡ true → Dec (l ≡ e) → set-at q p l ≡ true
       go l less n h (yes same) =
-          absurd (none (so-far .others 128 (λ x. omega arith) e ∙ subst (λ (x : ℕ). set-at o 128 x ≡ true) same h) (λ x. n (same ∙ x)))
+          absurd (none (so-far .others max-unknowns (λ x. omega arith) e ∙ subst (λ (x : ℕ). set-at o max-unknowns x ≡ true) same h) (λ x. n (same ∙ x)))
       go l less n h (no other) = so-far .takes l (omega arith) n h
 
-  pub inheriting-more : {t : List ℕ} → length q ≡ sets-size → e < 128 → t ≡ added q p e → Inheriting p (e + 1) o t
+  pub inheriting-more : {t : List ℕ} → length q ≡ sets-size → e < max-unknowns → t ≡ added q p e → Inheriting p (e + 1) o t
   inheriting-more {t} size below eq = record {
     others = λ j n l. grown .others j n l ∙ so-far .others j n l;
     takes = λ l less n h. go l less n h (ℕ-discrete l e);
@@ -284,17 +285,17 @@ module _ {p e : ℕ} {o q : List ℕ} (small : p < 128) (so-far : Inheriting p e
       grown : SetGrown p q t
       grown = grown-added q size p e small below eq
 
-      go : (l : ℕ) → l < e + 1 → l ≢ p → set-at o 128 l ≡ true → Dec (l ≡ e) → set-at t p l ≡ true
+      go : (l : ℕ) → l < e + 1 → l ≢ p → set-at o max-unknowns l ≡ true → Dec (l ≡ e) → set-at t p l ≡ true
       go l less n h (yes same) = subst (λ (x : ℕ). set-at t p x ≡ true) (sym same) (adds q size p e small below eq)
       go l less n h (no other) = grown .keeps l (so-far .takes l (omega arith) n h)
 
   -- all positions, over a table whose set at p was emptied
-  pub inheriting-all : (before : List ℕ) → length before ≡ sets-size → o ≡ emptied before p → 128 ≤ e → Inherited p before q
+  pub inheriting-all : (before : List ℕ) → length before ≡ sets-size → o ≡ emptied before p → max-unknowns ≤ e → Inherited p before q
   inheriting-all before size eq all =
       let emptied-there = subst (λ (x : List ℕ). Put p 0 0 before x) (sym eq) (empty-empties before size p (omega arith)) in
       record {
         others = record { same = λ j lt n l. so-far .others j n l ∙ emptied-there .others j n l };
-        takes = λ l lt n h. so-far .takes l (omega arith) n (emptied-there .others 128 (λ x. omega arith) l ∙ h);
+        takes = λ l lt n h. so-far .takes l (omega arith) n (emptied-there .others max-unknowns (λ x. omega arith) l ∙ h);
       }
 
 -- ---- the search of the row, and of fewer decisions
@@ -303,14 +304,14 @@ pub moved-same : {codes w s a o q : List ℕ} {i : ℕ} {going : Bool} → Same 
 moved-same {codes} {w} {s} {a} {o} {q} {i} {going} same moved = record {
   held = held-same codes w s i a o (moved .held) q (same-kept same);
   denied = λ e f m.
-      moved .denied e f (record { keeps = m .keeps; heeds = λ l lt d. m .heeds l lt (same .same 128 (omega arith) l ∙ d); solves = m .solves });
+      moved .denied e f (record { keeps = m .keeps; heeds = λ l lt d. m .heeds l lt (same .same max-unknowns (omega arith) l ∙ d); solves = m .solves });
 }
 
-pub ends : {codes w s a o : List ℕ} (q : List ℕ) {i k : ℕ} {going r : Bool} → (Coded 128 codes → Moved codes w s i a o going) → Same o q
-    → (r ≡ true → (going ≡ false) × ((l : ℕ) → k ≤ l → l < 128 → set-at q 128 l ≡ false))
-    → Coded 128 codes → r ≡ true → IsReason codes w s i k (set-at q 128)
+pub ends : {codes w s a o : List ℕ} (q : List ℕ) {i k : ℕ} {going r : Bool} → (Coded max-unknowns codes → Moved codes w s i a o going) → Same o q
+    → (r ≡ true → (going ≡ false) × ((l : ℕ) → k ≤ l → l < max-unknowns → set-at q max-unknowns l ≡ false))
+    → Coded max-unknowns codes → r ≡ true → IsReason codes w s i k (set-at q max-unknowns)
 ends {codes} {w} {s} {a} {o} q {i} {k} {going} {r} moved same checked coded e =
-    denied-reason codes w s i k (set-at q 128) (moved-same same (moved coded) .denied (checked e .0)) (checked e .1)
+    denied-reason codes w s i k (set-at q max-unknowns) (moved-same same (moved coded) .denied (checked e .0)) (checked e .1)
 
 pub reason-later : {codes w s : List ℕ} {i m k : ℕ} {D : Mask} → m ≤ k → IsReason codes w s i m D → IsReason codes w s i k D
 reason-later le reason = record { denies = λ f keeps heeds. reason .denies f keeps (λ l lt. heeds l (omega arith)) }

@@ -14,6 +14,7 @@ use lib.ListN.{length, getD, set, length-set}
 use lib.Pow.{pow-pos, field, high, ones-lt, ones-split, mod-mod-pow, shl-exact, shl-shr}
 use lib.Seq.{getD-set-same, getD-set-other}
 use borrow.Author.Tests.{ltb-true, ltb-false, lt-ltb, le-ltb, eqb-true, eq-eqb}
+use Rattle.formula.specs.Formula.{max-unknowns}
 use Rattle.preference.specs.Preference.{odd}
 use Rattle.search_sets.specs.Masks.{words, set-at, SetGrown, SetsKept, Put, WordsUnited, Trimmed}
 
@@ -70,7 +71,7 @@ words-keep a b c d l low upper h = go (ltb l 64) refl h
     go true e g = low (ltb-true l 64 e) g
     go false e g = upper (ltb-false l 64 e) g
 
-pub words-full : (l : ℕ) → l < 128 → words (2 ^ 64 - 1) (2 ^ 64 - 1) l ≡ true
+pub words-full : (l : ℕ) → l < max-unknowns → words (2 ^ 64 - 1) (2 ^ 64 - 1) l ≡ true
 unfolding words
 words-full l h = go (ltb l 64) refl
   where
@@ -91,7 +92,7 @@ words-none l = go (ltb l 64)
     go false = even-zero (l - 64)
 
 -- Position l is one bit of one word.
-pub set-bit : (s : List ℕ) (p l : ℕ) → l < 128 → set-at s p l ≡ odd (getD s (2 * p + l / 64) 0 / 2 ^ (l % 64))
+pub set-bit : (s : List ℕ) (p l : ℕ) → l < max-unknowns → set-at s p l ≡ odd (getD s (2 * p + l / 64) 0 / 2 ^ (l % 64))
 unfolding words
 set-bit s p l h = go (decLt l 64)
   where
@@ -129,7 +130,7 @@ store-put s to a b fits = record {
 }
 
 -- A store behind the sets of the positions.
-pub store-behind : (s : List ℕ) (at x : ℕ) → 256 ≤ at → SetsKept s (set s at x)
+pub store-behind : (s : List ℕ) (at x : ℕ) → 2 * max-unknowns ≤ at → SetsKept s (set s at x)
 store-behind s at x behind = record { same = λ p lt l. store-elsewhere s at x p l (omega arith) (omega arith) }
 
 pub kept-trans : {s t u : List ℕ} → SetsKept s t → SetsKept t u → SetsKept s u
@@ -150,10 +151,10 @@ set-grown-keeps {to} {s} {t} grown p l h = go (ℕ-discrete p to)
     go (no other) = grown .others p other l ∙ h
 
 -- A change of a set behind those of the positions.
-pub kept-grown : {to : ℕ} {s t : List ℕ} → 128 ≤ to → SetGrown to s t → SetsKept s t
+pub kept-grown : {to : ℕ} {s t : List ℕ} → max-unknowns ≤ to → SetGrown to s t → SetsKept s t
 kept-grown behind grown = record { same = λ p lt l. grown .others p (λ e. omega arith) l }
 
-pub kept-put : {to low upper : ℕ} {s t : List ℕ} → 128 ≤ to → Put to low upper s t → SetsKept s t
+pub kept-put : {to low upper : ℕ} {s t : List ℕ} → max-unknowns ≤ to → Put to low upper s t → SetsKept s t
 kept-put behind put = record { same = λ p lt l. put .others p (λ e. omega arith) l }
 
 -- A word that takes in bits loses none.
@@ -182,7 +183,7 @@ store-grown s at x to fits low upper = record {
 }
 
 -- Position p is in after its bit was taken in.
-pub store-added : (s : List ℕ) (to p : ℕ) → 2 * to + p / 64 < length s → p < 128
+pub store-added : (s : List ℕ) (to p : ℕ) → 2 * to + p / 64 < length s → p < max-unknowns
     → set-at (set s (2 * to + p / 64) (bitOr (getD s (2 * to + p / 64) 0) (2 ^ (p % 64)))) to p ≡ true
 store-added s to p fits h =
     let at = 2 * to + p / 64 in
@@ -218,9 +219,9 @@ pub trimmed-refl : (k : ℕ) (s : List ℕ) → Trimmed k s s
 trimmed-refl k s = record { below = λ p l h e. e; behind = λ p l h. refl }
 
 -- Two words of ones at the lowest k positions: what is outside them is taken out of the set at p.
-pub trimmed-more : (k p low upper : ℕ) (s u v : List ℕ) → k ≤ 128 → p < 128 → low ≡ 2 ^ min k 64 - 1 → upper ≡ 2 ^ min (k - 64) 64 - 1
+pub trimmed-more : (k p low upper : ℕ) (s u v : List ℕ) → k ≤ max-unknowns → p < max-unknowns → low ≡ 2 ^ min k 64 - 1 → upper ≡ 2 ^ min (k - 64) 64 - 1
     → Trimmed k s u → Put p (bitAnd (getD u (2 * p) 0) low) (bitAnd (getD u (2 * p + 1) 0) upper) u v → Trimmed k s v
-trimmed-more k p low upper s u v k≤128 p<128 e f before put = record {
+trimmed-more k p low upper s u v k-within p-within e f before put = record {
   below = λ q l h g. go q l h (before .below q l h g) (ℕ-discrete q p);
   behind = λ q l h. put .others q (omega arith) l ∙ before .behind q l h;
 }

@@ -8,12 +8,13 @@ use native.Mathlib.Decide.{decLt, ℕ-discrete}
 use native.Mathlib.Omega.{arith}
 use borrow.Author.Tests.{eq-eqb, ne-eqb}
 use lib.ListN.{length, drop}
+use Rattle.formula.specs.Formula.{max-unknowns}
 use Rattle.expansion.proofs.Booleans.{never-both}
 use Rattle.expansion.proofs.ClauseCuts.{Every, every-map}
 use Rattle.codes.specs.Clauses.{position, clause-of, Coded}
 use Rattle.codes.proofs.CodeLaws.{clause-coded, row-position-is}
 use Rattle.codes.specs.Codes.{row-position}
-use Rattle.search_sets.specs.Sets.{sets-size, words-put, words-joined, words-met, set-joined, bit-added, bit-at, ones, each-from, cut-at, followed, code-joined, codes-joined, united, united-words, added, has, emptied, filled, trimmed, excused, blamed}
+use Rattle.search_sets.specs.Sets.{set-places, sets-size, words-put, words-joined, words-met, set-joined, bit-added, bit-at, ones, each-from, cut-at, followed, code-joined, codes-joined, united, united-words, added, has, emptied, filled, trimmed, excused, blamed}
 use Rattle.search_sets.specs.Masks.{set-at, SetGrown, SetsKept, Put, United, WordsUnited, Trimmed, Excused, Blamed}
 use Rattle.search_sets.proofs.TestLaws.{place-true, numbers-true}
 use Rattle.search_sets.proofs.LengthLaws.{length-met, length-followed, length-code-joined, length-each}
@@ -21,7 +22,7 @@ use Rattle.search_sets.proofs.MaskLaws.{words-full, set-bit, store-put,
 
 -- ---- sets at places that are there
 
-module _ (s : List ℕ) (size : length s ≡ sets-size) (to : ℕ) (place : to < 130) where
+module _ (s : List ℕ) (size : length s ≡ sets-size) (to : ℕ) (place : to < set-places) where
   put-there : (low high : ℕ) → Put to low high s (words-put s to low high)
   unfolding words-put
   put-there low high = store-put s to low high (omega arith)
@@ -36,7 +37,7 @@ module _ (s : List ℕ) (size : length s ≡ sets-size) (to : ℕ) (place : to <
 
 -- ---- a position after the other
 
-trimmed-each : (k m : ℕ) (s : List ℕ) → length s ≡ sets-size → k + m ≤ 128 → Trimmed k s (each-from (cut-at k) k m s)
+trimmed-each : (k m : ℕ) (s : List ℕ) → length s ≡ sets-size → k + m ≤ max-unknowns → Trimmed k s (each-from (cut-at k) k m s)
 unfolding words-met ones
 trimmed-each k zero s size fits = trimmed-refl k s
 trimmed-each k (suc m) s size fits =
@@ -52,47 +53,47 @@ excused-shorter : (k at p : ℕ) (s t : List ℕ) → at ≤ p → Excused k p s
 excused-shorter k at p s t le x = record { grown = x .grown; takes = λ q low high. x .takes q low (omega arith) }
 
 -- Position p: its set is taken in if the failure's set has it by now, so also if it had it at first.
-excused-more : (k p : ℕ) (s t u : List ℕ) → p < 128 → Excused k p s t → SetGrown 128 t u
-    → (set-at t 128 p ≡ true → (l : ℕ) → set-at t p l ≡ true → set-at u 128 l ≡ true) → Excused k (p + 1) s u
+excused-more : (k p : ℕ) (s t u : List ℕ) → p < max-unknowns → Excused k p s t → SetGrown max-unknowns t u
+    → (set-at t max-unknowns p ≡ true → (l : ℕ) → set-at t p l ≡ true → set-at u max-unknowns l ≡ true) → Excused k (p + 1) s u
 excused-more k p s t u below x g here = record {
   grown = set-grown-trans (x .grown) g;
   takes = λ q low high named l h. go q low high named l h (decLt q p);
 }
   where
-    go : (q : ℕ) → k ≤ q → q < p + 1 → set-at s 128 q ≡ true → (l : ℕ) → set-at s q l ≡ true → Dec (q < p) → set-at u 128 l ≡ true
+    go : (q : ℕ) → k ≤ q → q < p + 1 → set-at s max-unknowns q ≡ true → (l : ℕ) → set-at s q l ≡ true → Dec (q < p) → set-at u max-unknowns l ≡ true
     go q low high named l h (yes lt) = g .keeps l (x .takes q low lt named l h)
     go q low high named l h (no n) =
         let same : q ≡ p = omega arith in
-        here (set-grown-keeps (x .grown) 128 p (subst (λ (y : ℕ). set-at s 128 y ≡ true) same named)) l
+        here (set-grown-keeps (x .grown) max-unknowns p (subst (λ (y : ℕ). set-at s max-unknowns y ≡ true) same named)) l
         (set-grown-keeps (x .grown) p l (subst (λ (y : ℕ). set-at s y l ≡ true) same h))
 
-excused-step : (k p : ℕ) (s t : List ℕ) → length t ≡ sets-size → p < 128 → Excused k p s t → (b : Bool) → bit-at t 128 p ≡ b
-    → Excused k (p + 1) s (cond b (set-joined t 128 p) t)
+excused-step : (k p : ℕ) (s t : List ℕ) → length t ≡ sets-size → p < max-unknowns → Excused k p s t → (b : Bool) → bit-at t max-unknowns p ≡ b
+    → Excused k (p + 1) s (cond b (set-joined t max-unknowns p) t)
 unfolding bit-at
 excused-step k p s t size below x true e =
-    let joined = set-joined-united t size 128 (omega arith) p in
-    excused-more k p s t (set-joined t 128 p) below x (joined .grown) (λ named. joined .takes)
+    let joined = set-joined-united t size max-unknowns (omega arith) p in
+    excused-more k p s t (set-joined t max-unknowns p) below x (joined .grown) (λ named. joined .takes)
 excused-step k p s t size below x false e =
-    excused-more k p s t t below x set-grown-refl (λ named. absurd (never-both named (set-bit t 128 p below ∙ e)))
+    excused-more k p s t t below x set-grown-refl (λ named. absurd (never-both named (set-bit t max-unknowns p below ∙ e)))
 
-excused-each : (k m : ℕ) (s : List ℕ) → length s ≡ sets-size → m ≤ 128 - k → Excused k (k + m) s (each-from (followed 128) k m s)
+excused-each : (k m : ℕ) (s : List ℕ) → length s ≡ sets-size → m ≤ max-unknowns - k → Excused k (k + m) s (each-from (followed max-unknowns) k m s)
 excused-each k zero s size fits = excused-shorter k (k + 0) k s s (omega arith) (excused-none k s)
 excused-each k (suc m) s size fits =
-    let t = each-from (followed 128) k m s in
-    let same : length t ≡ sets-size = length-each (followed 128) (length-followed 128) k m s ∙ size in
+    let t = each-from (followed max-unknowns) k m s in
+    let same : length t ≡ sets-size = length-each (followed max-unknowns) (length-followed max-unknowns) k m s ∙ size in
     excused-shorter k (k + suc m) (k + m + 1) s _ (omega arith)
-    (excused-step k (k + m) s t same (omega arith) (excused-each k m s size (omega arith)) (bit-at t 128 (k + m)) refl)
+    (excused-step k (k + m) s t same (omega arith) (excused-each k m s size (omega arith)) (bit-at t max-unknowns (k + m)) refl)
 
 -- ---- a code after the other
 
-code-grown : (s : List ℕ) → length s ≡ sets-size → (to c : ℕ) → to < 130 → SetGrown to s (code-joined to s c)
+code-grown : (s : List ℕ) → length s ≡ sets-size → (to c : ℕ) → to < set-places → SetGrown to s (code-joined to s c)
 code-grown s size to c place = go (ℕ-discrete (row-position c) to)
   where
     go : Dec (row-position c ≡ to) → SetGrown to s (code-joined to s c)
     go (yes same) = rw (eq-eqb (row-position c) to same) set-grown-refl
     go (no other) = rw (ne-eqb (row-position c) to other) (set-joined-united s size to place (row-position c) .grown)
 
-code-taken : (s : List ℕ) → length s ≡ sets-size → (to c : ℕ) → to < 130 → 2 ≤ c → position c < 128
+code-taken : (s : List ℕ) → length s ≡ sets-size → (to c : ℕ) → to < set-places → 2 ≤ c → position c < max-unknowns
     → (position c ≡ to) ⊎ ((l : ℕ) → set-at s (position c) l ≡ true → set-at (code-joined to s c) to l ≡ true)
 code-taken s size to c place two below = go (ℕ-discrete (row-position c) to)
   where
@@ -104,7 +105,7 @@ code-taken s size to c place two below = go (ℕ-discrete (row-position c) to)
         rw (ne-eqb (row-position c) to other)
         (set-joined-united s size to place (row-position c) .takes l (subst (λ (p : ℕ). set-at s p l ≡ true) (sym (row-position-is c two below)) h)))
 
-blamed-all : (to : ℕ) → to < 130 → (cs : List ℕ) → Every (λ c. (2 ≤ c) × (position c < 128)) cs
+blamed-all : (to : ℕ) → to < set-places → (cs : List ℕ) → Every (λ c. (2 ≤ c) × (position c < max-unknowns)) cs
     → (s : List ℕ) → length s ≡ sets-size → Blamed cs to s (codes-joined to cs s)
 blamed-all to place [] coded s size = record { grown = set-grown-refl; takes = tt }
 blamed-all to place (c ∷ cs) coded s size =
@@ -126,55 +127,55 @@ blamed-all to place (c ∷ cs) coded s size =
 -- ---- the public functions
 
 module _ (s : List ℕ) (size : length s ≡ sets-size) where
-  pub unite-unites : (to from : ℕ) → to < 130 → from < 130 → United to from s (united s to from)
+  pub unite-unites : (to from : ℕ) → to < set-places → from < set-places → United to from s (united s to from)
   unfolding united
-  unite-unites to from place other = rw (numbers-true (length s) to from 130 size place other) (set-joined-united s size to place from)
+  unite-unites to from place other = rw (numbers-true (length s) to from set-places size place other) (set-joined-united s size to place from)
 
-  pub words-unite : (to low high : ℕ) → to < 130 → WordsUnited to low high s (united-words s to low high)
+  pub words-unite : (to low high : ℕ) → to < set-places → WordsUnited to low high s (united-words s to low high)
   unfolding united-words
   words-unite to low high place = rw (place-true (length s) to size place) (joined-united s size to place low high)
 
-  pub add-grows : (to p : ℕ) → to < 130 → p < 128 → SetGrown to s (added s to p)
+  pub add-grows : (to p : ℕ) → to < set-places → p < max-unknowns → SetGrown to s (added s to p)
   unfolding added bit-added
-  add-grows to p place below = rw (numbers-true (length s) to p 128 size place below) (store-grown s (2 * to + p / 64) (2 ^ (p % 64)) to (omega arith) (omega arith) (omega arith))
+  add-grows to p place below = rw (numbers-true (length s) to p max-unknowns size place below) (store-grown s (2 * to + p / 64) (2 ^ (p % 64)) to (omega arith) (omega arith) (omega arith))
 
-  pub add-adds : (to p : ℕ) → to < 130 → p < 128 → set-at (added s to p) to p ≡ true
+  pub add-adds : (to p : ℕ) → to < set-places → p < max-unknowns → set-at (added s to p) to p ≡ true
   unfolding added bit-added
-  add-adds to p place below = rw (numbers-true (length s) to p 128 size place below) (store-added s to p (omega arith) below)
+  add-adds to p place below = rw (numbers-true (length s) to p max-unknowns size place below) (store-added s to p (omega arith) below)
 
-  pub has-is : (of p : ℕ) → of < 130 → p < 128 → has s of p ≡ set-at s of p
+  pub has-is : (of p : ℕ) → of < set-places → p < max-unknowns → has s of p ≡ set-at s of p
   unfolding has bit-at
-  has-is of p place below = rw (numbers-true (length s) of p 128 size place below) (sym (set-bit s of p below))
+  has-is of p place below = rw (numbers-true (length s) of p max-unknowns size place below) (sym (set-bit s of p below))
 
-  pub empty-empties : (to : ℕ) → to < 130 → Put to 0 0 s (emptied s to)
+  pub empty-empties : (to : ℕ) → to < set-places → Put to 0 0 s (emptied s to)
   unfolding emptied
   empty-empties to place = rw (place-true (length s) to size place) (put-there s size to place 0 0)
 
-  pub empty-keeps : (to : ℕ) → 128 ≤ to → to < 130 → SetsKept s (emptied s to)
+  pub empty-keeps : (to : ℕ) → max-unknowns ≤ to → to < set-places → SetsKept s (emptied s to)
   unfolding emptied
   empty-keeps to behind place = rw (place-true (length s) to size place) (kept-put behind (put-there s size to place 0 0))
 
-  pub fill-keeps : (to : ℕ) → 128 ≤ to → to < 130 → SetsKept s (filled s to)
+  pub fill-keeps : (to : ℕ) → max-unknowns ≤ to → to < set-places → SetsKept s (filled s to)
   unfolding filled
   fill-keeps to behind place = rw (place-true (length s) to size place) (kept-put behind (put-there s size to place (2 ^ 64 - 1) (2 ^ 64 - 1)))
 
-  pub fill-fills : (to : ℕ) → to < 130 → (l : ℕ) → l < 128 → set-at (filled s to) to l ≡ true
+  pub fill-fills : (to : ℕ) → to < set-places → (l : ℕ) → l < max-unknowns → set-at (filled s to) to l ≡ true
   unfolding filled
   fill-fills to place l below =
       rw (place-true (length s) to size place) (put-there s size to place (2 ^ 64 - 1) (2 ^ 64 - 1) .there l ∙ words-full l below)
 
-  pub trim-trims : (k n : ℕ) → k ≤ n → n ≤ 128 → Trimmed k s (trimmed s k n)
+  pub trim-trims : (k n : ℕ) → k ≤ n → n ≤ max-unknowns → Trimmed k s (trimmed s k n)
   unfolding trimmed
-  trim-trims k n low high = rw (numbers-true (length s) k n 129 size (omega arith) (omega arith)) (trimmed-each k (n - k) s size (omega arith))
+  trim-trims k n low high = rw (numbers-true (length s) k n (max-unknowns + 1) size (omega arith) (omega arith)) (trimmed-each k (n - k) s size (omega arith))
 
-  pub excuse-excuses : (k at : ℕ) → at ≤ 128 → Excused k at s (excused s 128 k at)
+  pub excuse-excuses : (k at : ℕ) → at ≤ max-unknowns → Excused k at s (excused s max-unknowns k at)
   unfolding excused
   excuse-excuses k at high =
-      rw (numbers-true (length s) 128 at 129 size (omega arith) (omega arith))
+      rw (numbers-true (length s) max-unknowns at (max-unknowns + 1) size (omega arith) (omega arith))
       (excused-shorter k at (k + (at - k)) s _ (omega arith) (excused-each k (at - k) s size (omega arith)))
 
-  pub blame-blames : (codes : List ℕ) (start to : ℕ) → to < 130 → Coded 128 codes
+  pub blame-blames : (codes : List ℕ) (start to : ℕ) → to < set-places → Coded max-unknowns codes
       → Blamed (clause-of (drop start codes)) to s (blamed codes s start to)
   unfolding blamed
   blame-blames codes start to place coded =
-      rw (place-true (length s) to size place) (blamed-all to place (clause-of (drop start codes)) (clause-coded 128 codes start coded) s size)
+      rw (place-true (length s) to size place) (blamed-all to place (clause-of (drop start codes)) (clause-coded max-unknowns codes start coded) s size)

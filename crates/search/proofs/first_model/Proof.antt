@@ -4,6 +4,8 @@ use mathlib.Core.Path.{_≡_, sym, _∙_}
 use native.Mathlib.Omega.{arith}
 use borrow.Author.Needs.{needs}
 use lib.ListN.{length, replicate, length-take, length-replicate}
+use Rattle.formula.specs.Formula.{max-entries}
+use Rattle.index.specs.Index.{index-size}
 use Rattle.search_terms.specs.Tables.{table-size}
 use Rattle.search.proofs.OutcomeLaws.{refused-searched}
 use Rattle.search.proofs.PreparedLaws.{passes, used-within}
@@ -34,13 +36,13 @@ prepare-requires c κs = tt
 -- The entries used are places of the table.
 array-share-prefix-codes : tie.Need-array-share-prefix-codes
 array-share-prefix-codes c =
-    let size : length (replicate {A = ℕ} 8192 0) ≡ 8192 = length-replicate {A = ℕ} 8192 0 in
-    omega (arith, used-within (c .before .before .before .before .before .before .before .before .before .before .before .before .before .before .args .literals .now) (length (replicate {A = ℕ} 8192 0)), c .before .before .before .prepare .ensures .entries, c .before .before .before .prepare .kept .1 .1 .0, size)
+    let size : length (replicate {A = ℕ} max-entries 0) ≡ max-entries = length-replicate {A = ℕ} max-entries 0 in
+    omega (arith, used-within (c .before .before .before .before .before .before .before .before .before .before .before .before .before .before .args .literals .now) (length (replicate {A = ℕ} max-entries 0)), c .before .before .before .prepare .ensures .entries, c .before .before .before .prepare .kept .1 .1 .0, size)
 
 slice-aggregate-first-model-over : tie.Need-slice-aggregate-first-model-over
 slice-aggregate-first-model-over c =
-    let size : length (replicate {A = ℕ} 8192 0) ≡ 8192 = length-replicate {A = ℕ} 8192 0 in
-    simp length-take (omega (arith, used-within (c .before .before .before .before .before .before .before .before .before .before .before .before .before .before .before .args .literals .now) (length (replicate {A = ℕ} 8192 0)), c .before .before .before .before .prepare .ensures .entries, c .before .before .before .before .prepare .kept .1 .1 .0, size))
+    let size : length (replicate {A = ℕ} max-entries 0) ≡ max-entries = length-replicate {A = ℕ} max-entries 0 in
+    simp length-take (omega (arith, used-within (c .before .before .before .before .before .before .before .before .before .before .before .before .before .before .before .args .literals .now) (length (replicate {A = ℕ} max-entries 0)), c .before .before .before .before .prepare .ensures .entries, c .before .before .before .before .prepare .kept .1 .1 .0, size))
 
 slice-aggregate-first-model-over-2 : tie.Need-slice-aggregate-first-model-over-2
 slice-aggregate-first-model-over-2 c = search needs
@@ -65,7 +67,7 @@ returns-2 c =
     let q = c .before .before .before .before .before .before .before .before .before .before .before .before .before .before .before .before .before .before .before .before .before .args in
     c .before .before .first-model-over .ensures .prepared (q .literals .now)
     (c .before .before .before .before .before .before .before .before .before .before .prepare .ensures .prepared (passes (q .kinds .now) (q .literals .now) (sym (c .before .before .before .before .before .before .before .before .before .before .before .before .before .before .before .before .check .ensures .0) ∙ c .before .before .before .before .before .before .before .before .before .before .before .before .before .before .enum-told .given .1))
-    (length-replicate {A = ℕ} 8192 0) (length-replicate {A = ℕ} 8710 0) (length-replicate {A = ℕ} table-size 0))
+    (length-replicate {A = ℕ} max-entries 0) (length-replicate {A = ℕ} index-size 0) (length-replicate {A = ℕ} table-size 0))
 
 pub first-model-spec : {M : Type 1} → statement M
 first-model-spec =

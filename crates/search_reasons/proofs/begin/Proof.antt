@@ -4,6 +4,7 @@ use mathlib.Core.Path.{_≡_}
 use mathlib.Core.List.{List}
 use Prim.Native.Nat.{ℕ}
 use lib.ListN.{length, length-set}
+use Rattle.formula.specs.Formula.{max-unknowns}
 use Rattle.search_reasons.specs.Held.{Held}
 use Rattle.search_reasons.proofs.HeldLaws.{held-none}
 use native.Mathlib.Omega.{arith}
@@ -13,10 +14,10 @@ use Rattle.search_reasons.proofs.begin.Tie as tie
 
 abbrev Inv-loop : tie.InvT-loop
 Inv-loop work sets line₀ own₀ i k p₀ line own p =
-    (p ≤ 128) × (length line ≡ 128) × (length own ≡ sets-size) × ((codes : List ℕ) → Held codes work sets i line own)
+    (p ≤ max-unknowns) × (length line ≡ max-unknowns) × (length own ≡ sets-size) × ((codes : List ℕ) → Held codes work sets i line own)
 
 abbrev μ-loop : tie.MeasureT-loop
-μ-loop work sets line₀ own₀ i k p₀ line own p = 128 - p
+μ-loop work sets line₀ own₀ i k p₀ line own p = max-unknowns - p
 
 slice-write-own : tie.Need-slice-write-own Inv-loop μ-loop
 slice-write-own c = omega arith

@@ -2,6 +2,7 @@
 use Prim.Native.Nat.{ℕ, _≤_, _<_, _-_}
 use mathlib.Core.Path.{_≡_}
 use lib.ListN.{length, length-set, getD}
+use Rattle.formula.specs.Formula.{max-unknowns}
 use Rattle.search_reasons.proofs.StepLaws.{zero-more}
 use native.Mathlib.Omega.{arith}
 use Rattle.search_reasons.proofs.clear.Statement.{statement}
@@ -9,10 +10,10 @@ use Rattle.search_reasons.proofs.clear.Tie as tie
 
 abbrev Inv-loop : tie.InvT-loop
 Inv-loop line₀ p₀ line p =
-    (p ≤ 128) × (length line ≡ 128) × ((j : ℕ) → j < p → getD line j 0 ≡ 0)
+    (p ≤ max-unknowns) × (length line ≡ max-unknowns) × ((j : ℕ) → j < p → getD line j 0 ≡ 0)
 
 abbrev μ-loop : tie.MeasureT-loop
-μ-loop line₀ p₀ line p = 128 - p
+μ-loop line₀ p₀ line p = max-unknowns - p
 
 loop-holds : tie.Need-loop-holds Inv-loop μ-loop
 loop-holds c = (omega arith, omega arith, λ j less. absurd (omega arith))

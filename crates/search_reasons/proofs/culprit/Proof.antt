@@ -2,6 +2,7 @@
 use Prim.Native.Nat.{_≤_}
 use mathlib.Core.Path.{_≡_}
 use lib.ListN.{length, length-set}
+use Rattle.formula.specs.Formula.{max-unknowns}
 use Rattle.search_reasons.specs.Held.{Same}
 use Rattle.search_reasons.proofs.StepLaws.{same-refl, same-store, same-trans}
 use native.Mathlib.Omega.{arith}
@@ -12,7 +13,7 @@ use Rattle.search_reasons.proofs.culprit.Tie as tie
 
 abbrev Inv-loop : tie.InvT-loop
 Inv-loop own₀ d₀ own d =
-    (d ≤ 128) × (length own ≡ sets-size) × Same own₀ own
+    (d ≤ max-unknowns) × (length own ≡ sets-size) × Same own₀ own
 
 abbrev μ-loop : tie.MeasureT-loop
 μ-loop own₀ d₀ own d = d

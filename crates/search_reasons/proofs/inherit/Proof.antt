@@ -2,6 +2,7 @@
 use Prim.Native.Nat.{_≤_, _-_}
 use mathlib.Core.Path.{_≡_}
 use lib.ListN.{length}
+use Rattle.formula.specs.Formula.{max-unknowns}
 use Rattle.search_reasons.specs.Held.{Inheriting}
 use Rattle.search_reasons.proofs.StepLaws.{inheriting-none, inheriting-all}
 use native.Mathlib.Omega.{arith}
@@ -11,10 +12,10 @@ use Rattle.search_reasons.proofs.inherit.Tie as tie
 
 abbrev Inv-loop : tie.InvT-loop
 Inv-loop own₀ p l₀ own l =
-    (l ≤ 128) × (length own ≡ sets-size) × Inheriting p l own₀ own
+    (l ≤ max-unknowns) × (length own ≡ sets-size) × Inheriting p l own₀ own
 
 abbrev μ-loop : tie.MeasureT-loop
-μ-loop own₀ p l₀ own l = 128 - l
+μ-loop own₀ p l₀ own l = max-unknowns - l
 
 empty-requires : tie.Need-empty-requires Inv-loop μ-loop
 empty-requires c κs = tt

@@ -2,6 +2,7 @@
 use Prim.Native.Nat.{ℕ, _≤_, _<_, _-_}
 use mathlib.Core.Path.{_≡_, refl, sym, _∙_}
 use mathlib.Core.Bool.{false}
+use Rattle.formula.specs.Formula.{max-unknowns}
 use Rattle.search_sets.specs.Masks.{set-at}
 use Rattle.expansion.proofs.Booleans.{never-both}
 use Rattle.search_reasons.proofs.StepLaws.{has-at, none-more}
@@ -11,10 +12,10 @@ use Rattle.search_reasons.proofs.is_reason.Tie as tie
 
 abbrev Inv-loop : tie.InvT-loop
 Inv-loop own going k l₀ l =
-    (j : ℕ) → k ≤ j → j < l → set-at own 128 j ≡ false
+    (j : ℕ) → k ≤ j → j < l → set-at own max-unknowns j ≡ false
 
 abbrev μ-loop : tie.MeasureT-loop
-μ-loop own going k l₀ l = 128 - l
+μ-loop own going k l₀ l = max-unknowns - l
 
 returns : tie.Need-returns Inv-loop μ-loop
 returns c = λ e. absurd (never-both e refl)

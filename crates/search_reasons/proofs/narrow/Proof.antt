@@ -3,6 +3,7 @@ use Prim.Native.Nat.{_≤_, _-_}
 use mathlib.Core.Path.{_≡_, refl, sym, _∙_}
 use mathlib.Core.Bool.{true}
 use lib.ListN.{length}
+use Rattle.formula.specs.Formula.{max-unknowns}
 use Rattle.codes.specs.Clauses.{Coded}
 use Rattle.search_sets.specs.Masks.{words}
 use Rattle.search_reasons.specs.Reasons.{IsReason}
@@ -15,7 +16,7 @@ use Rattle.search_reasons.proofs.narrow.Tie as tie
 
 abbrev Inv-loop : tie.InvT-loop
 Inv-loop codes index work sets line₀ own₀ i k steps found₀ low₀ high₀ left₀ from₀ to₀ line own found low high left from to =
-    (to ≤ k) × (length line ≡ 128) × (length own ≡ sets-size) × (Coded 128 codes → found ≡ true → IsReason codes work sets i k (words low high))
+    (to ≤ k) × (length line ≡ max-unknowns) × (length own ≡ sets-size) × (Coded max-unknowns codes → found ≡ true → IsReason codes work sets i k (words low high))
 
 abbrev μ-loop : tie.MeasureT-loop
 μ-loop codes index work sets line₀ own₀ i k steps found₀ low₀ high₀ left₀ from₀ to₀ line own found low high left from to = to - from

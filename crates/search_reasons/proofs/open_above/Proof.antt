@@ -2,6 +2,7 @@
 use Prim.Native.Nat.{_≤_, _-_}
 use mathlib.Core.Path.{_≡_}
 use lib.ListN.{length, length-set}
+use Rattle.formula.specs.Formula.{max-unknowns}
 use Rattle.search_reasons.specs.Held.{LineOpened}
 use Rattle.search_reasons.proofs.StepLaws.{opened-none, opened-more}
 use native.Mathlib.Omega.{arith}
@@ -10,10 +11,10 @@ use Rattle.search_reasons.proofs.open_above.Tie as tie
 
 abbrev Inv-loop : tie.InvT-loop
 Inv-loop line₀ bound p₀ line p =
-    (p ≤ 128) × (length line ≡ 128) × LineOpened line₀ line
+    (p ≤ max-unknowns) × (length line ≡ max-unknowns) × LineOpened line₀ line
 
 abbrev μ-loop : tie.MeasureT-loop
-μ-loop line₀ bound p₀ line p = 128 - p
+μ-loop line₀ bound p₀ line p = max-unknowns - p
 
 loop-holds : tie.Need-loop-holds Inv-loop μ-loop
 loop-holds c = (omega arith, omega arith, opened-none _)

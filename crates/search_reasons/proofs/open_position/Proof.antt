@@ -1,12 +1,13 @@
 -- `open_position` meets its contract. Assumes nothing.
 use Prim.Native.Nat.{_≤_}
 use native.Mathlib.Omega.{arith}
+use Rattle.formula.specs.Formula.{max-unknowns}
 use Rattle.search_reasons.proofs.open_position.Statement.{statement}
 use Rattle.search_reasons.proofs.open_position.Tie as tie
 
 abbrev Inv-loop : tie.InvT-loop
 Inv-loop index line p₀ p =
-    p ≤ 128
+    p ≤ max-unknowns
 
 abbrev μ-loop : tie.MeasureT-loop
 μ-loop index line p₀ p = p

@@ -2,6 +2,7 @@
 use Prim.Native.Nat.{ℕ}
 use mathlib.Core.Path.{_≡_, refl}
 use lib.ListN.{length}
+use Rattle.formula.specs.Formula.{max-unknowns}
 use Rattle.codes.specs.Clauses.{Coded}
 use Rattle.search_reasons.specs.Held.{Moved}
 use Rattle.expansion.proofs.Booleans.{never-both}
@@ -14,7 +15,7 @@ use Rattle.search_reasons.proofs.probe.Tie as tie
 
 abbrev Inv-loop : tie.InvT-loop
 Inv-loop codes index work sets line₀ own₀ i k steps going₀ left₀ line own going left =
-    (length line ≡ 128) × (length own ≡ sets-size) × (Coded 128 codes → Moved codes work sets i line own going)
+    (length line ≡ max-unknowns) × (length own ≡ sets-size) × (Coded max-unknowns codes → Moved codes work sets i line own going)
 
 abbrev μ-loop : tie.MeasureT-loop
 μ-loop codes index work sets line₀ own₀ i k steps going₀ left₀ line own going left = left

@@ -3,6 +3,7 @@ use Prim.Native.Nat.{_≤_, _-_}
 use mathlib.Core.Path.{_≡_}
 use mathlib.Core.Bool.{true}
 use lib.ListN.{length}
+use Rattle.formula.specs.Formula.{max-unknowns}
 use Rattle.search_reasons.specs.Held.{Moves}
 use Rattle.search_reasons.proofs.StepLaws.{moves-nothing, moves-then, moves-at}
 use native.Mathlib.Omega.{arith}
@@ -13,10 +14,10 @@ use Rattle.search_reasons.proofs.settle.Tie as tie
 
 abbrev Inv-loop : tie.InvT-loop
 Inv-loop codes index line₀ own₀ mark h₀ line own h =
-    (h ≤ 128) × (length line ≡ 128) × (length own ≡ sets-size) × Moves codes line₀ line own₀ own true
+    (h ≤ max-unknowns) × (length line ≡ max-unknowns) × (length own ≡ sets-size) × Moves codes line₀ line own₀ own true
 
 abbrev μ-loop : tie.MeasureT-loop
-μ-loop codes index line₀ own₀ mark h₀ line own h = 128 - h
+μ-loop codes index line₀ own₀ mark h₀ line own h = max-unknowns - h
 
 loop-holds : tie.Need-loop-holds Inv-loop μ-loop
 loop-holds c = (omega arith, omega arith, omega arith, moves-nothing _ _ _)

@@ -2,6 +2,7 @@
 use mathlib.Core.Path.{sym, _∙_}
 use native.Mathlib.Omega.{arith}
 use lib.ListN.{length}
+use Rattle.formula.specs.Formula.{max-unknowns}
 use Rattle.search_sets.proofs.TestLaws.{numbers-within}
 use Rattle.search_sets.specs.Sets.{added}
 use borrow.Author.Needs.{needs}
@@ -16,7 +17,7 @@ unfolding added
 returns c = rw (sym (c .before .numbers-fit .ensures) ∙ c .if1 .left)
 
 add-at-requires : tie.Need-add-at-requires
-add-at-requires c κs = let within = numbers-within (length (c .before .before .before .before .args .sets .now)) (c .before .before .before .before .args .to) (c .before .before .before .before .args .p) 128 (c .before .before .numbers-fit .ensures) (c .before .if1 .taken) in (within .0, omega arith, omega arith)
+add-at-requires c κs = let within = numbers-within (length (c .before .before .before .before .args .sets .now)) (c .before .before .before .before .args .to) (c .before .before .before .before .args .p) max-unknowns (c .before .before .numbers-fit .ensures) (c .before .if1 .taken) in (within .0, omega arith, omega arith)
 
 same-length : tie.Need-same-length
 same-length c = search needs

@@ -1,16 +1,17 @@
 -- `search_sets::excuse` meets its contract. The loop's invariant: the positions before p are followed. Assumes nothing.
-use Prim.Native.Nat.{_-_, _≤_, _<_}
+use Prim.Native.Nat.{_+_, _-_, _≤_, _<_}
 use mathlib.Core.Path.{_≡_, sym, _∙_}
 use native.Mathlib.Omega.{arith}
 use lib.ListN.{length}
-use Rattle.search_sets.specs.Sets.{sets-size, each-from, followed, excused}
+use Rattle.formula.specs.Formula.{max-unknowns}
+use Rattle.search_sets.specs.Sets.{set-places, sets-size, each-from, followed, excused}
 use Rattle.search_sets.proofs.TestLaws.{numbers-within}
 use Rattle.search_sets.proofs.LoopLaws.{each-start, each-more, each-done, followed-in, followed-not}
 use Rattle.search_sets.proofs.excuse.Statement.{statement}
 use Rattle.search_sets.proofs.excuse.Tie as tie
 
 abbrev Inv-loop : tie.InvT-loop
-Inv-loop sets₀ of k at p₀ sets p = (length sets ≡ sets-size) × (of < 130) × (at ≤ 128) × (k ≤ p) × (p - k ≤ at - k) × (sets ≡ each-from (followed of) k (p - k) sets₀)
+Inv-loop sets₀ of k at p₀ sets p = (length sets ≡ sets-size) × (of < set-places) × (at ≤ max-unknowns) × (k ≤ p) × (p - k ≤ at - k) × (sets ≡ each-from (followed of) k (p - k) sets₀)
 
 abbrev μ-loop : tie.MeasureT-loop
 μ-loop sets₀ of k at p₀ sets p = at - p
@@ -24,7 +25,7 @@ returns c = rw (sym (c .before .numbers-fit .ensures) ∙ c .if1 .left)
 
 loop-holds : tie.Need-loop-holds Inv-loop μ-loop
 loop-holds c =
-    let within = numbers-within (length (c .before .before .before .args .sets .now)) (c .before .before .before .args .of) (c .before .before .before .args .at) 129 (c .before .numbers-fit .ensures) (c .if1 .taken) in
+    let within = numbers-within (length (c .before .before .before .args .sets .now)) (c .before .before .before .args .of) (c .before .before .before .args .at) (max-unknowns + 1) (c .before .numbers-fit .ensures) (c .if1 .taken) in
     (within .0, within .1, omega arith, omega arith, omega arith, each-start (followed (c .before .before .before .args .of)) (c .before .before .before .args .k) (c .before .before .before .args .sets .now))
 
 add-p : tie.Need-add-p Inv-loop μ-loop
@@ -63,7 +64,7 @@ loop-again-2 c = (
 )
 
 same-length : tie.Need-same-length Inv-loop μ-loop
-same-length c = let within = numbers-within (length (c .before .before .before .before .before .args .sets .now)) (c .before .before .before .before .before .args .of) (c .before .before .before .before .before .args .at) 129 (c .before .before .before .numbers-fit .ensures) (c .before .before .if1 .taken) in c .before .loop .inv .0 ∙ sym (within .0)
+same-length c = let within = numbers-within (length (c .before .before .before .before .before .args .sets .now)) (c .before .before .before .before .before .args .of) (c .before .before .before .before .before .args .at) (max-unknowns + 1) (c .before .before .before .numbers-fit .ensures) (c .before .before .if1 .taken) in c .before .loop .inv .0 ∙ sym (within .0)
 
 returns-2 : tie.Need-returns-2 Inv-loop μ-loop
 unfolding excused

@@ -1,6 +1,7 @@
 -- `search_sets::has` meets its contract. Assumes nothing.
 use mathlib.Core.Path.{sym, _∙_}
 use lib.ListN.{length}
+use Rattle.formula.specs.Formula.{max-unknowns}
 use Rattle.search_sets.proofs.TestLaws.{numbers-within}
 use Rattle.search_sets.specs.Sets.{has}
 use borrow.Author.Needs.{needs}
@@ -11,7 +12,7 @@ numbers-fit-requires : tie.Need-numbers-fit-requires
 numbers-fit-requires c κs = search needs
 
 has-at-requires : tie.Need-has-at-requires
-has-at-requires c κs = numbers-within (length (c .before .before .before .args .sets .now)) (c .before .before .before .args .of) (c .before .before .before .args .p) 128 (c .before .numbers-fit .ensures) (c .if1 .taken)
+has-at-requires c κs = numbers-within (length (c .before .before .before .args .sets .now)) (c .before .before .before .args .of) (c .before .before .before .args .p) max-unknowns (c .before .numbers-fit .ensures) (c .if1 .taken)
 
 returns : tie.Need-returns
 unfolding has

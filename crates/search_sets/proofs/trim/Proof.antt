@@ -1,8 +1,9 @@
 -- `search_sets::trim` meets its contract. The loop's invariant: the sets before p are trimmed. Assumes nothing.
-use Prim.Native.Nat.{ℕ, _-_, _≤_}
+use Prim.Native.Nat.{ℕ, _+_, _-_, _≤_}
 use mathlib.Core.Path.{_≡_, sym, ap₂, _∙_}
 use native.Mathlib.Omega.{arith}
 use lib.ListN.{length}
+use Rattle.formula.specs.Formula.{max-unknowns}
 use Rattle.search_sets.specs.Sets.{sets-size, words-met, each-from, cut-at, trimmed}
 use Rattle.search_sets.proofs.TestLaws.{numbers-within}
 use Rattle.search_sets.proofs.LoopLaws.{each-start, each-more, each-done}
@@ -10,7 +11,7 @@ use Rattle.search_sets.proofs.trim.Statement.{statement}
 use Rattle.search_sets.proofs.trim.Tie as tie
 
 abbrev Inv-loop : tie.InvT-loop
-Inv-loop sets₀ k n low high p₀ sets p = (length sets ≡ sets-size) × (n ≤ 128) × (k ≤ p) × (p - k ≤ n - k) × (sets ≡ each-from (cut-at k) k (p - k) sets₀)
+Inv-loop sets₀ k n low high p₀ sets p = (length sets ≡ sets-size) × (n ≤ max-unknowns) × (k ≤ p) × (p - k ≤ n - k) × (sets ≡ each-from (cut-at k) k (p - k) sets₀)
 
 abbrev μ-loop : tie.MeasureT-loop
 μ-loop sets₀ k n low high p₀ sets p = n - p
@@ -30,7 +31,7 @@ ones-above-requires c κs = tt
 
 loop-holds : tie.Need-loop-holds Inv-loop μ-loop
 loop-holds c =
-    let within = numbers-within (length (c .before .before .before .before .before .args .sets .now)) (c .before .before .before .before .before .args .k) (c .before .before .before .before .before .args .n) 129 (c .before .before .before .numbers-fit .ensures) (c .before .before .if1 .taken) in
+    let within = numbers-within (length (c .before .before .before .before .before .args .sets .now)) (c .before .before .before .before .before .args .k) (c .before .before .before .before .before .args .n) (max-unknowns + 1) (c .before .before .before .numbers-fit .ensures) (c .before .before .if1 .taken) in
     (within .0, omega arith, omega arith, omega arith, each-start (cut-at (c .before .before .before .before .before .args .k)) (c .before .before .before .before .before .args .k) (c .before .before .before .before .before .args .sets .now))
 
 meet-requires : tie.Need-meet-requires Inv-loop μ-loop
@@ -52,7 +53,7 @@ loop-again c = (
 )
 
 same-length : tie.Need-same-length Inv-loop μ-loop
-same-length c = let within = numbers-within (length (c .before .before .before .before .before .before .before .args .sets .now)) (c .before .before .before .before .before .before .before .args .k) (c .before .before .before .before .before .before .before .args .n) 129 (c .before .before .before .before .before .numbers-fit .ensures) (c .before .before .before .before .if1 .taken) in c .before .loop .inv .0 ∙ sym (within .0)
+same-length c = let within = numbers-within (length (c .before .before .before .before .before .before .before .args .sets .now)) (c .before .before .before .before .before .before .before .args .k) (c .before .before .before .before .before .before .before .args .n) (max-unknowns + 1) (c .before .before .before .before .before .numbers-fit .ensures) (c .before .before .before .before .if1 .taken) in c .before .loop .inv .0 ∙ sym (within .0)
 
 returns-2 : tie.Need-returns-2 Inv-loop μ-loop
 unfolding trimmed

@@ -3,7 +3,7 @@ use mathlib.Core.Path.{sym, _∙_}
 use native.Mathlib.Omega.{arith}
 use lib.ListN.{length}
 use Rattle.search_sets.proofs.TestLaws.{numbers-within}
-use Rattle.search_sets.specs.Sets.{united}
+use Rattle.search_sets.specs.Sets.{united, set-places}
 use borrow.Author.Needs.{needs}
 use Rattle.search_sets.proofs.unite.Statement.{statement}
 use Rattle.search_sets.proofs.unite.Tie as tie
@@ -16,7 +16,7 @@ unfolding united
 returns c = rw (sym (c .before .numbers-fit .ensures) ∙ c .if1 .left)
 
 unite-at-requires : tie.Need-unite-at-requires
-unite-at-requires c κs = let within = numbers-within (length (c .before .before .before .before .args .sets .now)) (c .before .before .before .before .args .to) (c .before .before .before .before .args .from) 130 (c .before .before .numbers-fit .ensures) (c .before .if1 .taken) in (within .0, omega arith, omega arith)
+unite-at-requires c κs = let within = numbers-within (length (c .before .before .before .before .args .sets .now)) (c .before .before .before .before .args .to) (c .before .before .before .before .args .from) set-places (c .before .before .numbers-fit .ensures) (c .before .if1 .taken) in (within .0, omega arith, omega arith)
 
 same-length : tie.Need-same-length
 same-length c = search needs

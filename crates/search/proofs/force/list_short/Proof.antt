@@ -1,8 +1,9 @@
 -- `force::list_short` meets its contract. The invariant: what is counted are starts. Assumes nothing.
-use Prim.Native.Nat.{_≤_, _-_}
+use Prim.Native.Nat.{_+_, _-_, _≤_}
 use mathlib.Core.Path.{_≡_, refl, sym, _∙_}
 use native.Mathlib.Omega.{arith}
 use lib.ListN.{length, getD, length-set}
+use Rattle.index.specs.Index.{code-count}
 use Rattle.search.specs.Steps.{Starts}
 use Rattle.search.proofs.ForceLaws.{starts-put}
 use Rattle.search.proofs.force.list_short.Statement.{statement}
@@ -10,7 +11,7 @@ use Rattle.search.proofs.force.list_short.Tie as tie
 
 abbrev Inv-loop : tie.InvT-loop
 Inv-loop kinds codes index short₀ end count₀ at₀ short count at =
-    (end ≤ length index) × (end ≤ getD index 260 0) × (getD index 1 0 ≤ at) × (length short ≡ length short₀) × (count ≤ length short) × (Starts codes index (getD index 1 0) (getD index 260 0) → Starts codes short 0 count)
+    (end ≤ length index) × (end ≤ getD index (code-count + 1) 0) × (getD index 1 0 ≤ at) × (length short ≡ length short₀) × (count ≤ length short) × (Starts codes index (getD index 1 0) (getD index (code-count + 1) 0) → Starts codes short 0 count)
 
 abbrev μ-loop : tie.MeasureT-loop
 μ-loop kinds codes index short₀ end count₀ at₀ short count at = end - at

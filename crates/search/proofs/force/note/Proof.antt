@@ -1,6 +1,8 @@
 -- `force::note` meets its contract. Assumes nothing.
+use Prim.Native.Nat.{_+_}
 use native.Mathlib.Omega.{arith}
 use lib.ListN.{length-set}
+use Rattle.formula.specs.Formula.{max-unknowns}
 use Rattle.search_sets.proofs.MaskLaws.{store-behind, kept-trans, kept-grown}
 use borrow.Author.Needs.{needs}
 use Rattle.search.proofs.CallLaws.{grows}
@@ -59,7 +61,7 @@ same-length : tie.Need-same-length
 same-length c = search needs
 
 returns : tie.Need-returns
-returns c = kept-trans (kept-grown (omega arith) (grows _ (c .before .before .before .before .before .before .before .before .pre .0) 129 (c .before .before .before .before .before .before .before .before .args .k) (omega arith) (omega arith) (c .before .before .add .ensures))) (kept-trans (store-behind _ _ _ (omega arith)) (store-behind _ _ _ (omega arith)))
+returns c = kept-trans (kept-grown (omega arith) (grows _ (c .before .before .before .before .before .before .before .before .pre .0) (max-unknowns + 1) (c .before .before .before .before .before .before .before .before .args .k) (omega arith) (omega arith) (c .before .before .add .ensures))) (kept-trans (store-behind _ _ _ (omega arith)) (store-behind _ _ _ (omega arith)))
 
 pub note-spec : {M : Type 1} → statement M
 note-spec =

@@ -2,6 +2,7 @@
 use Prim.Native.Nat.{_+_}
 use mathlib.Core.Path.{_∙_}
 use native.Mathlib.Omega.{arith}
+use Rattle.formula.specs.Formula.{max-unknowns}
 use Rattle.search.proofs.CallLaws.{empties}
 use Rattle.search.proofs.ForceLaws.{noted-first, lent-noted}
 use Rattle.search.proofs.force.propagate.Statement.{statement}
@@ -30,7 +31,7 @@ same-length-2 c = c .before .before .before .before .settle .kept .1 .1 .1 .0 �
 
 returns : tie.Need-returns
 returns c =
-    λ listed. noted-first (c .before .before .before .before .before .before .before .before .before .before .before .before .before .before .before .before .before .before .before .before .args .splits .now) (c .before .before .before .before .before .before .before .before .before .before .before .before .before .before .before .before .before .before .before .before .args .codes .now) (c .before .before .before .before .before .before .before .before .before .before .before .before .before .before .before .before .before .before .before .before .args .lo) (c .before .before .before .before .before .before .before .before .before .before .before .before .before .before .before .before .before .before .before .before .args .hi) (c .before .before .before .before .before .before .before .before .before .before .before .before .before .before .before .before .before .before .before .before .args .k + 2) (c .before .before .before .before .before .before .before .before .before .before .before .before .before .before .before .before .before .before .before .before .args .work .now) (c .before .before .before .before .settle .last .1 .1 .0) (c .before .before .before .before .before .before .before .before .before .before .before .before .before .before .before .before .before .before .before .before .args .sets .now) (c .before .before .before .before .before .before .before .before .before .before .before .before .before .empty .last .0) (c .before .before .before .before .settle .last .1 .1 .1 .0) (c .before .before .before .before .settle .result) (empties _ (c .before .before .before .before .before .before .before .before .before .before .before .before .before .before .before .before .before .before .before .before .pre .0 .sets-lent) 129 (omega arith) (omega arith) (c .before .before .before .before .before .before .before .before .before .before .before .before .before .empty .ensures))
+    λ listed. noted-first (c .before .before .before .before .before .before .before .before .before .before .before .before .before .before .before .before .before .before .before .before .args .splits .now) (c .before .before .before .before .before .before .before .before .before .before .before .before .before .before .before .before .before .before .before .before .args .codes .now) (c .before .before .before .before .before .before .before .before .before .before .before .before .before .before .before .before .before .before .before .before .args .lo) (c .before .before .before .before .before .before .before .before .before .before .before .before .before .before .before .before .before .before .before .before .args .hi) (c .before .before .before .before .before .before .before .before .before .before .before .before .before .before .before .before .before .before .before .before .args .k + 2) (c .before .before .before .before .before .before .before .before .before .before .before .before .before .before .before .before .before .before .before .before .args .work .now) (c .before .before .before .before .settle .last .1 .1 .0) (c .before .before .before .before .before .before .before .before .before .before .before .before .before .before .before .before .before .before .before .before .args .sets .now) (c .before .before .before .before .before .before .before .before .before .before .before .before .before .empty .last .0) (c .before .before .before .before .settle .last .1 .1 .1 .0) (c .before .before .before .before .settle .result) (empties _ (c .before .before .before .before .before .before .before .before .before .before .before .before .before .before .before .before .before .before .before .before .pre .0 .sets-lent) (max-unknowns + 1) (omega arith) (omega arith) (c .before .before .before .before .before .before .before .before .before .before .before .before .before .empty .ensures))
     (noted-first (c .before .before .before .before .before .before .before .before .before .before .before .before .before .before .before .before .before .before .before .before .args .splits .now) (c .before .before .before .before .before .before .before .before .before .before .before .before .before .before .before .before .before .before .before .before .args .codes .now) (c .before .before .before .before .before .before .before .before .before .before .before .before .before .before .before .before .before .before .before .before .args .lo) (c .before .before .before .before .before .before .before .before .before .before .before .before .before .before .before .before .before .before .before .before .args .hi) (c .before .before .before .before .before .before .before .before .before .before .before .before .before .before .before .before .before .before .before .before .args .k + 2) (c .before .before .before .before .before .before .before .before .before .before .before .before .before .before .before .before .before .before .before .before .args .work .now) (c .before .before .before .before .settle .last .1 .1 .0) (c .before .before .before .before .before .before .before .before .before .before .before .before .before .empty .last .0) (c .before .before .before .before .before .before .before .before .before .note .last .0) (c .before .before .before .before .settle .last .1 .1 .1 .0) (c .before .before .before .before .settle .result) (c .before .before .before .before .before .before .before .before .before .note .ensures) (c .before .before .before .before .settle .ensures listed))
 
 pub propagate-spec : {M : Type 1} → statement M

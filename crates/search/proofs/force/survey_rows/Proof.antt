@@ -1,9 +1,10 @@
 -- `force::survey_rows` meets its contract. The invariant: no look has failed. Assumes nothing.
-use Prim.Native.Nat.{_-_}
+use Prim.Native.Nat.{_+_, _-_}
 use mathlib.Core.Path.{_∙_}
 use mathlib.Core.Bool.{false}
 use native.Mathlib.Omega.{arith}
 use lib.ListN.{length}
+use Rattle.formula.specs.Formula.{max-unknowns}
 use Rattle.search.specs.Steps.{Indexed, Starts}
 use Rattle.search.proofs.CallLaws.{empties}
 use Rattle.search.proofs.ForceLaws.{Going, going-start, going-then, going-last, going-ends, noted-first, lent-noted, lent-still}
@@ -33,7 +34,7 @@ same-length-2 c = c .before .before .before .before .before .visit-row .kept .1 
 
 returns : tie.Need-returns Inv-loop μ-loop
 returns c =
-    λ h. noted-first (c .before .before .before .before .before .before .before .before .before .before .before .before .before .before .before .before .before .before .before .before .args .splits .now) (c .before .before .before .before .before .before .before .before .before .before .before .before .before .before .before .before .before .before .before .before .args .codes .now) 0 (length (c .before .before .before .before .before .before .before .before .before .before .before .before .before .before .before .before .before .before .before .before .args .splits .now)) 1 (c .before .before .before .before .before .before .before .before .before .before .before .before .before .before .before .before .before .before .before .before .args .work .now) (c .before .before .before .before .before .visit-row .last .1 .1 .0) (c .before .before .before .before .before .before .before .before .before .before .before .before .before .before .before .before .before .before .before .before .args .sets .now) (c .before .before .before .before .before .before .before .before .before .before .before .before .empty .last .0) (c .before .before .before .before .before .visit-row .last .1 .1 .1 .0) false (empties _ (c .before .before .before .before .before .before .before .before .before .before .before .before .before .before .before .before .before .before .before .before .pre .0 .sets-lent) 129 (omega arith) (omega arith) (c .before .before .before .before .before .before .before .before .before .before .before .before .empty .ensures))
+    λ h. noted-first (c .before .before .before .before .before .before .before .before .before .before .before .before .before .before .before .before .before .before .before .before .args .splits .now) (c .before .before .before .before .before .before .before .before .before .before .before .before .before .before .before .before .before .before .before .before .args .codes .now) 0 (length (c .before .before .before .before .before .before .before .before .before .before .before .before .before .before .before .before .before .before .before .before .args .splits .now)) 1 (c .before .before .before .before .before .before .before .before .before .before .before .before .before .before .before .before .before .before .before .before .args .work .now) (c .before .before .before .before .before .visit-row .last .1 .1 .0) (c .before .before .before .before .before .before .before .before .before .before .before .before .before .before .before .before .before .before .before .before .args .sets .now) (c .before .before .before .before .before .before .before .before .before .before .before .before .empty .last .0) (c .before .before .before .before .before .visit-row .last .1 .1 .1 .0) false (empties _ (c .before .before .before .before .before .before .before .before .before .before .before .before .before .before .before .before .before .before .before .before .pre .0 .sets-lent) (max-unknowns + 1) (omega arith) (omega arith) (c .before .before .before .before .before .before .before .before .before .before .before .before .empty .ensures))
     (going-ends (c .before .before .before .before .before .before .before .before .before .loop .inv) (c .before .before .before .before .before .visit-row .last .1 .1 .0) (c .before .before .before .before .before .visit-row .last .1 .1 .1 .0) (c .before .before .before .before .before .visit-row .result) (λ h. c .before .before .before .before .before .visit-row .ensures (h .1)) (c .if1 .left) h)
 
 add-i : tie.Need-add-i Inv-loop μ-loop
@@ -56,7 +57,7 @@ same-length-4 c = c .before .before .before .before .settle .kept .1 .1 .1 .0 �
 
 returns-2 : tie.Need-returns-2 Inv-loop μ-loop
 returns-2 c =
-    λ h. noted-first (c .before .before .before .before .before .before .before .before .before .before .before .before .before .before .before .before .before .before .before .args .splits .now) (c .before .before .before .before .before .before .before .before .before .before .before .before .before .before .before .before .before .before .before .args .codes .now) 0 (length (c .before .before .before .before .before .before .before .before .before .before .before .before .before .before .before .before .before .before .before .args .splits .now)) 1 (c .before .before .before .before .before .before .before .before .before .before .before .before .before .before .before .before .before .before .before .args .work .now) (c .before .before .before .before .settle .last .1 .1 .0) (c .before .before .before .before .before .before .before .before .before .before .before .before .before .before .before .before .before .before .before .args .sets .now) (c .before .before .before .before .before .before .before .before .before .before .before .empty .last .0) (c .before .before .before .before .settle .last .1 .1 .1 .0) (c .before .before .before .before .settle .result) (empties _ (c .before .before .before .before .before .before .before .before .before .before .before .before .before .before .before .before .before .before .before .pre .0 .sets-lent) 129 (omega arith) (omega arith) (c .before .before .before .before .before .before .before .before .before .before .before .empty .ensures))
+    λ h. noted-first (c .before .before .before .before .before .before .before .before .before .before .before .before .before .before .before .before .before .before .before .args .splits .now) (c .before .before .before .before .before .before .before .before .before .before .before .before .before .before .before .before .before .before .before .args .codes .now) 0 (length (c .before .before .before .before .before .before .before .before .before .before .before .before .before .before .before .before .before .before .before .args .splits .now)) 1 (c .before .before .before .before .before .before .before .before .before .before .before .before .before .before .before .before .before .before .before .args .work .now) (c .before .before .before .before .settle .last .1 .1 .0) (c .before .before .before .before .before .before .before .before .before .before .before .before .before .before .before .before .before .before .before .args .sets .now) (c .before .before .before .before .before .before .before .before .before .before .before .empty .last .0) (c .before .before .before .before .settle .last .1 .1 .1 .0) (c .before .before .before .before .settle .result) (empties _ (c .before .before .before .before .before .before .before .before .before .before .before .before .before .before .before .before .before .before .before .pre .0 .sets-lent) (max-unknowns + 1) (omega arith) (omega arith) (c .before .before .before .before .before .before .before .before .before .before .before .empty .ensures))
     (going-last (c .before .before .before .before .before .before .before .before .loop .inv) (c .before .before .before .before .settle .last .1 .1 .0) (c .before .before .before .before .settle .last .1 .1 .1 .0) (c .before .before .before .before .settle .result) (λ h. c .before .before .before .before .settle .ensures (h .0)) h)
 
 pub survey-rows-spec : {M : Type 1} → statement M

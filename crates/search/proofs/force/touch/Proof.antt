@@ -1,5 +1,6 @@
 -- `force::touch` meets its contract: nothing follows, or the group is refuted, or a value is forced. Assumes nothing.
 use mathlib.Core.Path.{refl, _∙_}
+use Rattle.formula.specs.Formula.{max-unknowns}
 use Rattle.search_sets.proofs.MaskLaws.{kept-trans, kept-grown}
 use Rattle.search.proofs.CallLaws.{looks, empties, blames}
 use Rattle.search.proofs.ForceLaws.{settles-nothing, settles-dead}
@@ -38,8 +39,8 @@ same-length-3 c = c .before .before .shorten .kept .1 .1 .0 ∙ c .before .befor
 
 returns-2 : tie.Need-returns-2
 returns-2 c = λ begins.
-    let emptied = kept-trans (same-kept (c .before .before .before .before .before .before .before .before .before .before .before .before .before .before .before .failed .ensures)) (empties _ (c .before .before .before .before .before .before .before .before .before .before .before .before .before .before .before .failed .kept .0 ∙ c .before .before .before .before .before .before .before .before .before .before .before .before .before .before .before .before .before .before .before .before .before .before .before .before .before .before .pre .0 .sets-lent) 128 (omega arith) (omega arith) (c .before .before .before .before .before .before .before .before .before .before .before .empty .ensures)) in
-    let blamed = blames _ (c .before .before .before .before .before .before .before .before .before .before .before .empty .kept .0 ∙ c .before .before .before .before .before .before .before .before .before .before .before .before .before .before .before .failed .kept .0 ∙ c .before .before .before .before .before .before .before .before .before .before .before .before .before .before .before .before .before .before .before .before .before .before .before .before .before .before .pre .0 .sets-lent) (c .before .before .before .before .before .before .before .before .before .before .before .before .before .before .before .before .before .before .before .before .before .before .before .before .before .before .args .codes .now) (c .before .before .before .before .before .before .before .before .before .before .before .before .before .before .before .before .before .before .before .before .before .before .before .before .before .before .args .start) 128 (omega arith) (c .before .before .before .before .before .before .before .before .before .before .before .before .before .before .before .before .before .before .before .before .before .before .before .before .before .before .pre .0 .coded) (c .before .before .before .before .before .before .before .blame .ensures) in
+    let emptied = kept-trans (same-kept (c .before .before .before .before .before .before .before .before .before .before .before .before .before .before .before .failed .ensures)) (empties _ (c .before .before .before .before .before .before .before .before .before .before .before .before .before .before .before .failed .kept .0 ∙ c .before .before .before .before .before .before .before .before .before .before .before .before .before .before .before .before .before .before .before .before .before .before .before .before .before .before .pre .0 .sets-lent) max-unknowns (omega arith) (omega arith) (c .before .before .before .before .before .before .before .before .before .before .before .empty .ensures)) in
+    let blamed = blames _ (c .before .before .before .before .before .before .before .before .before .before .before .empty .kept .0 ∙ c .before .before .before .before .before .before .before .before .before .before .before .before .before .before .before .failed .kept .0 ∙ c .before .before .before .before .before .before .before .before .before .before .before .before .before .before .before .before .before .before .before .before .before .before .before .before .before .before .pre .0 .sets-lent) (c .before .before .before .before .before .before .before .before .before .before .before .before .before .before .before .before .before .before .before .before .before .before .before .before .before .before .args .codes .now) (c .before .before .before .before .before .before .before .before .before .before .before .before .before .before .before .before .before .before .before .before .before .before .before .before .before .before .args .start) max-unknowns (omega arith) (c .before .before .before .before .before .before .before .before .before .before .before .before .before .before .before .before .before .before .before .before .before .before .before .before .before .before .pre .0 .coded) (c .before .before .before .before .before .before .before .blame .ensures) in
     settles-shortened (c .before .before .before .before .before .before .before .before .before .before .before .before .before .before .before .before .before .before .before .before .before .before .before .before .before .before .args .splits .now) (c .before .before .before .before .before .before .before .before .before .before .before .before .before .before .before .before .before .before .before .before .before .before .before .before .before .before .args .codes .now) (c .before .before .before .before .before .before .before .before .before .before .before .before .before .before .before .before .before .before .before .before .before .before .before .before .before .before .pre .0 .coded) (c .before .before .before .before .before .before .before .before .before .before .before .before .before .before .before .before .before .before .before .before .before .before .before .before .before .before .args .lo) (c .before .before .before .before .before .before .before .before .before .before .before .before .before .before .before .before .before .before .before .before .before .before .before .before .before .before .args .hi) (c .before .before .before .before .before .before .before .before .before .before .before .before .before .before .before .before .before .before .before .before .before .before .before .before .before .before .args .mark) (c .before .before .before .before .before .before .before .before .before .before .before .before .before .before .before .before .before .before .before .before .before .before .before .before .before .before .args .work .now) (c .before .before .before .before .before .before .before .before .before .before .before .before .before .before .before .before .before .before .before .before .before .before .before .before .before .before .args .sets .now) (c .before .before .before .before .before .before .before .blame .last .1 .0) (c .before .before .shorten .last .1 .1 .0) (c .before .before .before .before .before .before .before .before .before .before .before .before .before .before .before .before .before .before .before .before .before .before .before .before .before .before .args .i)
     (c .before .before .before .before .before .before .before .before .before .before .before .before .before .before .before .before .before .before .before .before .before .before .before .before .before .before .pre .1 .0) (c .before .before .before .before .before .before .before .before .before .before .before .before .before .before .before .before .before .before .before .before .before .before .before .before .before .before .pre .1 .1) (kept-trans emptied (kept-grown (omega arith) (blamed .grown)))
     (settles-dead (c .before .before .before .before .before .before .before .before .before .before .before .before .before .before .before .before .before .before .before .before .before .before .before .before .before .before .args .splits .now) (c .before .before .before .before .before .before .before .before .before .before .before .before .before .before .before .before .before .before .before .before .before .before .before .before .before .before .args .codes .now) (c .before .before .before .before .before .before .before .before .before .before .before .before .before .before .before .before .before .before .before .before .before .before .before .before .before .before .pre .0 .coded) (c .before .before .before .before .before .before .before .before .before .before .before .before .before .before .before .before .before .before .before .before .before .before .before .before .before .before .args .lo) (c .before .before .before .before .before .before .before .before .before .before .before .before .before .before .before .before .before .before .before .before .before .before .before .before .before .before .args .hi) (c .before .before .before .before .before .before .before .before .before .before .before .before .before .before .before .before .before .before .before .before .before .before .before .before .before .before .args .mark) (c .before .before .before .before .before .before .before .before .before .before .before .before .before .before .before .before .before .before .before .before .before .before .before .before .before .before .args .work .now) (c .before .before .before .before .before .before .before .before .before .before .before .before .before .before .before .before .before .before .before .before .before .before .before .before .before .before .args .sets .now) (c .before .before .before .before .before .before .before .before .before .before .before .before .before .before .before .before .before .before .before .before .before .before .before .before .before .before .args .i) (c .before .before .before .before .before .before .before .before .before .before .before .before .before .before .before .before .before .before .before .before .before .before .before .before .before .before .args .start) (c .before .before .before .before .before .before .before .before .before .before .before .before .before .before .before .before .before .before .before .before .before .before .before .before .before .before .pre .1 .0) (c .before .before .before .before .before .before .before .before .before .before .before .before .before .before .before .before .before .before .before .before .before .before .before .before .before .before .pre .1 .1) begins
