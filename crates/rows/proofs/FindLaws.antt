@@ -1,13 +1,15 @@
 -- Equal rows and the first place of a row.
 -- Assumes nothing.
-use mathlib.Core.Path.{_≡_, refl, sym, ap, _∙_}
-use mathlib.Core.Bool.{Bool, true, false, _&&_, false≢true, and-eq-true-iff}
-use mathlib.Core.List.{List, [], _∷_}
+use mathlib.Core.Path.{_≡_, refl, sym, ap, ap₂, _∙_}
+use mathlib.Core.Bool.{Bool, true, false, _&&_, false≢true, and-true, and-assoc, and-eq-true-iff}
+use mathlib.Core.List.{List, [], _∷_, _++_}
 use Prim.Native.Nat.{ℕ, zero, suc, _+_, _*_, _≤_, _<_, zero-le, suc-le-suc}
 use native.Mathlib.Nat.{add-zero, zero-add, add-suc, suc-add, le-of-suc-le-suc, not-suc-le-zero}
+use native.Mathlib.Numerals.{add-one}
 use native.Mathlib.Omega.{arith}
 use lib.Dec.{eqb}
-use lib.ListN.{length, getD, take, drop}
+use lib.ListN.{length, getD, take, drop, length-drop}
+use lib.Seq.{take-suc, getD-drop, length-take-le}
 use borrow.Author.Tests.{eqb-true, eq-eqb}
 use Rattle.rows.specs.Row.{values, row-of}
 use Rattle.rows.specs.Table.{inside, row-at, room}
@@ -15,7 +17,7 @@ use Rattle.rows.specs.Access.{same-bytes, equal-rows, first-true, first-
 use Rattle.rows.specs.declared.Found.the-variants.{At, Absent}
 use Rattle.rows.proofs.ValueLaws.{length-values, getD-values, values-false}
 use Rattle.rows.proofs.RowLaws.{IsRow, equal-values-equal-bytes}
-use Rattle.rows.proofs.TableLaws.{getD-part, equal-parts, inside-true, inside-false, row-at-inside}
+use Rattle.rows.proofs.TableLaws.{inside-true, inside-false, row-at-inside}
 
 -- ---- equal rows
 
@@ -33,24 +35,24 @@ same-bytes-equal (x ∷ b) (y ∷ c) e =
     let later : b ≡ c = same-bytes-equal b c (both .1) in
     λ d. first d ∷ later d
 
-same-bytes-differ : (b c : List ℕ) → (b ≡ c → ⊥) → same-bytes b c ≡ false
-same-bytes-differ b c differ = go (same-bytes b c) refl
-  where
-    go : (v : Bool) → same-bytes b c ≡ v → v ≡ false
-    go true e = absurd (differ (same-bytes-equal b c e))
-    go false e = refl
+same-bytes-more : (b c : List ℕ) (x y : ℕ) → length b ≡ length c → same-bytes (b ++ (x ∷ [])) (c ++ (y ∷ [])) ≡ (same-bytes b c && eqb x y)
+same-bytes-more [] [] x y e = and-true (eqb x y)
+same-bytes-more [] (v ∷ c) x y e = absurd (omega arith)
+same-bytes-more (u ∷ b) [] x y e = absurd (omega arith)
+same-bytes-more (u ∷ b) (v ∷ c) x y e = ap (λ (w : Bool). eqb u v && w) (same-bytes-more b c x y (omega arith)) ∙ sym (and-assoc (eqb u v) (same-bytes b c) (eqb x y))
 
--- The sixteen bytes from x on and from y on: each byte decides.
-pub same-parts : (t : List ℕ) (x : ℕ) (u : List ℕ) (y : ℕ) → x + 16 ≤ length t → y + 16 ≤ length u
-    → ((p : ℕ) → p < 16 → getD t (x + p) 0 ≡ getD u (y + p) 0) → same-bytes (take 16 (drop x t)) (take 16 (drop y u)) ≡ true
-same-parts t x u y ht hu same =
-    ap (same-bytes (take 16 (drop x t))) (sym (equal-parts t x u y ht hu same)) ∙ same-bytes-refl (take 16 (drop x t))
+take-more : (t : List ℕ) (x p : ℕ) → x + p < length t → take (p + 1) (drop x t) ≡ take p (drop x t) ++ (getD t (x + p) 0 ∷ [])
+take-more t x p h =
+    ap (λ (n : ℕ). take n (drop x t)) (add-one p)
+    ∙ take-suc (drop x t) p 0 (omega (arith, length-drop x t))
+    ∙ ap (λ (v : ℕ). take p (drop x t) ++ (v ∷ [])) (getD-drop x t p 0)
 
-pub differing-parts : (t : List ℕ) (x : ℕ) (u : List ℕ) (y p : ℕ) → p < 16
-    → (getD t (x + p) 0 ≡ getD u (y + p) 0 → ⊥) → same-bytes (take 16 (drop x t)) (take 16 (drop y u)) ≡ false
-differing-parts t x u y p h differ =
-    same-bytes-differ (take 16 (drop x t)) (take 16 (drop y u))
-    (λ e. differ (sym (getD-part t x p h) ∙ ap (λ (l : List ℕ). getD l p 0) e ∙ getD-part u y p h))
+-- The bytes from x on and from y on, one more of each.
+pub same-parts-more : (t : List ℕ) (x : ℕ) (u : List ℕ) (y p : ℕ) → x + p < length t → y + p < length u
+    → (same-bytes (take p (drop x t)) (take p (drop y u)) && eqb (getD t (x + p) 0) (getD u (y + p) 0)) ≡ same-bytes (take (p + 1) (drop x t)) (take (p + 1) (drop y u))
+same-parts-more t x u y p ht hu =
+    let size = length-take-le p (drop x t) (omega (arith, length-drop x t)) ∙ sym (length-take-le p (drop y u) (omega (arith, length-drop y u))) in
+    sym (ap₂ same-bytes (take-more t x p ht) (take-more u y p hu) ∙ same-bytes-more (take p (drop x t)) (take p (drop y u)) (getD t (x + p) 0) (getD u (y + p) 0) size)
 
 pub equal-rows-inside : (t : List ℕ) (i : ℕ) (u : List ℕ) (j : ℕ) → i < room t → j < room u
     → equal-rows t i u j ≡ same-bytes (take 16 (drop (16 * i) t)) (take 16 (drop (16 * j) u))

@@ -8,7 +8,7 @@ use native.Mathlib.Nat.{le-of-suc-le-suc, not-suc-le-zero}
 use native.Mathlib.Decide.{decLt}
 use native.Mathlib.Omega.{arith}
 use lib.ListN.{length, getD, take, drop, length-drop}
-use lib.Seq.{ext-getD, getD-take, getD-drop, drop-drop, take-at, drop-at, length-take-le}
+use lib.Seq.{getD-take, getD-drop, drop-drop, take-at, drop-at, length-take-le}
 use borrow.Author.Tests.{le-leb, lt-leb}
 use Rattle.preference.specs.Preference.{odd}
 use Rattle.rows.specs.Row.{bit-of, values, row-of, bytes-of}
@@ -25,14 +25,6 @@ getD-part t x p h = getD-take 16 (drop x t) p 0 h ∙ getD-drop x t p 0
 
 length-part : (t : List ℕ) (x : ℕ) → x + 16 ≤ length t → length (take 16 (drop x t)) ≡ 16
 length-part t x h = length-take-le 16 (drop x t) (omega (arith, length-drop x t))
-
--- Parts are equal if their bytes are.
-pub equal-parts : (t : List ℕ) (x : ℕ) (u : List ℕ) (y : ℕ) → x + 16 ≤ length t → y + 16 ≤ length u
-    → ((p : ℕ) → p < 16 → getD t (x + p) 0 ≡ getD u (y + p) 0) → take 16 (drop x t) ≡ take 16 (drop y u)
-equal-parts t x u y ht hu same =
-    ext-getD 0 (take 16 (drop x t)) (take 16 (drop y u)) (length-part t x ht ∙ sym (length-part u y hu)) (λ p h.
-    let below : p < 16 = omega (arith, length-part t x ht) in
-    getD-part t x p below ∙ same p below ∙ sym (getD-part u y p below))
 
 pub inside-true : (t : List ℕ) (i : ℕ) → i < room t → inside t i ≡ true
 inside-true t i h = le-leb (16 * i + 16) (length t) (omega arith)

@@ -3,7 +3,9 @@
 // mean is left to the crates that search over them.
 use formula::Formula;
 ghost use mathlib.Core.Path.{_≡_};
+ghost use mathlib.Core.Bool.{_&&_};
 ghost use Prim.Native.Nat.{_+_, _≤_, min};
+ghost use lib.Dec.{eqb};
 ghost use lib.ListN.{length, take, drop, replicate};
 ghost use lib.Seq.{paste};
 ghost use Rattle.rows.specs.Row.{bit-of};
@@ -209,17 +211,22 @@ fn zero_marks(marks: &mut [u16], from: usize, to: usize)
     }
 }
 
-// The row from x on equals the row from y on: the first byte that differs ends the walk.
+// The row from x on equals the row from y on. All bytes are compared, so that the machine can compare them at once.
 fn same_row(a: &[u8], x: usize, b: &[u8], y: usize) -> bool
     requires { ⌜ (x + 16 ≤ length (now a)) × (y + 16 ≤ length (now b)) ⌝ }
     ensures { λ r. ⌜ r ≡ same-bytes (take 16 (drop x (now (a .entry)))) (take 16 (drop y (now (b .entry)))) ⌝ }
 {
+    let mut same = true;
     for p in 0..BYTES {
-        if a[x + p] != b[y + p] {
-            return false;
-        }
+        same = and_same(same, a[x + p], b[y + p]);
     }
-    true
+    same
+}
+
+fn and_same(same: bool, x: u8, y: u8) -> bool
+    ensures { λ r. ⌜ r ≡ (same && eqb x y) ⌝ }
+{
+    if x == y { same } else { false }
 }
 
 // Copies the row from y on to x.

@@ -1,38 +1,38 @@
--- `rows::same_row` meets its contract. The loop's invariant: the bytes passed are equal. Assumes nothing.
-use mathlib.Core.Path.{_≡_, sym}
-use Prim.Native.Nat.{ℕ, _+_, _-_, _≤_, _<_}
+-- `rows::same_row` meets its contract. The loop's invariant: whether the bytes passed are equal. Assumes nothing.
+use mathlib.Core.Path.{_≡_, refl, ap, _∙_}
+use mathlib.Core.Bool.{Bool, _&&_}
+use Prim.Native.Nat.{ℕ, _+_, _-_, _≤_}
 use native.Mathlib.Omega.{arith}
-use lib.ListN.{getD}
-use borrow.Author.Count.{below-none, below-more}
-use Rattle.rows.proofs.FindLaws.{same-parts, differing-parts}
+use lib.Dec.{eqb}
+use lib.ListN.{getD, take, drop}
+use Rattle.rows.specs.Access.{same-bytes}
+use Rattle.rows.proofs.FindLaws.{same-parts-more}
 use Rattle.rows.proofs.same_row.Statement.{statement}
 use Rattle.rows.proofs.same_row.Tie as tie
 
 abbrev Inv-loop : tie.InvT-loop
-Inv-loop a x b y p₀ p = (p ≤ 16) × ((q : ℕ) → q < p → getD a (x + q) 0 ≡ getD b (y + q) 0)
+Inv-loop a x b y same₀ p₀ same p = (p ≤ 16) × (same ≡ same-bytes (take p (drop x a)) (take p (drop y b)))
 
 abbrev μ-loop : tie.MeasureT-loop
-μ-loop a x b y p₀ p = 16 - p
+μ-loop a x b y same₀ p₀ same p = 16 - p
 
 loop-holds : tie.Need-loop-holds Inv-loop μ-loop
-loop-holds c = (omega arith, below-none _)
+loop-holds c = (omega arith, refl)
 
-add-if1 : tie.Need-add-if1 Inv-loop μ-loop
-add-if1 c = omega arith
+add-and-same : tie.Need-add-and-same Inv-loop μ-loop
+add-and-same c = omega arith
 
-shared-slice-read-if1 : tie.Need-shared-slice-read-if1 Inv-loop μ-loop
-shared-slice-read-if1 c = omega arith
+shared-slice-read-and-same : tie.Need-shared-slice-read-and-same Inv-loop μ-loop
+shared-slice-read-and-same c = omega arith
 
-add-if1-2 : tie.Need-add-if1-2 Inv-loop μ-loop
-add-if1-2 c = omega arith
+add-and-same-2 : tie.Need-add-and-same-2 Inv-loop μ-loop
+add-and-same-2 c = omega arith
 
-shared-slice-read-if1-2 : tie.Need-shared-slice-read-if1-2 Inv-loop μ-loop
-shared-slice-read-if1-2 c = omega arith
+shared-slice-read-and-same-2 : tie.Need-shared-slice-read-and-same-2 Inv-loop μ-loop
+shared-slice-read-and-same-2 c = omega arith
 
-returns : tie.Need-returns Inv-loop μ-loop
-returns c =
-    let given = c .before .before .before .before .before .args in
-    sym (differing-parts (given .a .now) (given .x) (given .b .now) (given .y) (c .before .before .before .before .loop .p) (omega arith) (c .if1 .taken))
+and-same-requires : tie.Need-and-same-requires Inv-loop μ-loop
+and-same-requires c κs = tt
 
 add-p : tie.Need-add-p Inv-loop μ-loop
 add-p c = omega arith
@@ -41,12 +41,22 @@ loop-less : tie.Need-loop-less Inv-loop μ-loop
 loop-less c = omega arith
 
 loop-again : tie.Need-loop-again Inv-loop μ-loop
-loop-again c = (omega arith, below-more _ _ (c .before .before .before .before .loop .inv .1) (c .if1 .left))
+loop-again c =
+    let given = c .before .before .before .before .before .before .before .args in
+    let a = given .a .now in
+    let b = given .b .now in
+    let p = c .before .before .before .before .loop .p in (
+      omega arith,
+      c .and-same .ensures
+          ∙ ap (λ (v : Bool). v && eqb (getD a (given .x + p) 0) (getD b (given .y + p) 0)) (c .before .before .before .before .loop .inv .1)
+          ∙ same-parts-more a (given .x) b (given .y) p (omega arith) (omega arith),
+    )
 
-returns-2 : tie.Need-returns-2 Inv-loop μ-loop
-returns-2 c =
-    let given = c .before .before .args in
-    sym (same-parts (given .a .now) (given .x) (given .b .now) (given .y) (c .before .before .pre .0) (c .before .before .pre .1) (λ q h. c .before .loop .inv .1 q (omega arith)))
+returns : tie.Need-returns Inv-loop μ-loop
+returns c =
+    let given = c .before .before .before .before .args in
+    let all : c .before .loop .p ≡ 16 = omega arith in
+    c .before .loop .inv .1 ∙ ap (λ (n : ℕ). same-bytes (take n (drop (given .x) (given .a .now))) (take n (drop (given .y) (given .b .now)))) all
 
 pub same-row-spec : {M : Type 1} → statement M
 same-row-spec =
@@ -55,12 +65,12 @@ same-row-spec =
     Inv-loop
     μ-loop
     loop-holds
-    add-if1
-    shared-slice-read-if1
-    add-if1-2
-    shared-slice-read-if1-2
-    returns
+    add-and-same
+    shared-slice-read-and-same
+    add-and-same-2
+    shared-slice-read-and-same-2
+    and-same-requires
     add-p
     loop-less
     loop-again
-    returns-2)
+    returns)
