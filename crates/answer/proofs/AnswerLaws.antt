@@ -6,13 +6,13 @@ use mathlib.Core.Bool.{Bool, true}
 use mathlib.Core.List.{List}
 use lib.Dec.{eqb}
 use lib.IntN.{ℤ}
-use lib.ListN.{length, take, replicate, length-replicate}
+use lib.ListN.{length, take, replicate}
 use Rattle.formula.specs.Formula.{max-rows, max-clauses, work-size, universal, existential, prefix}
 use Rattle.formula.specs.Causes.{checked, sizes}
 use Rattle.formula.specs.declared.Check.the-variants.{Accepted}
 use Rattle.rounds.proofs.Bounds.{count-in-room}
 use Rattle.run.specs.declared.Outcome.{Outcome}
-use Rattle.run.specs.Outcome.{number-of, reported, returned}
+use Rattle.run.specs.Outcome.{number-of, cause, reported, returned, left}
 use Rattle.run.proofs.OutcomeLaws.{number-named}
 use Rattle.text.specs.Reading.{refused, read-as, max-variables}
 use Rattle.text.proofs.TextLaws.{Passes}
@@ -20,17 +20,23 @@ use Rattle.text.proofs.ReadAsLaws.{reading-passes, reading-line}
 use Rattle.text.proofs.FrontLaws.{Front}
 use Rattle.report.specs.Report.{result-lines, refusal-line}
 use Rattle.decision.specs.Decision.{handed-on, own-lent}
-use Rattle.decision.proofs.DecisionLaws.{returned-so}
+use Rattle.decision.proofs.DecisionLaws.{cause-so, returned-so}
 use Rattle.answer.specs.Printed.{round-limit, settled, result-of, shown, printed-as}
 
--- A formula that passes: what the run returns, and the lines of it.
-module _ (kinds : List ℕ) (literals : List ℤ) (passes : checked kinds literals ≡ Accepted (sizes kinds literals)) where
-  whole : eqb (length (replicate {A = ℕ} work-size 0)) work-size ≡ true
-  whole = ap (λ (n : ℕ). eqb n work-size) (length-replicate {A = ℕ} work-size 0)
+-- A formula that passes, over a work area: what the run returns and leaves, and the lines of it.
+module _ (kinds : List ℕ) (literals : List ℤ) (work : List ℕ) (passes : checked kinds literals ≡ Accepted (sizes kinds literals)) (sized : length work ≡ work-size) where
+  whole : eqb (length work) work-size ≡ true
+  whole = ap (λ (n : ℕ). eqb n work-size) sized
 
-  module _ {r : Outcome} (e : r ≡ returned (handed-on kinds literals (replicate work-size 0) round-limit)) where
+  pub zero-left : left (handed-on kinds literals work round-limit) .work ≡ replicate work-size 0
+  unfolding left
+  zero-left =
+      let none : cause (handed-on kinds literals work round-limit) ≡ 0 = cause-so kinds literals work round-limit passes ∙ (rw whole refl) in
+      rw none refl
+
+  module _ {r : Outcome} (e : r ≡ returned (handed-on kinds literals work round-limit)) where
     reported-so : r ≡ reported (prefix kinds) (settled kinds literals)
-    reported-so = e ∙ returned-so kinds literals (replicate work-size 0) round-limit passes whole refl
+    reported-so = e ∙ returned-so kinds literals work round-limit passes whole refl
 
     pub universal-few : r .universal ≤ max-rows
     universal-few = subst (λ (o : Outcome). o .universal ≤ max-rows) (sym reported-so) (count-in-room (own-lent kinds literals) round-limit universal (omega arith))

@@ -4,10 +4,10 @@ use libc::STDIN_FILENO;
 use libc::STDOUT_FILENO;
 
 fn main() {
-    // One byte more than a text may have: a longer one is then refused, and not cut.
-    let mut input = [0u8; text::BYTES + 1];
-    let length = io::read_full(STDIN_FILENO, &mut input);
+    // The text, and once it is read the run's work area: one array less on the stack, whose every page costs time at the start.
+    let mut area = [0u8; answer::AREA];
+    let length = io::read_full(STDIN_FILENO, &mut area);
     let mut out = [0u8; answer::LONGEST];
-    let count = answer::answer_gates(&input[..length], &mut out);
+    let count = answer::answer_gates_within(&mut area, length, &mut out);
     io::write_all(STDOUT_FILENO, &out[..count]);
 }

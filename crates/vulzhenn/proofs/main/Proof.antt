@@ -1,4 +1,4 @@
--- `main` hands on what fits: `answer` says how many bytes of the buffer it wrote. Assumes nothing.
+-- `main` hands on what fits: `answer_within` says how many bytes of the buffer it wrote. Assumes nothing.
 use mathlib.Core.Path.{sym}
 use lib.Seq.{length-take-le}
 use borrow.Author.Needs.{needs}
@@ -12,23 +12,20 @@ slice-aggregate-read-full c = search needs
 read-full-requires : tie.Need-read-full-requires
 read-full-requires c κs = search needs
 
-array-share-prefix-input : tie.Need-array-share-prefix-input
-array-share-prefix-input c = search needs
+slice-aggregate-answer-within : tie.Need-slice-aggregate-answer-within
+slice-aggregate-answer-within c = search needs
 
-slice-aggregate-answer : tie.Need-slice-aggregate-answer
-slice-aggregate-answer c = search needs
+slice-aggregate-answer-within-2 : tie.Need-slice-aggregate-answer-within-2
+slice-aggregate-answer-within-2 c = search needs
 
-slice-aggregate-answer-2 : tie.Need-slice-aggregate-answer-2
-slice-aggregate-answer-2 c = search needs
-
-answer-requires : tie.Need-answer-requires
-answer-requires c κs = search needs
+answer-within-requires : tie.Need-answer-within-requires
+answer-within-requires c κs = search needs
 
 array-share-prefix-out : tie.Need-array-share-prefix-out
-array-share-prefix-out c = within _ _ (c .before .answer .ensures .0) (c .before .answer .ensures .1 .0)
+array-share-prefix-out c = within _ _ (c .before .before .answer-within .ensures .0 .counted) (c .before .before .answer-within .ensures .0 .written)
 
 slice-aggregate-write-all : tie.Need-slice-aggregate-write-all
-slice-aggregate-write-all c = sym (length-take-le _ _ (within _ _ (c .before .before .answer .ensures .0) (c .before .before .answer .ensures .1 .0)))
+slice-aggregate-write-all c = sym (length-take-le _ _ (within _ _ (c .before .before .before .answer-within .ensures .0 .counted) (c .before .before .before .answer-within .ensures .0 .written)))
 
 write-all-requires : tie.Need-write-all-requires
 write-all-requires c κs = search needs
@@ -42,10 +39,9 @@ main-spec =
     (tie.spec
     slice-aggregate-read-full
     read-full-requires
-    array-share-prefix-input
-    slice-aggregate-answer
-    slice-aggregate-answer-2
-    answer-requires
+    slice-aggregate-answer-within
+    slice-aggregate-answer-within-2
+    answer-within-requires
     array-share-prefix-out
     slice-aggregate-write-all
     write-all-requires

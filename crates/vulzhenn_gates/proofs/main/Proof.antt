@@ -1,4 +1,4 @@
--- `main` hands on what fits: `answer_gates` says how many bytes of the buffer it wrote. Assumes nothing.
+-- `main` hands on what fits: `answer_gates_within` says how many bytes of the buffer it wrote. Assumes nothing.
 use mathlib.Core.Path.{sym}
 use lib.Seq.{length-take-le}
 use borrow.Author.Needs.{needs}
@@ -12,23 +12,20 @@ slice-aggregate-read-full c = search needs
 read-full-requires : tie.Need-read-full-requires
 read-full-requires c κs = search needs
 
-array-share-prefix-input : tie.Need-array-share-prefix-input
-array-share-prefix-input c = search needs
+slice-aggregate-answer-gates-within : tie.Need-slice-aggregate-answer-gates-within
+slice-aggregate-answer-gates-within c = search needs
 
-slice-aggregate-answer-gates : tie.Need-slice-aggregate-answer-gates
-slice-aggregate-answer-gates c = search needs
+slice-aggregate-answer-gates-within-2 : tie.Need-slice-aggregate-answer-gates-within-2
+slice-aggregate-answer-gates-within-2 c = search needs
 
-slice-aggregate-answer-gates-2 : tie.Need-slice-aggregate-answer-gates-2
-slice-aggregate-answer-gates-2 c = search needs
-
-answer-gates-requires : tie.Need-answer-gates-requires
-answer-gates-requires c κs = search needs
+answer-gates-within-requires : tie.Need-answer-gates-within-requires
+answer-gates-within-requires c κs = search needs
 
 array-share-prefix-out : tie.Need-array-share-prefix-out
-array-share-prefix-out c = within _ _ (c .before .answer-gates .ensures .0) (c .before .answer-gates .ensures .1 .0)
+array-share-prefix-out c = within _ _ (c .before .before .answer-gates-within .ensures .0 .counted) (c .before .before .answer-gates-within .ensures .0 .written)
 
 slice-aggregate-write-all : tie.Need-slice-aggregate-write-all
-slice-aggregate-write-all c = sym (length-take-le _ _ (within _ _ (c .before .before .answer-gates .ensures .0) (c .before .before .answer-gates .ensures .1 .0)))
+slice-aggregate-write-all c = sym (length-take-le _ _ (within _ _ (c .before .before .before .answer-gates-within .ensures .0 .counted) (c .before .before .before .answer-gates-within .ensures .0 .written)))
 
 write-all-requires : tie.Need-write-all-requires
 write-all-requires c κs = search needs
@@ -42,10 +39,9 @@ main-spec =
     (tie.spec
     slice-aggregate-read-full
     read-full-requires
-    array-share-prefix-input
-    slice-aggregate-answer-gates
-    slice-aggregate-answer-gates-2
-    answer-gates-requires
+    slice-aggregate-answer-gates-within
+    slice-aggregate-answer-gates-within-2
+    answer-gates-within-requires
     array-share-prefix-out
     slice-aggregate-write-all
     write-all-requires

@@ -1,0 +1,30 @@
+-- The shared function, told the form of the text. Assumes nothing.
+use lib.ListN.{take}
+use borrow.Author.Needs.{needs}
+use Rattle.text.specs.Reading.{read-gates}
+use Rattle.answer.specs.Printed.{gates-printed, printed-as}
+use Rattle.answer.proofs.GatesAnswerRight.{gates-answer-right}
+use Rattle.answer.proofs.answer_gates_within.Statement.{statement}
+use Rattle.answer.proofs.answer_gates_within.Tie as tie
+
+within-as-requires : tie.Need-within-as-requires
+within-as-requires c κs = search needs
+
+same-length : tie.Need-same-length
+same-length c = search needs
+
+same-length-2 : tie.Need-same-length-2
+same-length-2 c = search needs
+
+returns : tie.Need-returns
+unfolding gates-printed printed-as read-gates
+returns c = (c .before .before .before .before .within-as .ensures, gates-answer-right (take (c .before .before .before .before .before .before .before .before .before .args .length) (c .before .before .before .before .before .before .before .before .before .args .area .now)))
+
+pub answer-gates-within-spec : {M : Type 1} → statement M
+answer-gates-within-spec =
+    tie.close
+    (tie.spec
+    within-as-requires
+    same-length
+    same-length-2
+    returns)
