@@ -10,6 +10,9 @@ pub const LARGEST: usize = 32_767;
 // A table by name has an entry for each name, and one for 0.
 pub const PLACES: usize = 32_768;
 
+// A table with a byte for each name, and for 0.
+pub type Places = [u8; PLACES];
+
 // The literal of a name or of a position.
 pub fn signed(negative: bool, v: u16) -> i32
     ensures { λ r. ⌜ r ≡ with-sign negative v ⌝ }

@@ -1,5 +1,6 @@
 // The opening dispatch in bytes (02, C-11): the length of the prefix's first block, and the first bits of a row.
 // Both functions are total. From which table the row comes, and when, is left to `run`.
+use rows::Row;
 ghost use mathlib.Core.Path.{_≡_};
 ghost use Rattle.opening.specs.Start.{equal-from-start, first-bits};
 
@@ -18,7 +19,7 @@ pub fn block(kinds: &[u8], kind: u8) -> usize
 }
 
 // The first bits of the row at a place, as a row whose other bits are zero. A place outside the table has no bit set.
-pub fn first_bits(rows: &[u8], place: usize, length: usize) -> [u8; 16]
+pub fn first_bits(rows: &[u8], place: usize, length: usize) -> Row
     ensures { λ r. ⌜ r ≡ first-bits (now (rows .entry)) place length ⌝ }
 {
     let mut row = [0u8; 16];

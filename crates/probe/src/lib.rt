@@ -8,6 +8,7 @@ pub mod witness_file;
 
 use fee::Charge;
 use judge::Judgement;
+use rows::Row;
 use search::Search;
 use season::Study;
 use season::Summary;
@@ -105,7 +106,7 @@ pub extern "C" fn probe_run(
     round: &mut u32,
     universal: &mut usize,
     existential: &mut usize,
-    opening: &mut [u8; 16],
+    opening: &mut Row,
     block: &mut usize,
 ) -> u64
     ensures reported { λ r. ⌜ Reported (returned (given (now (kinds .entry)) (now (literals .entry)) (now (preferences .entry)) (areas (now («universal_rows» .entry)) (now («universal_marks» .entry)) (now («universal_counts» .entry)) (now («existential_rows» .entry)) (now («existential_marks» .entry)) (now («existential_counts» .entry)) (now (work .entry))) limit «clear_every»)) r (now (round .exit)) (now (universal .exit)) (now (existential .exit)) (now (opening .exit)) (now (block .exit)) ⌝ }

@@ -1,4 +1,5 @@
 // A study over lent tables, exported with a number for the answer; the rest of what it returns is written behind the last references.
+use rows::Row;
 ghost use mathlib.Core.Path.{_≡_};
 ghost use Rattle.run.specs.Outcome.{areas};
 ghost use Rattle.study.specs.Study.{studied};
@@ -19,7 +20,7 @@ pub extern "C" fn probe_study(
     round: &mut u32,
     universal: &mut usize,
     existential: &mut usize,
-    opening: &mut [u8; 16],
+    opening: &mut Row,
     block: &mut usize,
     setting: &mut usize,
 ) -> u64

@@ -16,6 +16,9 @@ ghost use Rattle.rows.specs.Access.{zeroed-from, handed-back, handed-sta
 // A row's bytes, and its bits.
 const BYTES: usize = 16;
 
+// A row by itself.
+pub type Row = [u8; BYTES];
+
 pub const BITS: usize = 8 * BYTES;
 
 // A place, or none.

@@ -7,6 +7,7 @@
 use formula::Check;
 use formula::Formula;
 use growth::Growth;
+use rows::Row;
 use search::Search;
 ghost use Prim.Native.Nat.{_-_};
 ghost use mathlib.Core.Path.{_≡_};
@@ -36,7 +37,7 @@ pub struct Outcome {
     pub round: u32,
     pub universal: usize,
     pub existential: usize,
-    pub opening: [u8; 16],
+    pub opening: Row,
     pub block: usize,
 }
 

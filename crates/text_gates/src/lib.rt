@@ -17,6 +17,7 @@ use formula::Formula;
 use gates::Function;
 use lines::numbers;
 use lines::shapes;
+use named::Places;
 
 // How far clauses were put: a cause, 0 for none, the entries used, and the clauses made in all.
 pub struct Put {
@@ -31,7 +32,7 @@ pub fn put_line(
     v: u16,
     made: usize,
     m: usize,
-    places: &[u8; named::PLACES],
+    places: &Places,
     literals: &mut [i32],
 ) -> Put
     ensures { λ r. ⌜ Put-so (line-cause (has-mark (now (places .entry))) (now (line .entry)) v made m (length (now (literals .entry)))) (line-entries (now (line .entry)) v) (line-clauses (now (line .entry)) v) made m (now (literals .entry)) (r .cause) (r .entries) (r .made) (now (literals .exit)) ⌝ }
@@ -52,7 +53,7 @@ pub fn put_output(
     v: u16,
     made: usize,
     m: usize,
-    places: &[u8; named::PLACES],
+    places: &Places,
     literals: &mut [i32],
 ) -> Put
     ensures { λ r. ⌜ Put-so (output-cause (has-mark (now (places .entry))) v made m (length (now (literals .entry)))) (with-sign negative v ∷ pos 0 ∷ []) 1 made m (now (literals .entry)) (r .cause) (r .entries) (r .made) (now (literals .exit)) ⌝ }
@@ -98,7 +99,7 @@ fn has_two(room: usize, m: usize) -> bool
 }
 
 // Whether a name has a mark in the table by name.
-fn is_marked(places: &[u8; named::PLACES], v: usize) -> bool
+fn is_marked(places: &Places, v: usize) -> bool
     ensures { λ r. ⌜ r ≡ has-mark (now (places .entry)) v ⌝ }
 {
     if v < named::PLACES {
@@ -113,7 +114,7 @@ fn put_clauses(
     v: u16,
     made: usize,
     m: usize,
-    places: &[u8; named::PLACES],
+    places: &Places,
     literals: &mut [i32],
 ) -> Put
     requires { ⌜ is-gate (now line) ≡ true ⌝ }
@@ -145,7 +146,7 @@ struct Inputs {
 fn read_inputs(
     line: &[u8],
     i: usize,
-    places: &[u8; named::PLACES],
+    places: &Places,
     inputs: &mut [i32; Formula::CLAUSES],
 ) -> Inputs
     requires { ⌜ (i ≤ length (now line)) × (length (now inputs) ≡ max-clauses) × ((j : ℕ) → natAbs (getD (now inputs) j (pos 0)) ≤ max-variables) ⌝ }
@@ -183,7 +184,7 @@ struct Input {
     literal: i32,
 }
 
-fn read_input(word: &[u8], places: &[u8; named::PLACES]) -> Input
+fn read_input(word: &[u8], places: &Places) -> Input
     ensures { λ r. ⌜ Input-read (now (places .entry)) (now (word .entry)) (r .cause) (r .literal) ⌝ }
 {
     let v = numbers::magnitude(word);

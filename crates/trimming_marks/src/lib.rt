@@ -1,6 +1,7 @@
 // A table of codes with marks, as trimming keeps it: 512 is added to what is dropped, so that every entry keeps its place and every clause
 // its name, the place of its first entry. Here stands what is read of one clause and what is dropped of one. Each function answers for
 // every table and every place; which clauses are looked at, and why, is left to `trimming`.
+use codes::LAST_CODE;
 ghost use mathlib.Core.Path.{_≡_};
 ghost use Prim.Native.Nat.{_+_, _<_};
 ghost use mathlib.Core.List.{_++_};
@@ -8,6 +9,9 @@ ghost use lib.ListN.{length, take, drop};
 ghost use Rattle.formula.specs.Causes.{any};
 ghost use Rattle.codes.specs.Codes.{opposite as code-opposite, has as has-code};
 ghost use Rattle.trimming_marks.specs.Marks.{ends, first-clause, first-length, is-universal as universal-code, marked as marked-entry, mark-clause, always-true, reducible-from, raised as raised-by, only as only-left, unit as unit-code, noted-one, noted, noted-clash};
+
+// A byte for each code, and for those below the first.
+pub type Seen = [u8; LAST_CODE + 1];
 
 // The place behind the clause that begins at `start`.
 pub fn past(table: &[u16], start: usize) -> usize
@@ -70,7 +74,7 @@ pub fn is_always_true(table: &[u16], start: usize) -> bool
 }
 
 // Puts a 1 at each code of the clause that is not dropped.
-pub fn note(table: &[u16], start: usize, seen: &mut [u8; 258])
+pub fn note(table: &[u16], start: usize, seen: &mut Seen)
     ensures { λ _. ⌜ now (seen .exit) ≡ noted (now (seen .entry)) (first-clause (drop start (now (table .entry)))) ⌝ }
 {
     let mut i = start;
@@ -84,7 +88,7 @@ pub fn note(table: &[u16], start: usize, seen: &mut [u8; 258])
     }
 }
 
-fn note_one(seen: &mut [u8; 258], x: u16)
+fn note_one(seen: &mut Seen, x: u16)
     ensures { λ _. ⌜ now (seen .exit) ≡ noted-one (now (seen .entry)) x ⌝ }
 {
     let code = x as usize;
@@ -93,7 +97,7 @@ fn note_one(seen: &mut [u8; 258], x: u16)
     }
 }
 
-fn has_clash(table: &[u16], start: usize, seen: &[u8; 258]) -> bool
+fn has_clash(table: &[u16], start: usize, seen: &Seen) -> bool
     ensures { λ r. ⌜ r ≡ any (noted-clash (now (seen .entry))) (first-clause (drop start (now (table .entry)))) ⌝ }
 {
     let mut i = start;
@@ -110,7 +114,7 @@ fn has_clash(table: &[u16], start: usize, seen: &[u8; 258]) -> bool
     false
 }
 
-fn is_noted_clash(seen: &[u8; 258], x: u16) -> bool
+fn is_noted_clash(seen: &Seen, x: u16) -> bool
     ensures { λ r. ⌜ r ≡ noted-clash (now (seen .entry)) x ⌝ }
 {
     let code = x as usize;
