@@ -41,7 +41,7 @@ pub record GivenIn (P : Problem) (kinds : List ℕ) (i c : ℕ) : Type 0 where
   pub given : own kinds c ≡ false
   pub is : code-true (P .given i) c ≡ true
 
--- .. and on the universal side a clause without a true given literal is in a term that is open in the row.
+-- The tables fit, and on the universal side a clause without a given literal that is true in a row is in a term that is open there.
 pub record Viewed (P : Problem) (kinds splits codes opened : List ℕ) (side : ℕ) : Type 0 where
   pub fits : Fits P kinds splits codes side
   pub shown : side ≡ 1 → (i start : ℕ) → i < P .count → start < length codes → Begins codes start
