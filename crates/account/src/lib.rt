@@ -14,7 +14,7 @@ ghost use lib.ListN.{length, take};
 ghost use Rattle.rows.specs.Row.{row-of};
 ghost use Rattle.rows.specs.Table.{row-at, rows-of};
 ghost use Rattle.run.specs.Outcome.{number-of};
-ghost use Rattle.formula.specs.Formula.{max-rows, universal, prefix};
+ghost use Rattle.formula.specs.Formula.{max-unknowns, max-rows, universal, prefix};
 ghost use Rattle.formula.specs.Causes.{count, checked, sizes};
 ghost use Rattle.formula.specs.declared.Check.the-variants.{Accepted};
 ghost use Rattle.report.specs.Report.{decimal};
@@ -185,7 +185,7 @@ fn front_lines(
     clauses: u32,
     end: Outcome,
 ) -> usize
-    requires { ⌜ (length (now names) ≡ length (now kinds)) × (length (now kinds) ≤ 128) × (end .block ≤ length (now kinds)) × (end .universal ≤ max-rows) × (end .existential ≤ max-rows) × (6848 ≤ length (now text)) ⌝ }
+    requires { ⌜ (length (now names) ≡ length (now kinds)) × (length (now kinds) ≤ max-unknowns) × (end .block ≤ length (now kinds)) × (end .universal ≤ max-rows) × (end .existential ≤ max-rows) × (6848 ≤ length (now text)) ⌝ }
     ensures { λ r. ⌜ r ≤ 6848 ⌝ }
     ensures { λ r. ⌜ take r (now (text .exit)) ≡ head-lines (number-of (end .answer)) variables clauses (end .round) (end .universal) (end .existential) ++ each prefix-line (now (kinds .entry)) (now (names .entry)) ++ each value-line (row-of (end .block) (row-at (end .opening) 0)) (now (names .entry)) ⌝ }
 {
@@ -297,7 +297,7 @@ fn row_line(
     rows: &[u8],
     i: usize,
 ) -> usize
-    requires { ⌜ (length (now label) ≤ 12) × (m ≤ 128) × (at + 192 ≤ length (now text)) ⌝ }
+    requires { ⌜ (length (now label) ≤ 12) × (m ≤ max-unknowns) × (at + 192 ≤ length (now text)) ⌝ }
     ensures { λ r. ⌜ r ≤ at + 192 ⌝ }
     ensures { λ r. ⌜ take r (now (text .exit)) ≡ take at (now (text .entry)) ++ row-line (now (label .entry)) mark count (row-of m (row-at (now (rows .entry)) i)) ⌝ }
 {

@@ -1,5 +1,5 @@
 -- From what `read`, `decide` and the writers promise to what `answer` prints. Assumes nothing.
-use Prim.Native.Nat.{ℕ, _≤_}
+use Prim.Native.Nat.{ℕ, _+_, _≤_}
 use native.Mathlib.Omega.{arith}
 use mathlib.Core.Path.{_≡_, refl, sym, ap, subst, _∙_}
 use mathlib.Core.Bool.{Bool, true}
@@ -14,7 +14,7 @@ use Rattle.rounds.proofs.Bounds.{count-in-room}
 use Rattle.run.specs.declared.Outcome.{Outcome}
 use Rattle.run.specs.Outcome.{number-of, cause, reported, returned, left}
 use Rattle.run.proofs.OutcomeLaws.{number-named}
-use Rattle.text.specs.Reading.{refused, read-as, max-variables}
+use Rattle.text.specs.Reading.{max-bytes, refused, read-as, max-variables}
 use Rattle.text.proofs.TextLaws.{Passes}
 use Rattle.text.proofs.ReadAsLaws.{reading-passes, reading-line}
 use Rattle.text.proofs.FrontLaws.{Front}
@@ -60,7 +60,7 @@ module _ (gates : Bool) (text : List ℕ) where
   unfolding printed-as
   refused-printed e = ap shown (sym e)
 
-  pub line-small : {n line : ℕ} → read-as gates text ≡ refused n line → line ≤ 65538
+  pub line-small : {n line : ℕ} → read-as gates text ≡ refused n line → line ≤ 2 + max-bytes
   line-small {n} {line} e = reading-line gates text n line e
 
   -- A text that is taken: its formula stands at the front of the tables.

@@ -14,7 +14,7 @@ use Rattle.rounds.proofs.Verdict.{verdict-right}
 use Rattle.rounds.proofs.RunLaws.{run-reached}
 use Rattle.rounds.proofs.Bounds.{count-in-room, next-round-in-room}
 use Rattle.named.specs.Names.{In}
-use Rattle.text.specs.Reading.{Read, Result as Reading, taken, refused, text-read, text-causes}
+use Rattle.text.specs.Reading.{max-bytes, Read, Result as Reading, taken, refused, text-read, text-causes}
 use Rattle.text.proofs.TextLaws.{OfText, Results, Passes, read-passes, refused-line}
 use Rattle.report.specs.Report.{refusal-line}
 use Rattle.decision.specs.Decision.{own-lent}
@@ -24,7 +24,7 @@ use Rattle.answer.proofs.PrintedLaws.{result-short, refusal-short, refu
 
 -- Lines of a reading whose causes and formulas are as the reader has them, and whose verdict means what is to be meant.
 module _ (numbers : List ℕ) (reading : Reading) (Means : Read → Bool → Type 0) (bytes : List ℕ) (shown-so : bytes ≡ shown reading)
-    (bad : (n line : ℕ) → reading ≡ refused n line → In n numbers × (n ≤ 20) × (line ≤ 65538))
+    (bad : (n line : ℕ) → reading ≡ refused n line → In n numbers × (n ≤ 20) × (line ≤ 2 + max-bytes))
     (good : (s : Read) → reading ≡ taken s → Passes s)
     (means : (s : Read) → reading ≡ taken s → (value : Bool) → verdict (s .kinds) (s .literals) ≡ value → Means s value) where
   -- The text is refused.

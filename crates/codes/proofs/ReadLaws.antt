@@ -17,17 +17,17 @@ use Rattle.formula.specs.Formula.{max-unknowns}
 use Rattle.formula.specs.Causes.{any, beyond}
 use Rattle.formula.proofs.Any.{any-none}
 use Rattle.formula.proofs.Places.{drop-front}
-use Rattle.codes.specs.Codes.{code-of, opposite, has, with-code, Reading, so-far, always-true, read-code, closed, encoding-from, encoding}
+use Rattle.codes.specs.Codes.{last-code, code-of, opposite, has, with-code, Reading, so-far, always-true, read-code, closed, encoding-from, encoding}
 use Rattle.codes.specs.Clauses.{Names, PastClause, Added, ClauseEncoded}
 use Rattle.codes.proofs.EncodeLaws.{even-or-odd, or-swap, with-code-cases, with-code-length}
 
 -- ---- codes as indices
 
-pub code-below : (z : ℤ) → natAbs z ≤ max-unknowns → code-of z < 258
+pub code-below : (z : ℤ) → natAbs z ≤ max-unknowns → code-of z < last-code + 1
 code-below (pos v) small = omega arith
 code-below (negsuc v) small = omega arith
 
-pub opposite-below : (c : ℕ) → c < 258 → opposite c < 258
+pub opposite-below : (c : ℕ) → c < last-code + 1 → opposite c < last-code + 1
 unfolding opposite
 opposite-below c small =
     ⊎-elim
@@ -123,25 +123,25 @@ has-with-code y c (x ∷ xs) =
 
 -- A code is marked by 1 if the clause has it.
 pub record Marked (seen clause : List ℕ) : Type 0 where
-  pub sized : length seen ≡ 258
-  pub tells : (x : ℕ) → x < 258 → eqb (getD seen x 0) 1 ≡ has x clause
+  pub sized : length seen ≡ last-code + 1
+  pub tells : (x : ℕ) → x < last-code + 1 → eqb (getD seen x 0) 1 ≡ has x clause
 
 getD-zeros : (n x : ℕ) → _≡_ {A = ℕ} (getD (replicate n 0) x 0) 0
 getD-zeros zero x = refl
 getD-zeros (suc n) zero = refl
 getD-zeros (suc n) (suc x) = getD-zeros n x
 
-none-marked : Marked (replicate 258 0) []
-none-marked = record { sized = length-replicate {A = ℕ} 258 0; tells = λ x below. ap (λ (n : ℕ). eqb n 1) (getD-zeros 258 x) }
+none-marked : Marked (replicate (last-code + 1) 0) []
+none-marked = record { sized = length-replicate {A = ℕ} (last-code + 1) 0; tells = λ x below. ap (λ (n : ℕ). eqb n 1) (getD-zeros (last-code + 1) x) }
 
-one-marked : (seen clause : List ℕ) (c : ℕ) → Marked seen clause → c < 258 → Marked (set seen c 1) (with-code c clause)
+one-marked : (seen clause : List ℕ) (c : ℕ) → Marked seen clause → c < last-code + 1 → Marked (set seen c 1) (with-code c clause)
 one-marked seen clause c m small =
     record {
       sized = length-set seen c 1 ∙ m .sized;
       tells = λ x below. told x below (ℕ-discrete x c) ∙ sym (has-with-code x c clause);
     }
   where
-    told : (x : ℕ) → x < 258 → Dec (x ≡ c) → eqb (getD (set seen c 1) x 0) 1 ≡ (eqb x c || has x clause)
+    told : (x : ℕ) → x < last-code + 1 → Dec (x ≡ c) → eqb (getD (set seen c 1) x 0) 1 ≡ (eqb x c || has x clause)
     told x below (yes e) =
         rw (eq-eqb x c e) (eq-eqb (getD (set seen c 1) x 0) 1 (ap (λ (k : ℕ). getD (set seen c 1) k 0) e ∙ getD-set-same seen c 1 0 (let s = m .sized in omega arith)))
     told x below (no e) = rw (ne-eqb x c e, getD-set-other seen c x 1 0 e) (m .tells x below)
@@ -160,7 +160,7 @@ pub record SoFar (literals : List ℤ) (from i start to : ℕ) (w u seen : List 
   pub same : encoding-from (so-far []) (drop from literals) ≡ encoding-from (so-far new) (drop i literals)
   pub marked : Marked seen new
 
-pub none-so-far : (literals : List ℤ) (from start : ℕ) (w : List ℕ) → start ≤ from → from < length literals → SoFar literals from from start start w w (replicate 258 0)
+pub none-so-far : (literals : List ℤ) (from start : ℕ) (w : List ℕ) → start ≤ from → from < length literals → SoFar literals from from start start w w (replicate (last-code + 1) 0)
 none-so-far literals from start w low below =
     record {
       reached = omega arith;
@@ -222,7 +222,7 @@ module _ {literals : List ℤ} {from i start to : ℕ} {w u seen : List ℕ} (s 
           same = s .same ∙ ap (encoding-from (so-far (s .new))) rest ∙ encoding-end (so-far (s .new)) (getD literals i (pos 0)) (drop (i + 1) literals) (sym is ∙ zero-here);
         }
 
-    module _ (other : c ≡ 0 → ⊥) (small : c < 258) (o : ℕ) (is-opposite : o ≡ opposite c) where
+    module _ (other : c ≡ 0 → ⊥) (small : c < last-code + 1) (o : ℕ) (is-opposite : o ≡ opposite c) where
       told : eqb (getD seen o 0) 1 ≡ has (opposite c) (s .new)
       told = ap (λ (x : ℕ). eqb (getD seen x 0) 1) is-opposite ∙ s .marked .tells (opposite c) (opposite-below c small)
 

@@ -35,7 +35,7 @@ same-test x y e = go (eqb (y % 2) 1) refl
 
 module _ (t : List ℕ) (i j : ℕ) (hi : i < room t) (hj : j < room t) where
   -- Rows agree where their bytes do.
-  alike-byte : (k : ℕ) → k < 128 → getD t (16 * i + k / 8) 0 / 2 ^ (k % 8) % 2 ≡ getD t (16 * j + k / 8) 0 / 2 ^ (k % 8) % 2
+  alike-byte : (k : ℕ) → k < row-bits → getD t (16 * i + k / 8) 0 / 2 ^ (k % 8) % 2 ≡ getD t (16 * j + k / 8) 0 / 2 ^ (k % 8) % 2
       → bit-of (row-at t i) k ≡ bit-of (row-at t j) k
   alike-byte k h e =
       let place : 8 * (k / 8) + k % 8 ≡ k = omega arith in
@@ -45,11 +45,11 @@ module _ (t : List ℕ) (i j : ℕ) (hi : i < room t) (hj : j < room t) where
       ∙ sym (bit-at t j (k / 8) (k % 8) hj (omega arith) (omega arith)))
 
   module _ (p : ℕ) (before : (q : ℕ) → q < p → getD t (16 * i + q) 0 ≡ getD t (16 * j + q) 0) where
-    alike-before : (k : ℕ) → k < 128 → k / 8 < p → bit-of (row-at t i) k ≡ bit-of (row-at t j) k
+    alike-before : (k : ℕ) → k < row-bits → k / 8 < p → bit-of (row-at t i) k ≡ bit-of (row-at t j) k
     alike-before k h below = alike-byte k h (ap (λ (x : ℕ). x / 2 ^ (k % 8) % 2) (before (k / 8) below))
 
     -- All bytes are equal.
-    pub shared-whole : 16 ≤ p → Shared (row-at t i) (row-at t j) 128
+    pub shared-whole : 16 ≤ p → Shared (row-at t i) (row-at t j) row-bits
     shared-whole end = record { most = omega arith; alike = λ k h. alike-before k h (omega arith); unlike = λ h. absurd (omega arith) }
 
     -- Byte p is the first that differs.

@@ -1,5 +1,5 @@
 -- What the printed line says, for every text and file. Assumes nothing.
-use Prim.Native.Nat.{ℕ, zero, suc, _≤_}
+use Prim.Native.Nat.{ℕ, zero, suc, _+_, _≤_}
 use native.Mathlib.Omega.{arith}
 use mathlib.Core.Path.{_≡_, refl, sym, ap₂, subst, _∙_}
 use mathlib.Core.Bool.{Bool, true, false, cond, not, _&&_, _||_, true≢false}
@@ -20,7 +20,7 @@ use Rattle.judge.specs.declared.Judgement.{Judgement}
 use Rattle.judge.specs.declared.Judgement.the-variants as Judgement
 use Rattle.judge.specs.Judge.{other-claim, width, cause, borne-out, answer, outcome}
 use Rattle.judge.proofs.Verdict.{accepted-is-verdict}
-use Rattle.text.specs.Reading.{Result, taken, refused, read, read-gates, text-read, gates-read, read-as}
+use Rattle.text.specs.Reading.{max-bytes, Result, taken, refused, read, read-gates, text-read, gates-read, read-as}
 use Rattle.text.specs.GatesRight.{CircuitIs}
 use Rattle.text.proofs.TextLaws.{Results, Passes, read-passes}
 use Rattle.text.proofs.GatesRight.{gates-right}
@@ -200,7 +200,7 @@ not-2 : (v : Bool) (n : ℕ) → bit v ≡ suc (suc n) → ⊥
 not-2 true n e = omega arith
 not-2 false n e = omega arith
 
-module _ (reading : Result) (f : List ℕ) (bad : (n line : ℕ) → reading ≡ refused n line → (n ≤ 20) × (line ≤ 65538)) where
+module _ (reading : Result) (f : List ℕ) (bad : (n line : ℕ) → reading ≡ refused n line → (n ≤ 20) × (line ≤ 2 + max-bytes)) where
   -- By the line that is printed.
   module _ (line : List ℕ) (so : printed-of reading f ≡ line) where
     with-line : (form : Prints reading f "accepted 1\n" ⊎ Prints reading f "accepted 0\n" ⊎ Prints reading f "not borne out\n" ⊎ Prints reading f "not of this formula\n" ⊎ Refusal reading f)
@@ -235,7 +235,7 @@ module _ (reading : Result) (f : List ℕ) (bad : (n line : ℕ) → reading ≡
       with-line (ascii "not of this formula\n") so (inr (inr (inr (inl so)))) (omega arith) (λ b. let z : _≡_ {A = ℕ} 110 97 = cc in absurd (omega arith))
       (λ b. let z : _≡_ {A = ℕ} 110 97 = cc in absurd (omega arith)) (λ b. other)
 
-  refusal : (n line : ℕ) → printed-of reading f ≡ refusal-line n line → n ≤ 20 → line ≤ 65538 → (reading ≡ refused n line) ⊎ (line ≡ 0)
+  refusal : (n line : ℕ) → printed-of reading f ≡ refusal-line n line → n ≤ 20 → line ≤ 2 + max-bytes → (reading ≡ refused n line) ⊎ (line ≡ 0)
       → LineRight reading f
   unfolding refusal-line pair-line
   refusal n line so few short whose =
@@ -280,7 +280,7 @@ module _ (reading : Result) (f : List ℕ) (bad : (n line : ℕ) → reading ≡
   line-right : LineRight reading f
   line-right = by-finding reading refl (on-text reading f zeros .finding) printed-so (told reading f zeros)
 
-of-form : (gates : Bool) (text : List ℕ) (n line : ℕ) → read-as gates text ≡ refused n line → (n ≤ 20) × (line ≤ 65538)
+of-form : (gates : Bool) (text : List ℕ) (n line : ℕ) → read-as gates text ≡ refused n line → (n ≤ 20) × (line ≤ 2 + max-bytes)
 of-form gates text n line e = (reading-number gates text n line e, reading-line gates text n line e)
 
 pub judgement-right : (text f : List ℕ) → JudgementRight text f

@@ -21,8 +21,9 @@ use Rattle.expansion.specs.Play.{Row}
 use Rattle.expansion.specs.Model.{search}
 use Rattle.expansion.specs.Right.{SearchRight}
 use Rattle.codes.specs.Codes.{last-code, encoding, used as entries-used, filled as codes-filled}
-use Rattle.index.specs.Index.{index-size, index-of, filled as index-filled}
-use Rattle.search_terms.specs.Tables.{table-size}
+pub use Rattle.index.specs.Index.{index-size}
+use Rattle.index.specs.Index.{index-of, filled as index-filled}
+pub use Rattle.search_terms.specs.Tables.{table-size}
 use Rattle.search_terms.specs.Terms.{Listed, ListedIn}
 use Rattle.search.specs.declared.Search.{Search}
 use Rattle.search.specs.declared.Search.the-variants.{Found, NoModel, Refused}

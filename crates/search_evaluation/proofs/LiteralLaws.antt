@@ -15,7 +15,7 @@ use Rattle.codes.proofs.CodeLaws.{row-position-is}
 use Rattle.search_evaluation.specs.Evaluation.{has-row, is-set, is-true, is-satisfied, satisfied-at}
 use Rattle.search_evaluation.specs.Looked.{IsAt}
 
--- Each code of a literal: none but these stand in codes that are `Coded 128`.
+-- Each code of a literal: none but these stand in codes that are `Coded max-unknowns`.
 abbrev pub IsLiteral : ℕ → Type 0
 IsLiteral c = (2 ≤ c) × (position c < max-unknowns)
 

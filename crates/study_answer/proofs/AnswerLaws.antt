@@ -6,10 +6,11 @@ use mathlib.Core.Bool.{Bool}
 use mathlib.Core.List.{List}
 use lib.IntN.{ℤ}
 use lib.ListN.{take, replicate}
-use Rattle.formula.specs.Formula.{work-size}
+use Rattle.formula.specs.Formula.{max-clauses, work-size}
 use Rattle.formula.specs.Causes.{checked, sizes}
 use Rattle.formula.specs.declared.Check.the-variants.{Accepted}
 use Rattle.run.specs.Outcome.{number-of}
+use Rattle.named.specs.Named.{max-variables}
 use Rattle.text.specs.Reading.{refused, read-as}
 use Rattle.text.proofs.TextLaws.{Passes}
 use Rattle.text.proofs.ReadAsLaws.{reading-passes}
@@ -54,10 +55,10 @@ module _ (gates : Bool) (text : List ℕ) where
     pub front-passes : checked (take u kinds) (take e literals) ≡ Accepted (sizes (take u kinds) (take e literals))
     front-passes = rw (f .kinds-front, f .literals-front) (passes-so .accepted)
 
-    pub variables-small : v ≤ 32767
+    pub variables-small : v ≤ max-variables
     variables-small = omega (arith, f .variables-so, passes-so .few-variables)
 
-    pub clauses-small : c ≤ 2048
+    pub clauses-small : c ≤ max-clauses
     clauses-small = omega (arith, f .clauses-so, passes-so .few-clauses)
 
     pub taken-printed : result-of (take u kinds) (take e literals) v c ≡ printed gates text

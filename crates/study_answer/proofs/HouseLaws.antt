@@ -1,5 +1,5 @@
 -- The house list over 256 rows a side: the causes that are left, and what the run that gave the outcome says of its answer and counts. Assumes nothing.
-use Prim.Native.Nat.{ℕ, zero, suc, _%_, _≤_, _<_}
+use Prim.Native.Nat.{ℕ, zero, suc, _*_, _%_, _≤_, _<_}
 use native.Mathlib.Omega.{arith}
 use mathlib.Core.Path.{_≡_, refl, sym, ap, subst, _∙_}
 use mathlib.Core.Bool.{Bool, true, false, not, cond, _&&_, and-eq-true-iff}
@@ -55,10 +55,10 @@ no-cause kinds literals passes =
 pub rows-lent : (table : List ℕ) → table-fits table ≡ true → (1 ≤ room table) × (room table ≤ max-rows)
 unfolding table-fits
 rows-lent table e =
-    let both = and-eq-true-iff (leb 16 (length table) && leb (length table) 4096) (eqb (length table % 16) 0) .0 e in
-    let sizes = and-eq-true-iff (leb 16 (length table)) (leb (length table) 4096) .0 (both .0) in
+    let both = and-eq-true-iff (leb 16 (length table) && leb (length table) (max-rows * 16)) (eqb (length table % 16) 0) .0 e in
+    let sizes = and-eq-true-iff (leb 16 (length table)) (leb (length table) (max-rows * 16)) .0 (both .0) in
     let least = leb-true 16 (length table) (sizes .0) in
-    let most = leb-true (length table) 4096 (sizes .1) in
+    let most = leb-true (length table) (max-rows * 16) (sizes .1) in
     (omega arith, omega arith)
 
 sides-fit : (A A-marks S S-marks : List ℕ) → tables-fit A A-marks S S-marks ≡ true → (table-fits A ≡ true) × (table-fits S ≡ true)

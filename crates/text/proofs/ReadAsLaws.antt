@@ -1,5 +1,5 @@
 -- What holds of a reading of either form. Assumes nothing.
-use Prim.Native.Nat.{ℕ, _≤_}
+use Prim.Native.Nat.{ℕ, _+_, _≤_}
 use native.Mathlib.Omega.{arith}
 use mathlib.Core.Path.{_≡_, subst}
 use mathlib.Core.Bool.{Bool, true, false}
@@ -7,7 +7,7 @@ use mathlib.Core.Logic.{_⊎_, inl, inr}
 use Rattle.formula.specs.Formula.{max-unknowns, max-entries}
 use Rattle.lines.specs.Lines.{Bytes}
 use Rattle.named.specs.Names.{In}
-use Rattle.text.specs.Reading.{Read, taken, refused, read, read-gates, gates-causes, read-as}
+use Rattle.text.specs.Reading.{max-bytes, Read, taken, refused, read, read-gates, gates-causes, read-as}
 use Rattle.text.proofs.TextLaws.{Results, Passes, read-passes, refused-line, gates-refused-line}
 use Rattle.text.proofs.GatesPass.{GatesResults, gates-pass}
 
@@ -16,7 +16,7 @@ unfolding read read-gates
 reading-passes false text r e = subst (Results Passes) e (read-passes text max-unknowns max-entries max-unknowns)
 reading-passes true text r e = subst GatesResults e (gates-pass text max-unknowns max-entries max-unknowns) .passes
 
-pub reading-line : (gates : Bool) (text : Bytes) (n line : ℕ) → read-as gates text ≡ refused n line → line ≤ 65538
+pub reading-line : (gates : Bool) (text : Bytes) (n line : ℕ) → read-as gates text ≡ refused n line → line ≤ 2 + max-bytes
 unfolding read read-gates
 reading-line false text n line e = refused-line text max-unknowns max-entries max-unknowns n line e
 reading-line true text n line e = gates-refused-line text max-unknowns max-entries max-unknowns n line e

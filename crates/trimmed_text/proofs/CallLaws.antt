@@ -1,5 +1,5 @@
 -- From what `read`, `trim` and `write` promise to what `trim_text` does. Assumes nothing.
-use Prim.Native.Nat.{ℕ, _≤_}
+use Prim.Native.Nat.{ℕ, _+_, _≤_}
 use native.Mathlib.Omega.{arith}
 use mathlib.Core.Path.{_≡_, refl, sym, ap, subst, _∙_}
 use mathlib.Core.List.{List, [], _++_}
@@ -9,11 +9,12 @@ use lib.IntN.{ℤ}
 use lib.ListN.{length, take, drop, length-append}
 use lib.Seq.{take-at}
 use Rattle.formula.specs.Causes.{checked, number}
+use Rattle.formula.specs.Formula.{max-unknowns, max-entries}
 use Rattle.lines.specs.Lines.{Bytes}
 use Rattle.report.specs.Report.{refusal-line, put, put-count}
 use Rattle.text.specs.declared.Reading.{Reading}
 use Rattle.text.specs.declared.Reading.the-variants.{Taken}
-use Rattle.text.specs.Reading.{Read, Result, taken, refused, Read-so, text-read}
+use Rattle.text.specs.Reading.{max-bytes, max-variables, Read, Result, taken, refused, Read-so, text-read}
 use Rattle.text.proofs.TextLaws.{refused-line}
 use Rattle.text.proofs.FrontLaws.{Front}
 use Rattle.trimming.specs.declared.Trimmed.{Trimmed}
@@ -103,10 +104,10 @@ left-output kinds literals names variables w e =
 -- ---- what is delivered
 
 module _ (text : Bytes) where
-  pub line-small : {n line : ℕ} → text-read text ≡ refused n line → line ≤ 65538
-  line-small {n} {line} e = refused-line text 128 8192 128 n line e
+  pub line-small : {n line : ℕ} → text-read text ≡ refused n line → line ≤ 2 + max-bytes
+  line-small {n} {line} e = refused-line text max-unknowns max-entries max-unknowns n line e
 
-  pub variables-small : {u e v c : ℕ} {kinds : List ℕ} {literals : List ℤ} → Front (text-read text) u e v c kinds literals → v ≤ 32767
+  pub variables-small : {u e v c : ℕ} {kinds : List ℕ} {literals : List ℤ} → Front (text-read text) u e v c kinds literals → v ≤ max-variables
   variables-small f = omega (arith, f .variables-so, read-writable text (f .formula) (f .whole) .few-variables)
 
   module _ (out lines : Bytes) where

@@ -5,6 +5,7 @@ use mathlib.Core.Path.{_≡_, refl, sym, ap, subst, _∙_}
 use mathlib.Core.List.{List, []}
 use lib.IntN.{ℤ}
 use lib.ListN.{length}
+use Rattle.formula.specs.Formula.{max-unknowns, max-entries}
 use Rattle.lines.specs.Lines.{Bytes, lines}
 use Rattle.report.specs.Report.{refusal-line}
 use Rattle.report.proofs.Lengths.{refusal-most}
@@ -80,8 +81,8 @@ module _ (text : Bytes) where
 
     line-most : length (said text) ≤ 32
     line-most =
-        let of-text = subst (Results Passes) e (read-passes text 128 8192 128) in
-        let small = refused-line text 128 8192 128 n line e in
+        let of-text = subst (Results Passes) e (read-passes text max-unknowns max-entries max-unknowns) in
+        let small = refused-line text max-unknowns max-entries max-unknowns n line e in
         subst (λ (bytes : Bytes). length bytes ≤ 32) (sym its-line) (refusal-most n line (omega (arith, of-text .to-14)) (omega arith) .most)
 
 -- The empty text is refused.

@@ -1,6 +1,6 @@
 -- A table that is laid out clause by clause.
 -- Assumes nothing.
-use Prim.Native.Nat.{ℕ, suc, _%_, _≤_, _<_}
+use Prim.Native.Nat.{ℕ, suc, _+_, _%_, _≤_, _<_}
 use native.Mathlib.Omega.{arith}
 use mathlib.Core.Path.{_≡_, refl, sym, _∙_, ap, ap₂}
 use mathlib.Core.Bool.{Bool, true, false, cond}
@@ -9,6 +9,7 @@ use borrow.Author.Tests.{le-ltb, ltb-true, ne-eqb}
 use lib.IntN.{ℤ, pos}
 use lib.ListN.{length}
 use Rattle.formula.specs.Formula.{max-unknowns, Clause, clauses}
+use Rattle.codes.specs.Codes.{last-code}
 use Rattle.trimming_rules.specs.Trimming.{keep, entries}
 use Rattle.trimming_rules.proofs.ClauseLaws.{Every, Named}
 use Rattle.trimming_rules.proofs.RuleLaws.{Within}
@@ -51,7 +52,7 @@ pub entry-goes-on : (x : ℕ) → Entry x → ends x ≡ false
 entry-goes-on x e = ne-eqb (x % 512) 0 (λ z. let l = e .literal in omega arith)
 
 -- An entry that is left is its code.
-pub left-code : (x : ℕ) → Entry x → is-left x ≡ true → (2 ≤ x) × (x < 258)
+pub left-code : (x : ℕ) → Entry x → is-left x ≡ true → (2 ≤ x) × (x < last-code + 1)
 left-code x e l =
     let small = ltb-true x 512 l in
     let p = e .literal in

@@ -10,7 +10,7 @@ use lib.Dec.{eqb}
 use lib.IntN.{ℤ, pos, negsuc, negℤ}
 use lib.ListN.{getD, List·getD-map}
 use Rattle.formula.specs.Formula.{max-unknowns, kind-of, prefix}
-use Rattle.codes.specs.Codes.{code-of, opposite}
+use Rattle.codes.specs.Codes.{last-code, code-of, opposite}
 use Rattle.trimming_rules.specs.Trimming as Trimming
 use Rattle.trimming_rules.proofs.ClauseLaws.{Named}
 use Rattle.trimming_marks.specs.Marks.{is-universal}
@@ -81,10 +81,10 @@ opposite-literal c two = go (form c two)
     go (even v) = rw (literal-even (suc v), opposite-even v, literal-odd v)
     go (odd v) = rw (literal-odd v, opposite-odd v, literal-even (suc v))
 
-pub opposite-bounds : (c : ℕ) → 2 ≤ c → c < 258 → (2 ≤ opposite c) × (opposite c < 258)
+pub opposite-bounds : (c : ℕ) → 2 ≤ c → c < last-code + 1 → (2 ≤ opposite c) × (opposite c < last-code + 1)
 opposite-bounds c two small = go (form c two) small
   where
-    go : {c : ℕ} → Form c → c < 258 → (2 ≤ opposite c) × (opposite c < 258)
+    go : {c : ℕ} → Form c → c < last-code + 1 → (2 ≤ opposite c) × (opposite c < last-code + 1)
     go (even v) s = rw (opposite-even v) (omega arith, omega arith)
     go (odd v) s = rw (opposite-odd v) (omega arith, omega arith)
 
@@ -109,10 +109,10 @@ position-code c two = go (form c two)
     go (even v) = rw (literal-even (suc v)) (omega arith)
     go (odd v) = rw (literal-odd v) (omega arith)
 
-pub named-code : (c : ℕ) → 2 ≤ c → c < 258 → Named max-unknowns (literal-of c)
+pub named-code : (c : ℕ) → 2 ≤ c → c < last-code + 1 → Named max-unknowns (literal-of c)
 named-code c two small = go (form c two) small
   where
-    go : {c : ℕ} → Form c → c < 258 → Named max-unknowns (literal-of c)
+    go : {c : ℕ} → Form c → c < last-code + 1 → Named max-unknowns (literal-of c)
     go (even v) s = rw (literal-even (suc v)) (record { from-one = omega arith; to-last = omega arith })
     go (odd v) s = rw (literal-odd v) (record { from-one = omega arith; to-last = omega arith })
 

@@ -9,6 +9,7 @@ use borrow.Author.Tests.{eq-eqb, ne-eqb, eqb-true, eqb-false, ltb-true, ltb-fals
 use lib.Dec.{eqb, ltb}
 use lib.ListN.{length, getD, set, drop, length-append, length-set, replicate, length-replicate}
 use lib.Seq.{take-at, drop-at, getD-set-same, getD-set-other}
+use Rattle.codes.specs.Codes.{last-code}
 use Rattle.trimming_rules.proofs.ClauseLaws.{Every}
 use Rattle.trimming_marks.specs.Marks.{ends, marked, mark-clause, first-clause, first-length}
 use Rattle.trimming_marks.proofs.Walks.{clause-more}
@@ -132,7 +133,7 @@ module _ {low start at : ℕ} {table index counts : List ℕ} (p : Dropping low 
 
     -- The entry is dropped.
     module _ (from : low ≤ x) (small : x < 512) where
-      pub code-small : x < 258
+      pub code-small : x < last-code + 1
       code-small = let k = m .entry .known in omega arith
 
       pub stands-once : 0 < getD counts x 0
@@ -206,7 +207,7 @@ module _ {low start at : ℕ} {table index counts : List ℕ} (p : Dropping low 
             counted = λ y f s. fewer y f s (eqb y x) refl;
           }
         where
-          fewer : (y : ℕ) → low ≤ y → y < 258 → (t : Bool) → eqb y x ≡ t → getD (set counts x (getD counts x 0 - 1)) y 0 ≡ times y (m .rest)
+          fewer : (y : ℕ) → low ≤ y → y < last-code + 1 → (t : Bool) → eqb y x ≡ t → getD (set counts x (getD counts x 0 - 1)) y 0 ≡ times y (m .rest)
           fewer y f s true e =
               let same = eqb-true y x e in
               ap (λ (k : ℕ). getD (set counts x (getD counts x 0 - 1)) k 0) same
@@ -246,8 +247,8 @@ module _ {low start at : ℕ} {table index counts : List ℕ} (p : Dropping low 
 
 -- ---- how often a code stands in a clause
 
-module _ (counts : List ℕ) (sized : length counts ≡ 258) (x : ℕ) where
-  pub one-more : x < 258 → (y : ℕ) → y < 258 → getD (set counts x (getD counts x 0 + 1)) y 0 ≡ getD counts y 0 + times y (x ∷ [])
+module _ (counts : List ℕ) (sized : length counts ≡ last-code + 1) (x : ℕ) where
+  pub one-more : x < last-code + 1 → (y : ℕ) → y < last-code + 1 → getD (set counts x (getD counts x 0 + 1)) y 0 ≡ getD counts y 0 + times y (x ∷ [])
   one-more small y below = go (eqb y x) refl
     where
       go : (t : Bool) → eqb y x ≡ t → getD (set counts x (getD counts x 0 + 1)) y 0 ≡ getD counts y 0 + (cond t 1 0 + 0)
@@ -258,7 +259,7 @@ module _ (counts : List ℕ) (sized : length counts ≡ 258) (x : ℕ) where
           ∙ ap (λ (k : ℕ). getD counts k 0 + 1) (sym same)
       go false e = getD-set-other counts x y (getD counts x 0 + 1) 0 (eqb-false y x e) ∙ (let z : getD counts y 0 ≡ getD counts y 0 + (0 + 0) = omega arith in z)
 
-  pub no-more : 258 ≤ x → (y : ℕ) → y < 258 → getD counts y 0 ≡ getD counts y 0 + times y (x ∷ [])
+  pub no-more : last-code + 1 ≤ x → (y : ℕ) → y < last-code + 1 → getD counts y 0 ≡ getD counts y 0 + times y (x ∷ [])
   no-more large y below = rw (ne-eqb y x (λ e. omega arith)) (omega arith)
 
 pub times-more : (y x : ℕ) (l : List ℕ) (n : ℕ) → n + times y (x ∷ l) ≡ (n + times y (x ∷ [])) + times y l
@@ -276,28 +277,28 @@ getD-past (x ∷ l) (suc k) h = getD-past l k (omega arith)
 
 -- Counts that are made while a clause is walked over.
 pub record Counting (table : List ℕ) (start : ℕ) (counts : List ℕ) (i : ℕ) : Type 0 where
-  pub sized : length counts ≡ 258
+  pub sized : length counts ≡ last-code + 1
   pub bounded : (y : ℕ) → getD counts y 0 ≤ i
-  pub so-far : (y : ℕ) → y < 258 → getD counts y 0 + times y (first-clause (drop i table)) ≡ times y (first-clause (drop start table))
+  pub so-far : (y : ℕ) → y < last-code + 1 → getD counts y 0 + times y (first-clause (drop i table)) ≡ times y (first-clause (drop start table))
 
-pub counting-begins : (table : List ℕ) (start : ℕ) (counts : List ℕ) → counts ≡ replicate 258 0 → Counting table start counts start
+pub counting-begins : (table : List ℕ) (start : ℕ) (counts : List ℕ) → counts ≡ replicate (last-code + 1) 0 → Counting table start counts start
 counting-begins table start counts e =
     record {
-      sized = ap length e ∙ length-replicate {A = ℕ} 258 0;
+      sized = ap length e ∙ length-replicate {A = ℕ} (last-code + 1) 0;
       bounded = λ y. let z = zeros y in omega arith;
       so-far = λ y small. ap (λ (n : ℕ). n + times y (first-clause (drop start table))) (zeros y) ∙ (let z : 0 + times y (first-clause (drop start table)) ≡ times y (first-clause (drop start table)) = omega arith in z);
     }
   where
     zeros : (y : ℕ) → getD counts y 0 ≡ 0
-    zeros y = ap (λ (l : List ℕ). getD l y 0) e ∙ getD-zeros 258 y
+    zeros y = ap (λ (l : List ℕ). getD l y 0) e ∙ getD-zeros (last-code + 1) y
 
 module _ {table : List ℕ} {start i : ℕ} {counts : List ℕ} (p : Counting table start counts i) where
   pub counting-more : i < length table → ends (getD table i 0) ≡ false → (counts′ : List ℕ)
-      → (length counts′ ≡ 258) × ((y : ℕ) → y < 258 → getD counts′ y 0 ≡ getD counts y 0 + times y (getD table i 0 ∷ [])) → Counting table start counts′ (i + 1)
+      → (length counts′ ≡ last-code + 1) × ((y : ℕ) → y < last-code + 1 → getD counts′ y 0 ≡ getD counts y 0 + times y (getD table i 0 ∷ [])) → Counting table start counts′ (i + 1)
   counting-more within on counts′ e =
       record {
         sized = e .0;
-        bounded = λ y. small y (ltb y 258) refl;
+        bounded = λ y. small y (ltb y (last-code + 1)) refl;
         so-far = λ y below.
             ap (λ (n : ℕ). n + times y (first-clause (drop (i + 1) table))) (e .1 y below)
             ∙ sym (times-more y (getD table i 0) (first-clause (drop (i + 1) table)) (getD counts y 0))
@@ -312,11 +313,11 @@ module _ {table : List ℕ} {start i : ℕ} {counts : List ℕ} (p : Counting ta
           go true = omega arith
           go false = omega arith
 
-      small : (y : ℕ) (t : Bool) → ltb y 258 ≡ t → getD counts′ y 0 ≤ i + 1
-      small y true b = let a = e .1 y (ltb-true y 258 b) in let f = p .bounded y in let g = one y in omega arith
-      small y false b = let a = getD-past counts′ y (let g = ltb-false y 258 b in let h = e .0 in omega arith) in omega arith
+      small : (y : ℕ) (t : Bool) → ltb y (last-code + 1) ≡ t → getD counts′ y 0 ≤ i + 1
+      small y true b = let a = e .1 y (ltb-true y (last-code + 1) b) in let f = p .bounded y in let g = one y in omega arith
+      small y false b = let a = getD-past counts′ y (let g = ltb-false y (last-code + 1) b in let h = e .0 in omega arith) in omega arith
 
-  pub counting-ends : first-clause (drop i table) ≡ [] → (length counts ≡ 258) × ((y : ℕ) → y < 258 → getD counts y 0 ≡ times y (first-clause (drop start table)))
+  pub counting-ends : first-clause (drop i table) ≡ [] → (length counts ≡ last-code + 1) × ((y : ℕ) → y < last-code + 1 → getD counts y 0 ≡ times y (first-clause (drop start table)))
   counting-ends over = (p .sized, λ y below. (let z : getD counts y 0 ≡ getD counts y 0 + 0 = omega arith in z) ∙ ap (λ (l : List ℕ). getD counts y 0 + times y l) (sym over) ∙ p .so-far y below)
 
 pub turned : (b : Bool) {t : Bool} → not b ≡ t → b ≡ not t

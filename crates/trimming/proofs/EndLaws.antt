@@ -10,6 +10,7 @@ use lib.Dec.{ltb}
 use lib.ListN.{length, getD, set, drop, length-append, length-map}
 use lib.Seq.{drop-at}
 use Rattle.formula.specs.Formula.{max-entries}
+use Rattle.codes.specs.Codes.{last-code}
 use Rattle.trimming_rules.proofs.ClauseLaws.{Every}
 use Rattle.trimming_marks.specs.Marks.{marked, first-clause, first-length}
 use Rattle.index.specs.Occurrences.{whole-clause, has-left, begins}
@@ -84,7 +85,7 @@ stands {table} {index} {start} h = go (s .block) refl
 -- ---- before the first entry is dropped
 
 pub dropping-begins : {table index : List ℕ} {start : ℕ} → Here table index start → (low : ℕ) (counts : List ℕ)
-    → (length counts ≡ 258) × ((y : ℕ) → y < 258 → getD counts y 0 ≡ times y (first-clause (drop start table))) → Dropping low start table index counts start
+    → (length counts ≡ last-code + 1) × ((y : ℕ) → y < last-code + 1 → getD counts y 0 ≡ times y (first-clause (drop start table))) → Dropping low start table index counts start
 dropping-begins {table} {index} {start} h low counts counted =
     record {
       xs = s .xs;

@@ -12,9 +12,9 @@ use lib.Dec.{eqb, ltb, leb}
 use lib.IntN.{ℤ}
 use lib.ListN.{length, getD, set, drop, replicate, length-append, length-set, getD-replicate}
 use lib.Seq.{getD-set-same, getD-set-other, drop-at}
-use Rattle.formula.specs.Formula.{max-entries, prefix}
+use Rattle.formula.specs.Formula.{max-unknowns, max-entries, prefix}
 use Rattle.formula.specs.Causes.{any}
-use Rattle.codes.specs.Codes.{opposite, has}
+use Rattle.codes.specs.Codes.{last-code, opposite, has}
 use Rattle.trimming_rules.specs.Trimming as Trimming
 use Rattle.trimming_rules.specs.Trimming.{keep, lower, lowest-unit}
 use Rattle.trimming_rules.proofs.ClauseLaws.{Every, In}
@@ -58,7 +58,7 @@ unit-stands kinds c all some-unit =
     let e = unit-only kinds c some-unit ∙ only-one c all in
     ap (λ (x : ℕ). any (eqb x) c) e ∙ kept-in (one (keep is-left c)) c (one-in (keep is-left c) (λ z. some-unit (e ∙ z)))
 
-unit-small : (kinds : List ℕ) (b : Block) → Fine b → (unit kinds (inner b) ≡ 0 → ⊥) → (2 ≤ unit kinds (inner b)) × (unit kinds (inner b) < 258)
+unit-small : (kinds : List ℕ) (b : Block) → Fine b → (unit kinds (inner b) ≡ 0 → ⊥) → (2 ≤ unit kinds (inner b)) × (unit kinds (inner b) < last-code + 1)
 unit-small kinds b f some-unit = let p = unit-block kinds b f .chosen in (two (p .code), p .small)
   where
     two : (unit kinds (inner b) ≡ 1 → ⊥) → 2 ≤ unit kinds (inner b)
@@ -100,8 +100,8 @@ none-has c o (b ∷ bs) e = go (block-has c b) refl e (none-has c (o + length (w
         count (x ∷ l) = 1
     go false p e later = (p, later e)
 
-module _ (kinds firsts names : List ℕ) (code : ℕ) (two : 2 ≤ code) (small : code < 258) (sized : length firsts ≡ 129) {table : List ℕ} where
-  pub units-off : Units kinds firsts names names (code / 2) table → listed code table ≡ [] → listed (opposite code) table ≡ [] → (opposite code < 258) → (2 ≤ opposite code) → Units kinds (set firsts (code / 2) 65535) names names 0 table
+module _ (kinds firsts names : List ℕ) (code : ℕ) (two : 2 ≤ code) (small : code < last-code + 1) (sized : length firsts ≡ max-unknowns + 1) {table : List ℕ} where
+  pub units-off : Units kinds firsts names names (code / 2) table → listed code table ≡ [] → listed (opposite code) table ≡ [] → (opposite code < last-code + 1) → (2 ≤ opposite code) → Units kinds (set firsts (code / 2) 65535) names names 0 table
   units-off u own opp opp-small opp-two =
       record {
         blocks = u .blocks;
@@ -114,14 +114,14 @@ module _ (kinds firsts names : List ℕ) (code : ℕ) (two : 2 ≤ code) (small 
       l : Laid table
       l = record { blocks = u .blocks; is = u .is; fine = u .fine }
 
-      half-below : code / 2 < 129
+      half-below : code / 2 < max-unknowns + 1
       half-below = omega arith
 
       known-still : (o : ℕ) (b : Block) → Fine b → block-has code b ≡ false → block-has (opposite code) b ≡ false → UnitKnown kinds firsts o b → UnitKnown kinds (set firsts (code / 2) 65535) o b
       known-still o b f a c known some-unit =
           subst (λ (n : ℕ). n ≤ o) (sym (getD-set-other firsts (code / 2) (unit kinds (inner b) / 2) 65535 0 other)) (known some-unit)
         where
-          clash : (d : ℕ) → 2 ≤ d → d < 258 → unit kinds (inner b) ≡ d → block-has d b ≡ false → ⊥
+          clash : (d : ℕ) → 2 ≤ d → d < last-code + 1 → unit kinds (inner b) ≡ d → block-has d b ≡ false → ⊥
           clash d low high e none? = true≢false (sym (unit-stands kinds (inner b) (entries-of b f) some-unit) ∙ ap (λ (x : ℕ). has x (inner b)) e ∙ sym (has-inner d low (omega arith) b f) ∙ none?)
 
           other : unit kinds (inner b) / 2 ≡ code / 2 → ⊥
@@ -139,7 +139,7 @@ module _ (kinds firsts names : List ℕ) (code : ℕ) (two : 2 ≤ code) (small 
           still (inl i) = inl i
           still (inr known) = inr (known-still o b (f .0) (a .0) (c .0) known)
 
-      by : (v : ℕ) → 0 < v → v < 129 → (t : Bool) → eqb v (code / 2) ≡ t → (getD (set firsts (code / 2) 65535) v 0 ≡ 65535 → ⊥) → SomeAt (FirstUnit kinds (set firsts (code / 2) 65535) names v) 0 (u .blocks)
+      by : (v : ℕ) → 0 < v → v < max-unknowns + 1 → (t : Bool) → eqb v (code / 2) ≡ t → (getD (set firsts (code / 2) 65535) v 0 ≡ 65535 → ⊥) → SomeAt (FirstUnit kinds (set firsts (code / 2) 65535) names v) 0 (u .blocks)
       by v positive below true e some-first = absurd (some-first (ap (λ (n : ℕ). getD (set firsts (code / 2) 65535) n 0) (eqb-true v (code / 2) e) ∙ getD-set-same firsts (code / 2) 65535 0 (let h = half-below in omega arith)))
       by v positive below false e some-first =
           let same = getD-set-other firsts (code / 2) v 65535 0 (eqb-false v (code / 2) e) in
@@ -176,7 +176,7 @@ module _ (kinds firsts : List ℕ) (start : ℕ) (table : List ℕ) where
           here true p false i = subst (λ (l : List ℕ). getD l w 0 ≤ getD firsts w 0) (sym (past firsts (x / 2) start (ltb-false (x / 2) (length firsts) i))) (omega arith)
           here false p i j = subst (λ (n : ℕ). n ≤ getD firsts w 0) (sym (getD-set-other firsts (x / 2) w start 0 (eqb-false w (x / 2) p))) (omega arith)
 
-  noted-own : length firsts ≡ 129 → x < 258 → (x ≡ 0 → ⊥) → getD (noted-unit x start firsts) (x / 2) 0 ≤ start
+  noted-own : length firsts ≡ max-unknowns + 1 → x < last-code + 1 → (x ≡ 0 → ⊥) → getD (noted-unit x start firsts) (x / 2) 0 ≤ start
   unfolding noted-unit
   noted-own sized small some-unit = rw (ne-eqb x 0 some-unit) (go (ltb start (getD firsts (x / 2) 0)) refl)
     where
@@ -185,7 +185,7 @@ module _ (kinds firsts : List ℕ) (start : ℕ) (table : List ℕ) where
       go false e = ltb-false start (getD firsts (x / 2) 0) e
 
   -- What is noted of an unknown is as before, or it is this clause.
-  noted-which : (v : ℕ) → length firsts ≡ 129 → x < 258 → (getD (noted-unit x start firsts) v 0 ≡ getD firsts v 0) ⊎ ((v ≡ x / 2) × (x ≡ 0 → ⊥) × (getD (noted-unit x start firsts) v 0 ≡ start))
+  noted-which : (v : ℕ) → length firsts ≡ max-unknowns + 1 → x < last-code + 1 → (getD (noted-unit x start firsts) v 0 ≡ getD firsts v 0) ⊎ ((v ≡ x / 2) × (x ≡ 0 → ⊥) × (getD (noted-unit x start firsts) v 0 ≡ start))
   unfolding noted-unit
   noted-which v sized small = go (eqb x 0) refl (ltb start (getD firsts (x / 2) 0)) (eqb v (x / 2)) refl
     where
@@ -205,7 +205,7 @@ module _ (kinds firsts : List ℕ) (start : ℕ) (table : List ℕ) where
       go false true = length-set firsts (x / 2) start
       go false false = refl
 
-  pub units-noted : (rest : List ℕ) → length firsts ≡ 129 → x < 258 → start < length table → begins table start ≡ true → Units kinds firsts (start ∷ rest) [] 0 table → Units kinds (noted-unit x start firsts) rest [] 0 table
+  pub units-noted : (rest : List ℕ) → length firsts ≡ max-unknowns + 1 → x < last-code + 1 → start < length table → begins table start ≡ true → Units kinds firsts (start ∷ rest) [] 0 table → Units kinds (noted-unit x start firsts) rest [] 0 table
   units-noted rest sized small inside first u =
       record {
         blocks = u .blocks;
@@ -247,7 +247,7 @@ module _ (kinds firsts : List ℕ) (start : ℕ) (table : List ℕ) where
               let same : x ≡ unit kinds (inner b) = ap (unit kinds) (clause-at xs bs b (f .0) is (sym e ∙ here)) in
               inr (λ some-unit. subst (λ (n : ℕ). getD (noted-unit x start firsts) (n / 2) 0 ≤ o) same (subst (λ (n : ℕ). getD (noted-unit x start firsts) (x / 2) 0 ≤ n) (sym e) (noted-own sized small (λ z. some-unit (sym same ∙ z)))))
 
-      by : (v : ℕ) → (v ≡ 0 → ⊥) → 0 < v → v < 129 → (getD (noted-unit x start firsts) v 0 ≡ 65535 → ⊥)
+      by : (v : ℕ) → (v ≡ 0 → ⊥) → 0 < v → v < max-unknowns + 1 → (getD (noted-unit x start firsts) v 0 ≡ 65535 → ⊥)
           → (getD (noted-unit x start firsts) v 0 ≡ getD firsts v 0) ⊎ ((v ≡ x / 2) × (x ≡ 0 → ⊥) × (getD (noted-unit x start firsts) v 0 ≡ start)) → SomeAt (FirstUnit kinds (noted-unit x start firsts) [] v) 0 (u .blocks)
       by v other positive below some-first (inl same) =
           some-later (FirstUnit kinds firsts [] v) (FirstUnit kinds (noted-unit x start firsts) [] v)
@@ -336,7 +336,7 @@ module _ (kinds firsts : List ℕ) where
     all-clauses : clauses-left table ≡ all-shown (u .blocks)
     all-clauses = ap clauses-left (u .is) ∙ laid-clauses (u .blocks) (u .fine)
 
-    pub unit-found : (v : ℕ) → 0 < v → v < 129 → ((w : ℕ) → 0 < w → w < v → getD firsts w 0 ≡ 65535) → (getD firsts v 0 ≡ 65535 → ⊥) → (c : ℕ) → c ≡ unit kinds (first-clause (drop (getD firsts v 0) table)) → Picked (lowest-unit (prefix kinds) (clauses-left table)) c
+    pub unit-found : (v : ℕ) → 0 < v → v < max-unknowns + 1 → ((w : ℕ) → 0 < w → w < v → getD firsts w 0 ≡ 65535) → (getD firsts v 0 ≡ 65535 → ⊥) → (c : ℕ) → c ≡ unit kinds (first-clause (drop (getD firsts v 0) table)) → Picked (lowest-unit (prefix kinds) (clauses-left table)) c
     unit-found v from below lower-none-noted some-first c e =
         record { chosen = record { small = small-c; code = λ z. omega (arith, two-c) }; is = some-literal c two-c ∙ sym (ap (lowest-unit (prefix kinds)) (all-clauses ∙ ap all-shown (p .is)) ∙ lowest) }
       where
@@ -358,13 +358,13 @@ module _ (kinds firsts : List ℕ) where
             ∙ ap (λ (t : List ℕ). unit kinds (first-clause t)) (drop-at (laid (p .before)) (whole (p .block) ++ laid (p .behind)) (getD firsts v 0) (sym here))
             ∙ ap (unit kinds) (block-clause (laid (p .behind)) (p .block) (parts .1 .0))
 
-        bounds : (2 ≤ unit kinds (inner (p .block))) × (unit kinds (inner (p .block)) < 258)
+        bounds : (2 ≤ unit kinds (inner (p .block))) × (unit kinds (inner (p .block)) < last-code + 1)
         bounds = unit-small kinds (p .block) (parts .1 .0) (p .holds .some-unit)
 
         two-c : 2 ≤ c
         two-c = let b = bounds .0 in let q = c-is in omega arith
 
-        small-c : c < 258
+        small-c : c < last-code + 1
         small-c = let b = bounds .1 in let q = c-is in omega arith
 
         own : suc (Trimming.position (literal-of c)) ≡ v
@@ -407,7 +407,7 @@ module _ (kinds firsts : List ℕ) where
             ∙ ap (lower (lowest-unit (prefix kinds) (all-shown (p .before)))) (lowest-append kinds (shown (p .block)) (all-shown (p .behind)) ∙ ap (λ (o : Option ℤ). lower o (lowest-unit (prefix kinds) (all-shown (p .behind)))) block-unit)
             ∙ lower-first v (literal-of c) own before-higher behind-higher
 
-    no-units : (o : ℕ) (bs : List Block) → ((w : ℕ) → 0 < w → w < 129 → getD firsts w 0 ≡ 65535) → Every Fine bs → o + length (laid bs) ≤ max-entries → AllBut (UnitKnown kinds firsts) [] o bs → lowest-unit (prefix kinds) (all-shown bs) ≡ none
+    no-units : (o : ℕ) (bs : List Block) → ((w : ℕ) → 0 < w → w < max-unknowns + 1 → getD firsts w 0 ≡ 65535) → Every Fine bs → o + length (laid bs) ≤ max-entries → AllBut (UnitKnown kinds firsts) [] o bs → lowest-unit (prefix kinds) (all-shown bs) ≡ none
     no-units o [] all-none f within all = refl
     no-units o (b ∷ bs) all-none f within all =
         lowest-append kinds (shown b) (all-shown bs)
@@ -425,13 +425,13 @@ module _ (kinds firsts : List ℕ) where
             let l = length-append (whole b) (laid bs) in
             omega arith)
 
-    pub unit-nowhere : ((w : ℕ) → 0 < w → w < 129 → getD firsts w 0 ≡ 65535) → Picked (lowest-unit (prefix kinds) (clauses-left table)) 0
+    pub unit-nowhere : ((w : ℕ) → 0 < w → w < max-unknowns + 1 → getD firsts w 0 ≡ 65535) → Picked (lowest-unit (prefix kinds) (clauses-left table)) 0
     unit-nowhere all-none =
         record { chosen = nothing-chosen; is = sym (ap (lowest-unit (prefix kinds)) all-clauses ∙ no-units 0 (u .blocks) all-none (u .fine) (let e = ap length (u .is) in omega arith) (u .complete)) }
 
 -- ---- at first nothing is noted
 
-pub units-begin : (kinds firsts : List ℕ) → ((v : ℕ) → v < 129 → getD firsts v 0 ≡ 65535) → {table : List ℕ} → Laid table → (names : List ℕ) → names ≡ listed 1 table → Units kinds firsts names names 0 table
+pub units-begin : (kinds firsts : List ℕ) → ((v : ℕ) → v < max-unknowns + 1 → getD firsts v 0 ≡ 65535) → {table : List ℕ} → Laid table → (names : List ℕ) → names ≡ listed 1 table → Units kinds firsts names names 0 table
 units-begin kinds firsts all-none {table} l names e =
     record {
       blocks = l .blocks;
@@ -466,7 +466,7 @@ units-joined kinds firsts names u =
     }
 
 -- The only entry of a clause that is left is a code.
-pub code-small : (kinds : List ℕ) {table : List ℕ} → Laid table → {start : ℕ} → Names table 1 start → unit kinds (first-clause (drop start table)) < 258
+pub code-small : (kinds : List ℕ) {table : List ℕ} → Laid table → {start : ℕ} → Names table 1 start → unit kinds (first-clause (drop start table)) < last-code + 1
 code-small kinds {table} l {start} n =
     let t = splits (l .blocks) (l .fine) start (let z = ap length (l .is) in let i = n .inside in omega arith) (ap (λ (k : List ℕ). begins k start) (sym (l .is)) ∙ n .first) in
     let parts = every-front Fine (t .before) (t .block ∷ t .behind) (subst (Every Fine) (t .is) (l .fine)) in
@@ -474,7 +474,7 @@ code-small kinds {table} l {start} n =
     ap (λ (k : List ℕ). first-clause (drop start k)) (l .is ∙ ap laid (t .is) ∙ laid-around (t .before) (t .block) (t .behind))
     ∙ ap first-clause (drop-at (laid (t .before)) (whole (t .block) ++ laid (t .behind)) start (sym (t .here)))
     ∙ block-clause (laid (t .behind)) (t .block) (parts .1 .0) in
-    subst (λ (k : List ℕ). unit kinds k < 258) (sym e) (unit-block kinds (t .block) (parts .1 .0) .chosen .small)
+    subst (λ (k : List ℕ). unit kinds k < last-code + 1) (sym e) (unit-block kinds (t .block) (parts .1 .0) .chosen .small)
 
 pub none-before : (firsts : List ℕ) (name : ℕ) → ((w : ℕ) → 0 < w → w < name → getD firsts w 0 ≡ 65535) → getD firsts name 0 ≡ 65535 → (w : ℕ) → 0 < w → w < name + 1 → getD firsts w 0 ≡ 65535
 none-before firsts name so-far here w positive below = go (eqb w name) refl
@@ -486,8 +486,8 @@ none-before firsts name so-far here w positive below = go (eqb w name) refl
         apart : (w ≡ name → ⊥) → w < name
         apart never = omega arith
 
-pub none-noted : (firsts : List ℕ) → firsts ≡ replicate 129 65535 → (v : ℕ) → v < 129 → getD firsts v 0 ≡ 65535
-none-noted firsts e v below = ap (λ (l : List ℕ). getD l v 0) e ∙ getD-replicate {A = ℕ} 129 v 65535 0 below
+pub none-noted : (firsts : List ℕ) → firsts ≡ replicate (max-unknowns + 1) 65535 → (v : ℕ) → v < max-unknowns + 1 → getD firsts v 0 ≡ 65535
+none-noted firsts e v below = ap (λ (l : List ℕ). getD l v 0) e ∙ getD-replicate {A = ℕ} (max-unknowns + 1) v 65535 0 below
 
 -- All that is noted is exact, also but for one unknown.
 pub units-all : (kinds : List ℕ) (code : ℕ) {firsts table : List ℕ} → Units kinds firsts [] [] 0 table → Units kinds firsts [] [] (code / 2) table

@@ -12,6 +12,7 @@ use lib.ListN.{length, getD, set, take, drop, drop-of-length-le}
 use lib.Seq.{getD-set-same, getD-set-other}
 use Rattle.formula.specs.Formula.{max-entries, Clause}
 use Rattle.formula.proofs.Places.{drop-front}
+use Rattle.codes.specs.Codes.{last-code}
 use Rattle.trimming_rules.proofs.ClauseLaws.{Every, In, every-in, every-from}
 use Rattle.trimming_marks.specs.Marks.{ends, mark-clause, first-clause, always-true}
 use Rattle.index.specs.Occurrences.{listed, Names}
@@ -81,7 +82,7 @@ list-saved table {index} few indexed c small names count sized saved =
     let n : count ≡ length (listed c table) = omega arith in
     (ap (λ (k : ℕ). take k names) n ∙ saved-names names (listed c table) (omega arith) (λ k below. saved .1 k (omega arith) ∙ r .at k below), omega arith)
 
-pub literals-dropped : (table names : List ℕ) {index table′ : List ℕ} (code count : ℕ) → 2 ≤ code → code < 258 → Laid table → Indexed table index → length table ≤ max-entries → take count names ≡ listed code table → Cleared code table table′ []
+pub literals-dropped : (table names : List ℕ) {index table′ : List ℕ} (code count : ℕ) → 2 ≤ code → code < last-code + 1 → Laid table → Indexed table index → length table ≤ max-entries → take count names ≡ listed code table → Cleared code table table′ []
     → (index′ : List ℕ) → index′ ≡ cleared index code → Dropped (without-literal (literal-of code)) (code / 2) (take count names) table table′ index′
 literals-dropped table names {index} {table′} code count two small l indexed few saved t index′ e =
     subst (λ (i : List ℕ). Dropped (without-literal (literal-of code)) (code / 2) (take count names) table table′ i) (sym e)
@@ -114,7 +115,7 @@ pending-begins kinds {table} {index} l few indexed names e =
 -- ---- the index at first
 
 small-code : (x : ℕ) → Entry x → is-code (x % 512) ≡ true
-small-code x e = let a = e .literal in let b = e .known in rw (le-leb (x % 512) 257 (omega arith), ne-eqb (x % 512) 1 (λ z. omega arith))
+small-code x e = let a = e .literal in let b = e .known in rw (le-leb (x % 512) last-code (omega arith), ne-eqb (x % 512) 1 (λ z. omega arith))
 
 all-append : (s t : List ℕ) → all-codes s ≡ true → all-codes t ≡ true → all-codes (s ++ t) ≡ true
 all-append [] t p q = q

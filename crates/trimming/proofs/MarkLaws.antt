@@ -8,7 +8,7 @@ use mathlib.Core.List.{List, [], _∷_, map}
 use borrow.Author.Tests.{ltb-true, ltb-false, le-ltb, lt-ltb, leb-true, le-leb, ne-eqb}
 use lib.Dec.{leb, eqb}
 use Rattle.formula.specs.Causes.{any}
-use Rattle.codes.specs.Codes.{has}
+use Rattle.codes.specs.Codes.{last-code, has}
 use Rattle.trimming_rules.specs.Trimming as Trimming
 use Rattle.trimming_rules.specs.Trimming.{keep}
 use Rattle.trimming_rules.proofs.ClauseLaws.{Every}
@@ -148,7 +148,7 @@ all-marked (x ∷ c) all = ((marked-entry 0 511 x (all .0), above (is-left x) re
 
 -- ---- whether a clause has a literal
 
-pub has-literal : (d : ℕ) → 2 ≤ d → d < 258 → (c : List ℕ) → Every Entry c → Trimming.has (literal-of d) (map literal-of (keep is-left c)) ≡ has d c
+pub has-literal : (d : ℕ) → 2 ≤ d → d < last-code + 1 → (c : List ℕ) → Every Entry c → Trimming.has (literal-of d) (map literal-of (keep is-left c)) ≡ has d c
 has-literal d two small c all =
     any-left literal-of is-left (Trimming.same (literal-of d)) (eqb d) c (each c all)
   where

@@ -11,7 +11,7 @@ use lib.Dec.{eqb, ltb}
 use lib.ListN.{length, getD, drop, length-append}
 use lib.Seq.{drop-at}
 use Rattle.formula.specs.Formula.{max-entries}
-use Rattle.codes.specs.Codes.{has}
+use Rattle.codes.specs.Codes.{last-code, has}
 use Rattle.trimming_rules.specs.Trimming.{found}
 use Rattle.trimming_rules.proofs.ClauseLaws.{Every, In}
 use Rattle.trimming_marks.specs.Marks.{ends}
@@ -90,7 +90,7 @@ nonempty : List ℕ → Bool
 nonempty [] = false
 nonempty (x ∷ l) = true
 
-names-found : (c : ℕ) → 2 ≤ c → c < 258 → (o : ℕ) (bs : List Block) → Every Fine bs → nonempty (names-from c o bs) ≡ found (literal-of c) (all-shown bs)
+names-found : (c : ℕ) → 2 ≤ c → c < last-code + 1 → (o : ℕ) (bs : List Block) → Every Fine bs → nonempty (names-from c o bs) ≡ found (literal-of c) (all-shown bs)
 unfolding nonempty
 names-found c two small o [] f = refl
 names-found c two small o (b ∷ bs) f =
@@ -116,10 +116,10 @@ module _ {table : List ℕ} (l : Laid table) where
   pub shows : clauses-left table ≡ all-shown (l .blocks)
   shows = ap clauses-left (l .is) ∙ laid-clauses (l .blocks) (l .fine)
 
-  listed-found : (c : ℕ) → 2 ≤ c → c < 258 → nonempty (listed c table) ≡ found (literal-of c) (clauses-left table)
+  listed-found : (c : ℕ) → 2 ≤ c → c < last-code + 1 → nonempty (listed c table) ≡ found (literal-of c) (clauses-left table)
   listed-found c two small = ap nonempty (lists c) ∙ names-found c two small 0 (l .blocks) (l .fine) ∙ ap (found (literal-of c)) (sym shows)
 
-  pub none-listed : (c : ℕ) → 2 ≤ c → c < 258 → listed c table ≡ [] → found (literal-of c) (clauses-left table) ≡ false
+  pub none-listed : (c : ℕ) → 2 ≤ c → c < last-code + 1 → listed c table ≡ [] → found (literal-of c) (clauses-left table) ≡ false
   unfolding nonempty
   none-listed c two small e = sym (listed-found c two small) ∙ ap nonempty e
 
@@ -128,7 +128,7 @@ module _ {table : List ℕ} (l : Laid table) where
     read c small = subst (λ (i : List ℕ). Read table i c) (sym indexed) (reads table few c small)
 
     -- A list that is not empty by its begin and end.
-    pub list-told : (c : ℕ) → 2 ≤ c → c < 258 → ltb (begin-of index c) (end-of index c) ≡ found (literal-of c) (clauses-left table)
+    pub list-told : (c : ℕ) → 2 ≤ c → c < last-code + 1 → ltb (begin-of index c) (end-of index c) ≡ found (literal-of c) (clauses-left table)
     unfolding nonempty
     list-told c two small = go (listed c table) refl ∙ listed-found c two small
       where
@@ -143,7 +143,7 @@ module _ {table : List ℕ} (l : Laid table) where
         go [] p = refl
         go (x ∷ names) p = absurd (let r = read c small .ends in let n = ap length p in let f = ltb-false (begin-of index c) (end-of index c) e in omega arith)
 
-    pub here-named : (c s : ℕ) → c < 258 → In s (listed c table) → Here table index s
+    pub here-named : (c s : ℕ) → c < last-code + 1 → In s (listed c table) → Here table index s
     here-named c s small i =
         record {
           laid-out = l;

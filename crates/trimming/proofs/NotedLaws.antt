@@ -10,7 +10,7 @@ use borrow.Author.Tests.{eqb-true, ltb-false}
 use lib.Dec.{eqb}
 use lib.ListN.{length, length-append, length-map}
 use Rattle.formula.specs.Causes.{any}
-use Rattle.codes.specs.Codes.{has}
+use Rattle.codes.specs.Codes.{last-code, has}
 use Rattle.trimming_rules.specs.Trimming.{keep}
 use Rattle.trimming_rules.proofs.ClauseLaws.{Every, In}
 use Rattle.trimming_marks.specs.Marks.{is-left, is-universal, marked, only, unit}
@@ -180,7 +180,7 @@ module _ (kinds firsts names names′ apart apart′ : List ℕ) (off s low high
 
 -- ---- a clause of one entry has no other code
 
-module _ (kinds firsts apart : List ℕ) (c : ℕ) (two : 2 ≤ c) (small : c < 258) {table : List ℕ} where
+module _ (kinds firsts apart : List ℕ) (c : ℕ) (two : 2 ≤ c) (small : c < last-code + 1) {table : List ℕ} where
   pub no-unit : (xs ys : List Block) (b : Block) → Every Fine xs → Every Fine ys → Fine b → table ≡ around xs b ys → (s : ℕ) → s ≡ length (laid xs) → In s (listed c table) → (v : ℕ) → (v ≡ c / 2 → ⊥) → FirstUnit kinds firsts apart v s b → ⊥
   no-unit xs ys b fx fy f is s here i v other u =
       let l : Laid table = record { blocks = xs ++ (b ∷ ys); is = is ∙ sym (laid-around xs b ys); fine = every-append Fine xs (b ∷ ys) fx (f, fy) } in
@@ -192,7 +192,7 @@ module _ (kinds firsts apart : List ℕ) (c : ℕ) (two : 2 ≤ c) (small : c < 
       listed-table l = lists l c
 
 -- The places of a literal are named before they are dropped.
-pub units-named : (kinds firsts : List ℕ) (c : ℕ) → 2 ≤ c → c < 258 → {table : List ℕ} → Units kinds firsts [] [] (c / 2) table → Units kinds firsts (listed c table) (listed c table) (c / 2) table
+pub units-named : (kinds firsts : List ℕ) (c : ℕ) → 2 ≤ c → c < last-code + 1 → {table : List ℕ} → Units kinds firsts [] [] (c / 2) table → Units kinds firsts (listed c table) (listed c table) (c / 2) table
 units-named kinds firsts c two small {table} u =
     record {
       blocks = u .blocks;

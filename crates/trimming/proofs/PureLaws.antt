@@ -11,7 +11,7 @@ use lib.IntN.{ℤ, pos, negsuc, negℤ}
 use lib.ListN.{length, drop, length-map, drop-of-length-le}
 use Rattle.formula.specs.Formula.{max-unknowns, Kind, existential, universal, kind-of, prefix, Clause}
 use Rattle.formula.proofs.Places.{drop-front}
-use Rattle.codes.specs.Codes.{opposite, has}
+use Rattle.codes.specs.Codes.{last-code, opposite, has}
 use Rattle.trimming_rules.specs.Trimming as Trimming
 use Rattle.trimming_rules.specs.Trimming.{keep, first-of, if-some, lowest-unit, set-true, rule-3, found, one-of, lowest-pure, dropped, rule-4, kind-at, without-clauses, without-literal}
 use Rattle.trimming_rules.proofs.ClauseLaws.{Named, without-literal-none, without-clauses-none}
@@ -25,7 +25,7 @@ use Rattle.trimming.proofs.UnitLaws.{nothing-chosen, some-literal}
 
 -- ---- what the clauses have
 
-pub found-block : (c : ℕ) → 2 ≤ c → c < 258 → (b : Block) → Fine b → has c (inner b) ≡ found (literal-of c) (shown b)
+pub found-block : (c : ℕ) → 2 ≤ c → c < last-code + 1 → (b : Block) → Fine b → has c (inner b) ≡ found (literal-of c) (shown b)
 found-block c two small (standing l) f = sym (has-literal c two small l f) ∙ sym (or-false (Trimming.has (literal-of c) (map literal-of (keep is-left l))))
 found-block c two small (gone l) f =
     sym (has-literal c two small l (entries-of (gone l) f)) ∙ ap (λ (k : List ℕ). Trimming.has (literal-of c) (map literal-of k)) (gone-none l f)
@@ -187,7 +187,7 @@ module _ (kinds : List ℕ) (cs : List Clause) where
                 ∙ sym (made (opposite c) (bounds .0));
           })
         where
-          bounds : (2 ≤ opposite c) × (opposite c < 258)
+          bounds : (2 ≤ opposite c) × (opposite c < last-code + 1)
           bounds = opposite-bounds c two (p .chosen .small)
 
           twice : (z : ℤ) → Named max-unknowns z → negℤ (negℤ z) ≡ z

@@ -1,12 +1,13 @@
 -- The rounds: every clause is reduced, then one literal is made true.
 -- Assumes nothing.
-use Prim.Native.Nat.{ℕ, zero, suc, _-_, _≤_, _<_}
+use Prim.Native.Nat.{ℕ, zero, suc, _+_, _-_, _≤_, _<_}
 use native.Mathlib.Omega.{arith}
 use mathlib.Core.Path.{_≡_, refl, sym, _∙_, ap}
 use mathlib.Core.List.{List}
 use mathlib.Core.Option.{Option, some}
 use lib.ListN.{length}
 use Rattle.formula.specs.Formula.{Kind, Clause}
+use Rattle.codes.specs.Codes.{last-code}
 use Rattle.trimming_rules.specs.Trimming.{from-step, set-true}
 use Rattle.trimming_rules.specs.Rounds.{reduced, set-one, rounds}
 use Rattle.trimming.specs.Table.{literal-of, codes, clauses-left, Laid, Passed, made-true, Next}
@@ -48,7 +49,7 @@ module _ (ks : List Kind) (all : ℕ) (table₀ : List ℕ) where
           changed = sym (one-round ∙ ap (λ (k : ℕ). from-step (made-true k (clauses-left reduced-table)) (rounds (left - 1) ks) (clauses-left reduced-table)) z) ∙ p .to-go;
         }
 
-    pub code-bounds : (c ≡ 0 → ⊥) → (2 ≤ c) × (c < 258)
+    pub code-bounds : (c ≡ 0 → ⊥) → (2 ≤ c) × (c < last-code + 1)
     code-bounds never = (go (n .chosen .code), n .chosen .small)
       where
         go : (c ≡ 1 → ⊥) → 2 ≤ c

@@ -7,12 +7,13 @@ use mathlib.Core.Bool.{Bool, true, false, not, cond, _&&_, _||_}
 use mathlib.Core.List.{List, [], _∷_, _++_, map}
 use borrow.Author.Tests.{ne-eqb, eqb-true, eqb-false, le-leb, leb-true}
 use lib.Dec.{eqb, leb}
-use Rattle.codes.specs.Codes.{has}
+use Rattle.codes.specs.Codes.{last-code, has}
 use Rattle.trimming_rules.specs.Trimming as Trimming
 use Rattle.trimming_rules.specs.Trimming.{keep}
 use Rattle.trimming_rules.proofs.ClauseLaws.{Every}
 use Rattle.trimming_marks.specs.Marks.{is-left, marked}
 use Rattle.index.specs.Occurrences.{listed-under, has-left}
+use Rattle.index.specs.Index.{code-count}
 use Rattle.trimming.specs.Table.{literal-of, Entry}
 use Rattle.trimming.proofs.CodeLaws.{same-code}
 use Rattle.trimming.proofs.BlockLaws.{left-code}
@@ -33,7 +34,7 @@ among-one o x = go (eqb o x) refl
 
 -- ---- one code dropped
 
-module _ (o : ℕ) (low : 2 ≤ o) (below : o < 258) where
+module _ (o : ℕ) (low : 2 ≤ o) (below : o < last-code + 1) where
   one-gone : (x : ℕ) → eqb o (marked o o x) ≡ false
   one-gone x = go (eqb o x) refl
     where
@@ -45,7 +46,7 @@ module _ (o : ℕ) (low : 2 ≤ o) (below : o < 258) where
   marked-none-has [] = refl
   marked-none-has (x ∷ es) = rw (one-gone x) (marked-none-has es)
 
-  one-other : (d : ℕ) → d < 259 → (d ≡ o → ⊥) → (x : ℕ) → Entry x → eqb d (listed-under (marked o o x)) ≡ eqb d (listed-under x)
+  one-other : (d : ℕ) → d < code-count → (d ≡ o → ⊥) → (x : ℕ) → Entry x → eqb d (listed-under (marked o o x)) ≡ eqb d (listed-under x)
   one-other d small other x e = go (eqb o x) refl
     where
       go : (t : Bool) → eqb o x ≡ t → eqb d (listed-under (marked o o x)) ≡ eqb d (listed-under x)
@@ -57,7 +58,7 @@ module _ (o : ℕ) (low : 2 ≤ o) (below : o < 258) where
           ∙ sym (ap (eqb d) (under-itself x (omega arith)) ∙ ne-eqb d x (λ w. other (w ∙ sym q)))
       go false z = let q = eqb-false o x z in ap (λ (y : ℕ). eqb d (listed-under y)) (marked-stays o o x (λ a b r. q (omega arith)))
 
-  pub marked-other-has : (d : ℕ) → d < 259 → (d ≡ o → ⊥) → (es : List ℕ) → Every Entry es → has-left d (map (marked o o) es ++ (0 ∷ [])) ≡ has-left d (es ++ (0 ∷ []))
+  pub marked-other-has : (d : ℕ) → d < code-count → (d ≡ o → ⊥) → (es : List ℕ) → Every Entry es → has-left d (map (marked o o) es ++ (0 ∷ [])) ≡ has-left d (es ++ (0 ∷ []))
   marked-other-has d small other [] all = refl
   marked-other-has d small other (x ∷ es) all = ap₂ _||_ (one-other d small other x (all .0)) (marked-other-has d small other es (all .1))
 

@@ -11,7 +11,7 @@ use lib.Dec.{eqb, ltb}
 use lib.IntN.{ℤ}
 use lib.ListN.{length, getD, take, length-append}
 use Rattle.formula.specs.Formula.{max-entries, Clause}
-use Rattle.codes.specs.Codes.{opposite, has}
+use Rattle.codes.specs.Codes.{last-code, opposite, has}
 use Rattle.trimming_rules.specs.Trimming as Trimming
 use Rattle.trimming_rules.specs.Trimming.{keep, without-clauses, without-literal, set-true}
 use Rattle.trimming_rules.proofs.ClauseLaws.{Every, In, every-from, without-clauses-none, without-literal-none}
@@ -45,7 +45,7 @@ pub record Spot (table : List ℕ) (c s : ℕ) : Type 0 where
   pub fine : Every Entry es
   pub has : has c es ≡ true
 
-pub spot : {table : List ℕ} → Laid table → (c s : ℕ) → 2 ≤ c → c < 258 → In s (listed c table) → Spot table c s
+pub spot : {table : List ℕ} → Laid table → (c s : ℕ) → 2 ≤ c → c < last-code + 1 → In s (listed c table) → Spot table c s
 spot {table} l c s two small i = go (n .block) refl
   where
     n : NamedAt c 0 s (l .blocks)
@@ -109,7 +109,7 @@ module _ {table : List ℕ} {c s : ℕ} (p : Spot table c s) where
     goes-from-list small = after-fewer goes c (gone-without c small (map (marked 0 511) (p .es)) (all-marked (p .es) (p .fine)))
 
   -- Its places of one code are dropped.
-  module _ (o : ℕ) (two : 2 ≤ o) (small : o < 258) (table′ : List ℕ) (e : table′ ≡ marked-at o o s table) where
+  module _ (o : ℕ) (two : 2 ≤ o) (small : o < last-code + 1) (table′ : List ℕ) (e : table′ ≡ marked-at o o s table) where
     unfoldable pub loses : Marks table table′ s o o
     loses =
         record {
@@ -149,7 +149,7 @@ without-in s (x ∷ l) (inr i) = go (eqb s x) (without-in s l i)
 pub clauses-local : (z : ℤ) → Local (without-clauses z)
 clauses-local z = record { none = refl; spread = λ xs ys. keep-append (λ c. not (Trimming.has z c)) xs ys }
 
-module _ (code : ℕ) (two : 2 ≤ code) (small : code < 258) where
+module _ (code : ℕ) (two : 2 ≤ code) (small : code < last-code + 1) where
   pub record Thinning (table₀ table index : List ℕ) : Type 0 where
     pub toward : Toward (without-clauses (literal-of code)) table₀ table
     pub few : length table ≤ max-entries
@@ -270,7 +270,7 @@ in-names c xs b ys h =
     later [] m i = i
     later (x ∷ l) m i = inr (later l m i)
 
-pub listed-standing : {table : List ℕ} → Laid table → (c s : ℕ) → 2 ≤ c → c < 258 → In s (listed c table) → In s (listed 1 table)
+pub listed-standing : {table : List ℕ} → Laid table → (c s : ℕ) → 2 ≤ c → c < last-code + 1 → In s (listed c table) → In s (listed 1 table)
 listed-standing {table} l c s two small i =
     let p = spot l c s two small i in
     let whole-table : Laid table = record { blocks = p .xs ++ (standing (p .es) ∷ p .ys); is = p .is ∙ sym (laid-around (p .xs) (standing (p .es)) (p .ys)); fine = every-append Fine (p .xs) (standing (p .es) ∷ p .ys) (p .fine-xs) (p .fine, p .fine-ys) } in
@@ -280,7 +280,7 @@ listed-standing {table} l c s two small i =
 pub without-front : (s : ℕ) (l : List ℕ) → without s (s ∷ l) ≡ l
 without-front s l = rw (eq-eqb s s refl)
 
-module _ (o : ℕ) (two : 2 ≤ o) (small : o < 258) where
+module _ (o : ℕ) (two : 2 ≤ o) (small : o < last-code + 1) where
   pub clearing-begins : (table : List ℕ) → Laid table → Cleared o table table (listed o table)
   clearing-begins table l =
       record {

@@ -1,6 +1,6 @@
 -- The pass that drops always-true clauses.
 -- Assumes nothing.
-use Prim.Native.Nat.{ℕ, _≤_}
+use Prim.Native.Nat.{ℕ, _+_, _≤_}
 use native.Mathlib.Omega.{arith}
 use mathlib.Core.Path.{_≡_, refl, sym, _∙_, ap, ap₂}
 use mathlib.Core.Bool.{Bool, true, false, not, cond, _&&_}
@@ -8,7 +8,7 @@ use mathlib.Core.List.{List, [], _∷_, _++_, map}
 use borrow.Author.Tests.{ltb-false, lt-ltb, le-ltb}
 use lib.IntN.{negℤ}
 use Rattle.formula.specs.Causes.{any}
-use Rattle.codes.specs.Codes.{opposite, has}
+use Rattle.codes.specs.Codes.{last-code, opposite, has}
 use Rattle.trimming_rules.specs.Trimming as Trimming
 use Rattle.trimming_rules.specs.Trimming.{keep}
 use Rattle.trimming_rules.specs.Rounds.{untrue}
@@ -30,8 +30,8 @@ always-true-literals c all = any-left literal-of is-left (λ z. Trimming.has (ne
         let o = opposite-bounds x (s .0) (s .1) in
         ap (λ z. Trimming.has z (map literal-of (keep is-left c))) (opposite-literal x (s .0))
         ∙ has-literal (opposite x) (o .0) (o .1) c all
-        ∙ sym (ap (λ (b : Bool). b && has (opposite x) c) (lt-ltb x 258 (s .1)))
-    one x e false l = let s = ltb-false x 512 l in sym (ap (λ (b : Bool). b && has (opposite x) c) (le-ltb x 258 (omega arith)))
+        ∙ sym (ap (λ (b : Bool). b && has (opposite x) c) (lt-ltb x (last-code + 1) (s .1)))
+    one x e false l = let s = ltb-false x 512 l in sym (ap (λ (b : Bool). b && has (opposite x) c) (le-ltb x (last-code + 1) (omega arith)))
 
     each : (d : List ℕ) → Every Entry d → Every (λ x. (is-left x && Trimming.has (negℤ (literal-of x)) (map literal-of (keep is-left c))) ≡ clashes c x) d
     each [] all = tt
@@ -40,7 +40,7 @@ always-true-literals c all = any-left literal-of is-left (λ z. Trimming.has (ne
 -- In a clause that is gone no entry clashes.
 pub gone-not-true : (d c : List ℕ) → Every (λ x. Entry x × (512 ≤ x)) c → any (clashes d) c ≡ false
 gone-not-true d [] all = refl
-gone-not-true d (x ∷ c) all = rw (le-ltb x 258 (let h = all .0 .1 in omega arith)) (gone-not-true d c (all .1))
+gone-not-true d (x ∷ c) all = rw (le-ltb x (last-code + 1) (let h = all .0 .1 in omega arith)) (gone-not-true d c (all .1))
 
 pub untrue-local : Local untrue
 untrue-local = record { none = refl; spread = λ xs ys. keep-append (λ c. not (Trimming.always-true c)) xs ys }

@@ -11,6 +11,7 @@ use borrow.Author.Tests.{ne-eqb, le-leb, lt-leb, leb-true, leb-false}
 use lib.Dec.{leb, eqb}
 use lib.IntN.{ℤ}
 use Rattle.formula.specs.Formula.{prefix, Clause}
+use Rattle.codes.specs.Codes.{last-code}
 use Rattle.trimming_rules.specs.Trimming as Trimming
 use Rattle.trimming_rules.specs.Trimming.{keep, lower, lowest-unit}
 use Rattle.trimming_rules.proofs.ClauseLaws.{Every}
@@ -45,18 +46,18 @@ only-one (x ∷ c) all = go (is-left x) refl (only-one c (all .1))
 
 -- ---- a unit
 
-every-left : (c : List ℕ) → Every Entry c → Every (λ x. (2 ≤ x) × (x < 258)) (keep is-left c)
+every-left : (c : List ℕ) → Every Entry c → Every (λ x. (2 ≤ x) × (x < last-code + 1)) (keep is-left c)
 every-left [] all = tt
 every-left (x ∷ c) all = go (is-left x) refl (every-left c (all .1))
   where
-    go : (t : Bool) → is-left x ≡ t → Every (λ x. (2 ≤ x) × (x < 258)) (keep is-left c) → Every (λ x. (2 ≤ x) × (x < 258)) (cond t (x ∷ keep is-left c) (keep is-left c))
+    go : (t : Bool) → is-left x ≡ t → Every (λ x. (2 ≤ x) × (x < last-code + 1)) (keep is-left c) → Every (λ x. (2 ≤ x) × (x < last-code + 1)) (cond t (x ∷ keep is-left c) (keep is-left c))
     go true l later = (left-code x (all .0) l, later)
     go false l later = later
 
 pub nothing-chosen : Chosen 0
 nothing-chosen = record { small = omega arith; code = λ e. omega arith }
 
-code-chosen : (x : ℕ) → 2 ≤ x → x < 258 → Chosen x
+code-chosen : (x : ℕ) → 2 ≤ x → x < last-code + 1 → Chosen x
 code-chosen x two small = record { small = small; code = λ e. omega arith }
 
 pub some-literal : (x : ℕ) → 2 ≤ x → literal-or-none x ≡ some (literal-of x)
@@ -64,7 +65,7 @@ some-literal zero two = absurd (omega arith)
 some-literal (suc x) two = refl
 
 module _ (kinds : List ℕ) where
-  unit-list : (l : List ℕ) → Every (λ x. (2 ≤ x) × (x < 258)) l → Picked (Trimming.unit (prefix kinds) (map literal-of l)) (cond (is-universal kinds (one l)) 0 (one l))
+  unit-list : (l : List ℕ) → Every (λ x. (2 ≤ x) × (x < last-code + 1)) l → Picked (Trimming.unit (prefix kinds) (map literal-of l)) (cond (is-universal kinds (one l)) 0 (one l))
   unit-list [] all = go (is-universal kinds 0)
     where
       go : (t : Bool) → Picked none (cond t 0 0)

@@ -10,7 +10,8 @@ use mathlib.Core.Option.{Option, none, some}
 use lib.Dec.{eqb, leb, ltb}
 use lib.IntN.{ℤ, pos, negsuc}
 use lib.ListN.{length, getD, set, take, drop}
-use Rattle.formula.specs.Formula.{max-entries, Kind, prefix, Clause, clauses}
+use Rattle.formula.specs.Formula.{max-unknowns, max-entries, Kind, prefix, Clause, clauses}
+use Rattle.codes.specs.Codes.{last-code}
 use Rattle.trimming_rules.specs.Trimming.{keep, first-of, without-literal, set-true, rule-3, found, rule-4}
 use Rattle.trimming_rules.specs.Rounds.{reduced}
 use Rattle.trimming_rules.proofs.ClauseLaws.{Every, In}
@@ -38,7 +39,7 @@ codes table = map (λ x. x % 512) table
 -- An entry other than a clause's end.
 pub record Entry (x : ℕ) : Type 0 where
   pub literal : 2 ≤ x % 512
-  pub known : x % 512 < 258
+  pub known : x % 512 < last-code + 1
   pub once : x < 1024
 
 -- A clause that stands, some of its entries dropped; one that is dropped whole.
@@ -139,8 +140,8 @@ pub record Dropping (low start : ℕ) (table index counts : List ℕ) (at : ℕ)
   pub below : Every (λ y. (y < 512 → y < low)) pre
   pub few : length table ≤ max-entries
   pub indexed : Indexed table index
-  pub sized : length counts ≡ 258
-  pub counted : (y : ℕ) → low ≤ y → y < 258 → getD counts y 0 ≡ times y post
+  pub sized : length counts ≡ last-code + 1
+  pub counted : (y : ℕ) → low ≤ y → y < last-code + 1 → getD counts y 0 ≡ times y post
 
 -- A property of all clauses but those that are named; the first block stands at place o.
 abbrev pub AllBut : (ℕ → Block → Type 0) → List ℕ → ℕ → List Block → Type 0
@@ -185,7 +186,7 @@ pub record Units (kinds firsts names apart : List ℕ) (off : ℕ) (table : List
   pub is : table ≡ laid blocks
   pub fine : Every Fine blocks
   pub complete : AllBut (UnitKnown kinds firsts) names 0 blocks
-  pub sound : (v : ℕ) → (v ≡ off → ⊥) → 0 < v → v < 129 → (getD firsts v 0 ≡ 65535 → ⊥) → SomeAt (FirstUnit kinds firsts apart v) 0 blocks
+  pub sound : (v : ℕ) → (v ≡ off → ⊥) → 0 < v → v < max-unknowns + 1 → (getD firsts v 0 ≡ 65535 → ⊥) → SomeAt (FirstUnit kinds firsts apart v) 0 blocks
 
 -- Named clauses that are left, in a table with its index; all others are irreducible.
 pub record Pending (kinds names table index : List ℕ) : Type 0 where
@@ -230,7 +231,7 @@ literal-or-none (suc c) = some (literal-of (suc c))
 
 -- 0, or a code.
 pub record Chosen (c : ℕ) : Type 0 where
-  pub small : c < 258
+  pub small : c < last-code + 1
   pub code : c ≢ 1
 
 -- A code, or 0, picks a literal, or none.
@@ -264,4 +265,4 @@ pub record Next (ks : List Kind) (cs : List Clause) (c : ℕ) : Type 0 where
 
 -- The lists that are not empty are those of the codes that the clauses have.
 abbrev pub Found : List ℕ → List Clause → Type 0
-Found index cs = (c : ℕ) → 2 ≤ c → c < 258 → lists-some index c ≡ found (literal-of c) cs
+Found index cs = (c : ℕ) → 2 ≤ c → c < last-code + 1 → lists-some index c ≡ found (literal-of c) cs

@@ -11,7 +11,7 @@ ghost use mathlib.Core.List.{List, [], _∷_, _++_, map};
 ghost use lib.ListN.{length, take, drop, replicate};
 ghost use Rattle.formula.specs.Formula.{max-unknowns, max-entries, prefix, Clause};
 ghost use Rattle.formula.proofs.Accepted.{Accepted as AcceptedFormula};
-ghost use Rattle.codes.specs.Codes.{code-of, opposite as code-opposite};
+ghost use Rattle.codes.specs.Codes.{last-code, code-of, opposite as code-opposite};
 ghost use mathlib.Core.Bool.{true, false, not, cond};
 ghost use lib.Dec.{eqb, ltb};
 ghost use lib.ListN.{getD, set};
@@ -113,8 +113,8 @@ fn drop_entries(table: &mut [u16], index: &mut [u16], start: usize, low: u16) ->
 
 // How often each code stands in the clause.
 fn count(table: &[u16], start: usize, counts: &mut [u16; 258])
-    requires { ⌜ (length (now table) ≤ max-entries) × (now counts ≡ replicate 258 0) ⌝ }
-    ensures { λ _. ⌜ (length (now (counts .exit)) ≡ 258) × ((y : ℕ) → y < 258 → getD (now (counts .exit)) y 0 ≡ times y (first-clause (drop start (now (table .entry))))) ⌝ }
+    requires { ⌜ (length (now table) ≤ max-entries) × (now counts ≡ replicate (last-code + 1) 0) ⌝ }
+    ensures { λ _. ⌜ (length (now (counts .exit)) ≡ last-code + 1) × ((y : ℕ) → y < last-code + 1 → getD (now (counts .exit)) y 0 ≡ times y (first-clause (drop start (now (table .entry))))) ⌝ }
 {
     let mut i = start;
     while i < table.len() {
@@ -172,7 +172,7 @@ fn drop_entry(
 
 // A code stands once less in the clause: it is taken out of the code's list with the last.
 fn forget(index: &mut [u16], counts: &mut [u16; 258], start: usize, x: u16)
-    requires { ⌜ (x < 258) × (0 < getD (now counts) x 0) ⌝ }
+    requires { ⌜ (x < last-code + 1) × (0 < getD (now counts) x 0) ⌝ }
     ensures { λ _. ⌜ now (index .exit) ≡ cond (eqb (getD (now (counts .entry)) x 0) 1) (removed (now (index .entry)) x start) (now (index .entry)) ⌝ }
     ensures { λ _. ⌜ now (counts .exit) ≡ set (now (counts .entry)) x (getD (now (counts .entry)) x 0 - 1) ⌝ }
 {
@@ -184,8 +184,8 @@ fn forget(index: &mut [u16], counts: &mut [u16; 258], start: usize, x: u16)
 }
 
 fn count_one(counts: &mut [u16; 258], x: u16)
-    requires { ⌜ (length (now counts) ≡ 258) × ((y : ℕ) → getD (now counts) y 0 < max-entries) ⌝ }
-    ensures { λ _. ⌜ (length (now (counts .exit)) ≡ 258) × ((y : ℕ) → y < 258 → getD (now (counts .exit)) y 0 ≡ getD (now (counts .entry)) y 0 + times y (x ∷ [])) ⌝ }
+    requires { ⌜ (length (now counts) ≡ last-code + 1) × ((y : ℕ) → getD (now counts) y 0 < max-entries) ⌝ }
+    ensures { λ _. ⌜ (length (now (counts .exit)) ≡ last-code + 1) × ((y : ℕ) → y < last-code + 1 → getD (now (counts .exit)) y 0 ≡ getD (now (counts .entry)) y 0 + times y (x ∷ [])) ⌝ }
 {
     let code = x as usize;
     if code < 258 {
@@ -238,7 +238,7 @@ fn settle(
     names: &mut [u16],
     firsts: &mut [u16; 129],
 )
-    requires { ⌜ Laid (now table) × Indexed (now table) (now index) × (length (now kinds) ≤ max-unknowns) × (length (now table) ≤ max-entries) × (length (now names) ≡ max-entries) × (now firsts ≡ replicate 129 65535) ⌝ }
+    requires { ⌜ Laid (now table) × Indexed (now table) (now index) × (length (now kinds) ≤ max-unknowns) × (length (now table) ≤ max-entries) × (length (now names) ≡ max-entries) × (now firsts ≡ replicate (max-unknowns + 1) 65535) ⌝ }
     ensures { λ _. ⌜ Passed (rounds (length (now (table .entry)) + 1) (prefix (now (kinds .entry)))) (now (table .entry)) (now (table .exit)) × Indexed (now (table .exit)) (now (index .exit)) ⌝ }
 {
     let mut rounds = table.len() + 1;
@@ -343,8 +343,8 @@ fn lowest_unit(kinds: &[u8], table: &[u16], firsts: &[u16; 129]) -> u16
 
 // Notes the clauses of one entry among those that are named.
 fn note_units(kinds: &[u8], table: &[u16], names: &[u16], count: usize, firsts: &mut [u16; 129])
-    requires { ⌜ Laid (now table) × (length (now table) ≤ max-entries) × Every (λ s. In s (listed 1 (now table))) (take count (now names)) × Units (now kinds) (now firsts) (take count (now names)) [] 0 (now table) × (length (now firsts) ≡ 129) × (count ≤ max-entries) × (length (now names) ≡ max-entries) ⌝ }
-    ensures { λ _. ⌜ Units (now (kinds .entry)) (now (firsts .exit)) [] [] 0 (now (table .entry)) × (length (now (firsts .exit)) ≡ 129) ⌝ }
+    requires { ⌜ Laid (now table) × (length (now table) ≤ max-entries) × Every (λ s. In s (listed 1 (now table))) (take count (now names)) × Units (now kinds) (now firsts) (take count (now names)) [] 0 (now table) × (length (now firsts) ≡ max-unknowns + 1) × (count ≤ max-entries) × (length (now names) ≡ max-entries) ⌝ }
+    ensures { λ _. ⌜ Units (now (kinds .entry)) (now (firsts .exit)) [] [] 0 (now (table .entry)) × (length (now (firsts .exit)) ≡ max-unknowns + 1) ⌝ }
 {
     let mut i = 0;
     while i < count {
@@ -356,7 +356,7 @@ fn note_units(kinds: &[u8], table: &[u16], names: &[u16], count: usize, firsts: 
 }
 
 fn note_unit(firsts: &mut [u16; 129], code: u16, start: usize)
-    requires { ⌜ (code < 258) × (start < max-entries) × (length (now firsts) ≡ 129) ⌝ }
+    requires { ⌜ (code < last-code + 1) × (start < max-entries) × (length (now firsts) ≡ max-unknowns + 1) ⌝ }
     ensures { λ _. ⌜ now (firsts .exit) ≡ noted-unit code start (now (firsts .entry)) ⌝ }
 {
     if code == 0 {
@@ -370,7 +370,7 @@ fn note_unit(firsts: &mut [u16; 129], code: u16, start: usize)
 
 // The unknown of a code is in no clause any more.
 fn forget_unit(firsts: &mut [u16; 129], code: u16)
-    requires { ⌜ code < 258 ⌝ }
+    requires { ⌜ code < last-code + 1 ⌝ }
     ensures { λ _. ⌜ now (firsts .exit) ≡ set (now (firsts .entry)) (code / 2) 65535 ⌝ }
 {
     firsts[(code / 2) as usize] = NONE;
@@ -416,7 +416,7 @@ fn pure_at(index: &[u16], position: usize) -> u16
 // Rules 3 and 4: clauses that have the literal are dropped, and its opposite elsewhere. The clauses that are shortened by that are named in the
 // table of names, and their number is returned.
 fn set_true(table: &mut [u16], index: &mut [u16], code: u16, names: &mut [u16]) -> usize
-    requires { ⌜ Laid (now table) × Indexed (now table) (now index) × (length (now table) ≤ max-entries) × (length (now names) ≡ max-entries) × (2 ≤ code) × (code < 258) ⌝ }
+    requires { ⌜ Laid (now table) × Indexed (now table) (now index) × (length (now table) ≤ max-entries) × (length (now names) ≡ max-entries) × (2 ≤ code) × (code < last-code + 1) ⌝ }
     ensures { λ r. ⌜ Dropped (set-true (literal-of code)) (code / 2) (take r (now (names .exit))) (now (table .entry)) (now (table .exit)) (now (index .exit)) × (r ≤ max-entries) × (listed code (now (table .exit)) ≡ []) × (listed (code-opposite code) (now (table .exit)) ≡ []) ⌝ }
 {
     drop_clauses(table, index, code);
@@ -425,7 +425,7 @@ fn set_true(table: &mut [u16], index: &mut [u16], code: u16, names: &mut [u16]) 
 
 // Drops the clauses that have a literal.
 fn drop_clauses(table: &mut [u16], index: &mut [u16], code: u16)
-    requires { ⌜ Laid (now table) × Indexed (now table) (now index) × (length (now table) ≤ max-entries) × (2 ≤ code) × (code < 258) ⌝ }
+    requires { ⌜ Laid (now table) × Indexed (now table) (now index) × (length (now table) ≤ max-entries) × (2 ≤ code) × (code < last-code + 1) ⌝ }
     ensures { λ _. ⌜ Dropped (without-clauses (literal-of code)) (code / 2) [] (now (table .entry)) (now (table .exit)) (now (index .exit)) × (listed code (now (table .exit)) ≡ []) ⌝ }
 {
     while has_names(index, code as usize) {
@@ -448,7 +448,7 @@ fn first_name(index: &[u16], code: usize) -> usize
 
 // Drops a literal wherever it stands; its list, which is cleared, is saved.
 fn drop_literals(table: &mut [u16], index: &mut [u16], code: u16, names: &mut [u16]) -> usize
-    requires { ⌜ Laid (now table) × Indexed (now table) (now index) × (length (now table) ≤ max-entries) × (length (now names) ≡ max-entries) × (2 ≤ code) × (code < 258) ⌝ }
+    requires { ⌜ Laid (now table) × Indexed (now table) (now index) × (length (now table) ≤ max-entries) × (length (now names) ≡ max-entries) × (2 ≤ code) × (code < last-code + 1) ⌝ }
     ensures { λ r. ⌜ Dropped (without-literal (literal-of code)) (code / 2) (take r (now (names .exit))) (now (table .entry)) (now (table .exit)) (now (index .exit)) × (r ≤ max-entries) × (listed code (now (table .exit)) ≡ []) × ((d : ℕ) → d < code-count → (d ≡ code → ⊥) → listed d (now (table .exit)) ≡ listed d (now (table .entry))) ⌝ }
 {
     let count = save(index, code as usize, names);
@@ -473,7 +473,7 @@ fn save(index: &[u16], code: usize, names: &mut [u16]) -> usize
 }
 
 fn mark_each(table: &mut [u16], names: &[u16], count: usize, code: u16)
-    requires { ⌜ Laid (now table) × (take count (now names) ≡ listed code (now table)) × (count ≤ length (now names)) × (length (now names) ≡ max-entries) × (2 ≤ code) × (code < 258) ⌝ }
+    requires { ⌜ Laid (now table) × (take count (now names) ≡ listed code (now table)) × (count ≤ length (now names)) × (length (now names) ≡ max-entries) × (2 ≤ code) × (code < last-code + 1) ⌝ }
     ensures { λ _. ⌜ Cleared code (now (table .entry)) (now (table .exit)) [] ⌝ }
 {
     let mut i = 0;
@@ -491,7 +491,7 @@ fn wide(x: u16) -> usize
 }
 
 fn opposite(code: u16) -> u16
-    requires { ⌜ (2 ≤ code) × (code < 258) ⌝ }
+    requires { ⌜ (2 ≤ code) × (code < last-code + 1) ⌝ }
     ensures { λ r. ⌜ r ≡ code-opposite code ⌝ }
 {
     if code % 2 == 0 { code + 1 } else { code - 1 }

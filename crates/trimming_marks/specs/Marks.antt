@@ -8,7 +8,7 @@ use mathlib.Core.List.{List, [], _∷_}
 use lib.Dec.{eqb, leb, ltb}
 use lib.ListN.{getD, set}
 use Rattle.formula.specs.Causes.{any}
-use Rattle.codes.specs.Codes.{opposite, has}
+use Rattle.codes.specs.Codes.{last-code, opposite, has}
 
 -- An entry that is not dropped.
 abbrev pub is-left : ℕ → Bool
@@ -45,7 +45,7 @@ mark-clause low high (x ∷ xs) = let rest = mark-clause low high xs in marked l
 
 -- A code that is left, and its opposite in the same clause.
 abbrev pub clashes : List ℕ → ℕ → Bool
-clashes clause x = ltb x 258 && has (opposite x) clause
+clashes clause x = ltb x (last-code + 1) && has (opposite x) clause
 
 abbrev pub always-true : List ℕ → Bool
 always-true clause = any (clashes clause) clause
@@ -69,7 +69,7 @@ unit kinds clause = cond (is-universal kinds (only 0 clause)) 0 (only 0 clause)
 
 -- A table with a 1 at each code that is left.
 unfoldable pub noted-one : List ℕ → ℕ → List ℕ
-noted-one seen x = cond (ltb x 258) (set seen x 1) seen
+noted-one seen x = cond (ltb x (last-code + 1)) (set seen x 1) seen
 
 abbrev pub noted : List ℕ → List ℕ → List ℕ
 noted seen [] = seen
@@ -77,4 +77,4 @@ noted seen (x ∷ xs) = noted (noted-one seen x) xs
 
 -- A code that is left, and a 1 at its opposite.
 unfoldable pub noted-clash : List ℕ → ℕ → Bool
-noted-clash seen x = ltb x 258 && eqb (getD seen (opposite x) 0) 1
+noted-clash seen x = ltb x (last-code + 1) && eqb (getD seen (opposite x) 0) 1

@@ -7,7 +7,7 @@ ghost use Prim.Native.Nat.{_+_, _<_};
 ghost use mathlib.Core.List.{_++_};
 ghost use lib.ListN.{length, take, drop};
 ghost use Rattle.formula.specs.Causes.{any};
-ghost use Rattle.codes.specs.Codes.{opposite as code-opposite, has as has-code};
+ghost use Rattle.codes.specs.Codes.{last-code, opposite as code-opposite, has as has-code};
 ghost use Rattle.trimming_marks.specs.Marks.{ends, first-clause, first-length, is-universal as universal-code, marked as marked-entry, mark-clause, always-true, reducible-from, raised as raised-by, only as only-left, unit as unit-code, noted-one, noted, noted-clash};
 
 // A byte for each code, and for those below the first.
@@ -126,7 +126,7 @@ fn is_noted_clash(seen: &Seen, x: u16) -> bool
 }
 
 fn opposite(code: usize) -> usize
-    requires { ⌜ code < 258 ⌝ }
+    requires { ⌜ code < last-code + 1 ⌝ }
     ensures { λ r. ⌜ r ≡ code-opposite code ⌝ }
 {
     if code % 2 == 0 { code + 1 } else { code - 1 }

@@ -7,6 +7,7 @@ use mathlib.Core.List.{List, [], _∷_, _++_, append-assoc}
 use borrow.Author.Tests.{leb-true, eqb-false}
 use lib.Dec.{leb, ltb, eqb}
 use lib.ListN.{length}
+use Rattle.formula.specs.Formula.{max-unknowns, max-entries}
 use Rattle.lines.specs.Lines.{Bytes, Line, ended, unended, words, first, rest}
 use Rattle.lines.specs.Numbers.{number, unsigned, no-number, is-zero, is-literal}
 use Rattle.lines.specs.Shapes.{is-prefix, is-clause, is-trimmed, is-empty, closed-by-zero}
@@ -120,4 +121,4 @@ scan-ranged text =
     (λ t v.
     body-so Any clause-list (λ _ u. Ranged u) Ranged (λ u l more q. line-ranged u l q)
     (λ u m q. cond-so (Scans Any Ranged) (eqb (u .clauses-read) (u .clauses)) (whole u) (stopped 14 m) (λ _. q) (λ _. tt)) ls t (suc k) v))
-    (λ line ls t c w. w) tt text 128 8192 128
+    (λ line ls t c w. w) tt text max-unknowns max-entries max-unknowns

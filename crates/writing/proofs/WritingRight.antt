@@ -7,7 +7,7 @@ use mathlib.Core.List.{List, [], _∷_, _++_, map, append-assoc}
 use borrow.Author.Tests.{le-ltb, le-leb}
 use lib.IntN.{ℤ, pos, natAbs}
 use lib.ListN.{length, getD, length-append}
-use Rattle.formula.specs.Formula.{max-clauses, clauses}
+use Rattle.formula.specs.Formula.{max-unknowns, max-clauses, max-entries, clauses}
 use Rattle.formula.specs.declared.Check.the-variants.{Accepted as Passed}
 use Rattle.formula.specs.declared.Formula.{Formula}
 use Rattle.formula.specs.Causes.{zeros, is-zero as is-end, cause-1, cause-2, cause-3, sizes, refused-if, checked, number as number-of}
@@ -176,7 +176,7 @@ writing-right kinds literals names variables =
 state-writable : (text : Bytes) (s : State) (r : Read) → text-scan text ≡ whole s → taken (closed s) ≡ taken r → Passes r → Writable (r .kinds) (r .literals) (r .names) (r .variables)
 unfolding closed
 state-writable text s r e f p =
-    let K = subst (Scans OfText Whole) e (scan-whole text 128 8192 128) .kept in
+    let K = subst (Scans OfText Whole) e (scan-whole text max-unknowns max-entries max-unknowns) .kept in
     let R = subst (Scans Any Ranged) e (scan-ranged text) in
     let g : closed s ≡ r = cc in
     record {
@@ -189,7 +189,7 @@ state-writable text s r e f p =
 
 pub read-writable : (text : Bytes) → ReadWritable text
 unfolding read
-read-writable text r e = go (text-scan text) refl e (subst (Results Passes) e (read-passes text 128 8192 128))
+read-writable text r e = go (text-scan text) refl e (subst (Results Passes) e (read-passes text max-unknowns max-entries max-unknowns))
   where
     go : (x : Scan) → text-scan text ≡ x → result-of x ≡ taken r → Passes r → Writable (r .kinds) (r .literals) (r .names) (r .variables)
     go (whole s) f e p = state-writable text s r f e p

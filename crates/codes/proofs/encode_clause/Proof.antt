@@ -1,6 +1,6 @@
 -- `codes::encode_clause` meets its contract. The loop's invariant: the codes written are those of the clause so far, and only
 -- they are marked as seen. Assumes nothing.
-use Prim.Native.Nat.{_-_, _≤_, _<_}
+use Prim.Native.Nat.{_+_, _-_, _≤_, _<_}
 use mathlib.Core.Path.{_≡_, _∙_}
 use borrow.Author.Count.{falls}
 use lib.IntN.{pos, natAbs}
@@ -8,7 +8,7 @@ use native.Mathlib.Omega.{arith}
 use borrow.Author.Needs.{needs}
 use lib.ListN.{length, getD, length-set}
 use Rattle.formula.specs.Formula.{max-unknowns}
-use Rattle.codes.specs.Codes.{code-of}
+use Rattle.codes.specs.Codes.{last-code, code-of}
 use Rattle.codes.proofs.Words.{bits}
 use Rattle.codes.proofs.EncodeLaws.{code-literal}
 use Rattle.codes.proofs.ReadLaws.{code-below, opposite-below, SoFar, none-so-far, out-of-entries, more-seen, more-added, clause-ended, clause-true}
@@ -36,7 +36,7 @@ is-code c =
 named : (c : tie.After-wide Inv-loop μ-loop) → natAbs (getD (c .before .before .before .before .before .before .args .literals .now) (c .before .before .before .before .loop .i) (pos 0)) ≤ max-unknowns
 named c = c .before .before .before .before .before .before .pre .1 (c .before .before .before .before .loop .i) (c .before .before .before .loop-test .taken)
 
-small : (c : tie.After-wide Inv-loop μ-loop) → c .wide .result < 258
+small : (c : tie.After-wide Inv-loop μ-loop) → c .wide .result < last-code + 1
 small c = rw (is-code c) (code-below (getD (c .before .before .before .before .before .before .args .literals .now) (c .before .before .before .before .loop .i) (pos 0)) (named c))
 
 two : (c : tie.After-wide Inv-loop μ-loop) → (c .wide .result ≡ 0 → ⊥) → 2 ≤ c .wide .result

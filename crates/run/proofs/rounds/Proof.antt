@@ -6,8 +6,10 @@ use mathlib.Core.List.{List}
 use native.Mathlib.Omega.{arith}
 use borrow.Author.Needs.{needs}
 use lib.ListN.{length, replicate, length-take, length-replicate}
+use Rattle.formula.specs.Formula.{max-entries}
 use Rattle.preference.specs.Preference.{prefer}
 use Rattle.rows.specs.Access.{rows-written, marks-written}
+use Rattle.search.specs.Search.{index-size, table-size}
 use Rattle.search.proofs.PreparedLaws.{used-within}
 use Rattle.growth.specs.Growth.{with-preferred}
 use Rattle.counts.specs.Counts.{filled}
@@ -88,13 +90,13 @@ cast-mark c =
 
 array-share-prefix-codes : tie.Need-array-share-prefix-codes Inv-loop μ-loop
 array-share-prefix-codes c =
-    let size : length (replicate {A = ℕ} 8192 0) ≡ 8192 = length-replicate {A = ℕ} 8192 0 in
-    omega (arith, used-within (c .before .before .before .before .before .before .before .before .before .before .before .before .before .before .before .before .before .before .before .before .before .before .before .before .before .before .before .before .before .before .args .literals .now) (length (replicate {A = ℕ} 8192 0)), c .before .before .before .before .before .before .before .before .before .before .before .before .before .before .before .before .before .prepare .ensures .entries, c .before .before .before .before .before .before .before .before .before .before .before .before .before .before .before .before .before .prepare .kept .1 .1 .0, size)
+    let size : length (replicate {A = ℕ} max-entries 0) ≡ max-entries = length-replicate {A = ℕ} max-entries 0 in
+    omega (arith, used-within (c .before .before .before .before .before .before .before .before .before .before .before .before .before .before .before .before .before .before .before .before .before .before .before .before .before .before .before .before .before .before .args .literals .now) (length (replicate {A = ℕ} max-entries 0)), c .before .before .before .before .before .before .before .before .before .before .before .before .before .before .before .before .before .prepare .ensures .entries, c .before .before .before .before .before .before .before .before .before .before .before .before .before .before .before .before .before .prepare .kept .1 .1 .0, size)
 
 slice-aggregate-existential-half : tie.Need-slice-aggregate-existential-half Inv-loop μ-loop
 slice-aggregate-existential-half c =
-    let size : length (replicate {A = ℕ} 8192 0) ≡ 8192 = length-replicate {A = ℕ} 8192 0 in
-    simp length-take (omega (arith, used-within (c .before .before .before .before .before .before .before .before .before .before .before .before .before .before .before .before .before .before .before .before .before .before .before .before .before .before .before .before .before .before .before .args .literals .now) (length (replicate {A = ℕ} 8192 0)), c .before .before .before .before .before .before .before .before .before .before .before .before .before .before .before .before .before .before .prepare .ensures .entries, c .before .before .before .before .before .before .before .before .before .before .before .before .before .before .before .before .before .before .prepare .kept .1 .1 .0, size))
+    let size : length (replicate {A = ℕ} max-entries 0) ≡ max-entries = length-replicate {A = ℕ} max-entries 0 in
+    simp length-take (omega (arith, used-within (c .before .before .before .before .before .before .before .before .before .before .before .before .before .before .before .before .before .before .before .before .before .before .before .before .before .before .before .before .before .before .before .args .literals .now) (length (replicate {A = ℕ} max-entries 0)), c .before .before .before .before .before .before .before .before .before .before .before .before .before .before .before .before .before .before .prepare .ensures .entries, c .before .before .before .before .before .before .before .before .before .before .before .before .before .before .before .before .before .before .prepare .kept .1 .1 .0, size))
 
 slice-aggregate-existential-half-2 : tie.Need-slice-aggregate-existential-half-2 Inv-loop μ-loop
 slice-aggregate-existential-half-2 c = search needs
@@ -132,7 +134,7 @@ same-length-7 c = c .before .before .before .before .before .before .before .bef
 returns : tie.Need-returns Inv-loop μ-loop
 returns c =
     let q = c .before .before .before .before .before .before .before .before .before .before .before .before .before .before .before .before .before .before .before .before .before .before .before .before .before .before .before .before .before .before .before .before .before .before .before .before .before .before .before .before .before .before .before .before .before .before .before .before .before .args in
-    let of = c .before .before .before .before .before .before .before .before .before .before .before .before .before .before .before .before .before .before .before .before .before .before .before .before .before .before .before .before .before .before .before .before .before .before .before .before .prepare .ensures .prepared (c .before .before .before .before .before .before .before .before .before .before .before .before .before .before .before .before .before .before .before .before .before .before .before .before .before .before .before .before .before .before .before .before .before .before .before .before .before .before .before .before .before .before .before .before .before .before .before .before .before .pre .passes) (length-replicate {A = ℕ} 8192 0) (length-replicate {A = ℕ} 8710 0) (length-replicate {A = ℕ} 4161 0) in
+    let of = c .before .before .before .before .before .before .before .before .before .before .before .before .before .before .before .before .before .before .before .before .before .before .before .before .before .before .before .before .before .before .before .before .before .before .before .before .prepare .ensures .prepared (c .before .before .before .before .before .before .before .before .before .before .before .before .before .before .before .before .before .before .before .before .before .before .before .before .before .before .before .before .before .before .before .before .before .before .before .before .before .before .before .before .before .before .before .before .before .before .before .before .before .pre .passes) (length-replicate {A = ℕ} max-entries 0) (length-replicate {A = ℕ} index-size 0) (length-replicate {A = ℕ} table-size 0) in
     let running = c .before .before .before .before .before .before .before .before .before .before .before .before .before .before .before .before .before .before .before .before .loop .inv .0 (q .universal-rows .now) (q .universal-marks .now) (q .universal-counts .now) (c .before .before .before .before .before .before .before .before .before .before .before .before .before .before .before .before .before .before .before .before .before .before .before .before .before .before .before .before .before .before .write-start .ensures .0) (c .before .before .before .before .before .before .before .before .before .before .before .before .before .before .before .before .before .before .before .before .before .before .before .before .before .before .before .before .before .before .write-start .ensures .1) (c .before .before .before .before .before .before .before .before .before .before .before .before .before .before .before .before .before .before .before .before .before .before .before .before .fill .ensures) (c .before .before .before .before .before .before .before .before .before .before .before .before .before .before .before .before .before .before .before .before .before .before .before .before .before .before .before .before .before .before .before .before .before .before .before .before .before .before .before .before .before .before .before .before .before .before .before .before .before .pre) in (
       run-stopped (given (q .kinds .now) (q .literals .now) (q .preferences .now) (areas (q .universal-rows .now) (q .universal-marks .now) (q .universal-counts .now) (q .existential-rows .now) (q .existential-marks .now) (q .existential-counts .now) (q .work .now)) (q .limit) (q .clear-every))
           (c .before .before .before .before .before .before .before .before .before .before .before .before .before .before .before .before .before .before .before .before .loop .made) (c .before .before .before .before .before .before .before .before .before .before .before .before .before .before .before .before .before .before .before .before .loop .universal) (c .before .before .before .before .before .before .before .before .before .before .before .before .before .before .before .before .before .before .before .before .loop .existential) _ _ _ _ _ (running .0) (c .before .before .before .before .before .before .before .before .before .before .existential-half .result) _ _ _ (c .before .before .before .before .before .before .before .before .before .before .existential-half .ensures .0 (q .literals .now) of) (c .before .before .before .before .before .before .before .before .before .before .before .before .before .before .before .before .before .before .before .loop-test .taken) (c .before .if1 .taken) _ (c .existential-stop .ensures),
@@ -142,22 +144,22 @@ returns c =
 
 array-share-prefix-codes-2 : tie.Need-array-share-prefix-codes-2 Inv-loop μ-loop
 array-share-prefix-codes-2 c =
-    let size : length (replicate {A = ℕ} 8192 0) ≡ 8192 = length-replicate {A = ℕ} 8192 0 in
-    omega (arith, used-within (c .before .before .before .before .before .before .before .before .before .before .before .before .before .before .before .before .before .before .before .before .before .before .before .before .before .before .before .before .before .before .before .before .before .before .before .before .before .before .before .before .before .before .before .before .before .before .before .before .args .literals .now) (length (replicate {A = ℕ} 8192 0)), c .before .before .before .before .before .before .before .before .before .before .before .before .before .before .before .before .before .before .before .before .before .before .before .before .before .before .before .before .before .before .before .before .before .before .before .prepare .ensures .entries, c .before .before .before .before .before .before .before .before .before .before .before .before .before .before .before .before .before .before .before .before .before .before .before .before .before .before .before .before .before .before .before .before .before .before .before .prepare .kept .1 .1 .0, size)
+    let size : length (replicate {A = ℕ} max-entries 0) ≡ max-entries = length-replicate {A = ℕ} max-entries 0 in
+    omega (arith, used-within (c .before .before .before .before .before .before .before .before .before .before .before .before .before .before .before .before .before .before .before .before .before .before .before .before .before .before .before .before .before .before .before .before .before .before .before .before .before .before .before .before .before .before .before .before .before .before .before .before .args .literals .now) (length (replicate {A = ℕ} max-entries 0)), c .before .before .before .before .before .before .before .before .before .before .before .before .before .before .before .before .before .before .before .before .before .before .before .before .before .before .before .before .before .before .before .before .before .before .before .prepare .ensures .entries, c .before .before .before .before .before .before .before .before .before .before .before .before .before .before .before .before .before .before .before .before .before .before .before .before .before .before .before .before .before .before .before .before .before .before .before .prepare .kept .1 .1 .0, size)
 
 slice-aggregate-universal-half : tie.Need-slice-aggregate-universal-half Inv-loop μ-loop
 slice-aggregate-universal-half c =
-    let size : length (replicate {A = ℕ} 8192 0) ≡ 8192 = length-replicate {A = ℕ} 8192 0 in
-    simp length-take (omega (arith, used-within (c .before .before .before .before .before .before .before .before .before .before .before .before .before .before .before .before .before .before .before .before .before .before .before .before .before .before .before .before .before .before .before .before .before .before .before .before .before .before .before .before .before .before .before .before .before .before .before .before .before .args .literals .now) (length (replicate {A = ℕ} 8192 0)), c .before .before .before .before .before .before .before .before .before .before .before .before .before .before .before .before .before .before .before .before .before .before .before .before .before .before .before .before .before .before .before .before .before .before .before .before .prepare .ensures .entries, c .before .before .before .before .before .before .before .before .before .before .before .before .before .before .before .before .before .before .before .before .before .before .before .before .before .before .before .before .before .before .before .before .before .before .before .before .prepare .kept .1 .1 .0, size))
+    let size : length (replicate {A = ℕ} max-entries 0) ≡ max-entries = length-replicate {A = ℕ} max-entries 0 in
+    simp length-take (omega (arith, used-within (c .before .before .before .before .before .before .before .before .before .before .before .before .before .before .before .before .before .before .before .before .before .before .before .before .before .before .before .before .before .before .before .before .before .before .before .before .before .before .before .before .before .before .before .before .before .before .before .before .before .args .literals .now) (length (replicate {A = ℕ} max-entries 0)), c .before .before .before .before .before .before .before .before .before .before .before .before .before .before .before .before .before .before .before .before .before .before .before .before .before .before .before .before .before .before .before .before .before .before .before .before .prepare .ensures .entries, c .before .before .before .before .before .before .before .before .before .before .before .before .before .before .before .before .before .before .before .before .before .before .before .before .before .before .before .before .before .before .before .before .before .before .before .before .prepare .kept .1 .1 .0, size))
 
 slice-aggregate-universal-half-2 : tie.Need-slice-aggregate-universal-half-2 Inv-loop μ-loop
 slice-aggregate-universal-half-2 c =
-    let size : length (replicate {A = ℕ} 8710 0) ≡ 8710 = length-replicate {A = ℕ} 8710 0 in
+    let size : length (replicate {A = ℕ} index-size 0) ≡ index-size = length-replicate {A = ℕ} index-size 0 in
     omega (arith, c .before .before .before .before .before .before .before .before .before .before .before .before .before .before .before .before .before .before .before .before .before .before .before .before .before .before .before .before .before .before .before .before .before .before .before .before .before .prepare .kept .1 .1 .1 .0, size)
 
 slice-aggregate-universal-half-3 : tie.Need-slice-aggregate-universal-half-3 Inv-loop μ-loop
 slice-aggregate-universal-half-3 c =
-    let size : length (replicate {A = ℕ} 4161 0) ≡ 4161 = length-replicate {A = ℕ} 4161 0 in
+    let size : length (replicate {A = ℕ} table-size 0) ≡ table-size = length-replicate {A = ℕ} table-size 0 in
     omega (arith, c .before .before .before .before .before .before .before .before .before .before .before .before .before .before .before .before .before .before .before .before .before .before .before .before .before .before .before .before .before .before .before .before .before .before .before .before .before .before .prepare .kept .1 .1 .1 .1 .0, size)
 
 universal-half-requires : tie.Need-universal-half-requires Inv-loop μ-loop
@@ -190,7 +192,7 @@ same-length-14 c = c .before .before .before .before .before .before .before .be
 returns-2 : tie.Need-returns-2 Inv-loop μ-loop
 returns-2 c =
     let q = c .before .before .before .before .before .before .before .before .before .before .before .before .before .before .before .before .before .before .before .before .before .before .before .before .before .before .before .before .before .before .before .before .before .before .before .before .before .before .before .before .before .before .before .before .before .before .before .before .before .before .before .before .before .before .before .before .before .before .before .before .before .before .before .before .before .before .before .args in
-    let of = c .before .before .before .before .before .before .before .before .before .before .before .before .before .before .before .before .before .before .before .before .before .before .before .before .before .before .before .before .before .before .before .before .before .before .before .before .before .before .before .before .before .before .before .before .before .before .before .before .before .before .before .before .before .before .prepare .ensures .prepared (c .before .before .before .before .before .before .before .before .before .before .before .before .before .before .before .before .before .before .before .before .before .before .before .before .before .before .before .before .before .before .before .before .before .before .before .before .before .before .before .before .before .before .before .before .before .before .before .before .before .before .before .before .before .before .before .before .before .before .before .before .before .before .before .before .before .before .before .pre .passes) (length-replicate {A = ℕ} 8192 0) (length-replicate {A = ℕ} 8710 0) (length-replicate {A = ℕ} 4161 0) in
+    let of = c .before .before .before .before .before .before .before .before .before .before .before .before .before .before .before .before .before .before .before .before .before .before .before .before .before .before .before .before .before .before .before .before .before .before .before .before .before .before .before .before .before .before .before .before .before .before .before .before .before .before .before .before .before .before .prepare .ensures .prepared (c .before .before .before .before .before .before .before .before .before .before .before .before .before .before .before .before .before .before .before .before .before .before .before .before .before .before .before .before .before .before .before .before .before .before .before .before .before .before .before .before .before .before .before .before .before .before .before .before .before .before .before .before .before .before .before .before .before .before .before .before .before .before .before .before .before .before .before .pre .passes) (length-replicate {A = ℕ} max-entries 0) (length-replicate {A = ℕ} index-size 0) (length-replicate {A = ℕ} table-size 0) in
     let running = c .before .before .before .before .before .before .before .before .before .before .before .before .before .before .before .before .before .before .before .before .before .before .before .before .before .before .before .before .before .before .before .before .before .before .before .before .before .before .loop .inv .0 (q .universal-rows .now) (q .universal-marks .now) (q .universal-counts .now) (c .before .before .before .before .before .before .before .before .before .before .before .before .before .before .before .before .before .before .before .before .before .before .before .before .before .before .before .before .before .before .before .before .before .before .before .before .before .before .before .before .before .before .before .before .before .before .before .before .write-start .ensures .0) (c .before .before .before .before .before .before .before .before .before .before .before .before .before .before .before .before .before .before .before .before .before .before .before .before .before .before .before .before .before .before .before .before .before .before .before .before .before .before .before .before .before .before .before .before .before .before .before .before .write-start .ensures .1) (c .before .before .before .before .before .before .before .before .before .before .before .before .before .before .before .before .before .before .before .before .before .before .before .before .before .before .before .before .before .before .before .before .before .before .before .before .before .before .before .before .before .before .fill .ensures) (c .before .before .before .before .before .before .before .before .before .before .before .before .before .before .before .before .before .before .before .before .before .before .before .before .before .before .before .before .before .before .before .before .before .before .before .before .before .before .before .before .before .before .before .before .before .before .before .before .before .before .before .before .before .before .before .before .before .before .before .before .before .before .before .before .before .before .before .pre) in (
       run-stopped-back (given (q .kinds .now) (q .literals .now) (q .preferences .now) (areas (q .universal-rows .now) (q .universal-marks .now) (q .universal-counts .now) (q .existential-rows .now) (q .existential-marks .now) (q .existential-counts .now) (q .work .now)) (q .limit) (q .clear-every))
           (c .before .before .before .before .before .before .before .before .before .before .before .before .before .before .before .before .before .before .before .before .before .before .before .before .before .before .before .before .before .before .before .before .before .before .before .before .before .before .loop .made) (c .before .before .before .before .before .before .before .before .before .before .before .before .before .before .before .before .before .before .before .before .before .before .before .before .before .before .before .before .before .before .before .before .before .before .before .before .before .before .loop .universal) (c .before .before .before .before .before .before .before .before .before .before .before .before .before .before .before .before .before .before .before .before .before .before .before .before .before .before .before .before .before .before .before .before .before .before .before .before .before .before .loop .existential) _ _ _ _ _ (running .0) (c .before .before .before .before .before .before .before .before .before .before .before .before .before .before .before .before .before .before .before .before .before .before .before .before .before .before .before .before .existential-half .result) _ _ _ (c .before .before .before .before .before .before .before .before .before .before .before .before .before .before .before .before .before .before .before .before .before .before .before .before .before .before .before .before .existential-half .ensures .0 (q .literals .now) of) (c .before .before .before .before .before .before .before .before .before .before .before .before .before .before .before .before .before .before .before .before .before .before .before .before .before .before .before .before .before .before .before .before .before .before .before .before .before .loop-test .taken) (c .before .before .before .before .before .before .before .before .before .before .before .before .before .before .before .before .before .before .before .if1 .left) (c .before .before .before .before .before .before .before .before .before .before .universal-half .result) _ _ _ (c .before .before .before .before .before .before .before .before .before .before .universal-half .ensures .0 (q .literals .now) of) (c .before .if2 .taken) _ (c .universal-stop .ensures),
@@ -204,7 +206,7 @@ loop-less c = omega (arith, c .before .before .before .before .before .before .b
 loop-again : tie.Need-loop-again Inv-loop μ-loop
 loop-again c =
     let q = c .before .before .before .before .before .before .before .before .before .before .before .before .before .before .before .before .before .before .before .before .before .before .before .before .before .before .before .before .before .before .before .before .before .before .before .before .before .before .before .before .before .before .before .before .before .before .before .before .before .before .before .before .before .before .before .before .before .before .before .before .before .before .before .before .before .before .args in
-    let of = c .before .before .before .before .before .before .before .before .before .before .before .before .before .before .before .before .before .before .before .before .before .before .before .before .before .before .before .before .before .before .before .before .before .before .before .before .before .before .before .before .before .before .before .before .before .before .before .before .before .before .before .before .before .prepare .ensures .prepared (c .before .before .before .before .before .before .before .before .before .before .before .before .before .before .before .before .before .before .before .before .before .before .before .before .before .before .before .before .before .before .before .before .before .before .before .before .before .before .before .before .before .before .before .before .before .before .before .before .before .before .before .before .before .before .before .before .before .before .before .before .before .before .before .before .before .before .pre .passes) (length-replicate {A = ℕ} 8192 0) (length-replicate {A = ℕ} 8710 0) (length-replicate {A = ℕ} 4161 0) in (
+    let of = c .before .before .before .before .before .before .before .before .before .before .before .before .before .before .before .before .before .before .before .before .before .before .before .before .before .before .before .before .before .before .before .before .before .before .before .before .before .before .before .before .before .before .before .before .before .before .before .before .before .before .before .before .before .prepare .ensures .prepared (c .before .before .before .before .before .before .before .before .before .before .before .before .before .before .before .before .before .before .before .before .before .before .before .before .before .before .before .before .before .before .before .before .before .before .before .before .before .before .before .before .before .before .before .before .before .before .before .before .before .before .before .before .before .before .before .before .before .before .before .before .before .before .before .before .before .before .pre .passes) (length-replicate {A = ℕ} max-entries 0) (length-replicate {A = ℕ} index-size 0) (length-replicate {A = ℕ} table-size 0) in (
       λ A-found A-marks-found A-counts-found on-rows on-marks on-counts ready.
           let running = c .before .before .before .before .before .before .before .before .before .before .before .before .before .before .before .before .before .before .before .before .before .before .before .before .before .before .before .before .before .before .before .before .before .before .before .before .before .loop .inv .0 A-found A-marks-found A-counts-found on-rows on-marks on-counts ready in (
             round-made (given (q .kinds .now) (q .literals .now) (q .preferences .now) (areas A-found A-marks-found A-counts-found (q .existential-rows .now) (q .existential-marks .now) (q .existential-counts .now) (q .work .now)) (q .limit) (q .clear-every))

@@ -3,6 +3,7 @@ use mathlib.Core.Path.{_≡_, sym, _∙_}
 use lib.IntN.{ℤ, pos}
 use lib.ListN.{length-replicate}
 use borrow.Author.Needs.{needs}
+use Rattle.formula.specs.Formula.{max-entries}
 use Rattle.run.specs.Outcome.{areas}
 use Rattle.study.specs.Study.{cause}
 use Rattle.study.proofs.CauseLaws.{some-setting}
@@ -68,7 +69,7 @@ in-turn-requires c κs =
     let found = areas (q .universal-rows .now) (q .universal-marks .now) (q .universal-counts .now) (q .existential-rows .now) (q .existential-marks .now) (q .existential-counts .now) (q .work .now) in
     let told = first-cause (q .kinds .now) (q .literals .now) (q .settings .now) found (c .before .before .before .before .before .before .before .before .before .before .before .before .before .before .before .before .before .before .before .before .before .before .before .before .before .before .before .before .run .result) _ (c .before .before .before .before .before .before .before .before .before .before .before .before .before .before .before .before .before .before .before .before .before .before .before .before .before .before .before .before .run .ensures) (c .before .before .before .before .before .before .before .before .before .before .before .before .before .number .result) (c .before .before .before .before .before .before .before .before .before .before .before .before .first-cause .result) (c .before .before .before .before .before .before .before .before .before .before .before .before .before .number .ensures) (c .before .before .before .before .before .before .before .before .before .before .before .before .first-cause .ensures) in
     let none : cause (q .kinds .now) (q .literals .now) (q .settings .now) found ≡ 0 = sym told ∙ c .before .before .before .before .before .before .before .before .before .before .before .if1 .left in
-    (held (q .kinds .now) (q .literals .now) (q .settings .now) found none _ _ (c .before .before .before .before .before .before .before .before .before .trim-into .result) (length-replicate {A = ℤ} 8192 (pos 0)) (c .before .before .before .before .before .before .before .before .before .trim-into .ensures .0) (c .before .before .before .before .before .before .before .before .before .trim-into .ensures .1), some-setting (q .kinds .now) (q .literals .now) (q .settings .now) found none)
+    (held (q .kinds .now) (q .literals .now) (q .settings .now) found none _ _ (c .before .before .before .before .before .before .before .before .before .trim-into .result) (length-replicate {A = ℤ} max-entries (pos 0)) (c .before .before .before .before .before .before .before .before .before .trim-into .ensures .0) (c .before .before .before .before .before .before .before .before .before .trim-into .ensures .1), some-setting (q .kinds .now) (q .literals .now) (q .settings .now) found none)
 
 same-length-8 : tie.Need-same-length-8
 same-length-8 c = c .before .before .before .before .before .before .before .before .before .before .before .before .before .before .in-turn .kept .1 .1 .1 .1 .1 .0 ∙ c .before .before .before .before .before .before .before .before .before .before .before .before .before .before .before .before .before .before .before .before .before .before .before .before .before .before .before .before .before .before .before .before .before .before .before .before .before .before .before .before .before .before .before .run .kept .1 .1 .1 .0

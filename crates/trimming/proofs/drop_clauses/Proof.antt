@@ -1,16 +1,17 @@
 -- `trimming::drop_clauses` meets its contract. The loop's invariant: no other clauses are dropped, and the index is kept.
 -- Assumes nothing.
 use borrow.Author.Needs.{needs}
-use Prim.Native.Nat.{_≤_, _<_}
+use Prim.Native.Nat.{_+_, _≤_, _<_}
 use mathlib.Core.Path.{_≡_, refl, sym, _∙_}
 use lib.ListN.{length}
+use Rattle.codes.specs.Codes.{last-code}
 use Rattle.index.specs.Occurrences.{listed}
 use Rattle.trimming.proofs.ThinLaws.{Thinning, thinning-begins, next-here, thinning-more, thinning-less, thinning-ends}
 use Rattle.trimming.proofs.drop_clauses.Statement.{statement}
 use Rattle.trimming.proofs.drop_clauses.Tie as tie
 
 abbrev Inv-loop : tie.InvT-loop
-Inv-loop table₀ index₀ code table index = ((two : 2 ≤ code) (small : code < 258) → Thinning code two small table₀ table index) × (length table ≡ length table₀) × (length index ≡ length index₀)
+Inv-loop table₀ index₀ code table index = ((two : 2 ≤ code) (small : code < last-code + 1) → Thinning code two small table₀ table index) × (length table ≡ length table₀) × (length index ≡ length index₀)
 
 abbrev μ-loop : tie.MeasureT-loop
 μ-loop table₀ index₀ code table index = length (listed code table)

@@ -2,19 +2,20 @@
 -- Assumes nothing.
 use borrow.Author.Needs.{needs}
 use native.Mathlib.Omega.{arith}
-use Prim.Native.Nat.{ℕ, _-_, _≤_, _<_}
+use Prim.Native.Nat.{ℕ, _+_, _-_, _≤_, _<_}
 use mathlib.Core.Path.{_≡_, _∙_, ap}
 use lib.ListN.{getD, drop}
+use Rattle.formula.specs.Formula.{max-unknowns}
 use Rattle.trimming_marks.specs.Marks.{first-clause, unit}
 use Rattle.trimming.proofs.FirstLaws.{unit-found, unit-nowhere, none-before}
 use Rattle.trimming.proofs.lowest_unit.Statement.{statement}
 use Rattle.trimming.proofs.lowest_unit.Tie as tie
 
 abbrev Inv-loop : tie.InvT-loop
-Inv-loop kinds table firsts name₀ name = (0 < name) × (name ≤ 129) × ((w : ℕ) → 0 < w → w < name → getD firsts w 0 ≡ 65535)
+Inv-loop kinds table firsts name₀ name = (0 < name) × (name ≤ max-unknowns + 1) × ((w : ℕ) → 0 < w → w < name → getD firsts w 0 ≡ 65535)
 
 abbrev μ-loop : tie.MeasureT-loop
-μ-loop kinds table firsts name₀ name = 129 - name
+μ-loop kinds table firsts name₀ name = (max-unknowns + 1) - name
 
 loop-holds : tie.Need-loop-holds Inv-loop μ-loop
 loop-holds c = (omega arith, omega arith, λ w a b. absurd (omega arith))

@@ -6,6 +6,8 @@ use Prim.Native.Nat.{ℕ, _+_, _-_, _≤_, _<_}
 use mathlib.Core.Path.{_≡_, sym, _∙_, ap, ap₂, subst}
 use mathlib.Core.List.{List, []}
 use lib.ListN.{length, getD, take, drop}
+use Rattle.formula.specs.Formula.{max-unknowns}
+use Rattle.codes.specs.Codes.{last-code}
 use Rattle.trimming_marks.specs.Marks.{first-clause, unit}
 use Rattle.trimming.specs.Table.{Units, noted-unit}
 use Rattle.trimming.proofs.LoopLaws.{next-name, no-names, named-stands}
@@ -14,7 +16,7 @@ use Rattle.trimming.proofs.note_units.Statement.{statement}
 use Rattle.trimming.proofs.note_units.Tie as tie
 
 abbrev Inv-loop : tie.InvT-loop
-Inv-loop kinds table names count firsts₀ i₀ firsts i = Units kinds firsts (drop i (take count names)) [] 0 table × (length firsts ≡ 129) × (i ≤ count)
+Inv-loop kinds table names count firsts₀ i₀ firsts i = Units kinds firsts (drop i (take count names)) [] 0 table × (length firsts ≡ max-unknowns + 1) × (i ≤ count)
 
 abbrev μ-loop : tie.MeasureT-loop
 μ-loop kinds table names count firsts₀ i₀ firsts i = count - i
@@ -34,7 +36,7 @@ add-i c = omega arith
 note-unit-requires : tie.Need-note-unit-requires Inv-loop μ-loop
 note-unit-requires c κs =
     let s = named-stands ((c .before .before .before .before .before .before .before .before .before .pre .0)) ((c .before .before .before .before .before .before .before .before .before .pre .1)) ((c .before .before .before .before .before .before .before .before .before .args .names .now)) ((c .before .before .before .before .before .before .before .before .before .args .count)) ((c .before .before .before .before .before .loop .i)) ((c .before .before .before .before .loop-test .taken)) (omega (arith, (c .before .before .before .before .before .before .before .before .before .pre .5), (c .before .before .before .before .before .before .before .before .before .pre .6))) ((c .before .before .before .before .before .before .before .before .before .pre .2)) in
-    (subst (λ (n : ℕ). n < 258) (sym ((c .before .unit .ensures) ∙ ap (λ (n : ℕ). unit ((c .before .before .before .before .before .before .before .before .before .args .kinds .now)) (first-clause (drop n ((c .before .before .before .before .before .before .before .before .before .args .table .now))))) ((c .before .before .wide .ensures)))) (code-small ((c .before .before .before .before .before .before .before .before .before .args .kinds .now)) ((c .before .before .before .before .before .before .before .before .before .pre .0)) s), omega (arith, s .inside, (c .before .before .wide .ensures), (c .before .before .before .before .before .before .before .before .before .pre .1)), (c .before .before .before .before .before .loop .inv .1))
+    (subst (λ (n : ℕ). n < last-code + 1) (sym ((c .before .unit .ensures) ∙ ap (λ (n : ℕ). unit ((c .before .before .before .before .before .before .before .before .before .args .kinds .now)) (first-clause (drop n ((c .before .before .before .before .before .before .before .before .before .args .table .now))))) ((c .before .before .wide .ensures)))) (code-small ((c .before .before .before .before .before .before .before .before .before .args .kinds .now)) ((c .before .before .before .before .before .before .before .before .before .pre .0)) s), omega (arith, s .inside, (c .before .before .wide .ensures), (c .before .before .before .before .before .before .before .before .before .pre .1)), (c .before .before .before .before .before .loop .inv .1))
 
 loop-less : tie.Need-loop-less Inv-loop μ-loop
 loop-less c = omega arith

@@ -5,7 +5,7 @@ use Prim.Native.Nat.{ℕ, _+_, _/_, _≤_}
 use mathlib.Core.Path.{_≡_, refl, sym, _∙_, ap, subst}
 use mathlib.Core.List.{List}
 use lib.ListN.{length, take, length-set, length-replicate}
-use Rattle.formula.specs.Formula.{max-entries, prefix}
+use Rattle.formula.specs.Formula.{max-unknowns, max-entries, prefix}
 use Rattle.trimming.specs.Table.{Pending, Units}
 use Rattle.trimming.proofs.LoopLaws.{list-bounds, list-saved, pending-begins, pending-again, standing-still}
 use Rattle.trimming.proofs.CodeLaws.{opposite-bounds}
@@ -17,7 +17,7 @@ use Rattle.trimming.proofs.settle.Tie as tie
 abbrev Inv-loop : tie.InvT-loop
 Inv-loop kinds table₀ index₀ names₀ firsts₀ rounds₀ count₀ table index names firsts rounds count =
     Settling (prefix kinds) (length table₀ + 1) table₀ table rounds × Pending kinds (take count names) table index × (count ≤ max-entries) × (length names ≡ max-entries) × (length index ≡ length index₀)
-    × Units kinds firsts (take count names) (take count names) 0 table × (length firsts ≡ 129)
+    × Units kinds firsts (take count names) (take count names) 0 table × (length firsts ≡ max-unknowns + 1)
 
 abbrev μ-loop : tie.MeasureT-loop
 μ-loop kinds table₀ index₀ names₀ firsts₀ rounds₀ count₀ table index names firsts rounds count = rounds
@@ -33,7 +33,7 @@ save-requires c κs =
 loop-holds : tie.Need-loop-holds Inv-loop μ-loop
 loop-holds c =
     let s = list-saved ((c .before .before .before .before .before .before .before .before .before .args .table .now)) ((c .before .before .before .before .before .before .before .before .before .pre .3)) ((c .before .before .before .before .before .before .before .before .before .pre .1)) 1 (omega arith) ((c .before .before .save .last .1 .1 .0)) ((c .before .before .save .result)) ((c .before .before .save .kept .1 .1 .0) ∙ (c .before .before .before .before .before .before .before .before .before .pre .4)) ((c .before .before .save .ensures)) in
-    (settling-begins (prefix ((c .before .before .before .before .before .before .before .before .before .args .kinds .now))) (length ((c .before .before .before .before .before .before .before .before .before .args .table .now)) + 1) ((c .before .before .before .before .before .before .before .before .before .args .table .now)) ((c .before .before .before .before .before .before .before .before .before .pre .0)), pending-begins ((c .before .before .before .before .before .before .before .before .before .args .kinds .now)) ((c .before .before .before .before .before .before .before .before .before .pre .0)) ((c .before .before .before .before .before .before .before .before .before .pre .3)) ((c .before .before .before .before .before .before .before .before .before .pre .1)) (take ((c .before .before .save .result)) ((c .before .before .save .last .1 .1 .0))) (s .0), s .1, (c .before .before .save .kept .1 .1 .0) ∙ (c .before .before .before .before .before .before .before .before .before .pre .4), refl, units-begin ((c .before .before .before .before .before .before .before .before .before .args .kinds .now)) ((c .before .before .before .before .before .before .before .before .before .args .firsts .now)) (none-noted ((c .before .before .before .before .before .before .before .before .before .args .firsts .now)) ((c .before .before .before .before .before .before .before .before .before .pre .5))) ((c .before .before .before .before .before .before .before .before .before .pre .0)) (take ((c .before .before .save .result)) ((c .before .before .save .last .1 .1 .0))) (s .0), ap length ((c .before .before .before .before .before .before .before .before .before .pre .5)) ∙ length-replicate {A = ℕ} 129 65535)
+    (settling-begins (prefix ((c .before .before .before .before .before .before .before .before .before .args .kinds .now))) (length ((c .before .before .before .before .before .before .before .before .before .args .table .now)) + 1) ((c .before .before .before .before .before .before .before .before .before .args .table .now)) ((c .before .before .before .before .before .before .before .before .before .pre .0)), pending-begins ((c .before .before .before .before .before .before .before .before .before .args .kinds .now)) ((c .before .before .before .before .before .before .before .before .before .pre .0)) ((c .before .before .before .before .before .before .before .before .before .pre .3)) ((c .before .before .before .before .before .before .before .before .before .pre .1)) (take ((c .before .before .save .result)) ((c .before .before .save .last .1 .1 .0))) (s .0), s .1, (c .before .before .save .kept .1 .1 .0) ∙ (c .before .before .before .before .before .before .before .before .before .pre .4), refl, units-begin ((c .before .before .before .before .before .before .before .before .before .args .kinds .now)) ((c .before .before .before .before .before .before .before .before .before .args .firsts .now)) (none-noted ((c .before .before .before .before .before .before .before .before .before .args .firsts .now)) ((c .before .before .before .before .before .before .before .before .before .pre .5))) ((c .before .before .before .before .before .before .before .before .before .pre .0)) (take ((c .before .before .save .result)) ((c .before .before .save .last .1 .1 .0))) (s .0), ap length ((c .before .before .before .before .before .before .before .before .before .pre .5)) ∙ length-replicate {A = ℕ} (max-unknowns + 1) 65535)
 
 reduce-requires : tie.Need-reduce-requires Inv-loop μ-loop
 reduce-requires c κs = ((c .before .before .before .before .loop .inv .1), (c .before .before .before .before .loop .inv .2), (c .before .before .before .before .loop .inv .3))

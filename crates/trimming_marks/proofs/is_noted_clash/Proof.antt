@@ -3,9 +3,10 @@
 use native.Mathlib.Omega.{arith}
 use borrow.Author.Needs.{needs}
 use borrow.Author.Tests.{lt-ltb, le-ltb}
-use Prim.Native.Nat.{ℕ}
+use Prim.Native.Nat.{ℕ, _+_}
 use mathlib.Core.Path.{ap}
 use lib.ListN.{getD}
+use Rattle.codes.specs.Codes.{last-code}
 use Rattle.trimming_marks.specs.Marks.{noted-clash}
 use Rattle.codes.proofs.ReadLaws.{opposite-below}
 use Rattle.trimming_marks.proofs.is_noted_clash.Statement.{statement}
@@ -19,11 +20,11 @@ element-copy-out-result c = let o = opposite-below (c .before .before .args .x) 
 
 returns : tie.Need-returns
 unfolding noted-clash
-returns c = rw (lt-ltb (c .before .before .before .args .x) 258 (omega arith), ap (λ (k : ℕ). getD (c .before .before .before .args .seen .now) k 0) (c .before .opposite .ensures))
+returns c = rw (lt-ltb (c .before .before .before .args .x) (last-code + 1) (omega arith), ap (λ (k : ℕ). getD (c .before .before .before .args .seen .now) k 0) (c .before .opposite .ensures))
 
 returns-2 : tie.Need-returns-2
 unfolding noted-clash
-returns-2 c = rw (le-ltb (c .before .args .x) 258 (omega arith))
+returns-2 c = rw (le-ltb (c .before .args .x) (last-code + 1) (omega arith))
 
 pub is-noted-clash-spec : {M : Type 1} → statement M
 is-noted-clash-spec =

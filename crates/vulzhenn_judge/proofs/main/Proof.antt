@@ -1,15 +1,16 @@
 -- `main` hands on what fits: `print` says how many bytes of the buffer it wrote. No answer is searched for, since a search would write out the two million
 -- zeros of the file's buffer. Assumes nothing.
-use Prim.Native.Nat.{ℕ}
+use Prim.Native.Nat.{ℕ, _+_}
 use mathlib.Core.Path.{sym}
 use lib.ListN.{length-replicate}
 use lib.Seq.{length-take-le}
+use Rattle.text.specs.Reading.{max-bytes}
 use Rattle.report.proofs.Lengths.{within}
 use Rattle.vulzhenn_judge.proofs.main.Statement.{statement}
 use Rattle.vulzhenn_judge.proofs.main.Tie as tie
 
 slice-aggregate-read-full : tie.Need-slice-aggregate-read-full
-slice-aggregate-read-full c = sym (length-replicate {A = ℕ} 65537 0)
+slice-aggregate-read-full c = sym (length-replicate {A = ℕ} (max-bytes + 1) 0)
 
 read-full-requires : tie.Need-read-full-requires
 read-full-requires c κs = tt
