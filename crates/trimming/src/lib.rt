@@ -5,6 +5,7 @@
 // What one clause tells and loses belongs to `trimming_marks`.
 use formula::Check;
 use formula::Formula;
+use trimming_marks::CODES;
 ghost use mathlib.Core.Path.{_≡_};
 ghost use Prim.Native.Nat.{ℕ, zero, _+_, _≤_, _<_};
 ghost use mathlib.Core.List.{List, [], _∷_, _++_, map};
@@ -37,6 +38,9 @@ const DROPPED: u16 = 512;
 
 // No clause.
 const NONE: u16 = 65_535;
+
+// An entry for each name, and for 0.
+const NAMES: usize = Formula::UNKNOWNS + 1;
 
 // Trims the literals into the output table.
 pub fn trim(kinds: &[u8], literals: &[i32], output: &mut [i32]) -> Trimmed
@@ -86,7 +90,7 @@ fn with_index(kinds: &[u8], table: &mut [u16], index: &mut [u16])
     index::fill(table, index);
     drop_true(table, index);
     let mut names = [0u16; Formula::ENTRIES];
-    let mut firsts = [NONE; 129];
+    let mut firsts = [NONE; NAMES];
     settle(kinds, table, index, &mut names, &mut firsts);
 }
 
@@ -106,13 +110,13 @@ fn drop_entries(table: &mut [u16], index: &mut [u16], start: usize, low: u16) ->
     ensures { λ _. ⌜ (now (table .exit) ≡ marked-at low 511 start (now (table .entry))) × Indexed (now (table .exit)) (now (index .exit)) ⌝ }
     ensures { λ r. ⌜ r + 1 ≡ start + first-length (drop start (now (table .exit))) ⌝ }
 {
-    let mut counts = [0u16; 258];
+    let mut counts = [0u16; CODES];
     count(table, start, &mut counts);
     drop_each(table, index, &mut counts, start, low)
 }
 
 // How often each code stands in the clause.
-fn count(table: &[u16], start: usize, counts: &mut [u16; 258])
+fn count(table: &[u16], start: usize, counts: &mut [u16; CODES])
     requires { ⌜ (length (now table) ≤ max-entries) × (now counts ≡ replicate (last-code + 1) 0) ⌝ }
     ensures { λ _. ⌜ (length (now (counts .exit)) ≡ last-code + 1) × ((y : ℕ) → y < last-code + 1 → getD (now (counts .exit)) y 0 ≡ times y (first-clause (drop start (now (table .entry))))) ⌝ }
 {
@@ -130,7 +134,7 @@ fn count(table: &[u16], start: usize, counts: &mut [u16; 258])
 fn drop_each(
     table: &mut [u16],
     index: &mut [u16],
-    counts: &mut [u16; 258],
+    counts: &mut [u16; CODES],
     start: usize,
     low: u16,
 ) -> usize
@@ -150,7 +154,7 @@ fn drop_each(
 fn drop_entry(
     table: &mut [u16],
     index: &mut [u16],
-    counts: &mut [u16; 258],
+    counts: &mut [u16; CODES],
     start: usize,
     at: usize,
     low: u16,
@@ -171,7 +175,7 @@ fn drop_entry(
 }
 
 // A code stands once less in the clause: it is taken out of the code's list with the last.
-fn forget(index: &mut [u16], counts: &mut [u16; 258], start: usize, x: u16)
+fn forget(index: &mut [u16], counts: &mut [u16; CODES], start: usize, x: u16)
     requires { ⌜ (x < last-code + 1) × (0 < getD (now counts) x 0) ⌝ }
     ensures { λ _. ⌜ now (index .exit) ≡ cond (eqb (getD (now (counts .entry)) x 0) 1) (removed (now (index .entry)) x start) (now (index .entry)) ⌝ }
     ensures { λ _. ⌜ now (counts .exit) ≡ set (now (counts .entry)) x (getD (now (counts .entry)) x 0 - 1) ⌝ }
@@ -183,12 +187,12 @@ fn forget(index: &mut [u16], counts: &mut [u16; 258], start: usize, x: u16)
     }
 }
 
-fn count_one(counts: &mut [u16; 258], x: u16)
+fn count_one(counts: &mut [u16; CODES], x: u16)
     requires { ⌜ (length (now counts) ≡ last-code + 1) × ((y : ℕ) → getD (now counts) y 0 < max-entries) ⌝ }
     ensures { λ _. ⌜ (length (now (counts .exit)) ≡ last-code + 1) × ((y : ℕ) → y < last-code + 1 → getD (now (counts .exit)) y 0 ≡ getD (now (counts .entry)) y 0 + times y (x ∷ [])) ⌝ }
 {
     let code = x as usize;
-    if code < 258 {
+    if code < CODES {
         counts[code] += 1;
     }
 }
@@ -236,7 +240,7 @@ fn settle(
     table: &mut [u16],
     index: &mut [u16],
     names: &mut [u16],
-    firsts: &mut [u16; 129],
+    firsts: &mut [u16; NAMES],
 )
     requires { ⌜ Laid (now table) × Indexed (now table) (now index) × (length (now kinds) ≤ max-unknowns) × (length (now table) ≤ max-entries) × (length (now names) ≡ max-entries) × (now firsts ≡ replicate (max-unknowns + 1) 65535) ⌝ }
     ensures { λ _. ⌜ Passed (rounds (length (now (table .entry)) + 1) (prefix (now (kinds .entry)))) (now (table .entry)) (now (table .exit)) × Indexed (now (table .exit)) (now (index .exit)) ⌝ }
@@ -308,7 +312,7 @@ fn is_left_from(x: u16, low: u16) -> bool
 }
 
 // The code whose literal rule 3 or rule 4 makes true, or 0. A universal unknown in one sign loses its literal: the opposite one is made true.
-fn next(kinds: &[u8], table: &[u16], index: &[u16], firsts: &[u16; 129]) -> u16
+fn next(kinds: &[u8], table: &[u16], index: &[u16], firsts: &[u16; NAMES]) -> u16
     requires { ⌜ Laid (now table) × Indexed (now table) (now index) × (length (now table) ≤ max-entries) × (length (now kinds) ≤ max-unknowns) × Units (now kinds) (now firsts) [] [] 0 (now table) ⌝ }
     ensures { λ r. ⌜ Next (prefix (now (kinds .entry))) (clauses-left (now (table .entry))) r ⌝ }
 {
@@ -326,12 +330,12 @@ fn next(kinds: &[u8], table: &[u16], index: &[u16], firsts: &[u16; 129]) -> u16
     pure
 }
 
-fn lowest_unit(kinds: &[u8], table: &[u16], firsts: &[u16; 129]) -> u16
+fn lowest_unit(kinds: &[u8], table: &[u16], firsts: &[u16; NAMES]) -> u16
     requires { ⌜ Units (now kinds) (now firsts) [] [] 0 (now table) × (length (now table) ≤ max-entries) ⌝ }
     ensures { λ r. ⌜ Picked (lowest-unit (prefix (now (kinds .entry))) (clauses-left (now (table .entry)))) r ⌝ }
 {
     let mut name: usize = 1;
-    while name < 129 {
+    while name < NAMES {
         let first = firsts[name];
         if first != NONE {
             return trimming_marks::unit(kinds, table, wide(first));
@@ -342,7 +346,7 @@ fn lowest_unit(kinds: &[u8], table: &[u16], firsts: &[u16; 129]) -> u16
 }
 
 // Notes the clauses of one entry among those that are named.
-fn note_units(kinds: &[u8], table: &[u16], names: &[u16], count: usize, firsts: &mut [u16; 129])
+fn note_units(kinds: &[u8], table: &[u16], names: &[u16], count: usize, firsts: &mut [u16; NAMES])
     requires { ⌜ Laid (now table) × (length (now table) ≤ max-entries) × Every (λ s. In s (listed 1 (now table))) (take count (now names)) × Units (now kinds) (now firsts) (take count (now names)) [] 0 (now table) × (length (now firsts) ≡ max-unknowns + 1) × (count ≤ max-entries) × (length (now names) ≡ max-entries) ⌝ }
     ensures { λ _. ⌜ Units (now (kinds .entry)) (now (firsts .exit)) [] [] 0 (now (table .entry)) × (length (now (firsts .exit)) ≡ max-unknowns + 1) ⌝ }
 {
@@ -355,7 +359,7 @@ fn note_units(kinds: &[u8], table: &[u16], names: &[u16], count: usize, firsts: 
     }
 }
 
-fn note_unit(firsts: &mut [u16; 129], code: u16, start: usize)
+fn note_unit(firsts: &mut [u16; NAMES], code: u16, start: usize)
     requires { ⌜ (code < last-code + 1) × (start < max-entries) × (length (now firsts) ≡ max-unknowns + 1) ⌝ }
     ensures { λ _. ⌜ now (firsts .exit) ≡ noted-unit code start (now (firsts .entry)) ⌝ }
 {
@@ -369,7 +373,7 @@ fn note_unit(firsts: &mut [u16; 129], code: u16, start: usize)
 }
 
 // The unknown of a code is in no clause any more.
-fn forget_unit(firsts: &mut [u16; 129], code: u16)
+fn forget_unit(firsts: &mut [u16; NAMES], code: u16)
     requires { ⌜ code < last-code + 1 ⌝ }
     ensures { λ _. ⌜ now (firsts .exit) ≡ set (now (firsts .entry)) (code / 2) 65535 ⌝ }
 {

@@ -10,8 +10,11 @@ ghost use Rattle.formula.specs.Causes.{any};
 ghost use Rattle.codes.specs.Codes.{last-code, opposite as code-opposite, has as has-code};
 ghost use Rattle.trimming_marks.specs.Marks.{ends, first-clause, first-length, is-universal as universal-code, marked as marked-entry, mark-clause, always-true, reducible-from, raised as raised-by, only as only-left, unit as unit-code, noted-one, noted, noted-clash};
 
-// A byte for each code, and for those below the first.
-pub type Seen = [u8; LAST_CODE + 1];
+// How many codes there are, with 0 and 1.
+pub const CODES: usize = LAST_CODE + 1;
+
+// A byte for each of them.
+pub type Seen = [u8; CODES];
 
 // The place behind the clause that begins at `start`.
 pub fn past(table: &[u16], start: usize) -> usize
@@ -68,7 +71,7 @@ pub fn has(table: &[u16], start: usize, code: u16) -> bool
 pub fn is_always_true(table: &[u16], start: usize) -> bool
     ensures { λ r. ⌜ r ≡ always-true (first-clause (drop start (now (table .entry)))) ⌝ }
 {
-    let mut seen = [0u8; 258];
+    let mut seen = [0u8; CODES];
     note(table, start, &mut seen);
     has_clash(table, start, &seen)
 }
@@ -92,7 +95,7 @@ fn note_one(seen: &mut Seen, x: u16)
     ensures { λ _. ⌜ now (seen .exit) ≡ noted-one (now (seen .entry)) x ⌝ }
 {
     let code = x as usize;
-    if code < 258 {
+    if code < CODES {
         seen[code] = 1;
     }
 }
@@ -118,7 +121,7 @@ fn is_noted_clash(seen: &Seen, x: u16) -> bool
     ensures { λ r. ⌜ r ≡ noted-clash (now (seen .entry)) x ⌝ }
 {
     let code = x as usize;
-    if code < 258 {
+    if code < CODES {
         seen[opposite(code)] == 1
     } else {
         false

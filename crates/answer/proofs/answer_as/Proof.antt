@@ -3,6 +3,7 @@ use Prim.Native.Nat.{ℕ}
 use mathlib.Core.Path.{refl}
 use lib.ListN.{length-replicate}
 use borrow.Author.Needs.{needs}
+use Rattle.formula.specs.Formula.{work-size}
 use Rattle.answer.proofs.WithinLaws.{puts-as, reading-usable, lines-printed}
 use Rattle.answer.proofs.answer_as.Statement.{statement}
 use Rattle.answer.proofs.answer_as.Tie as tie
@@ -29,7 +30,7 @@ slice-aggregate-put-lines-3 : tie.Need-slice-aggregate-put-lines-3
 slice-aggregate-put-lines-3 c = search needs
 
 put-lines-requires : tie.Need-put-lines-requires
-put-lines-requires c κs = (reading-usable (c .before .before .before .before .before .before .before .before .before .before .before .before .before .args .gates) (c .before .before .before .before .before .before .before .before .before .before .before .before .before .args .text .now) (c .before .before .before .before .before .before .before .read-as .ensures), length-replicate {A = ℕ} 65536 0)
+put-lines-requires c κs = (reading-usable (c .before .before .before .before .before .before .before .before .before .before .before .before .before .args .gates) (c .before .before .before .before .before .before .before .before .before .before .before .before .before .args .text .now) (c .before .before .before .before .before .before .before .read-as .ensures), length-replicate {A = ℕ} work-size 0)
 
 same-length : tie.Need-same-length
 same-length c = search needs

@@ -2,6 +2,7 @@
 use mathlib.Core.Path.{refl, sym}
 use lib.Seq.{length-take-le}
 use borrow.Author.Needs.{needs}
+use Rattle.formula.specs.Formula.{work-size}
 use Rattle.answer.proofs.WithinLaws.{reading-usable, short-puts, within-puts}
 use Rattle.answer.proofs.within_as.Statement.{statement}
 use Rattle.answer.proofs.within_as.Tie as tie
@@ -40,10 +41,10 @@ slice-relend-prefix-put-lines : tie.Need-slice-relend-prefix-put-lines
 slice-relend-prefix-put-lines c = c .before .before .before .before .before .before .before .before .before .before .before .if1 .left
 
 slice-aggregate-put-lines-3 : tie.Need-slice-aggregate-put-lines-3
-slice-aggregate-put-lines-3 c = sym (length-take-le 65536 (c .before .before .before .before .before .before .before .before .before .before .before .before .before .before .before .args .area .now) (c .before .before .before .before .before .before .before .before .before .before .before .before .if1 .left))
+slice-aggregate-put-lines-3 c = sym (length-take-le work-size (c .before .before .before .before .before .before .before .before .before .before .before .before .before .before .before .args .area .now) (c .before .before .before .before .before .before .before .before .before .before .before .before .if1 .left))
 
 put-lines-requires : tie.Need-put-lines-requires
-put-lines-requires c κs = (reading-usable (c .before .before .before .before .before .before .before .before .before .before .before .before .before .before .before .before .args .gates) _ (c .before .before .before .before .before .before .before .read-as .ensures), length-take-le 65536 (c .before .before .before .before .before .before .before .before .before .before .before .before .before .before .before .before .args .area .now) (c .before .before .before .before .before .before .before .before .before .before .before .before .before .if1 .left))
+put-lines-requires c κs = (reading-usable (c .before .before .before .before .before .before .before .before .before .before .before .before .before .before .before .before .args .gates) _ (c .before .before .before .before .before .before .before .read-as .ensures), length-take-le work-size (c .before .before .before .before .before .before .before .before .before .before .before .before .before .before .before .before .args .area .now) (c .before .before .before .before .before .before .before .before .before .before .before .before .before .if1 .left))
 
 same-length : tie.Need-same-length
 same-length c = search needs
