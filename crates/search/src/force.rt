@@ -26,6 +26,9 @@ use formula::Formula;
 // The code under which the index lists every clause.
 const ANY: usize = 1;
 
+// The cells of the table: no more positions with changes are visited at a level.
+const CELLS: usize = Formula::ROWS * Formula::UNKNOWNS;
+
 // Looks in every row at the clauses that the row may make unit or false, and at what follows. False: there is no model, and CUT says by which
 // decisions.
 pub(crate) fn survey(
@@ -171,7 +174,7 @@ fn settle(
     requires { ⌜ hi ≤ length (now splits) ⌝ }
     ensures { λ r. ⌜ (Indexed 0 (now (codes .entry)) (now (index .entry)) → Settles 0 (now (splits .entry)) (now (codes .entry)) lo hi mark (now (work .entry)) (now (work .exit)) (now (sets .entry)) (now (sets .exit)) r) ⌝ }
 {
-    let mut left = 32_768usize;
+    let mut left = CELLS;
     while left > 0 {
         let k = hints::take_lowest(sets, CHANGED);
         if k < CUT {} else {

@@ -49,6 +49,9 @@ const DECISIONS: usize = WAITING + 1;
 
 const DEPTH: usize = DECISIONS + Formula::UNKNOWNS;
 
+// There are so many levels, as a number of that table.
+const LEVELS: u64 = Formula::UNKNOWNS as u64;
+
 // The code under which the index lists every clause.
 const ANY: usize = 1;
 
@@ -663,7 +666,7 @@ fn turn(
     requires { ⌜ (length (now index) ≡ index-size) × (length (now work) ≡ work-size) × (length (now line) ≡ max-unknowns) × (length (now own) ≡ sets-size) × (i < max-rows) × (p < max-unknowns) ⌝ }
     ensures { λ r. ⌜ StepsOn (now (codes .entry)) (now (work .entry)) i (now (line .entry)) (now (line .exit)) (now (own .entry)) (now (own .exit)) false r ⌝ }
 {
-    let mark = (own[DEPTH] % 128) as u16 + 1;
+    let mark = (own[DEPTH] % LEVELS) as u16 + 1;
     open_above(line, mark);
     inherit(own, p);
     set(line, p, mark, !value(work, i, p));
