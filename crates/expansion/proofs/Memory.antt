@@ -12,7 +12,8 @@ use mathlib.Core.Option.{some}
 use lib.Dec.{eqb}
 use lib.ListN.{length, getD, length-map}
 use borrow.Author.Tests.{eqb-true, eq-eqb}
-use Rattle.formula.specs.Formula.{Kind, Clause}
+use Rattle.formula.specs.Formula.{Kind, existential, universal, Clause}
+use Rattle.formula.specs.Causes.{count}
 use Rattle.formula.specs.Meaning.{matrix}
 use Rattle.expansion.specs.Side.{flags, goal}
 use Rattle.expansion.specs.Play.{Row, Strategy, later-values, restriction, play, part, yield}
@@ -43,7 +44,7 @@ more-led prefer ts psi rows more known within led σ w =
 -- ---- the first own block: no other unknown stands before it, so the restrictions are empty there
 
 -- All positions up to k are own.
-abbrev InBlock : List Bool → ℕ → Type 0
+abbrev pub InBlock : List Bool → ℕ → Type 0
 InBlock ts k = (j : ℕ) → j ≤ k → Own ts j
 
 nothing-restricted : (ts : List Bool) (k : ℕ) (row : Row) → ((j : ℕ) → j < k → Own ts j) → restriction ts k row ≡ []
@@ -106,6 +107,16 @@ module _ (ts : List Bool) where
   unfolding copies
   number-in-block [] some-row k own = absurd (omega arith)
   number-in-block (row ∷ rows) some-row k own = number-from ts row rows ts zero k k (zero-add k) own own
+
+-- So many unknowns are the side's.
+pub counted-in-block : (side : Kind) (ks : List Kind) (k : ℕ) → InBlock (flags side ks) k → k < count side ks
+counted-in-block side [] k own = absurd (false≢true (own k (omega arith)))
+counted-in-block existential (existential ∷ ks) zero own = omega arith
+counted-in-block existential (existential ∷ ks) (suc k) own = let later = counted-in-block existential ks k (λ j l. own (suc j) (omega arith)) in omega arith
+counted-in-block existential (universal ∷ ks) k own = absurd (false≢true (own zero (omega arith)))
+counted-in-block universal (existential ∷ ks) k own = absurd (false≢true (own zero (omega arith)))
+counted-in-block universal (universal ∷ ks) zero own = omega arith
+counted-in-block universal (universal ∷ ks) (suc k) own = let later = counted-in-block universal ks k (λ j l. own (suc j) (omega arith)) in omega arith
 
 -- ---- what a search has yielded
 

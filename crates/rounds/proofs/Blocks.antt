@@ -1,13 +1,13 @@
 -- The first block of a prefix: a side that has no model over some rows, and has one over those of them that begin otherwise than vs, does not
 -- reach what it wants where the block is set to vs. Assumes nothing.
-use Prim.Native.Nat.{ℕ, zero, suc, _≤_, _<_}
+use Prim.Native.Nat.{ℕ, zero, suc, _≤_}
 use native.Mathlib.Omega.{arith}
 use mathlib.Core.Path.{_≡_, refl, sym, ap, subst, _∙_}
 use mathlib.Core.Bool.{Bool, true, false, _&&_, Bool·beq, and-eq-true-iff, false≢true}
 use mathlib.Core.List.{List, [], _∷_, _++_}
 use mathlib.Core.Logic.{inl, inr}
 use mathlib.Core.Option.{none}
-use lib.ListN.{length, getD, take, drop}
+use lib.ListN.{length, take, drop}
 use Rattle.formula.specs.Formula.{Kind, existential, universal}
 use Rattle.formula.specs.Causes.{count}
 use Rattle.formula.specs.Meaning.{after}
@@ -163,16 +163,6 @@ block-at-most existential (existential ∷ ks) = let later = block-at-most exist
 block-at-most existential (universal ∷ ks) = omega arith
 block-at-most universal (existential ∷ ks) = omega arith
 block-at-most universal (universal ∷ ks) = let later = block-at-most universal ks in omega arith
-
--- With none of the other side's up to it, position k is that of an unknown of the side's.
-pub counted-in-block : (side : Kind) (ks : List Kind) (k : ℕ) → ((j : ℕ) → j ≤ k → getD (flags side ks) j false ≡ true) → k < count side ks
-counted-in-block side [] k own = absurd (false≢true (own k (omega arith)))
-counted-in-block existential (existential ∷ ks) zero own = omega arith
-counted-in-block existential (existential ∷ ks) (suc k) own = let later = counted-in-block existential ks k (λ j l. own (suc j) (omega arith)) in omega arith
-counted-in-block existential (universal ∷ ks) k own = absurd (false≢true (own zero (omega arith)))
-counted-in-block universal (existential ∷ ks) k own = absurd (false≢true (own zero (omega arith)))
-counted-in-block universal (universal ∷ ks) zero own = omega arith
-counted-in-block universal (universal ∷ ks) (suc k) own = let later = counted-in-block universal ks k (λ j l. own (suc j) (omega arith)) in omega arith
 
 length-take : (m : ℕ) (row : Row) → m ≤ length row → length (take m row) ≡ m
 length-take zero row h = refl

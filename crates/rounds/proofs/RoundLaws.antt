@@ -20,11 +20,11 @@ use Rattle.expansion.proofs.Membership.{In}
 use Rattle.expansion.proofs.Verdict.{none-is-verdict}
 use Rattle.expansion.proofs.Progress.{Answers}
 use Rattle.expansion.proofs.Counting.{Sized}
-use Rattle.expansion.proofs.Memory.{more-led}
+use Rattle.expansion.proofs.Memory.{counted-in-block, more-led}
 use Rattle.rounds.specs.Run.{Entry, clears, kept, Table, rows, under-mark, Answer, is-false, is-true, spent, no-room-universal, no-room-existential, number, Outcome, outcome, grown, if-fits, Lent, start, step-1, step-2, step-3, step-4, round-of}
 use Rattle.rounds.specs.Claim.{table, no-room, Stands, NewRow}
 use Rattle.rounds.specs.Opening.{block, last-row, first-values, opening, set-to, Opens}
-use Rattle.rounds.proofs.Blocks.{begins, begins-take, block-before, counted-in-block, length-first-values, set-not-reached}
+use Rattle.rounds.proofs.Blocks.{begins, begins-take, block-before, length-first-values, set-not-reached}
 use Rattle.rounds.proofs.TableLaws.{Extends, extends-itself, extends-rows}
 use Rattle.rounds.proofs.GrowthLaws.{Held, Fitted, fitted, Growth, growth, room-below-all-rows}
 

@@ -3,7 +3,7 @@
 use Prim.Native.Nat.{ℕ, zero, suc, _+_, _-_, _≤_, _<_}
 use mathlib.Core.Path.{_≡_, refl, sym, _∙_, ap, ap₂, subst}
 use mathlib.Core.Logic.{_⊎_, inl, inr, _↔_, ⊎-elim}
-use mathlib.Core.Bool.{Bool, true, false, not, false≢true}
+use mathlib.Core.Bool.{Bool, true, false, not}
 use mathlib.Core.List.{List, [], _∷_}
 use mathlib.Core.Option.{none, some}
 use native.Mathlib.Omega.{arith}
@@ -12,7 +12,7 @@ use borrow.Author.Tests.{eq-eqb, ne-eqb}
 use lib.Dec.{eqb}
 use lib.IntN.{ℤ, pos, negsuc, natAbs}
 use lib.ListN.{length, getD, length-map}
-use Rattle.formula.specs.Formula.{Kind, existential, universal, kind-of, prefix, Clause, onto, clauses}
+use Rattle.formula.specs.Formula.{kind-of, prefix, Clause, onto, clauses}
 use Rattle.formula.specs.Meaning.{matrix}
 use Rattle.formula.specs.Causes.{count as unknowns}
 use Rattle.formula.proofs.Accepted.{Accepted}
@@ -29,7 +29,7 @@ use Rattle.expansion.proofs.Cuts.{Problem, Agree, Mask, Refuted}
 use Rattle.expansion.proofs.ClauseCuts.{Every, matrix-at}
 use Rattle.expansion.specs.Cells.{others-before, tabulate}
 use Rattle.expansion.proofs.Leading.{wanted}
-use Rattle.expansion.proofs.Memory.{model-led}
+use Rattle.expansion.proofs.Memory.{counted-in-block, model-led}
 use Rattle.expansion.proofs.Engine.{restriction-of-values, values-of-restriction, literal-at, goal-at, Names, Places, problem, problem-sound, refuted-is-none, won-is-first}
 use Rattle.search_cells.specs.Cells.{cells, wants, owned}
 use Rattle.search_cells.specs.Changes.{Filled, FirstDifference}
@@ -72,16 +72,6 @@ goal-of-codes : (side : ℕ) (literals : List ℤ) (codes : List ℕ) → ((f : 
 unfolding code-goal
 goal-of-codes zero literals codes h f = h f
 goal-of-codes (suc s) literals codes h f = ap not (h f)
-
--- As many unknowns as the prefix has from the start are the side's.
-own-counted : (side : Kind) (ks : List Kind) (k : ℕ) → ((j : ℕ) → j ≤ k → getD (flags side ks) j false ≡ true) → k < unknowns side ks
-own-counted side [] k h = absurd (false≢true (h 0 (omega arith)))
-own-counted existential (existential ∷ ks) zero h = omega arith
-own-counted existential (existential ∷ ks) (suc k) h = let later = own-counted existential ks k (λ j le. h (suc j) (omega arith)) in omega arith
-own-counted existential (universal ∷ ks) k h = absurd (false≢true (h 0 (omega arith)))
-own-counted universal (existential ∷ ks) k h = absurd (false≢true (h 0 (omega arith)))
-own-counted universal (universal ∷ ks) zero h = omega arith
-own-counted universal (universal ∷ ks) (suc k) h = let later = own-counted universal ks k (λ j le. h (suc j) (omega arith)) in omega arith
 
 -- ---- the problem of a search
 
@@ -273,7 +263,7 @@ module _ (kinds : List ℕ) (literals : List ℤ) (preferences rows place all sp
     known-value : (k : ℕ) → k < length memory → getD known-row k false ≡ said memory k
     unfolding problem
     known-value k lt =
-        getD-row-of (unknowns (side-kind side) (prefix kinds)) (row-at own-rows (known-rows - 1)) k (own-counted (side-kind side) (prefix kinds) k (own-up-to k lt))
+        getD-row-of (unknowns (side-kind side) (prefix kinds)) (row-at own-rows (known-rows - 1)) k (counted-in-block (side-kind side) (prefix kinds) k (own-up-to k lt))
         ∙ sym (reads .values k lt)
 
     remembered : Remembered P memory
