@@ -55,12 +55,6 @@ known-leads kinds literals preferences others n side? work from from-found t fou
     (sym (ap (λ (k : ℕ). row-of (count (side-of side?) (prefix kinds)) (row-at R (k - 1))) known-is ∙ last-row-read kinds literals passes (side-of side?) t found R held some-row))
     (led some-row))
 
--- Where a round drops all rows, none is known.
-pub kept-known : (kinds : List ℕ) (literals : List ℤ) (preferences others : List ℕ) (other-count : ℕ) (side? : Bool) (R : List ℕ) (n kept : ℕ) (b : Bool) → kept ≡ cond b 0 n
-    → KnownLeads kinds literals preferences R n others other-count side? → KnownLeads kinds literals preferences R kept others other-count side?
-kept-known kinds literals preferences others other-count side? R n kept true is led = λ some-known. absurd (omega arith)
-kept-known kinds literals preferences others other-count side? R n kept false is led = subst (λ (k : ℕ). KnownLeads kinds literals preferences R k others other-count side?) (sym is) led
-
 -- A side's step only adds to its table.
 half-extends : (place r : ℕ) (t : Table) (s : Option (List Row)) → ExtendsTable t (half-table t (half place r t s))
 half-extends place r t none = extends-itself t

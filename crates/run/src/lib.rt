@@ -607,7 +607,7 @@ fn extend_universal(
         rows,
         marks,
         kept,
-        kept,
+        count, // the last row leads, also where it is dropped
         mark,
         work,
     );

@@ -1,9 +1,6 @@
 -- `run::extend_universal` meets its contract. Assumes nothing.
 use mathlib.Core.Path.{_∙_}
-use mathlib.Core.Bool.{true}
-use Rattle.rounds.specs.Run.{clears}
 use Rattle.run.proofs.ClearingLaws.{universal-stopped, universal-grown}
-use Rattle.run.proofs.MemoryLaws.{kept-known}
 use Rattle.run.proofs.extend_universal.Statement.{statement}
 use Rattle.run.proofs.extend_universal.Tie as tie
 
@@ -26,8 +23,8 @@ returns : tie.Need-returns
 returns c =
     let q = c .before .before .before .before .before .before .before .before .before .before .before .before .before .before .before .before .before .before .before .before .before .args in (
       λ literals of led. universal-stopped (q .kinds .now) literals (q .preferences .now) (q .others .now) (q .other-count) (q .rows .now) (q .marks .now) (q .count) (q .clear-every) (q .round) (q .mark) (q .work .now)
-          (c .before .before .before .before .before .before .before .before .before .before .before .kept-rows .result) (c .before .before .before .before .before .before .before .before .before .before .before .kept-rows .ensures) (c .before .before .before .before .before .before .before .extend .result) _ _ _ (c .before .before .before .before .before .before .before .extend .ensures .0 literals of (kept-known (q .kinds .now) literals (q .preferences .now) (q .others .now) (q .other-count) true (q .rows .now) (q .count) (c .before .before .before .before .before .before .before .before .before .before .before .kept-rows .result) (clears (q .clear-every) (q .round)) (c .before .before .before .before .before .before .before .before .before .before .before .kept-rows .ensures) led)) (c .if1 .taken),
-      λ literals of led. c .before .before .before .before .before .before .before .extend .ensures .1 literals of (kept-known (q .kinds .now) literals (q .preferences .now) (q .others .now) (q .other-count) true (q .rows .now) (q .count) (c .before .before .before .before .before .before .before .before .before .before .before .kept-rows .result) (clears (q .clear-every) (q .round)) (c .before .before .before .before .before .before .before .before .before .before .before .kept-rows .ensures) led),
+          (c .before .before .before .before .before .before .before .before .before .before .before .kept-rows .result) (c .before .before .before .before .before .before .before .before .before .before .before .kept-rows .ensures) (c .before .before .before .before .before .before .before .extend .result) _ _ _ (c .before .before .before .before .before .before .before .extend .ensures .0 literals of led) (c .if1 .taken),
+      λ literals of led. c .before .before .before .before .before .before .before .extend .ensures .1 literals of led,
     )
 
 give-up-requires : tie.Need-give-up-requires
@@ -46,8 +43,8 @@ returns-2 : tie.Need-returns-2
 returns-2 c =
     let q = c .before .before .before .before .before .before .before .before .before .before .before .before .before .before .before .before .before .before .before .before .before .before .before .before .before .before .before .before .args in (
       λ literals of led. universal-grown (q .kinds .now) literals (q .preferences .now) (q .others .now) (q .other-count) (q .rows .now) (q .marks .now) (q .count) (q .clear-every) (q .round) (q .mark) (q .work .now)
-          (c .before .before .before .before .before .before .before .before .before .before .before .before .before .before .before .before .before .before .kept-rows .result) (c .before .before .before .before .before .before .before .before .before .before .before .before .before .before .before .before .before .before .kept-rows .ensures) (c .before .before .before .before .before .before .before .before .before .before .before .before .before .before .extend .result) _ _ _ (c .before .before .before .before .before .before .before .before .before .before .before .before .before .before .extend .ensures .0 literals of (kept-known (q .kinds .now) literals (q .preferences .now) (q .others .now) (q .other-count) true (q .rows .now) (q .count) (c .before .before .before .before .before .before .before .before .before .before .before .before .before .before .before .before .before .before .kept-rows .result) (clears (q .clear-every) (q .round)) (c .before .before .before .before .before .before .before .before .before .before .before .before .before .before .before .before .before .before .kept-rows .ensures) led)) (c .before .before .before .before .before .before .before .if1 .left) _ _ (c .before .before .before .before .give-up .ensures .0) (c .before .before .before .before .give-up .ensures .1),
-      λ literals of led. c .before .before .before .before .before .before .before .before .before .before .before .before .before .before .extend .ensures .1 literals of (kept-known (q .kinds .now) literals (q .preferences .now) (q .others .now) (q .other-count) true (q .rows .now) (q .count) (c .before .before .before .before .before .before .before .before .before .before .before .before .before .before .before .before .before .before .kept-rows .result) (clears (q .clear-every) (q .round)) (c .before .before .before .before .before .before .before .before .before .before .before .before .before .before .before .before .before .before .kept-rows .ensures) led),
+          (c .before .before .before .before .before .before .before .before .before .before .before .before .before .before .before .before .before .before .kept-rows .result) (c .before .before .before .before .before .before .before .before .before .before .before .before .before .before .before .before .before .before .kept-rows .ensures) (c .before .before .before .before .before .before .before .before .before .before .before .before .before .before .extend .result) _ _ _ (c .before .before .before .before .before .before .before .before .before .before .before .before .before .before .extend .ensures .0 literals of led) (c .before .before .before .before .before .before .before .if1 .left) _ _ (c .before .before .before .before .give-up .ensures .0) (c .before .before .before .before .give-up .ensures .1),
+      λ literals of led. c .before .before .before .before .before .before .before .before .before .before .before .before .before .before .extend .ensures .1 literals of led,
     )
 
 pub extend-universal-spec : {M : Type 1} → statement M
