@@ -2,7 +2,7 @@
 -- the first model, and a refutation that rests on nothing means that there is none. Assumes nothing.
 use Prim.Native.Nat.{ℕ, zero, suc, _≤_, _<_}
 use mathlib.Core.Path.{_≡_, refl, sym, _∙_, ap, subst}
-use mathlib.Core.Logic.{_⊎_, inl, inr, ⊎-elim}
+use mathlib.Core.Logic.{inl, inr, ⊎-elim}
 use mathlib.Core.Bool.{Bool, true, false, not, _&&_, false≢true}
 use mathlib.Core.List.{List, [], _∷_, map}
 use mathlib.Core.Option.{Option, none, some}
@@ -17,10 +17,10 @@ use Rattle.expansion.specs.Play.{Row, Strategy, restriction, play, part,
 use Rattle.expansion.specs.Model.{wins, yielded, search}
 use Rattle.expansion.proofs.CopyLaws.{Own}
 use Rattle.expansion.proofs.FirstModel.{none-if-no-strategy}
-use Rattle.expansion.specs.Cells.{Cells, others-before, tabulate}
-use Rattle.expansion.proofs.Leading.{wanted, Leading}
-use Rattle.expansion.proofs.LeadingPath.{first-at, later-at, play-at-own, play-at-other}
-use Rattle.expansion.proofs.LeadingFirst.{leading-is-first}
+use Rattle.expansion.specs.Cells.{Values, Cells, others-before, tabulate}
+use Rattle.expansion.proofs.Leading.{wanted, Playing, Leading}
+use Rattle.expansion.proofs.LeadingPath.{first-at, later-at, play-at-own, play-at-other, own-within}
+use Rattle.expansion.proofs.LeadingFirst.{played, play-of-played, played-wins, leading-is-first}
 use Rattle.expansion.proofs.Booleans.{true-or-false, never-both}
 use Rattle.expansion.proofs.Cuts.{Mask, Problem, Agree, Sound, Model, Refuted}
 use Rattle.expansion.proofs.Node.{Won}
@@ -191,23 +191,18 @@ module _ (prefer : ℕ → Bool) (side : Kind) (ks : List Kind) (cs : List Claus
       (none-if-no-strategy prefer (flags side ks) (goal side (matrix cs)) rows
       (λ σ. ⊎-elim (λ w. absurd (refuted (λ i j. getD (play (flags side ks) σ (getD rows (row i) [])) j false) (model-of-strategy σ w) (λ l lt d. absurd (omega arith)))) (λ w. w) (true-or-false (wins (flags side ks) (goal side (matrix cs)) σ rows))))
 
-  -- the plays of a table, in the rows' order
-  abbrev pub plays : Cells → List (List Bool)
-  plays T = tabulate (length rows) (λ i. tabulate (length ks) (T .value (place-of i)))
+  -- the plays of a table of values, in the rows' order
+  abbrev pub plays : Values → List (List Bool)
+  plays m = tabulate (length rows) (λ i. tabulate (length ks) (m (place-of i)))
 
-  play-at : (T : Cells) (i : ℕ) → i < length rows → getD (plays T) i [] ≡ tabulate (length ks) (T .value (place-of i))
-  play-at T i lt = tabulate-at (length rows) (λ h. tabulate (length ks) (T .value (place-of h))) i [] lt
+  play-at : (m : Values) (i : ℕ) → i < length rows → getD (plays m) i [] ≡ tabulate (length ks) (m (place-of i))
+  play-at m i lt = tabulate-at (length rows) (λ h. tabulate (length ks) (m (place-of h))) i [] lt
 
-  value-at : (T : Cells) (i j : ℕ) → i < length rows → j < length ks → getD (getD (plays T) i []) j false ≡ T .value (place-of i) j
-  value-at T i j li lj = ap (λ (p : List Bool). getD p j false) (play-at T i li) ∙ tabulate-at (length ks) (T .value (place-of i)) j false lj
+  value-at : (m : Values) (i j : ℕ) → i < length rows → j < length ks → getD (getD (plays m) i []) j false ≡ m (place-of i) j
+  value-at m i j li lj = ap (λ (p : List Bool). getD p j false) (play-at m i li) ∙ tabulate-at (length ks) (m (place-of i)) j false lj
 
   own-below : (j : ℕ) → Own (flags side ks) j → j < length ks
-  own-below j o = go ks j o
-    where
-      go : (xs : List Kind) (l : ℕ) → getD (flags side xs) l false ≡ true → l < length xs
-      go [] l e = absurd (false≢true e)
-      go (x ∷ xs) zero e = omega arith
-      go (x ∷ xs) (suc l) e = let r : l < length xs = go xs l e in omega arith
+  own-below j o = subst (λ (x : ℕ). j < x) (length-map ks (own side)) (own-within (flags side ks) j o)
 
   row-back : (i : ℕ) → i < length rows → getD rows (row (place-of i)) [] ≡ getD rows i []
   row-back i lt = ap (λ (x : ℕ). getD rows x []) (places .row-of-place i lt)
@@ -219,34 +214,69 @@ module _ (prefer : ℕ → Bool) (side : Kind) (ks : List Kind) (cs : List Claus
       ∙ values-of-restriction (flags side ks) j (getD rows i []) (getD rows h []) e l lt (subst (λ (x : ℕ). l < x) (sym (length-map ks (own side))) (omega arith)) o
       ∙ sym (ap (λ (r : Row). row-value (flags side ks) r l) (row-back h lh))
 
-  won-leading : (T : Cells) → Won (problem prefer side ks cs rows row) 0 0 (length rows) T → Leading prefer (flags side ks) (goal side (matrix cs)) rows (plays T)
+  -- a model's plays are those of a strategy, which wins
+  model-playing : (m : Values) → Model (problem prefer side ks cs rows row) m → Playing (flags side ks) rows (plays m)
   unfolding problem
-  won-leading T W =
+  model-playing m M =
       record {
-        one-each = length-tabulate (length rows) (λ i. tabulate (length ks) (T .value (place-of i)));
+        one-each = length-tabulate (length rows) (λ i. tabulate (length ks) (m (place-of i)));
         fits = λ i li.
             record {
-              whole = ap length (play-at T i li) ∙ length-tabulate (length ks) (T .value (place-of i)) ∙ sym (length-map ks (own side));
+              whole = ap length (play-at m i li) ∙ length-tabulate (length ks) (m (place-of i)) ∙ sym (length-map ks (own side));
               row-values = λ k lk o.
                   let below : k < length ks = subst (λ (x : ℕ). k < x) (length-map ks (own side)) lk in
-                  value-at T i k li below
-                  ∙ W .given (place-of i) k (omega arith) (places .place-below i li) below o
+                  value-at m i k li below
+                  ∙ M .follows (place-of i) k (places .place-below i li) below o
                   ∙ ap (λ (r : Row). row-value (flags side ks) r k) (row-back i li);
             };
         uniform = λ i h k li lh o e.
-            value-at T i k li (own-below k o)
-            ∙ W .alike (place-of h) (place-of i) k (omega arith) (places .place-below h lh) (omega arith) (places .place-below i li) (own-below k o) o (agree-of-restriction h i k lh li (le-of-lt (own-below k o)) (sym e))
-            ∙ sym (value-at T h k lh (own-below k o));
-        reach = λ i li.
-            goal-of-list side cs (getD (plays T) i [])
-            ∙ goal-same side (length ks) cs named (λ j. getD (getD (plays T) i []) j false) (T .value (place-of i)) (λ j lj. value-at T i j li lj)
-            ∙ W .reaches (place-of i) (omega arith) (places .place-below i li);
+            value-at m i k li (own-below k o)
+            ∙ M .uniform (place-of i) (place-of h) k (places .place-below i li) (places .place-below h lh) (own-below k o) o (agree-of-restriction i h k li lh (le-of-lt (own-below k o)) e)
+            ∙ sym (value-at m h k lh (own-below k o));
+      }
+
+  model-reaches : (m : Values) → Model (problem prefer side ks cs rows row) m → (i : ℕ) → i < length rows → goal side (matrix cs) (getD (plays m) i []) ≡ true
+  unfolding problem
+  model-reaches m M i li =
+      goal-of-list side cs (getD (plays m) i [])
+      ∙ goal-same side (length ks) cs named (λ j. getD (getD (plays m) i []) j false) (m (place-of i)) (λ j lj. value-at m i j li lj)
+      ∙ M .reaches (place-of i) (places .place-below i li)
+
+  pub strategy-of-model : (m : Values) → Model (problem prefer side ks cs rows row) m
+      → (σ : Strategy) × (wins (flags side ks) (goal side (matrix cs)) σ rows ≡ true)
+      × ((i k : ℕ) → i < length rows → Own (flags side ks) k → σ k (restriction (flags side ks) k (getD rows i [])) ≡ m (place-of i) k)
+  strategy-of-model m M =
+      let G = model-playing m M in
+      let σ = played (flags side ks) rows (plays m) in (
+        σ,
+        played-wins G (goal side (matrix cs)) (model-reaches m M),
+        λ i k li o.
+            sym (play-at-own (flags side ks) σ (getD rows i []) k o)
+            ∙ ap (λ (p : List Bool). getD p k false) (play-of-played G i li)
+            ∙ value-at m i k li (own-below k o),
+      )
+
+  won-model : (T : Cells) → Won (problem prefer side ks cs rows row) 0 0 (length rows) T → Model (problem prefer side ks cs rows row) (T .value)
+  unfolding problem
+  won-model T W =
+      record {
+        follows = λ i j li lj o. W .given i j (omega arith) li lj o;
+        uniform = λ i h j li lh lj o ag. sym (W .alike i h j (omega arith) li (omega arith) lh lj o ag);
+        reaches = λ i li. W .reaches i (omega arith) li;
+      }
+
+  won-leading : (T : Cells) → Won (problem prefer side ks cs rows row) 0 0 (length rows) T → Leading prefer (flags side ks) (goal side (matrix cs)) rows (plays (T .value))
+  unfolding problem
+  won-leading T W =
+      record {
+        playing = model-playing (T .value) (won-model T W);
+        reach = model-reaches (T .value) (won-model T W);
         lead = λ σ w i li k o before.
             ⊎-elim
-            (λ e. inl (value-at T i k li (own-below k o) ∙ sym e ∙ model-at σ i k li))
-            (λ e. inr (value-at T i k li (own-below k o) ∙ e ∙ ap (λ (r : Row). wanted prefer (flags side ks) rows k (restriction (flags side ks) k r)) (row-back i li)))
+            (λ e. inl (value-at (T .value) i k li (own-below k o) ∙ sym e ∙ model-at σ i k li))
+            (λ e. inr (value-at (T .value) i k li (own-below k o) ∙ e ∙ ap (λ (r : Row). wanted prefer (flags side ks) rows k (restriction (flags side ks) k r)) (row-back i li)))
             (W .leads (λ h j. getD (play (flags side ks) σ (getD rows (row h) [])) j false) (model-of-strategy σ w) (place-of i) k (omega arith) (places .place-below i li) (omega arith) (own-below k o) o
-            (λ l lk. model-at σ i l li ∙ sym (before l lk) ∙ value-at T i l li (let z : k < length ks = own-below k o in omega arith)));
+            (λ l lk. model-at σ i l li ∙ sym (before l lk) ∙ value-at (T .value) i l li (let z : k < length ks = own-below k o in omega arith)));
       }
     where
       model-at : (σ : Strategy) (i l : ℕ) → i < length rows → getD (play (flags side ks) σ (getD rows (row (place-of i)) [])) l false ≡ getD (play (flags side ks) σ (getD rows i [])) l false

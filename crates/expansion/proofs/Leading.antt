@@ -42,11 +42,15 @@ LeadsAt W ts row P Q = (k : ℕ) → Own ts k
     → ((j : ℕ) → j < k → getD P j false ≡ getD Q j false)
     → (getD P k false ≡ getD Q k false) ⊎ (getD P k false ≡ W k (restriction ts k row))
 
--- The plays are those of a strategy, it wins, and each play leads those of every strategy that wins over all the rows.
-pub record Leading (prefer : ℕ → Bool) (ts : List Bool) (psi : List Bool → Bool) (rows : List Row) (plays : List (List Bool)) : Type 0 where
+-- The plays are those of a strategy.
+pub record Playing (ts : List Bool) (rows : List Row) (plays : List (List Bool)) : Type 0 where
   pub one-each : length plays ≡ length rows
   pub fits : (i : ℕ) → i < length rows → Fits ts (getD rows i []) (getD plays i [])
   pub uniform : Uniform ts rows plays
+
+-- The strategy wins, too, and each play leads those of every strategy that wins over all the rows.
+pub record Leading (prefer : ℕ → Bool) (ts : List Bool) (psi : List Bool → Bool) (rows : List Row) (plays : List (List Bool)) : Type 0 where
+  pub playing : Playing ts rows plays
   pub reach : (i : ℕ) → i < length rows → psi (getD plays i []) ≡ true
   pub lead : (σ : Strategy) → wins ts psi σ rows ≡ true → (i : ℕ) → i < length rows
       → LeadsAt (wanted prefer ts rows) ts (getD rows i []) (getD plays i []) (play ts σ (getD rows i []))

@@ -16,7 +16,7 @@ use Rattle.expansion.proofs.Booleans.{true-or-false, never-both}
 use Rattle.expansion.proofs.Membership.{In, place-of-in, same-refl, same-eq}
 use Rattle.expansion.proofs.CopyLaws.{Own}
 use Rattle.expansion.proofs.FirstModel.{values-of, play-of-values, is-model-of-values, first-is-first, first-none}
-use Rattle.expansion.proofs.Leading.{wanted, LeadsAt, Leading}
+use Rattle.expansion.proofs.Leading.{wanted, LeadsAt, Playing, Leading}
 use Rattle.expansion.proofs.LeadingPath.{play-at-own, fits-is-play, plays-agree-below}
 use Rattle.expansion.proofs.LeadingCopies.{map-in, values-of-value-of, distinct-copies, LeadsAlong, never-parts}
 
@@ -64,7 +64,7 @@ module _ (prefer : ℕ → Bool) (ts : List Bool) (psi : List Bool → Bool) (ro
   leading-strategy-is-first = yielded-first (first-model prefer ts psi rows) refl
 
 -- The strategy of uniform plays: at a copy the value in the first play whose row has the restriction.
-abbrev played : List Bool → List Row → List (List Bool) → Strategy
+abbrev pub played : List Bool → List Row → List (List Bool) → Strategy
 played ts [] plays k r = false
 played ts (row ∷ rows) [] k r = false
 played ts (row ∷ rows) (P ∷ plays) k r =
@@ -102,25 +102,31 @@ map-by-place f g (row ∷ rows) (P ∷ plays) size h =
     let later = map-by-place f g rows plays (omega arith) (λ i l. h (suc i) (omega arith)) in
     ap₂ {C = List Row} (λ x xs. x ∷ xs) (h zero (omega arith)) later
 
-module _ {prefer : ℕ → Bool} {ts : List Bool} {psi : List Bool → Bool} {rows : List Row} {plays : List (List Bool)}
-    (L : Leading prefer ts psi rows plays) where
-  play-of-played : (i : ℕ) → i < length rows → play ts (played ts rows plays) (getD rows i []) ≡ getD plays i []
-  play-of-played i l = fits-is-play ts (played ts rows plays) (getD rows i []) (getD plays i []) (L .fits i l) own-values
+module _ {ts : List Bool} {rows : List Row} {plays : List (List Bool)} (G : Playing ts rows plays) where
+  pub play-of-played : (i : ℕ) → i < length rows → play ts (played ts rows plays) (getD rows i []) ≡ getD plays i []
+  play-of-played i l = fits-is-play ts (played ts rows plays) (getD rows i []) (getD plays i []) (G .fits i l) own-values
     where
       own-values : (k : ℕ) → Own ts k → played ts rows plays k (restriction ts k (getD rows i [])) ≡ getD (getD plays i []) k false
       own-values k own =
-          let p = played-at ts rows plays k (restriction ts k (getD rows i [])) i (L .one-each) l refl in
-          p .3 ∙ L .uniform (p .0) i k (p .1) l own (p .2)
+          let p = played-at ts rows plays k (restriction ts k (getD rows i [])) i (G .one-each) l refl in
+          p .3 ∙ G .uniform (p .0) i k (p .1) l own (p .2)
 
+  -- It wins if the plays reach the goal.
+  pub played-wins : (psi : List Bool → Bool) → ((i : ℕ) → i < length rows → psi (getD plays i []) ≡ true) → wins ts psi (played ts rows plays) rows ≡ true
+  played-wins psi reach =
+      wins-all ts psi (played ts rows plays) rows
+      (each-by-place (λ (row : Row). psi (play ts (played ts rows plays) row) ≡ true) rows (λ i l. rw (play-of-played i l) (reach i l)))
+
+module _ {prefer : ℕ → Bool} {ts : List Bool} {psi : List Bool → Bool} {rows : List Row} {plays : List (List Bool)}
+    (L : Leading prefer ts psi rows plays) where
   played-leads : (τ : Strategy) → wins ts psi τ rows ≡ true → (row : Row) → In row rows
       → LeadsAt (wanted prefer ts rows) ts row (play ts (played ts rows plays) row) (play ts τ row)
   played-leads τ w =
       each-by-place (λ (row : Row). LeadsAt (wanted prefer ts rows) ts row (play ts (played ts rows plays) row) (play ts τ row)) rows
-      (λ i l. rw (play-of-played i l) (L .lead τ w i l))
+      (λ i l. rw (play-of-played (L .playing) i l) (L .lead τ w i l))
 
   pub leading-is-first : yielded ts rows (first-model prefer ts psi rows) ≡ some (map (part ts) plays)
   leading-is-first =
       let σ = played ts rows plays in
-      let reach = each-by-place (λ (row : Row). psi (play ts σ row) ≡ true) rows (λ i l. rw (play-of-played i l) (L .reach i l)) in
-      let parts = map-by-place (yield ts σ) (part ts) rows plays (L .one-each) (λ i l. ap (part ts) (play-of-played i l)) in
-      leading-strategy-is-first prefer ts psi rows σ (wins-all ts psi σ rows reach) played-leads ∙ ap {B = Option (List Row)} some parts
+      let parts = map-by-place (yield ts σ) (part ts) rows plays (L .playing .one-each) (λ i l. ap (part ts) (play-of-played (L .playing) i l)) in
+      leading-strategy-is-first prefer ts psi rows σ (played-wins (L .playing) psi (L .reach)) played-leads ∙ ap {B = Option (List Row)} some parts

@@ -58,12 +58,12 @@ fits-is-play ts σ row P fits own = ext-getD false (play ts σ row) P (length-pl
         (λ (o : getD ts k false ≡ false). play-at-other ts σ row k m o ∙ sym (fits .row-values k m o))
         (true-or-false (getD ts k false))
 
--- Before an own position two plays agree if their strategies agree along the row.
-own-within : (ts : List Bool) (k : ℕ) → Own ts k → k < length ts
+pub own-within : (ts : List Bool) (k : ℕ) → Own ts k → k < length ts
 own-within [] k o = absurd (false≢true o)
 own-within (t ∷ ts) zero o = omega arith
 own-within (t ∷ ts) (suc k) o = let l = own-within ts k o in omega arith
 
+-- Before an own position two plays agree if their strategies agree along the row.
 pub plays-agree-below : (ts : List Bool) (σ τ : Strategy) (row : Row) (k : ℕ) → Own ts k
     → ((j : ℕ) → j < k → Own ts j → σ j (restriction ts j row) ≡ τ j (restriction ts j row))
     → (j : ℕ) → j < k → getD (play ts σ row) j false ≡ getD (play ts τ row) j false

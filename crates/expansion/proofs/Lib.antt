@@ -24,3 +24,4 @@ pub mod Progress
 pub mod Counting
 pub mod Stand
 pub mod Right
+pub mod Memory

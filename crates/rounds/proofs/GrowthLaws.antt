@@ -10,15 +10,17 @@ use lib.Dec.{T, leb, leb→le, nleb→lt}
 use lib.ListN.{length, take, length-map}
 use Rattle.formula.specs.Formula.{Kind, existential, universal}
 use Rattle.formula.specs.Causes.{count}
-use Rattle.expansion.specs.Side.{flags}
+use Rattle.expansion.specs.Side.{flags, goal}
 use Rattle.expansion.specs.OtherSide.{other}
 use Rattle.expansion.specs.Play.{Row, Strategy, part, later-values}
 use Rattle.expansion.specs.Copies.{fresh}
 use Rattle.expansion.specs.Model.{search}
+use Rattle.expansion.specs.Memory.{LeadsModels}
 use Rattle.expansion.proofs.Booleans.{never-both}
 use Rattle.expansion.proofs.Membership.{In, Distinct, in-append-cases, in-append-left, in-append-right, in-map-cases, in-or-not, in-fresh, fresh-in}
 use Rattle.expansion.proofs.Progress.{Answers, search-answers, yields-fresh}
 use Rattle.expansion.proofs.Counting.{Sized, at-most-all-rows}
+use Rattle.expansion.proofs.Memory.{found-leads}
 use Rattle.rounds.specs.Run.{Entry, Table, rows, under-mark, grown, if-fits, Lent}
 use Rattle.rounds.specs.Claim.{Stands, NewRow}
 use Rattle.rounds.specs.Opening.{block, last-row, first-values}
@@ -70,7 +72,7 @@ fitted n t = by-test (leb (length t) n) (leb→le (length t) n) (nleb→lt (leng
 
 -- What a step of round r makes of a side's table t, of which it keeps the part q, over the other side's rows: q grows, to u, by a row at least
 -- that is new against t, and a strategy that wins over the other side's rows has all that it yields in u. Rows of u that begin otherwise than
--- its last row are rows of q.
+-- its last row are rows of q; and the last row leads the models over the other side's rows.
 pub record Growth (l : Lent) (side : Kind) (r : ℕ) (from : List Row) (t q u : Table) : Type 0 where
   pub held : Held l side u
   pub more : suc (length q) ≤ length u
@@ -80,6 +82,7 @@ pub record Growth (l : Lent) (side : Kind) (r : ℕ) (from : List Row) (t q u : 
   pub σ : Strategy
   pub answers : Answers side (l .ks) (l .phi) σ (λ x. In x from) (λ x. In x (rows u))
   pub apart : (x : Row) → In x (rows u) → begins (first-values side (l .ks) (rows u)) x ≡ false → In x (rows q)
+  pub led : LeadsModels (l .prefer) (flags side (l .ks)) (goal side (l .phi)) from (last-row (rows u))
 
 module _ (l : Lent) (side : Kind) (r : ℕ) (from : List Row) (q : Table) (held : Held l side q) (new : List Row)
     (found : search (l .prefer) side (l .ks) (l .phi) from ≡ some new) where
@@ -124,6 +127,11 @@ module _ (l : Lent) (side : Kind) (r : ℕ) (from : List Row) (q : Table) (held 
       (λ f. absurd (never-both (subst (λ (z : Row). begins (take (block side (l .ks)) z) x ≡ true) (sym is-y) (starts-alike x y (fresh-in x (rows q) new f) (fresh-in y (rows q) new last))) otherwise))
       (in-append-cases x (rows q) (fresh (rows q) new) (subst (λ (n : List Row). In x n) (rows-grown r q new) h))
 
+  led-grown : (fresh (rows q) new ≡ [] → ⊥) → LeadsModels (l .prefer) (flags side (l .ks)) (goal side (l .phi)) from (last-row (rows (grown r q new)))
+  led-grown adds =
+      subst (LeadsModels (l .prefer) (flags side (l .ks)) (goal side (l .phi)) from) (sym (ap last-row (rows-grown r q new)))
+      (found-leads (l .prefer) side (l .ks) (l .phi) from new _ found (fresh-in _ (rows q) new (last-behind (rows q) (fresh (rows q) new) adds)))
+
   -- A step yields a row that is new against t: else the two strategies would keep within each other's rows.
   pub growth : (t : Table) → ((x : Row) → In x (rows q) → In x (rows t)) → (τ : Strategy)
       → Answers (other side) (l .ks) (l .phi) τ (λ x. In x (rows t)) (λ x. In x from) → (x : Row) → In x from → length (grown r q new) ≤ room side l
@@ -142,4 +150,5 @@ module _ (l : Lent) (side : Kind) (r : ℕ) (from : List Row) (q : Table) (held 
         σ = model .0;
         answers = record { wins = model .1 .wins; within = λ y h. yielded-in-grown _ (model .1 .within y h) };
         apart = apart-grown adds;
+        led = led-grown adds;
       }

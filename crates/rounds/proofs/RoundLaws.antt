@@ -10,20 +10,22 @@ use lib.ListN.{length, drop}
 use Rattle.formula.specs.Formula.{Kind, existential, universal}
 use Rattle.formula.specs.Causes.{count}
 use Rattle.formula.specs.Meaning.{meaning}
-use Rattle.rows.proofs.ValueLaws.{length-values}
+use Rattle.rows.proofs.ValueLaws.{length-values, getD-values}
 use Rattle.expansion.specs.Side.{flags, goal}
 use Rattle.expansion.specs.Play.{Row, Strategy, play}
 use Rattle.expansion.specs.Model.{search}
+use Rattle.expansion.specs.Memory.{LeadsModels}
 use Rattle.expansion.proofs.Booleans.{never-both}
 use Rattle.expansion.proofs.Membership.{In}
 use Rattle.expansion.proofs.Verdict.{none-is-verdict}
 use Rattle.expansion.proofs.Progress.{Answers}
 use Rattle.expansion.proofs.Counting.{Sized}
+use Rattle.expansion.proofs.Memory.{counted-in-block, more-led}
 use Rattle.rounds.specs.Run.{Entry, clears, kept, Table, rows, under-mark, Answer, is-false, is-true, spent, no-room-universal, no-room-existential, number, Outcome, outcome, grown, if-fits, Lent, start, step-1, step-2, step-3, step-4, round-of}
 use Rattle.rounds.specs.Claim.{table, no-room, Stands, NewRow}
 use Rattle.rounds.specs.Opening.{block, last-row, first-values, opening, set-to, Opens}
 use Rattle.rounds.proofs.Blocks.{begins, begins-take, block-before, length-first-values, set-not-reached}
-use Rattle.rounds.proofs.TableLaws.{Extends, extends-itself}
+use Rattle.rounds.proofs.TableLaws.{Extends, extends-itself, extends-rows}
 use Rattle.rounds.proofs.GrowthLaws.{Held, Fitted, fitted, Growth, growth, room-below-all-rows}
 
 -- What an answer says: the verdict, or that there are more rows than the table has room for.
@@ -52,6 +54,7 @@ Keeps universal l r = clears (l .clear-every) r ≡ false
 
 -- After r finished rounds S has grown r times, and so has A if it is never cleared; a universal strategy that wins over S has all that it yields in
 -- A. At the start S is empty, and any strategy does. An existential strategy wins over the rows of A that begin otherwise than the last one.
+-- A side's last row leads its models over the other's table, that of S if the last round has not cleared A.
 pub record Ongoing (l : Lent) (r : ℕ) (o : Outcome) : Type 0 where
   pub some-A : 1 ≤ length (o .A)
   pub count-A : l .clear-every ≡ 0 → suc r ≤ length (o .A)
@@ -61,6 +64,9 @@ pub record Ongoing (l : Lent) (r : ℕ) (o : Outcome) : Type 0 where
   pub σ : Strategy
   pub apart : (x : Row) → In x (rows (o .A)) → begins (first-values universal (l .ks) (rows (o .A))) x ≡ false
       → goal existential (l .phi) (play (flags existential (l .ks)) σ x) ≡ true
+  pub led-S : clears (l .clear-every) r ≡ false → 0 < length (o .S)
+      → LeadsModels (l .prefer) (flags existential (l .ks)) (goal existential (l .phi)) (rows (o .A)) (last-row (rows (o .S)))
+  pub led-A : LeadsModels (l .prefer) (flags universal (l .ks)) (goal universal (l .phi)) (rows (o .S)) (last-row (rows (o .A)))
 
 -- What holds of the outcome of a run with the limit.
 pub record Reached (l : Lent) (limit : ℕ) (o : Outcome) : Type 0 where
@@ -113,6 +119,8 @@ start-reached l =
             answers = record { wins = λ x h. absurd h; within = λ x h. absurd h };
             σ = λ k r. true;
             apart = alone;
+            led-S = λ _ some-S. absurd (omega arith);
+            led-A = λ σ w k own _. inr (getD-values (count universal (l .ks)) (l .prefer) k (counted-in-block universal (l .ks) k own));
           };
     }
   where
@@ -224,6 +232,10 @@ module _ (l : Lent) (r : ℕ) (b : Outcome) (before : Reached l r b) (ongoing : 
                     answers = grown-A .answers;
                     σ = grown-S .σ;
                     apart = λ x h otherwise. grown-S .answers .wins x (kept-part l (suc r) (b .A) x (grown-A .apart x h otherwise));
+                    led-S = λ keeps _.
+                        more-led (l .prefer) (flags existential (l .ks)) (goal existential (l .phi)) (rows (b .A)) (rows A) (last-row (rows S))
+                        (extends-rows (b .A) A (subst (λ (q : Table). Extends q A) (kept-all l (suc r) (b .A) keeps) (grown-A .extends))) (grown-S .led);
+                    led-A = grown-A .led;
                   };
             };
         in-round = refl;

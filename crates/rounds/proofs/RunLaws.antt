@@ -4,11 +4,17 @@ use native.Mathlib.Omega.{arith}
 use native.Mathlib.Decide.{le-ind}
 use mathlib.Core.Path.{_≡_, refl, sym, ap, subst, _∙_}
 use mathlib.Core.Logic.{_⊎_, inl, inr, ⊎-elim}
+use mathlib.Core.Bool.{false}
 use mathlib.Core.Option.{Option·none-ne-some}
+use lib.ListN.{length}
 use Rattle.formula.specs.Formula.{Kind, existential, universal}
-use Rattle.rounds.specs.Run.{Entry, start, Answer, is-false, is-true, spent, no-room-universal, no-room-existential, Outcome, Lent, round-of, next, run}
+use Rattle.expansion.specs.Side.{flags, goal}
+use Rattle.expansion.specs.Memory.{LeadsModels}
+use Rattle.expansion.proofs.Memory.{more-led}
+use Rattle.rounds.specs.Run.{Entry, clears, Table, rows, start, Answer, is-false, is-true, spent, no-room-universal, no-room-existential, Outcome, Lent, round-of, next, run}
 use Rattle.rounds.specs.Claim.{table, Stands, Finished, Uncleared}
-use Rattle.rounds.proofs.TableLaws.{Extends, extends-itself, extends-further}
+use Rattle.rounds.specs.Opening.{last-row}
+use Rattle.rounds.proofs.TableLaws.{Extends, extends-itself, extends-further, extends-rows}
 use Rattle.rounds.proofs.RoundLaws.{Keeps, Reached, Made, Over, over-not-spent, round-made, start-reached}
 
 -- Where the run is spent, one round more is made; else it stays as it is.
@@ -61,6 +67,18 @@ run-reached l (suc r) =
 pub run-made : (l : Lent) (r : ℕ) → run l r .answer ≡ spent → Made l (suc r) (run l r) (run l (suc r))
 run-made l r e =
     subst (Made l (suc r) (run l r)) (sym (run-goes-on l r e)) (round-made l r (run l r) (run-reached l r) (run-reached l r .ongoing e))
+
+-- Where the run goes on, a side's last row leads its models over the other's rows: the existential one's if the last round has not cleared the
+-- universal table, the universal one's over whatever the existential table grows to.
+pub existential-led : (l : Lent) (r : ℕ) → run l r .answer ≡ spent → clears (l .clear-every) r ≡ false → 0 < length (run l r .S)
+    → LeadsModels (l .prefer) (flags existential (l .ks)) (goal existential (l .phi)) (rows (run l r .A)) (last-row (rows (run l r .S)))
+existential-led l r e = run-reached l r .ongoing e .led-S
+
+pub universal-led : (l : Lent) (r : ℕ) → run l r .answer ≡ spent → (S : Table) → Extends (run l r .S) S
+    → LeadsModels (l .prefer) (flags universal (l .ks)) (goal universal (l .phi)) (rows S) (last-row (rows (run l r .A)))
+universal-led l r e S p =
+    more-led (l .prefer) (flags universal (l .ks)) (goal universal (l .phi)) (rows (run l r .S)) (rows S) (last-row (rows (run l r .A)))
+    (extends-rows (run l r .S) S p) (run-reached l r .ongoing e .led-A)
 
 -- Tables only grow, and at their end, but where a finished round clears.
 run-grows : (l : Lent) (r : ℕ) (side : Kind) → (run l (suc r) .answer ≡ spent → Keeps side l (suc r))

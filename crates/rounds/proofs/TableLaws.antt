@@ -8,7 +8,7 @@ use mathlib.Core.Option.{some, Option·none-ne-some}
 use lib.ListN.{length, length-append}
 use Rattle.expansion.specs.Play.{Row}
 use Rattle.expansion.specs.Copies.{fresh}
-use Rattle.expansion.proofs.Membership.{In, Distinct, in-fresh, fresh-in, fresh-unseen, distinct-append-fresh}
+use Rattle.expansion.proofs.Membership.{In, Distinct, in-append-left, in-fresh, fresh-in, fresh-unseen, distinct-append-fresh}
 use Rattle.rounds.specs.Run.{Entry, Table, rows, under-mark, grown}
 use Rattle.rounds.specs.Claim.{Stands, AllDifferent, NewRow}
 
@@ -38,6 +38,9 @@ extends-itself t = ([], sym (append-nil t))
 
 pub extends-further : (t u w : Table) → Extends t u → Extends u w → Extends t w
 extends-further t u w p q = (p .0 ++ q .0, q .1 ∙ ap (λ (l : Table). l ++ q .0) (p .1) ∙ append-assoc t (p .0) (q .0))
+
+pub extends-rows : (t u : Table) → Extends t u → (x : Row) → In x (rows t) → In x (rows u)
+extends-rows t u p x h = rw (p .1, rows-append) (in-append-left x (rows t) (rows (p .0)) h)
 
 pub extends-grown : (r : ℕ) (t : Table) (new : List Row) → Extends t (grown r t new)
 extends-grown r t new = (map (under-mark r) (fresh (rows t) new), refl)

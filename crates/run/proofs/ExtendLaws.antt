@@ -85,7 +85,7 @@ module _ (kinds : List ℕ) (literals : List ℤ) (preferences others : List ℕ
       let inside : n ≤ room others = omega (arith, holds .in-room, same-length) in
       rw (passes, fits, eq-eqb (length work) work-size long, le-ltb (room others) n inside, clean)
 
-  read-rows : lent-rows kinds others n side? ≡ rows from
+  pub read-rows : lent-rows kinds others n side? ≡ rows from
   unfolding lent-rows row-bytes
   read-rows =
       let width = count (other (side-of side?)) (prefix kinds) in

@@ -9,4 +9,5 @@ pub mod TableClaim
 pub mod CountingLaws
 pub mod RoundCounts
 pub mod OpeningLaws
+pub mod MemoryLaws
 pub mod OutcomeLaws

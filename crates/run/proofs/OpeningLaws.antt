@@ -23,7 +23,7 @@ use Rattle.run.specs.declared.End.{End}
 use Rattle.run.specs.declared.Outcome.{Outcome}
 use Rattle.run.specs.Outcome.{named, reported, row-bytes}
 use Rattle.run.specs.Growing.{Passes, said, opened-from, opened-by, with-opening}
-use Rattle.run.proofs.ByteLaws.{row-at-table}
+use Rattle.run.proofs.ByteLaws.{Wide, row-at-table}
 use Rattle.run.proofs.ExtendLaws.{few-unknowns}
 
 -- The block by the bytes of the kinds.
@@ -45,27 +45,30 @@ values-of-bytes m row few whole =
     let inside : k < m = omega (arith, length-row-of m (bytes-of row)) in
     getD-row-of m (bytes-of row) k inside ∙ bit-bytes-of row k (omega arith) ∙ sym (getD-take m row k false inside))
 
+-- The last row of a table: its place, its values, and its bytes.
 last-place : (x : Row) (xs : List Row) → getD (x ∷ xs) (length xs) [] ≡ last-row (x ∷ xs)
 last-place x [] = refl
 last-place x (y ∷ xs) = last-place y xs
 
--- The first bits of the last row that a table's bytes hold. An empty table has no block to open.
-last-bits : (t : Table) (found : List ℕ) (m : ℕ) → m ≤ max-unknowns → length (take m (last-row (rows t))) ≡ m
-    → first-bits (row-bytes t found) (length t - 1) m ≡ bytes-of (take m (last-row (rows t)))
-unfolding first-bits row-bytes row-of
-last-bits [] found zero few whole = refl
-last-bits [] found (suc m) few whole = absurd (omega arith)
-last-bits (x ∷ t) found m few whole =
+pub length-last-row : (m : ℕ) (x : Entry) (t : Table) → Wide m (rows (x ∷ t)) → length (last-row (rows (x ∷ t))) ≡ m
+length-last-row m x t wide = sym (ap length (last-place (x .row) (rows t))) ∙ wide (length (rows t)) (omega arith)
+
+pub last-row-at : (x : Entry) (t : Table) (found : List ℕ) → row-at (row-bytes (x ∷ t) found) (length (x ∷ t) - 1) ≡ bytes-of (last-row (rows (x ∷ t)))
+unfolding row-bytes
+last-row-at x t found =
     let all = rows (x ∷ t) in
     let rest = drop (16 * length (x ∷ t)) found in
     let long : length (rows t) ≡ length t = length-map t (λ (y : Entry). y .row) in
     let place : length (x ∷ t) - 1 ≡ length (rows t) = omega arith in
-    ap bytes-of
-    (ap (row-of m)
-    (ap (row-at (table-of all ++ rest)) place
-    ∙ row-at-table all rest (length (rows t)) (omega arith)
-    ∙ ap bytes-of (last-place (x .row) (rows t)))
-    ∙ values-of-bytes m (last-row all) few whole)
+    ap (row-at (table-of all ++ rest)) place ∙ row-at-table all rest (length (rows t)) (omega arith) ∙ ap bytes-of (last-place (x .row) (rows t))
+
+-- The first bits of the last row that a table's bytes hold. An empty table has no block to open.
+last-bits : (t : Table) (found : List ℕ) (m : ℕ) → m ≤ max-unknowns → length (take m (last-row (rows t))) ≡ m
+    → first-bits (row-bytes t found) (length t - 1) m ≡ bytes-of (take m (last-row (rows t)))
+unfolding first-bits row-of
+last-bits [] found zero few whole = refl
+last-bits [] found (suc m) few whole = absurd (omega arith)
+last-bits (x ∷ t) found m few whole = ap bytes-of (ap (row-of m) (last-row-at x t found) ∙ values-of-bytes m (last-row (rows (x ∷ t))) few whole)
 
 -- The opening that is read from the tables' bytes is that of the outcome which they hold.
 module _ (kinds : List ℕ) (literals : List ℤ) (passes : Passes kinds literals) (A-found S-found : List ℕ) (o : RunOutcome)

@@ -17,7 +17,7 @@ use Rattle.rows.specs.Table.{room, table-fits, zeroed}
 use Rattle.expansion.specs.OtherSide.{side-of, other}
 use Rattle.expansion.specs.Play.{Row}
 use Rattle.expansion.specs.Model.{search}
-use Rattle.search.specs.Search.{Prepared}
+use Rattle.search.specs.Search.{Prepared, KnownLeads}
 use Rattle.search.specs.declared.Search.{Search}
 use Rattle.search.specs.declared.Search.the-variants.{Found as ModelFound, NoModel, Refused as SearchRefused}
 use Rattle.run.specs.declared.Answer.{Answer}
@@ -36,9 +36,10 @@ use Rattle.run.specs.Outcome.{Given, lent, reached, tables-fit, tables-c
 abbrev pub Passes : List ℕ → List ℤ → Type 0
 Passes kinds literals = checked kinds literals ≡ Accepted (sizes kinds literals)
 
--- What holds of the formula that tables were made of (search).
-abbrev pub Over : List ℕ → List ℕ → List ℕ → List ℕ → (List ℤ → Type 0) → Type 0
-Over kinds codes index terms P = (literals : List ℤ) → Prepared kinds literals codes index terms → P literals
+-- What holds of the formula that tables were made of (search), where the last row below `known` of a side's own leads its models over the others' rows.
+abbrev pub Over : List ℕ → List ℕ → List ℕ → List ℕ → List ℕ → List ℕ → ℕ → List ℕ → ℕ → Bool → (List ℤ → Type 0) → Type 0
+Over kinds codes index terms preferences own known others other-count side P =
+    (literals : List ℤ) → Prepared kinds literals codes index terms → KnownLeads kinds literals preferences own known others other-count side → P literals
 
 -- The model was found.
 abbrev pub is-found : Search → Bool

@@ -369,6 +369,8 @@ fn rounds(
     while made < limit {
         let number = made + 1;
         let mark = number as u16;
+        // What led the existential side's models leads them over more universal rows; where the round before dropped these, it tells nothing.
+        let known = kept_rows(clear_every, made, existential);
         let step = existential_half(
             kinds,
             &codes[..used], // the entries in use
@@ -381,6 +383,7 @@ fn rounds(
             existential_marks,
             existential_counts,
             existential,
+            known, // none after a clearing
             mark,
             work,
         );
@@ -481,11 +484,12 @@ fn existential_half(
     marks: &mut [u16],
     counts: &mut [u32],
     count: usize,
+    known: usize,
     mark: u16,
     work: &mut [u8],
 ) -> Step
-    ensures { λ r. ⌜ Over (now (kinds .entry)) (now (codes .entry)) (now (index .entry)) (now (terms .entry)) (λ literals. Extends (now (kinds .entry)) literals (now (preferences .entry)) (now (others .entry)) «other_count» false (now (rows .entry)) (now (marks .entry)) count mark (now (work .entry)) r (now (rows .exit)) (now (marks .exit)) (now (work .exit))) ⌝ }
-    ensures { λ _. ⌜ Over (now (kinds .entry)) (now (codes .entry)) (now (index .entry)) (now (terms .entry)) (λ literals. Tallies (now (kinds .entry)) literals (now (preferences .entry)) (now (others .entry)) «other_count» (now (rows .entry)) (now (marks .entry)) count mark (now (work .entry)) (now (counts .entry)) (now (counts .exit))) ⌝ }
+    ensures { λ r. ⌜ Over (now (kinds .entry)) (now (codes .entry)) (now (index .entry)) (now (terms .entry)) (now (preferences .entry)) (now (rows .entry)) known (now (others .entry)) «other_count» false (λ literals. Extends (now (kinds .entry)) literals (now (preferences .entry)) (now (others .entry)) «other_count» false (now (rows .entry)) (now (marks .entry)) count mark (now (work .entry)) r (now (rows .exit)) (now (marks .exit)) (now (work .exit))) ⌝ }
+    ensures { λ _. ⌜ Over (now (kinds .entry)) (now (codes .entry)) (now (index .entry)) (now (terms .entry)) (now (preferences .entry)) (now (rows .entry)) known (now (others .entry)) «other_count» false (λ literals. Tallies (now (kinds .entry)) literals (now (preferences .entry)) (now (others .entry)) «other_count» (now (rows .entry)) (now (marks .entry)) count mark (now (work .entry)) (now (counts .entry)) (now (counts .exit))) ⌝ }
 {
     let step = extend(
         kinds,
@@ -499,6 +503,7 @@ fn existential_half(
         rows,
         marks,
         count,
+        known,
         mark,
         work,
     );
@@ -529,8 +534,8 @@ fn universal_half(
     mark: u16,
     work: &mut [u8],
 ) -> Step
-    ensures { λ r. ⌜ Over (now (kinds .entry)) (now (codes .entry)) (now (index .entry)) (now (terms .entry)) (λ literals. ExtendsUniversal (now (kinds .entry)) literals (now (preferences .entry)) (now (others .entry)) «other_count» (now (rows .entry)) (now (marks .entry)) count «clear_every» round mark (now (work .entry)) r (now (rows .exit)) (now (marks .exit)) (now (work .exit))) ⌝ }
-    ensures { λ _. ⌜ Over (now (kinds .entry)) (now (codes .entry)) (now (index .entry)) (now (terms .entry)) (λ literals. TalliesUniversal (now (kinds .entry)) literals (now (preferences .entry)) (now (others .entry)) «other_count» (now (rows .entry)) (now (marks .entry)) count «clear_every» round mark (now (work .entry)) (now (counts .entry)) (now (counts .exit))) ⌝ }
+    ensures { λ r. ⌜ Over (now (kinds .entry)) (now (codes .entry)) (now (index .entry)) (now (terms .entry)) (now (preferences .entry)) (now (rows .entry)) count (now (others .entry)) «other_count» true (λ literals. ExtendsUniversal (now (kinds .entry)) literals (now (preferences .entry)) (now (others .entry)) «other_count» (now (rows .entry)) (now (marks .entry)) count «clear_every» round mark (now (work .entry)) r (now (rows .exit)) (now (marks .exit)) (now (work .exit))) ⌝ }
+    ensures { λ _. ⌜ Over (now (kinds .entry)) (now (codes .entry)) (now (index .entry)) (now (terms .entry)) (now (preferences .entry)) (now (rows .entry)) count (now (others .entry)) «other_count» true (λ literals. TalliesUniversal (now (kinds .entry)) literals (now (preferences .entry)) (now (others .entry)) «other_count» (now (rows .entry)) (now (marks .entry)) count «clear_every» round mark (now (work .entry)) (now (counts .entry)) (now (counts .exit))) ⌝ }
 {
     let step = extend_universal(
         kinds,
@@ -586,8 +591,8 @@ fn extend_universal(
     mark: u16,
     work: &mut [u8],
 ) -> Step
-    ensures { λ r. ⌜ Over (now (kinds .entry)) (now (codes .entry)) (now (index .entry)) (now (terms .entry)) (λ literals. ExtendsUniversal (now (kinds .entry)) literals (now (preferences .entry)) (now (others .entry)) «other_count» (now (rows .entry)) (now (marks .entry)) count «clear_every» round mark (now (work .entry)) r (now (rows .exit)) (now (marks .exit)) (now (work .exit))) ⌝ }
-    ensures { λ _. ⌜ Over (now (kinds .entry)) (now (codes .entry)) (now (index .entry)) (now (terms .entry)) (λ literals. Packs (now (kinds .entry)) literals (now (preferences .entry)) (now (others .entry)) «other_count» true (now (work .entry)) (now (work .exit))) ⌝ }
+    ensures { λ r. ⌜ Over (now (kinds .entry)) (now (codes .entry)) (now (index .entry)) (now (terms .entry)) (now (preferences .entry)) (now (rows .entry)) count (now (others .entry)) «other_count» true (λ literals. ExtendsUniversal (now (kinds .entry)) literals (now (preferences .entry)) (now (others .entry)) «other_count» (now (rows .entry)) (now (marks .entry)) count «clear_every» round mark (now (work .entry)) r (now (rows .exit)) (now (marks .exit)) (now (work .exit))) ⌝ }
+    ensures { λ _. ⌜ Over (now (kinds .entry)) (now (codes .entry)) (now (index .entry)) (now (terms .entry)) (now (preferences .entry)) (now (rows .entry)) count (now (others .entry)) «other_count» true (λ literals. Packs (now (kinds .entry)) literals (now (preferences .entry)) (now (others .entry)) «other_count» true (now (work .entry)) (now (work .exit))) ⌝ }
 {
     let kept = kept_rows(clear_every, round, count);
     let step = extend(
@@ -602,6 +607,7 @@ fn extend_universal(
         rows,
         marks,
         kept,
+        count, // the last row leads, also where it is dropped
         mark,
         work,
     );
@@ -614,7 +620,7 @@ fn extend_universal(
     Step { end, count: grown }
 }
 
-// How many rows of the universal table a round keeps.
+// How many rows a round keeps, of the universal table or of those that tell the existential side where to begin: none if it clears.
 fn kept_rows(clear_every: u32, round: u32, count: usize) -> usize
     ensures { λ r. ⌜ r ≡ cond (clears «clear_every» round) 0 count ⌝ }
 {
@@ -634,7 +640,8 @@ fn clears(clear_every: u32, round: u32) -> bool
     round % clear_every == 0
 }
 
-// A side's step: the search over the other side's rows, then the new ones of what they yield added to the side's table, or none of them.
+// A side's step: the search over the other side's rows, then the new ones of what they yield added to the side's table, or none of them. The last of
+// the table's first `known` rows leads the side's models.
 fn extend(
     kinds: &[u8],
     codes: &[u16],
@@ -647,11 +654,12 @@ fn extend(
     rows: &mut [u8],
     marks: &mut [u16],
     count: usize,
+    known: usize,
     mark: u16,
     work: &mut [u8],
 ) -> Step
-    ensures { λ r. ⌜ Over (now (kinds .entry)) (now (codes .entry)) (now (index .entry)) (now (terms .entry)) (λ literals. Extends (now (kinds .entry)) literals (now (preferences .entry)) (now (others .entry)) «other_count» universal (now (rows .entry)) (now (marks .entry)) count mark (now (work .entry)) r (now (rows .exit)) (now (marks .exit)) (now (work .exit))) ⌝ }
-    ensures { λ _. ⌜ Over (now (kinds .entry)) (now (codes .entry)) (now (index .entry)) (now (terms .entry)) (λ literals. Packs (now (kinds .entry)) literals (now (preferences .entry)) (now (others .entry)) «other_count» universal (now (work .entry)) (now (work .exit))) ⌝ }
+    ensures { λ r. ⌜ Over (now (kinds .entry)) (now (codes .entry)) (now (index .entry)) (now (terms .entry)) (now (preferences .entry)) (now (rows .entry)) known (now (others .entry)) «other_count» universal (λ literals. Extends (now (kinds .entry)) literals (now (preferences .entry)) (now (others .entry)) «other_count» universal (now (rows .entry)) (now (marks .entry)) count mark (now (work .entry)) r (now (rows .exit)) (now (marks .exit)) (now (work .exit))) ⌝ }
+    ensures { λ _. ⌜ Over (now (kinds .entry)) (now (codes .entry)) (now (index .entry)) (now (terms .entry)) (now (preferences .entry)) (now (rows .entry)) known (now (others .entry)) «other_count» universal (λ literals. Packs (now (kinds .entry)) literals (now (preferences .entry)) (now (others .entry)) «other_count» universal (now (work .entry)) (now (work .exit))) ⌝ }
 {
     if finds(
         kinds,
@@ -659,6 +667,8 @@ fn extend(
         index,
         terms,
         preferences,
+        rows,
+        known,
         others,
         other_count,
         universal,
@@ -689,20 +699,22 @@ fn after_growth(growth: Growth, count: usize) -> Step
     }
 }
 
-// Whether the side has a model; the rows that it yields are then in the work area.
+// Whether the side has a model; the rows that it yields are then in the work area. Of the side's own rows the last below `known` leads its models.
 fn finds(
     kinds: &[u8],
     codes: &[u16],
     index: &[u16],
     terms: &[u16],
     preferences: &[u8],
+    own: &[u8],
+    known: usize,
     rows: &[u8],
     count: usize,
     universal: bool,
     work: &mut [u8],
 ) -> bool
-    ensures { λ r. ⌜ Over (now (kinds .entry)) (now (codes .entry)) (now (index .entry)) (now (terms .entry)) (λ literals. r ≡ is-found (search-outcome (now (kinds .entry)) literals (now (preferences .entry)) (now (rows .entry)) count universal (now (work .entry)))) ⌝ }
-    ensures { λ _. ⌜ Over (now (kinds .entry)) (now (codes .entry)) (now (index .entry)) (now (terms .entry)) (λ literals. now (work .exit) ≡ work-after (now (kinds .entry)) literals (now (preferences .entry)) (now (rows .entry)) count universal (now (work .entry))) ⌝ }
+    ensures { λ r. ⌜ Over (now (kinds .entry)) (now (codes .entry)) (now (index .entry)) (now (terms .entry)) (now (preferences .entry)) (now (own .entry)) known (now (rows .entry)) count universal (λ literals. r ≡ is-found (search-outcome (now (kinds .entry)) literals (now (preferences .entry)) (now (rows .entry)) count universal (now (work .entry)))) ⌝ }
+    ensures { λ _. ⌜ Over (now (kinds .entry)) (now (codes .entry)) (now (index .entry)) (now (terms .entry)) (now (preferences .entry)) (now (own .entry)) known (now (rows .entry)) count universal (λ literals. now (work .exit) ≡ work-after (now (kinds .entry)) literals (now (preferences .entry)) (now (rows .entry)) count universal (now (work .entry))) ⌝ }
 {
     match search::first_model_over(
         kinds,
@@ -710,6 +722,8 @@ fn finds(
         index,
         terms,
         preferences,
+        own,
+        known,
         rows,
         count,
         universal,

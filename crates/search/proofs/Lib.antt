@@ -1,5 +1,6 @@
 pub mod CallLaws
 pub mod LiveLaws
+pub mod MemoryLaws
 pub mod StepLaws
 pub mod SolveLaws
 pub mod SearchSteps

@@ -1,6 +1,6 @@
 -- The causes in order, and the outcome: what is answered over an accepted formula's tables is the outcome of the whole. Assumes nothing.
 use Prim.Native.Nat.{ℕ, zero, suc, _+_, _-_, _*_, _%_, _≤_, _<_}
-use mathlib.Core.Path.{_≡_, refl, sym, _∙_, ap}
+use mathlib.Core.Path.{_≡_, refl, sym, _∙_, ap, subst}
 use mathlib.Core.Bool.{Bool, true, false, cond, _&&_, and-eq-true-iff}
 use mathlib.Core.List.{List, [], _∷_}
 use mathlib.Core.Option.{Option, none, some}
@@ -25,7 +25,7 @@ use Rattle.expansion.proofs.Booleans.{never-both}
 use Rattle.expansion.proofs.Right.{search-right}
 use Rattle.search.specs.declared.Search.{Search}
 use Rattle.search.specs.declared.Search.the-variants.{Found, NoModel, Refused}
-use Rattle.search.specs.Search.{lent-rows, cause, found, answer, left, outcome, work-after, number, outcome-number, later-cause, Searched}
+use Rattle.search.specs.Search.{lent-rows, cause, found, answer, left, outcome, work-after, number, outcome-number, later-cause, LastLeads, KnownLeads, Searched}
 use Rattle.search.specs.Whole.{side-kind, TablesOf, FoundIs, Finds, Answered}
 
 -- ---- the causes behind the formula's
@@ -64,27 +64,27 @@ fits-few rows e =
 
 -- ---- answers over tables that fit
 
-module _ (kinds codes index terms preferences rows : List ℕ) (lent others side : ℕ) (w : List ℕ) where
-  pub answered-refused : (n : ℕ) → later-cause rows lent others w ≡ suc n → Answered kinds codes index terms preferences rows lent others side w w (Refused (suc n))
+module _ (kinds codes index terms preferences own : List ℕ) (known : ℕ) (rows : List ℕ) (lent others side : ℕ) (w : List ℕ) where
+  pub answered-refused : (n : ℕ) → later-cause rows lent others w ≡ suc n → Answered kinds codes index terms preferences own known rows lent others side w w (Refused (suc n))
   answered-refused n e = record {
     refused = λ f. (ap Refused (sym e), refl);
     answered = λ z. absurd (omega arith);
   }
 
-  pub answered-found : (u : List ℕ) (b : Bool) → later-cause rows lent others w ≡ 0 → Finds kinds codes index terms preferences rows lent others side b u → b ≡ true → Answered kinds codes index terms preferences rows lent others side w u Found
+  pub answered-found : (u : List ℕ) (b : Bool) → later-cause rows lent others w ≡ 0 → Finds kinds codes index terms preferences own known rows lent others side b u → b ≡ true → Answered kinds codes index terms preferences own known rows lent others side w u Found
   answered-found u b z found-is e = record {
     refused = λ f. absurd (f z);
-    answered = λ q literals of. go (search (prefer preferences) (side-kind side) (prefix kinds) (matrix (clauses literals)) (rows-of others lent rows)) (found-is literals of);
+    answered = λ q literals of leads. go (search (prefer preferences) (side-kind side) (prefix kinds) (matrix (clauses literals)) (rows-of others lent rows)) (found-is literals of leads);
   }
     where
       go : (o : Option (List Row)) → FoundIs o b u → (Found ≡ answer o) × (u ≡ left o)
       go none f = absurd (never-both e (f .0))
       go (some ys) f = (refl, f .1)
 
-  pub answered-none : (u : List ℕ) (b : Bool) → later-cause rows lent others w ≡ 0 → Finds kinds codes index terms preferences rows lent others side b u → b ≡ false → Answered kinds codes index terms preferences rows lent others side w u NoModel
+  pub answered-none : (u : List ℕ) (b : Bool) → later-cause rows lent others w ≡ 0 → Finds kinds codes index terms preferences own known rows lent others side b u → b ≡ false → Answered kinds codes index terms preferences own known rows lent others side w u NoModel
   answered-none u b z found-is e = record {
     refused = λ f. absurd (f z);
-    answered = λ q literals of. go (search (prefer preferences) (side-kind side) (prefix kinds) (matrix (clauses literals)) (rows-of others lent rows)) (found-is literals of);
+    answered = λ q literals of leads. go (search (prefer preferences) (side-kind side) (prefix kinds) (matrix (clauses literals)) (rows-of others lent rows)) (found-is literals of leads);
   }
     where
       go : (o : Option (List Row)) → FoundIs o b u → (NoModel ≡ answer o) × (u ≡ left o)
@@ -140,7 +140,7 @@ module _ (kinds : List ℕ) (literals : List ℤ) (preferences rows : List ℕ) 
   refused-searched n e = searched (Refused n) w (refused-outcome n e) (refused-work n e)
 
   module _ (f : Formula) (passed : checked kinds literals ≡ Passed f) (others side : ℕ) (same-side : side-kind side ≡ side-of universal?) (others-known : others ≡ count (other (side-kind side)) (prefix kinds))
-      (codes index terms : List ℕ) (of : TablesOf kinds literals codes index terms) where
+      (codes index terms own : List ℕ) (known : ℕ) (of : TablesOf kinds literals codes index terms) (leads : KnownLeads kinds literals preferences own known rows lent universal?) where
     others-same : count (other (side-of universal?)) (prefix kinds) ≡ others
     others-same = ap (λ (s : Kind). count (other s) (prefix kinds)) (sym same-side) ∙ sym others-known
 
@@ -152,23 +152,29 @@ module _ (kinds : List ℕ) (literals : List ℤ) (preferences rows : List ℕ) 
     unfolding found lent-rows
     found-same = rw (others-same, ← same-side)
 
-    answered-outcome : (u : List ℕ) (r : Search) → Answered kinds codes index terms preferences rows lent others side w u r → r ≡ outcome kinds literals preferences rows lent universal? w
+    leads-same : LastLeads kinds literals preferences own known (side-kind side) (rows-of others lent rows)
+    unfolding lent-rows
+    leads-same =
+        subst (λ (s : Kind). LastLeads kinds literals preferences own known s (rows-of others lent rows)) (sym same-side)
+        (subst (λ (n : ℕ). LastLeads kinds literals preferences own known (side-of universal?) (rows-of n lent rows)) others-same leads)
+
+    answered-outcome : (u : List ℕ) (r : Search) → Answered kinds codes index terms preferences own known rows lent others side w u r → r ≡ outcome kinds literals preferences rows lent universal? w
     unfolding outcome
     answered-outcome u r a = go (later-cause rows lent others w) refl
       where
         go : (n : ℕ) → later-cause rows lent others w ≡ n → r ≡ cond (eqb (cause kinds literals rows lent universal? w) 0) (answer (found kinds literals preferences rows lent universal?)) (Refused (cause kinds literals rows lent universal? w))
-        go zero e = a .answered e literals of .0 ∙ sym (rw (cause-later, e, found-same))
+        go zero e = a .answered e literals of leads-same .0 ∙ sym (rw (cause-later, e, found-same))
         go (suc n) e = a .refused (λ z. omega arith) .0 ∙ sym (rw (cause-later, e, ne-eqb (suc n) 0 (λ z. omega arith)))
 
-    answered-work : (u : List ℕ) (r : Search) → Answered kinds codes index terms preferences rows lent others side w u r → u ≡ work-after kinds literals preferences rows lent universal? w
+    answered-work : (u : List ℕ) (r : Search) → Answered kinds codes index terms preferences own known rows lent others side w u r → u ≡ work-after kinds literals preferences rows lent universal? w
     unfolding work-after
     answered-work u r a = go (later-cause rows lent others w) refl
       where
         go : (n : ℕ) → later-cause rows lent others w ≡ n → u ≡ cond (eqb (cause kinds literals rows lent universal? w) 0) (left (found kinds literals preferences rows lent universal?)) w
-        go zero e = a .answered e literals of .1 ∙ sym (rw (cause-later, e, found-same))
+        go zero e = a .answered e literals of leads-same .1 ∙ sym (rw (cause-later, e, found-same))
         go (suc n) e = a .refused (λ z. omega arith) .1 ∙ sym (rw (cause-later, e, ne-eqb (suc n) 0 (λ z. omega arith)))
 
-    pub answered-searched : (u : List ℕ) (r : Search) → Answered kinds codes index terms preferences rows lent others side w u r
+    pub answered-searched : (u : List ℕ) (r : Search) → Answered kinds codes index terms preferences own known rows lent others side w u r
         → Searched kinds literals preferences rows lent universal? w r u
     answered-searched u r a = searched r u (answered-outcome u r a) (answered-work u r a)
 

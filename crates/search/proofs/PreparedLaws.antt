@@ -226,7 +226,7 @@ module _ (kinds codes index terms : List ℕ) where
       let known : Coded max-unknowns codes = subst (λ (l : List ℕ). Coded max-unknowns l) (sym (p .coded)) (codes-coded kinds literals of) in
       sym (fit-tested codes (length index) few (ap length (p .listed) ∙ index-laid codes few .sized) false (sym (coded-all codes known)))
 
-  module _ (preferences rows : List ℕ) (lent : ℕ) (universal? : Bool) (w : List ℕ) where
+  module _ (preferences own : List ℕ) (known : ℕ) (rows : List ℕ) (lent : ℕ) (universal? : Bool) (w : List ℕ) where
     cause-of-kinds : cause-1 kinds ≡ true → cause-over kinds codes index rows lent universal? w ≡ 1
     unfolding cause-over
     cause-of-kinds e = rw e
@@ -235,16 +235,16 @@ module _ (kinds codes index terms : List ℕ) where
     unfolding cause-over
     cause-of-tables e f = rw (e, f)
 
-    pub over-refused-kinds : (n : ℕ) → checked kinds one ≡ Turned n → SearchedOver kinds codes index terms preferences rows lent universal? w (Refused n) w
+    pub over-refused-kinds : (n : ℕ) → checked kinds one ≡ Turned n → SearchedOver kinds codes index terms preferences own known rows lent universal? w (Refused n) w
     over-refused-kinds n e = record {
-      prepared = λ literals p. absurd (one-accepted kinds literals (accepted kinds literals (p .accepted)) n e);
+      prepared = λ literals p _. absurd (one-accepted kinds literals (accepted kinds literals (p .accepted)) n e);
       refused = λ _. (ap Refused (one-refused kinds n e .1 ∙ sym (cause-of-kinds (one-refused kinds n e .0))), refl);
     }
 
     module _ (f : Formula) (passed : checked kinds one ≡ Passed f) where
-      pub over-refused-tables : tables-fit codes (length index) ≡ false → SearchedOver kinds codes index terms preferences rows lent universal? w (Refused 2) w
+      pub over-refused-tables : tables-fit codes (length index) ≡ false → SearchedOver kinds codes index terms preferences own known rows lent universal? w (Refused 2) w
       over-refused-tables unfit = record {
-        prepared = λ literals p. absurd (true≢false (sym (prepared-fit literals p) ∙ unfit));
+        prepared = λ literals p _. absurd (true≢false (sym (prepared-fit literals p) ∙ unfit));
         refused = λ _. (ap Refused (sym (cause-of-tables (one-passed kinds f passed) unfit)), refl);
       }
 
@@ -253,8 +253,8 @@ module _ (kinds codes index terms : List ℕ) where
         unfolding cause-over
         later = rw (one-passed kinds f passed, fits, ← same-side, ← others-known)
 
-        pub over-answered : (u : List ℕ) (r : Search) → Answered kinds codes index terms preferences rows lent others side w u r → SearchedOver kinds codes index terms preferences rows lent universal? w r u
+        pub over-answered : (u : List ℕ) (r : Search) → Answered kinds codes index terms preferences own known rows lent others side w u r → SearchedOver kinds codes index terms preferences own known rows lent universal? w r u
         over-answered u r a = record {
-          prepared = λ literals p. answered-searched kinds literals preferences rows lent universal? w (sizes kinds literals) (p .accepted) others side same-side others-known codes index terms (tables-of literals p) u r a;
+          prepared = λ literals p leads. answered-searched kinds literals preferences rows lent universal? w (sizes kinds literals) (p .accepted) others side same-side others-known codes index terms own known (tables-of literals p) leads u r a;
           refused = λ cause. let q = a .refused (λ z. cause (later ∙ z)) in (q .0 ∙ ap Refused (sym later), q .1);
         }

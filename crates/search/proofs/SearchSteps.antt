@@ -9,9 +9,9 @@ use native.Mathlib.Decide.{decLt}
 use lib.Dec.{eqb}
 use lib.ListN.{length, getD, drop}
 use Rattle.formula.specs.Formula.{max-unknowns}
-use Rattle.expansion.proofs.Cuts.{Problem}
-use Rattle.expansion.proofs.Booleans.{true-or-false, never-both}
-use Rattle.expansion.proofs.Node.{Node, Won}
+use Rattle.expansion.proofs.Cuts.{Problem, Mask, Agree, Refuted, models-agree}
+use Rattle.expansion.proofs.Booleans.{true-or-false, never-both, never-unlike}
+use Rattle.expansion.proofs.Node.{Node, Won, grown-refl}
 use Rattle.expansion.proofs.ClauseCuts.{Some, some-map}
 use Rattle.codes.specs.Codes.{row-position}
 use Rattle.codes.specs.Clauses.{position, clause-of, Coded}
@@ -21,58 +21,101 @@ use Rattle.search_live.proofs.LiveLaws.{some-with}
 use Rattle.search_live.proofs.TermLaws.{own-of}
 use Rattle.search_cells.specs.Cells.{cells, wants}
 use Rattle.search_cells.specs.Changes.{CellsSet, CellsOpened}
-use Rattle.search_sets.specs.Masks.{set-at, masks, cut, SetGrown, WordsUnited, Trimmed, Excused}
-use Rattle.search.specs.Steps.{Fits, GivenIn, Viewed, Settled, SettlesFor, Searched, Searches, with-value, Tried, Tries, Chooses, Retries, Steps, Reached, FromStart}
+use Rattle.search_sets.specs.Masks.{set-at, masks, cut, SetGrown, SetsKept, WordsUnited, Trimmed, Excused}
+use Rattle.search.specs.Memory.{said, RuledOut}
+use Rattle.search.specs.Steps.{Fits, GivenIn, Viewed, Known, Settled, SettlesFor, Searched, Searches, with-value, Tried, Tries, Chooses, Retries, Steps, Reached, FromStart}
 use Rattle.search_groups.specs.Parts.{Parting, PartedAt, Stands}
-use Rattle.search.proofs.StepLaws.{masks-grown}
-use Rattle.search.proofs.SolveLaws.{tried-node, tried-refuted, tried-searched, chosen-first, failed-without, second-node, second-wants, second-open, chosen-second, failed-both, failed-second, InOrder, first-node, split-first, second-part-node, split-second, searched-leaf, stood-node, at-fits, stood-open, parted-other, stood-searched, stood-won}
+use Rattle.search.proofs.StepLaws.{masks-grown, masks-kept}
+use Rattle.search.proofs.SolveLaws.{with-same, with-at, tried-node, tried-refuted, tried-searched, chosen-first, failed-without, second-node, second-wants, second-open, chosen-second, failed-both, failed-second, InOrder, first-node, split-first, second-part-node, split-second, searched-leaf, stood-node, at-fits, stood-open, parted-other, stood-searched, stood-won}
 
 unknown : (P : Problem) (kinds splits codes : List ℕ) (side k : ℕ) → Fits P kinds splits codes side → k < length kinds → k < P .n
 unknown P kinds splits codes side k F h = let e : P .n ≡ length kinds = F .unknowns in omega arith
 
-module _ (kinds splits codes open-terms : List ℕ) (side k lo hi : ℕ) (kk : k < length kinds) (short : length kinds ≤ max-unknowns) where
+module _ (kinds splits codes open-terms memory : List ℕ) (side k lo hi : ℕ) (kk : k < length kinds) (short : length kinds ≤ max-unknowns) where
   below : k < max-unknowns
   below = omega arith
 
   -- ---- a trial
 
   module _ (y : Bool) (w w1 w2 s s1 s2 : List ℕ) (r1 : Bool) (added : SetGrown k s s1) (named : set-at s1 k k ≡ true) (stored : CellsSet k lo hi (k + 2) y w w1) (followed : SettlesFor kinds side splits codes open-terms lo hi (k + 2) w1 w2 s1 s2 r1) where
-    pub tries-refuted : r1 ≡ false → Tries kinds splits codes open-terms side k lo hi y w w2 s s2 false
+    pub tries-refuted : r1 ≡ false → Tries kinds splits codes open-terms memory side k lo hi y w w2 s s2 false
     tries-refuted e P v F W A o z =
-        let kn : k < P .n = unknown P kinds splits codes side k (F .fits) kk in
-        tried-refuted kinds splits codes side k lo hi below y w w1 w2 s s1 s2 added named stored P v (F .fits) W A kn o z
+        let kn : k < P .n = unknown P kinds splits codes side k (F .viewed .fits) kk in
+        tried-refuted kinds splits codes side k lo hi below y w w1 w2 s s1 s2 added named stored P v (F .viewed .fits) W A kn o z
         (subst (λ (b : Bool). Settled P (k + 1) lo hi (with-value k y v) (k + 2) w1 w2 s1 s2 b) e
-        (followed P (k + 1) (with-value k y v) F (tried-node kinds splits codes side k lo hi below y w w1 w2 s s1 s2 added named stored P v (F .fits) W A kn o z) (omega arith) (omega arith)))
+        (followed P (k + 1) (with-value k y v) (F .viewed) (tried-node kinds splits codes side k lo hi below y w w1 w2 s s1 s2 added named stored P v (F .viewed .fits) W A kn o z) (omega arith) (omega arith)))
 
-    pub tries-searched : (w3 s3 : List ℕ) (r : Bool) → r1 ≡ true → Searches kinds splits codes open-terms side (k + 1) lo hi w2 w3 s2 s3 r → Tries kinds splits codes open-terms side k lo hi y w w3 s s3 r
+    pub tries-searched : (w3 s3 : List ℕ) (r : Bool) → r1 ≡ true → Searches kinds splits codes open-terms memory side (k + 1) lo hi w2 w3 s2 s3 r → Tries kinds splits codes open-terms memory side k lo hi y w w3 s s3 r
     tries-searched w3 s3 r e searches P v F W A o z =
-        let kn : k < P .n = unknown P kinds splits codes side k (F .fits) kk in
+        let kn : k < P .n = unknown P kinds splits codes side k (F .viewed .fits) kk in
         let settled : Settled P (k + 1) lo hi (with-value k y v) (k + 2) w1 w2 s1 s2 true =
         subst (λ (b : Bool). Settled P (k + 1) lo hi (with-value k y v) (k + 2) w1 w2 s1 s2 b) e
-        (followed P (k + 1) (with-value k y v) F (tried-node kinds splits codes side k lo hi below y w w1 w2 s s1 s2 added named stored P v (F .fits) W A kn o z) (omega arith) (omega arith)) in
-        tried-searched kinds splits codes side k lo hi below y w w1 w2 s s1 s2 added named stored P v (F .fits) W A kn o z w3 s3 r settled
+        (followed P (k + 1) (with-value k y v) (F .viewed) (tried-node kinds splits codes side k lo hi below y w w1 w2 s s1 s2 added named stored P v (F .viewed .fits) W A kn o z) (omega arith) (omega arith)) in
+        tried-searched kinds splits codes side k lo hi below y w w1 w2 s s1 s2 added named stored P v (F .viewed .fits) W A kn o z w3 s3 r settled
         (searches P (with-value k y v) F (λ i j a b own. settled .wanted i j ∙ stored .wanted i j ∙ W i j a b own) (settled .kept refl))
+
+  -- ---- a value that an earlier search rules out
+
+  -- The rows share the positions before k, which are own, and so the first row's copies.
+  module _ (P : Problem) (v : ℕ → Bool) (F : Known P kinds splits codes open-terms memory side) (w : List ℕ) (W : (i j : ℕ) → i < P .count → j < P .n → P .own j ≡ true → wants w i j ≡ P .wanted i j)
+      (s : List ℕ) (A : Node P k lo hi v (cells w) (masks s)) (y : Bool) (wanted : wants w lo k ≡ y) (out : RuledOut memory w lo k y) where
+    row : lo < P .count
+    row = omega (arith, A .some, A .rows)
+
+    inside : k < P .n
+    inside = omega (arith, out .below, F .remembered .inside)
+
+    shared : (j : ℕ) → j ≤ k + 1 → Agree P 0 lo j
+    shared j le l lt o = absurd (never-both (F .remembered .own l (omega (arith, out .below))) o)
+
+    ruled-out-refuted : (D : Mask) → ((l : ℕ) → l < k + 1 → D l ≡ true) → Refuted P (k + 1) (with-value k y v) D lo
+    ruled-out-refuted D full m M heeds =
+        ⊎-elim
+        (λ e. never-unlike y (said memory k) (e ∙ first k (omega arith) ∙ with-at k y v) (out .other))
+        (λ e. never-unlike y (said memory k) (e ∙ F .viewed .fits .sound .wanted-alike 0 lo k (omega (arith, row)) row inside own (shared k (omega arith)) ∙ sym (W lo k row inside own) ∙ wanted) (out .other))
+        (F .remembered .leads m M k (out .below) before)
+      where
+        own : P .own k ≡ true
+        own = F .remembered .own k (out .below)
+
+        first : (l : ℕ) → l < k + 1 → m 0 l ≡ with-value k y v l
+        first l lt = models-agree P m M 0 lo (k + 1) (omega (arith, row)) row (omega (arith, inside)) (shared (k + 1) (omega arith)) l lt ∙ heeds l lt (full l lt)
+
+        before : (j : ℕ) → j < k → said memory j ≡ m 0 j
+        before j lt = out .before j lt ∙ A .past lo j (omega arith) (A .some) lt .1 ∙ with-same k y v j lt ∙ sym (first j (omega arith))
+
+  pub tries-ruled-out : (y : Bool) (w s s1 : List ℕ) → wants w lo k ≡ y → RuledOut memory w lo k y → SetsKept s s1 → ((l : ℕ) → l < max-unknowns → set-at s1 max-unknowns l ≡ true)
+      → Tries kinds splits codes open-terms memory side k lo hi y w w s s1 false
+  unfolding cut
+  tries-ruled-out y w s s1 wanted out kept full P v F W A o z = record {
+    grown = grown-refl (k + 2) lo hi (cells w);
+    wanted = λ i j. refl;
+    masked = masks-kept k s s1 kept;
+    valued = λ e. absurd (never-both e refl);
+    won = λ e. absurd (never-both e refl);
+    failed = λ _. ruled-out-refuted P v F w W s A y wanted out (cut s1) (λ l lt. full l (omega (arith, below)));
+  }
 
   -- ---- a choice
 
-  module _ (y : Bool) (w w1 s s1 : List ℕ) (r1 : Bool) (wanted : wants w lo k ≡ y) (first : Tries kinds splits codes open-terms side k lo hi y w w1 s s1 r1) where
-    pub chooses-first : r1 ≡ true → Chooses kinds splits codes open-terms side k lo hi w w1 s s1 true
+  module _ (y : Bool) (w w1 s s1 : List ℕ) (r1 : Bool) (wanted : wants w lo k ≡ y) (first : Tries kinds splits codes open-terms memory side k lo hi y w w1 s s1 r1) where
+    pub chooses-first : r1 ≡ true → Chooses kinds splits codes open-terms memory side k lo hi w w1 s s1 true
     chooses-first e P v F W A o z =
-        chosen-first kinds splits codes side k lo hi below P v (F .fits) w s W A (unknown P kinds splits codes side k (F .fits) kk) o y wanted w1 s1
+        chosen-first kinds splits codes side k lo hi below P v (F .viewed .fits) w s W A (unknown P kinds splits codes side k (F .viewed .fits) kk) o y wanted w1 s1
         (subst (λ (b : Bool). Tried P k lo hi v y w w1 s s1 b) e (first P v F W A o z))
 
-    pub chooses-without : r1 ≡ false → cut s1 k ≡ false → Chooses kinds splits codes open-terms side k lo hi w w1 s s1 false
+    pub chooses-without : r1 ≡ false → cut s1 k ≡ false → Chooses kinds splits codes open-terms memory side k lo hi w w1 s s1 false
     chooses-without e lacks P v F W A o z =
         let t : Tried P k lo hi v y w w1 s s1 r1 = first P v F W A o z in
-        failed-without kinds splits codes side k lo hi below P v (F .fits) w s W A (unknown P kinds splits codes side k (F .fits) kk) o y wanted y w1 s1 (t .grown) (t .wanted) (t .masked) (t .failed e) lacks
+        failed-without kinds splits codes side k lo hi below P v (F .viewed .fits) w s W A (unknown P kinds splits codes side k (F .viewed .fits) kk) o y wanted y w1 s1 (t .grown) (t .wanted) (t .masked) (t .failed e) lacks
 
-    pub chooses-retried : (u t : List ℕ) (r : Bool) → r1 ≡ false → Retries kinds splits codes open-terms side k lo hi y w1 u s1 t r → Chooses kinds splits codes open-terms side k lo hi w u s t r
-    chooses-retried u t r e retries = retries w s wanted (subst (λ (b : Bool). Tries kinds splits codes open-terms side k lo hi y w w1 s s1 b) e first)
+    pub chooses-retried : (u t : List ℕ) (r : Bool) → r1 ≡ false → Retries kinds splits codes open-terms memory side k lo hi y w1 u s1 t r → Chooses kinds splits codes open-terms memory side k lo hi w u s t r
+    chooses-retried u t r e retries = retries w s wanted (subst (λ (b : Bool). Tries kinds splits codes open-terms memory side k lo hi y w w1 s s1 b) e first)
 
-    module _ (w2 w3 s2 s3 : List ℕ) (r : Bool) (e1 : r1 ≡ false) (opened : CellsOpened lo hi (k + 1) w1 w2) (trimmed : Trimmed k s1 s2) (second : Tries kinds splits codes open-terms side k lo hi (not y) w2 w3 s2 s3 r) where
-      module _ (P : Problem) (v : ℕ → Bool) (F : Viewed P kinds splits codes open-terms side) (W : (i j : ℕ) → i < P .count → j < P .n → P .own j ≡ true → wants w i j ≡ P .wanted i j) (A : Node P k lo hi v (cells w) (masks s)) (o : P .own k ≡ true) (z : cells w .level lo k ≡ 0) where
+    module _ (w2 w3 s2 s3 : List ℕ) (r : Bool) (e1 : r1 ≡ false) (opened : CellsOpened lo hi (k + 1) w1 w2) (trimmed : Trimmed k s1 s2) (second : Tries kinds splits codes open-terms memory side k lo hi (not y) w2 w3 s2 s3 r) where
+      module _ (P : Problem) (v : ℕ → Bool) (F : Known P kinds splits codes open-terms memory side) (W : (i j : ℕ) → i < P .count → j < P .n → P .own j ≡ true → wants w i j ≡ P .wanted i j) (A : Node P k lo hi v (cells w) (masks s)) (o : P .own k ≡ true) (z : cells w .level lo k ≡ 0) where
         kn : k < P .n
-        kn = unknown P kinds splits codes side k (F .fits) kk
+        kn = unknown P kinds splits codes side k (F .viewed .fits) kk
 
         once : Tried P k lo hi v y w w1 s s1 false
         once = subst (λ (b : Bool). Tried P k lo hi v y w w1 s s1 b) e1 (first P v F W A o z)
@@ -80,23 +123,23 @@ module _ (kinds splits codes open-terms : List ℕ) (side k lo hi : ℕ) (kk : k
         twice : Tried P k lo hi v (not y) w2 w3 s2 s3 r
         twice =
             second P v F
-            (λ i j a b own. second-wants kinds splits codes side k lo hi below P v (F .fits) w s W A kn o y wanted w1 w2 s1 s2 once opened trimmed i j ∙ W i j a b own)
-            (second-node kinds splits codes side k lo hi below P v (F .fits) w s W A kn o y wanted w1 w2 s1 s2 once opened trimmed)
+            (λ i j a b own. second-wants kinds splits codes side k lo hi below P v (F .viewed .fits) w s W A kn o y wanted w1 w2 s1 s2 once opened trimmed i j ∙ W i j a b own)
+            (second-node kinds splits codes side k lo hi below P v (F .viewed .fits) w s W A kn o y wanted w1 w2 s1 s2 once opened trimmed)
             o
-            (second-open kinds splits codes side k lo hi below P v (F .fits) w s W A kn o y wanted w1 w2 s1 s2 once opened trimmed z)
+            (second-open kinds splits codes side k lo hi below P v (F .viewed .fits) w s W A kn o y wanted w1 w2 s1 s2 once opened trimmed z)
 
-      pub chooses-second : r ≡ true → Chooses kinds splits codes open-terms side k lo hi w w3 s s3 true
+      pub chooses-second : r ≡ true → Chooses kinds splits codes open-terms memory side k lo hi w w3 s s3 true
       chooses-second e P v F W A o z =
-          chosen-second kinds splits codes side k lo hi below P v (F .fits) w s W A (kn P v F W A o z) o y wanted w1 w2 s1 s2 (once P v F W A o z) opened trimmed w3 s3 r (twice P v F W A o z) e
+          chosen-second kinds splits codes side k lo hi below P v (F .viewed .fits) w s W A (kn P v F W A o z) o y wanted w1 w2 s1 s2 (once P v F W A o z) opened trimmed w3 s3 r (twice P v F W A o z) e
 
-      pub chooses-last : r ≡ false → cut s3 k ≡ false → Chooses kinds splits codes open-terms side k lo hi w w3 s s3 false
+      pub chooses-last : r ≡ false → cut s3 k ≡ false → Chooses kinds splits codes open-terms memory side k lo hi w w3 s s3 false
       chooses-last e lacks P v F W A o z =
-          failed-second kinds splits codes side k lo hi below P v (F .fits) w s W A (kn P v F W A o z) o y wanted w1 w2 s1 s2 (once P v F W A o z) opened trimmed w3 s3 r (twice P v F W A o z) e lacks
+          failed-second kinds splits codes side k lo hi below P v (F .viewed .fits) w s W A (kn P v F W A o z) o y wanted w1 w2 s1 s2 (once P v F W A o z) opened trimmed w3 s3 r (twice P v F W A o z) e lacks
 
-      pub chooses-neither : (s4 : List ℕ) → r ≡ false → WordsUnited max-unknowns (getD s2 (2 * max-unknowns) 0) (getD s2 (2 * max-unknowns + 1) 0) s3 s4 → Chooses kinds splits codes open-terms side k lo hi w w3 s s4 false
+      pub chooses-neither : (s4 : List ℕ) → r ≡ false → WordsUnited max-unknowns (getD s2 (2 * max-unknowns) 0) (getD s2 (2 * max-unknowns + 1) 0) s3 s4 → Chooses kinds splits codes open-terms memory side k lo hi w w3 s s4 false
       unfolding cut
       chooses-neither s4 e united P v F W A o z =
-          failed-both kinds splits codes side k lo hi below P v (F .fits) w s W A (kn P v F W A o z) o y wanted w1 w2 s1 s2 (once P v F W A o z) opened trimmed w3 s3 r (twice P v F W A o z) s4 e
+          failed-both kinds splits codes side k lo hi below P v (F .viewed .fits) w s W A (kn P v F W A o z) o y wanted w1 w2 s1 s2 (once P v F W A o z) opened trimmed w3 s3 r (twice P v F W A o z) s4 e
           (λ l lk d. united .takes l (trimmed .behind max-unknowns l (omega arith) ∙ d))
           (λ l lk d. united .grown .keeps l d)
           (masks-grown k max-unknowns s3 s4 (united .grown))
@@ -104,66 +147,66 @@ module _ (kinds splits codes open-terms : List ℕ) (side k lo hi : ℕ) (kk : k
 -- ---- a split
 
 -- A split of the group at the other side's position k, at which the rows from mid on part from those before.
-abbrev pub Splits : List ℕ → List ℕ → List ℕ → List ℕ → ℕ → ℕ → ℕ → ℕ → ℕ → List ℕ → List ℕ → List ℕ → List ℕ → Bool → Type 0
-Splits kinds splits codes open-terms side k lo mid hi w u s t r =
+abbrev pub Splits : List ℕ → List ℕ → List ℕ → List ℕ → List ℕ → ℕ → ℕ → ℕ → ℕ → ℕ → List ℕ → List ℕ → List ℕ → List ℕ → Bool → Type 0
+Splits kinds splits codes open-terms memory side k lo mid hi w u s t r =
     (P : Problem) (v : ℕ → Bool)
-    → Viewed P kinds splits codes open-terms side → ((i j : ℕ) → i < P .count → j < P .n → P .own j ≡ true → wants w i j ≡ P .wanted i j) → Node P k lo hi v (cells w) (masks s)
+    → Known P kinds splits codes open-terms memory side → ((i j : ℕ) → i < P .count → j < P .n → P .own j ≡ true → wants w i j ≡ P .wanted i j) → Node P k lo hi v (cells w) (masks s)
     → P .own k ≡ false → Parting splits lo hi mid → getD splits mid 0 ≡ k
     → Searched P k lo hi v w u s t r
 
-module _ (kinds splits codes open-terms : List ℕ) (side k lo mid hi a b d e : ℕ) (kk : k < length kinds) (lm : lo < mid) (order : InOrder lo mid hi a b d e) (w w1 s s1 : List ℕ) (r1 : Bool) (first : Searches kinds splits codes open-terms side (k + 1) a b w w1 s s1 r1) where
-  pub splits-first : r1 ≡ false → Splits kinds splits codes open-terms side k lo mid hi w w1 s s1 false
+module _ (kinds splits codes open-terms memory : List ℕ) (side k lo mid hi a b d e : ℕ) (kk : k < length kinds) (lm : lo < mid) (order : InOrder lo mid hi a b d e) (w w1 s s1 : List ℕ) (r1 : Bool) (first : Searches kinds splits codes open-terms memory side (k + 1) a b w w1 s s1 r1) where
+  pub splits-first : r1 ≡ false → Splits kinds splits codes open-terms memory side k lo mid hi w w1 s s1 false
   splits-first f P v F W A o parting at-k =
-      let kn : k < P .n = unknown P kinds splits codes side k (F .fits) kk in
-      split-first P kinds splits codes side (F .fits) k lo mid hi v w s A kn o parting lm at-k a b d e order w1 s1 r1
-      (first P (with-value k (P .given a k) v) F W (first-node P kinds splits codes side (F .fits) k lo mid hi v w s A kn o parting lm at-k a b d e order)) f
+      let kn : k < P .n = unknown P kinds splits codes side k (F .viewed .fits) kk in
+      split-first P kinds splits codes side (F .viewed .fits) k lo mid hi v w s A kn o parting lm at-k a b d e order w1 s1 r1
+      (first P (with-value k (P .given a k) v) F W (first-node P kinds splits codes side (F .viewed .fits) k lo mid hi v w s A kn o parting lm at-k a b d e order)) f
 
-  pub splits-second : (s2 w3 s3 : List ℕ) (r : Bool) → r1 ≡ true → Trimmed k s1 s2 → Searches kinds splits codes open-terms side (k + 1) d e w1 w3 s2 s3 r → Splits kinds splits codes open-terms side k lo mid hi w w3 s s3 r
+  pub splits-second : (s2 w3 s3 : List ℕ) (r : Bool) → r1 ≡ true → Trimmed k s1 s2 → Searches kinds splits codes open-terms memory side (k + 1) d e w1 w3 s2 s3 r → Splits kinds splits codes open-terms memory side k lo mid hi w w3 s s3 r
   splits-second s2 w3 s3 r f trimmed second P v F W A o parting at-k =
-      let kn : k < P .n = unknown P kinds splits codes side k (F .fits) kk in
+      let kn : k < P .n = unknown P kinds splits codes side k (F .viewed .fits) kk in
       let one : Searched P (k + 1) a b (with-value k (P .given a k) v) w w1 s s1 r1 =
-      first P (with-value k (P .given a k) v) F W (first-node P kinds splits codes side (F .fits) k lo mid hi v w s A kn o parting lm at-k a b d e order) in
-      split-second P kinds splits codes side (F .fits) k lo mid hi v w s A kn o parting lm at-k a b d e order w1 s1 r1 one s2 trimmed w3 s3 r f
-      (second P (with-value k (P .given d k) v) F (λ i j x y own. one .wanted i j ∙ W i j x y own) (second-part-node P kinds splits codes side (F .fits) k lo mid hi v w s A kn o parting lm at-k a b d e order w1 s1 r1 one s2 trimmed))
+      first P (with-value k (P .given a k) v) F W (first-node P kinds splits codes side (F .viewed .fits) k lo mid hi v w s A kn o parting lm at-k a b d e order) in
+      split-second P kinds splits codes side (F .viewed .fits) k lo mid hi v w s A kn o parting lm at-k a b d e order w1 s1 r1 one s2 trimmed w3 s3 r f
+      (second P (with-value k (P .given d k) v) F (λ i j x y own. one .wanted i j ∙ W i j x y own) (second-part-node P kinds splits codes side (F .viewed .fits) k lo mid hi v w s A kn o parting lm at-k a b d e order w1 s1 r1 one s2 trimmed))
 
 -- ---- the position behind those that stand
 
-module _ (kinds splits codes open-terms : List ℕ) (side at until lo mid hi : ℕ) (short : length kinds ≤ max-unknowns) (w u s t : List ℕ) (r : Bool) where
-  pub steps-reached : at ≡ length kinds → Reached codes side w lo s t r → Steps kinds splits codes open-terms side at until lo mid hi w w s t r
+module _ (kinds splits codes open-terms memory : List ℕ) (side at until lo mid hi : ℕ) (short : length kinds ≤ max-unknowns) (w u s t : List ℕ) (r : Bool) where
+  pub steps-reached : at ≡ length kinds → Reached codes side w lo s t r → Steps kinds splits codes open-terms memory side at until lo mid hi w w s t r
   unfolding cut
   steps-reached e reached P v F W A parting parted most opens others =
-      let n : at ≡ P .n = e ∙ sym (F .fits .unknowns) in
+      let n : at ≡ P .n = e ∙ sym (F .viewed .fits .unknowns) in
       subst (λ (x : ℕ). Searched P x lo hi v w w s t r) (sym n)
-      (searched-leaf P kinds splits codes side (F .fits) lo hi v w s t r (subst (λ (x : ℕ). Node P x lo hi v (cells w) (masks s)) n A) reached
-      (λ f l lt. reached .full f l (let m : P .n ≡ length kinds = F .fits .unknowns in omega arith)))
+      (searched-leaf P kinds splits codes side (F .viewed .fits) lo hi v w s t r (subst (λ (x : ℕ). Node P x lo hi v (cells w) (masks s)) n A) reached
+      (λ f l lt. reached .full f l (let m : P .n ≡ length kinds = F .viewed .fits .unknowns in omega arith)))
 
-  pub steps-split : until ≤ at → at < length kinds → Splits kinds splits codes open-terms side at lo mid hi w u s t r → Steps kinds splits codes open-terms side at until lo mid hi w u s t r
+  pub steps-split : until ≤ at → at < length kinds → Splits kinds splits codes open-terms memory side at lo mid hi w u s t r → Steps kinds splits codes open-terms memory side at until lo mid hi w u s t r
   steps-split le lt split P v F W A parting parted most opens others =
       let e : at ≡ until = omega arith in
       split P v F W A (subst (λ (x : ℕ). P .own x ≡ false) (sym e) (others (omega arith))) parting (parted .there (omega arith) .1 ∙ sym e)
 
-  pub steps-choose : at < until → Chooses kinds splits codes open-terms side at lo hi w u s t r → Steps kinds splits codes open-terms side at until lo mid hi w u s t r
+  pub steps-choose : at < until → Chooses kinds splits codes open-terms memory side at lo hi w u s t r → Steps kinds splits codes open-terms memory side at until lo mid hi w u s t r
   steps-choose lt choose P v F W A parting parted most opens others = choose P v F W A (opens (omega arith) .0) (opens (omega arith) .1)
 
 -- ---- the whole
 
-module _ (kinds splits codes open-terms : List ℕ) (side k at until lo mid hi : ℕ) (short : length kinds ≤ max-unknowns) (w u s t : List ℕ) (r : Bool) (parting : Parting splits lo hi mid) (parted : PartedAt splits lo mid (length kinds) until)
-    (stood : Stands kinds w side k lo until at) (stepped : Steps kinds splits codes open-terms side at until lo mid hi w u s t r) where
-  taken : (P : Problem) (v : ℕ → Bool) (F : Viewed P kinds splits codes open-terms side) (W : (i j : ℕ) → i < P .count → j < P .n → P .own j ≡ true → wants w i j ≡ P .wanted i j) (A : Node P k lo hi v (cells w) (masks s)) → Searched P at lo hi (cells w .value lo) w u s t r
+module _ (kinds splits codes open-terms memory : List ℕ) (side k at until lo mid hi : ℕ) (short : length kinds ≤ max-unknowns) (w u s t : List ℕ) (r : Bool) (parting : Parting splits lo hi mid) (parted : PartedAt splits lo mid (length kinds) until)
+    (stood : Stands kinds w side k lo until at) (stepped : Steps kinds splits codes open-terms memory side at until lo mid hi w u s t r) where
+  taken : (P : Problem) (v : ℕ → Bool) (F : Known P kinds splits codes open-terms memory side) (W : (i j : ℕ) → i < P .count → j < P .n → P .own j ≡ true → wants w i j ≡ P .wanted i j) (A : Node P k lo hi v (cells w) (masks s)) → Searched P at lo hi (cells w .value lo) w u s t r
   taken P v F W A =
-      stepped P (cells w .value lo) F W (stood-node P kinds splits codes side (F .fits) k at until lo mid hi v w s short A parting parted stood) parting parted
-      (at-fits P kinds splits codes side (F .fits) k at until lo mid hi v w s short A parting parted stood)
-      (stood-open P kinds splits codes side (F .fits) k at until lo mid hi v w s short A parting parted stood)
-      (parted-other P kinds splits codes side (F .fits) k at until lo mid hi v w s short A parting parted stood)
+      stepped P (cells w .value lo) F W (stood-node P kinds splits codes side (F .viewed .fits) k at until lo mid hi v w s short A parting parted stood) parting parted
+      (at-fits P kinds splits codes side (F .viewed .fits) k at until lo mid hi v w s short A parting parted stood)
+      (stood-open P kinds splits codes side (F .viewed .fits) k at until lo mid hi v w s short A parting parted stood)
+      (parted-other P kinds splits codes side (F .viewed .fits) k at until lo mid hi v w s short A parting parted stood)
 
-  pub searches-won : r ≡ true → Searches kinds splits codes open-terms side k lo hi w u s t true
+  pub searches-won : r ≡ true → Searches kinds splits codes open-terms memory side k lo hi w u s t true
   searches-won e P v F W A =
-      stood-won P kinds splits codes side (F .fits) k at until lo mid hi v w s short A parting parted stood u t
+      stood-won P kinds splits codes side (F .viewed .fits) k at until lo mid hi v w s short A parting parted stood u t
       (subst (λ (b : Bool). Searched P at lo hi (cells w .value lo) w u s t b) e (taken P v F W A))
 
-  pub searches-failed : (t′ : List ℕ) → r ≡ false → Excused k at t t′ → Searches kinds splits codes open-terms side k lo hi w u s t′ false
+  pub searches-failed : (t′ : List ℕ) → r ≡ false → Excused k at t t′ → Searches kinds splits codes open-terms memory side k lo hi w u s t′ false
   searches-failed t′ e excused P v F W A =
-      stood-searched P kinds splits codes side (F .fits) k at until lo mid hi v w s short A parting parted stood u t t′ false
+      stood-searched P kinds splits codes side (F .viewed .fits) k at until lo mid hi v w s short A parting parted stood u t t′ false
       (subst (λ (b : Bool). Searched P at lo hi (cells w .value lo) w u s t b) e (taken P v F W A)) excused
 
 -- ---- the start
@@ -230,16 +273,16 @@ module _ (P : Problem) (kinds splits codes open-terms : List ℕ) (side : ℕ) (
         (known universal coded-here .every i (subst (λ (n : ℕ). i < n) (F .rows) row) start inside begins);
   }
 
-module _ (kinds splits codes open-terms : List ℕ) (side : ℕ) (some : 0 < length splits) (w w1 s s1 : List ℕ) (r1 : Bool) (looked : SettlesFor kinds side splits codes open-terms 0 (length splits) 1 w w1 s s1 r1)
+module _ (kinds splits codes open-terms memory : List ℕ) (side : ℕ) (some : 0 < length splits) (w w1 s s1 : List ℕ) (r1 : Bool) (looked : SettlesFor kinds side splits codes open-terms 0 (length splits) 1 w w1 s s1 r1)
     (known : side ≡ 1 → Coded (length kinds) codes → Opened kinds codes w (length splits) open-terms) (short : length kinds ≤ max-unknowns) where
-  pub start-refuted : r1 ≡ false → FromStart kinds splits codes side w w1 false
-  start-refuted e P F W filled opened = (
+  pub start-refuted : r1 ≡ false → FromStart kinds splits codes memory side w w1 false
+  start-refuted e P F W filled opened remembered = (
     λ f. absurd (never-both f refl),
     λ f v. (cut s1, looked P 0 v (viewed P kinds splits codes open-terms side F w filled known short) (root-node P kinds splits codes side F some w filled opened v s) (omega arith) (omega arith) .failed e),
   )
 
-  pub start-searched : (u t : List ℕ) (r : Bool) → r1 ≡ true → Searches kinds splits codes open-terms side 0 0 (length splits) w1 u s1 t r → FromStart kinds splits codes side w u r
-  start-searched u t r e searches P F W filled opened = (λ f. subst (λ (x : ℕ). Won P 0 0 x (cells u)) (sym (F .rows)) (searched (λ j. false) .won f), λ f v. (cut t, searched v .failed f))
+  pub start-searched : (u t : List ℕ) (r : Bool) → r1 ≡ true → Searches kinds splits codes open-terms memory side 0 0 (length splits) w1 u s1 t r → FromStart kinds splits codes memory side w u r
+  start-searched u t r e searches P F W filled opened remembered = (λ f. subst (λ (x : ℕ). Won P 0 0 x (cells u)) (sym (F .rows)) (searched (λ j. false) .won f), λ f v. (cut t, searched v .failed f))
     where
       seen : Viewed P kinds splits codes open-terms side
       seen = viewed P kinds splits codes open-terms side F w filled known short
@@ -247,4 +290,4 @@ module _ (kinds splits codes open-terms : List ℕ) (side : ℕ) (some : 0 < len
       searched : (v : ℕ → Bool) → Searched P 0 0 (length splits) v w1 u s1 t r
       searched v =
           let settled : Settled P 0 0 (length splits) v 1 w w1 s s1 r1 = looked P 0 v seen (root-node P kinds splits codes side F some w filled opened v s) (omega arith) (omega arith) in
-          searches P v seen (λ i j a b own. settled .wanted i j ∙ W i j a b own) (settled .kept e)
+          searches P v (record { viewed = seen; remembered = remembered }) (λ i j a b own. settled .wanted i j ∙ W i j a b own) (settled .kept e)

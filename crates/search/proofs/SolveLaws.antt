@@ -24,11 +24,11 @@ use Rattle.search_groups.specs.Parts.{Parting, PartedAt, Stands}
 use Rattle.search.proofs.Rows.{agree-group, parted-apart}
 use Rattle.search.proofs.StepLaws.{masks-below, masks-within, within-refl, within-trans, within-shorter, masks-grown, wants-trans}
 
-with-same : (k : ℕ) (y : Bool) (v : ℕ → Bool) → SameBelow k v (with-value k y v)
+pub with-same : (k : ℕ) (y : Bool) (v : ℕ → Bool) → SameBelow k v (with-value k y v)
 unfolding with-value
 with-same k y v l lt = sym (ap (λ (b : Bool). cond b y (v l)) (ne-eqb l k (λ e. omega arith)))
 
-with-at : (k : ℕ) (y : Bool) (v : ℕ → Bool) → with-value k y v k ≡ y
+pub with-at : (k : ℕ) (y : Bool) (v : ℕ → Bool) → with-value k y v k ≡ y
 unfolding with-value
 with-at k y v = ap (λ (b : Bool). cond b y (v k)) (eq-eqb k k refl)
 

@@ -2,7 +2,7 @@
 -- the first model's rows, or none. Assumes nothing.
 use Prim.Native.Nat.{ℕ, zero, suc, _+_, _-_, _≤_, _<_}
 use mathlib.Core.Path.{_≡_, refl, sym, _∙_, ap, ap₂, subst}
-use mathlib.Core.Logic.{_⊎_, inl, inr, _↔_}
+use mathlib.Core.Logic.{_⊎_, inl, inr, _↔_, ⊎-elim}
 use mathlib.Core.Bool.{Bool, true, false, not}
 use mathlib.Core.List.{List, [], _∷_}
 use mathlib.Core.Option.{none, some}
@@ -14,6 +14,7 @@ use lib.IntN.{ℤ, pos, negsuc, natAbs}
 use lib.ListN.{length, getD, length-map}
 use Rattle.formula.specs.Formula.{kind-of, prefix, Clause, onto, clauses}
 use Rattle.formula.specs.Meaning.{matrix}
+use Rattle.formula.specs.Causes.{count as unknowns}
 use Rattle.formula.proofs.Accepted.{Accepted}
 use Rattle.preference.specs.Preference.{prefer}
 use Rattle.rows.specs.Row.{row-of}
@@ -28,11 +29,14 @@ use Rattle.expansion.proofs.Cuts.{Problem, Agree, Mask, Refuted}
 use Rattle.expansion.proofs.ClauseCuts.{Every, matrix-at}
 use Rattle.expansion.specs.Cells.{others-before, tabulate}
 use Rattle.expansion.proofs.Leading.{wanted}
+use Rattle.expansion.proofs.Memory.{counted-in-block, model-led}
 use Rattle.expansion.proofs.Engine.{restriction-of-values, values-of-restriction, literal-at, goal-at, Names, Places, problem, problem-sound, refuted-is-none, won-is-first}
 use Rattle.search_cells.specs.Cells.{cells, wants, owned}
 use Rattle.search_cells.specs.Changes.{Filled, FirstDifference}
 use Rattle.codes.specs.Clauses.{Coded, code-true, code-clauses, code-goal, Encoded}
 use Rattle.search_order.specs.Sorted.{up-to, Sorted}
+use Rattle.search.specs.Search.{LastLeads}
+use Rattle.search.specs.Memory.{said, Remembered, Reads}
 use Rattle.search.specs.Steps.{Fits, FromStart}
 use Rattle.search.specs.Whole.{side-kind}
 use Rattle.search_numbering.specs.Wants.{WantsFilled}
@@ -244,16 +248,46 @@ module _ (kinds : List ℕ) (literals : List ℤ) (preferences rows place all sp
       kept (yes a) (no b) o = filled .elsewhere i j (λ t. b (t .0)) .0
       kept (no a) b o = filled .unplaced i j (λ r lr e. a (subst (λ (x : ℕ). x < count) (sym e) (sorted .place-below r (omega (arith, placed))))) .0
 
-  -- what the search returns is what the definition gives
-  pub searched-none : (u : List ℕ) → FromStart kinds splits codes side w2 u false → search (prefer preferences) (side-kind side) (prefix kinds) (matrix (clauses literals)) lent ≡ none
-  searched-none u from =
-      let refuted : (D : Mask) × Refuted P 0 (λ j. false) D 0 = from P fits wants-right filled-right open-right .1 refl (λ j. false) in
-      refuted-is-none (prefer preferences) (side-kind side) (prefix kinds) (clauses literals) lent row (λ r. getD place r 0) named places (λ j. false) (refuted .0) (subst (λ (x : ℕ). 0 < x) (sym (length-rows-of m count rows)) some-row) (refuted .1)
+  -- what is known of the first block holds of the problem
+  module _ (own-rows : List ℕ) (known-rows : ℕ) (memory : List ℕ) (reads : Reads kinds own-rows known-rows side memory (length memory))
+      (leads : LastLeads kinds literals preferences own-rows known-rows (side-kind side) lent) where
+    abbrev known-row : Row
+    known-row = row-of (unknowns (side-kind side) (prefix kinds)) (row-at own-rows (known-rows - 1))
 
-  pub searched-some : (u : List ℕ) → FromStart kinds splits codes side w2 u true → search (prefer preferences) (side-kind side) (prefix kinds) (matrix (clauses literals)) lent ≡ some (tabulate count (λ r. part (owned kinds side) (tabulate (length kinds) (cells u .value (getD place r 0)))))
-  unfolding problem
-  searched-some u from =
-      won-is-first (prefer preferences) (side-kind side) (prefix kinds) (clauses literals) lent row (λ r. getD place r 0) named places (cells u) (from P fits wants-right filled-right open-right .0 refl)
-      ∙ ap (λ (x : ℕ). some (tabulate x (λ r. part (flags (side-kind side) (prefix kinds)) (tabulate (length (prefix kinds)) (cells u .value (getD place r 0)))))) (length-rows-of m count rows)
-      ∙ ap (λ (ts : List Bool). some (tabulate count (λ r. part ts (tabulate (length (prefix kinds)) (cells u .value (getD place r 0)))))) same-flags
-      ∙ ap (λ (x : ℕ). some (tabulate count (λ r. part (owned kinds side) (tabulate x (cells u .value (getD place r 0)))))) (length-map kinds kind-of)
+    own-there : (k : ℕ) → k < length memory → P .own k ≡ true
+    own-there k lt = own-is k ∙ owned-at kinds side k (omega (arith, reads .inside)) ∙ eq-eqb (getD kinds k 0) side (reads .of-side k lt)
+
+    own-up-to : (k : ℕ) → k < length memory → (j : ℕ) → j ≤ k → P .own j ≡ true
+    own-up-to k lt j le = own-there j (omega arith)
+
+    known-value : (k : ℕ) → k < length memory → getD known-row k false ≡ said memory k
+    unfolding problem
+    known-value k lt =
+        getD-row-of (unknowns (side-kind side) (prefix kinds)) (row-at own-rows (known-rows - 1)) k (counted-in-block (side-kind side) (prefix kinds) k (own-up-to k lt))
+        ∙ sym (reads .values k lt)
+
+    remembered : Remembered P memory
+    remembered = record {
+      inside = omega (arith, known, reads .inside);
+      own = own-there;
+      leads = λ f M k lt before.
+          ⊎-elim
+          (λ e. inl (sym (known-value k lt) ∙ e))
+          (λ e. inr (sym (known-value k lt) ∙ e))
+          (model-led (prefer preferences) (side-kind side) (prefix kinds) (clauses literals) lent row (λ r. getD place r 0) named places known-row (leads (reads .some-known (omega arith))) f M
+          (omega (arith, length-rows-of m count rows, some-row)) k (own-up-to k lt) (λ j less. known-value j (omega arith) ∙ before j less));
+    }
+
+    -- what the search returns is what the definition gives
+    pub searched-none : (u : List ℕ) → FromStart kinds splits codes memory side w2 u false → search (prefer preferences) (side-kind side) (prefix kinds) (matrix (clauses literals)) lent ≡ none
+    searched-none u from =
+        let refuted : (D : Mask) × Refuted P 0 (λ j. false) D 0 = from P fits wants-right filled-right open-right remembered .1 refl (λ j. false) in
+        refuted-is-none (prefer preferences) (side-kind side) (prefix kinds) (clauses literals) lent row (λ r. getD place r 0) named places (λ j. false) (refuted .0) (subst (λ (x : ℕ). 0 < x) (sym (length-rows-of m count rows)) some-row) (refuted .1)
+
+    pub searched-some : (u : List ℕ) → FromStart kinds splits codes memory side w2 u true → search (prefer preferences) (side-kind side) (prefix kinds) (matrix (clauses literals)) lent ≡ some (tabulate count (λ r. part (owned kinds side) (tabulate (length kinds) (cells u .value (getD place r 0)))))
+    unfolding problem
+    searched-some u from =
+        won-is-first (prefer preferences) (side-kind side) (prefix kinds) (clauses literals) lent row (λ r. getD place r 0) named places (cells u) (from P fits wants-right filled-right open-right remembered .0 refl)
+        ∙ ap (λ (x : ℕ). some (tabulate x (λ r. part (flags (side-kind side) (prefix kinds)) (tabulate (length (prefix kinds)) (cells u .value (getD place r 0)))))) (length-rows-of m count rows)
+        ∙ ap (λ (ts : List Bool). some (tabulate count (λ r. part ts (tabulate (length (prefix kinds)) (cells u .value (getD place r 0)))))) same-flags
+        ∙ ap (λ (x : ℕ). some (tabulate count (λ r. part (owned kinds side) (tabulate x (cells u .value (getD place r 0)))))) (length-map kinds kind-of)

@@ -30,6 +30,7 @@ use Rattle.search_cells.specs.Steps.{rows-filled}
 use Rattle.search_cells.proofs.FillLaws.{rows-are-filled}
 use Rattle.search_cells.proofs.PackLaws.{packed-inside}
 use Rattle.search.specs.Steps.{Tabled, FromStart}
+use Rattle.search.specs.Search.{LastLeads}
 use Rattle.search.specs.Whole.{side-kind, TablesOf, Ready, Arranged, Decided, OverPlaces, FoundIs}
 use Rattle.search_cells.proofs.OwnedLaws.{length-owned}
 use Rattle.search.proofs.CallLaws.{zero-at}
@@ -133,9 +134,10 @@ module _ (kinds : List ℕ) (literals : List ℤ) (preferences rows : List ℕ) 
   abbrev result : Option (List Row)
   result = search (prefer preferences) (side-kind side) (prefix kinds) (matrix (clauses literals)) (rows-of others lent rows)
 
-  module _ (codes index terms w₀ place z x : List ℕ) (ready : Ready kinds codes index rows lent others side w₀) (some-row : 0 < lent) (long : lent ≤ length place) (sorted : Sorted rows lent others place)
-      (cleared : z ≡ replicate (length w₀) 0) (r : Bool) (over : OverPlaces kinds codes index terms preferences rows (take lent place) side z x r) (of : TablesOf kinds literals codes index terms) where
-    abbrev decided : Decided kinds codes index terms preferences (take lent place) side (rows-filled kinds rows (take lent place) side z) (over .searched) r
+  module _ (codes index terms own-rows : List ℕ) (known-rows : ℕ) (w₀ place z x : List ℕ) (ready : Ready kinds codes index rows lent others side w₀) (some-row : 0 < lent) (long : lent ≤ length place) (sorted : Sorted rows lent others place)
+      (cleared : z ≡ replicate (length w₀) 0) (r : Bool) (over : OverPlaces kinds codes index terms preferences own-rows known-rows rows (take lent place) side z x r) (of : TablesOf kinds literals codes index terms)
+      (leads : LastLeads kinds literals preferences own-rows known-rows (side-kind side) (rows-of others lent rows)) where
+    abbrev decided : Decided kinds codes index terms preferences own-rows known-rows (take lent place) side (rows-filled kinds rows (take lent place) side z) (over .searched) r
     decided = over .decided
 
     abbrev w : List ℕ
@@ -181,15 +183,15 @@ module _ (kinds : List ℕ) (literals : List ℤ) (preferences rows : List ℕ) 
     found-none : r ≡ false → x ≡ replicate (length w₀) 0 → FoundIs result false x
     found-none e h =
         subst (λ (o : Option (List Row)). FoundIs o false x)
-        (sym (searched-none kinds literals preferences rows (take lent place) (decided .all) (take (length (take lent place)) (decided .all)) codes side lent others (ready .side-fits) (of .accepted) (ready .inside) some-row (sorted-take rows lent others place sorted) others-fit (of .encoded) placed split-length z w (decided .wanting-area) filled (cleared-levels w₀ z cleared) differences (decided .wanting) same-splits u
-        (subst (λ (b : Bool). FromStart kinds (take (length (take lent place)) (decided .all)) codes side (decided .wanting-area) u b) e (decided .from tabled))))
+        (sym (searched-none kinds literals preferences rows (take lent place) (decided .all) (take (length (take lent place)) (decided .all)) codes side lent others (ready .side-fits) (of .accepted) (ready .inside) some-row (sorted-take rows lent others place sorted) others-fit (of .encoded) placed split-length z w (decided .wanting-area) filled (cleared-levels w₀ z cleared) differences (decided .wanting) same-splits own-rows known-rows (decided .memory) (decided .reads) leads u
+        (subst (λ (b : Bool). FromStart kinds (take (length (take lent place)) (decided .all)) codes (decided .memory) side (decided .wanting-area) u b) e (decided .from tabled))))
         (refl, h ∙ ap (λ (n : ℕ). replicate n 0) (ready .area))
 
     found-some : r ≡ true → x ≡ table-of (tabulate (length (take lent place)) (λ q. part (owned kinds side) (tabulate (length kinds) (cells u .value (getD (take lent place) q 0))))) ++ replicate (work-size - 16 * length (take lent place)) 0 → FoundIs result true x
     found-some e h =
         subst (λ (o : Option (List Row)). FoundIs o true x)
-        (sym (searched-some kinds literals preferences rows (take lent place) (decided .all) (take (length (take lent place)) (decided .all)) codes side lent others (ready .side-fits) (of .accepted) (ready .inside) some-row (sorted-take rows lent others place sorted) others-fit (of .encoded) placed split-length z w (decided .wanting-area) filled (cleared-levels w₀ z cleared) differences (decided .wanting) same-splits u
-        (subst (λ (b : Bool). FromStart kinds (take (length (take lent place)) (decided .all)) codes side (decided .wanting-area) u b) e (decided .from tabled))))
+        (sym (searched-some kinds literals preferences rows (take lent place) (decided .all) (take (length (take lent place)) (decided .all)) codes side lent others (ready .side-fits) (of .accepted) (ready .inside) some-row (sorted-take rows lent others place sorted) others-fit (of .encoded) placed split-length z w (decided .wanting-area) filled (cleared-levels w₀ z cleared) differences (decided .wanting) same-splits own-rows known-rows (decided .memory) (decided .reads) leads u
+        (subst (λ (b : Bool). FromStart kinds (take (length (take lent place)) (decided .all)) codes (decided .memory) side (decided .wanting-area) u b) e (decided .from tabled))))
         (refl, h ∙ ap (λ (n : ℕ). table-of (yields n) ++ replicate (work-size - 16 * n) 0) placed ∙ ap (λ (n : ℕ). table-of (yields lent) ++ replicate (work-size - n) 0) (sym (length-table-of (yields lent) ∙ ap (λ (n : ℕ). 16 * n) (length-tabulate lent one))))
       where
         one : ℕ → Row

@@ -1,7 +1,7 @@
 -- What a search returns and leaves, for everything that is lent: 01's causes 1 to 5, 7 and 8 in order, then the first model. Below it the same over
 -- tables that were made of the formula before.
 -- Assumes nothing.
-use Prim.Native.Nat.{ℕ, _-_}
+use Prim.Native.Nat.{ℕ, _-_, _<_}
 use mathlib.Core.Path.{_≡_}
 use mathlib.Core.Bool.{Bool, not, cond, _&&_, _||_}
 use mathlib.Core.List.{List, _++_}
@@ -9,17 +9,20 @@ use mathlib.Core.Option.{Option, none, some}
 use lib.Dec.{eqb, ltb}
 use lib.IntN.{ℤ}
 use lib.ListN.{length, take, replicate}
-use Rattle.formula.specs.Formula.{max-entries, work-size, prefix, clauses}
+use Rattle.formula.specs.Formula.{max-entries, work-size, Kind, prefix, clauses}
 use Rattle.formula.specs.Meaning.{matrix}
 use Rattle.formula.specs.Causes.{any, cause-1, checked, sizes, count, number as cause-number}
 use Rattle.formula.specs.declared.Check.the-variants.{Accepted}
 use Rattle.preference.specs.Preference.{prefer}
-use Rattle.rows.specs.Table.{rows-of, table-of, room, table-fits}
+use Rattle.rows.specs.Row.{row-of}
+use Rattle.rows.specs.Table.{row-at, rows-of, table-of, room, table-fits}
 use Rattle.rows.specs.Stray.{stray-rows}
+use Rattle.expansion.specs.Side.{flags, goal}
 use Rattle.expansion.specs.OtherSide.{side-of, other}
 use Rattle.expansion.specs.Play.{Row}
 use Rattle.expansion.specs.Model.{search}
 use Rattle.expansion.specs.Right.{SearchRight}
+use Rattle.expansion.specs.Memory.{LeadsModels}
 use Rattle.codes.specs.Codes.{last-code, encoding, used as entries-used, filled as codes-filled}
 pub use Rattle.index.specs.Index.{index-size}
 use Rattle.index.specs.Index.{index-of, filled as index-filled}
@@ -129,9 +132,22 @@ cause-over kinds codes index rows lent universal? work =
     let later = later-cause rows lent (count (other (side-of universal?)) (prefix kinds)) work in
     cond (cause-1 kinds) 1 (cond (not (tables-fit codes (length index))) 2 later)
 
--- All that `first_model_over` promises: over an accepted formula's tables what `first_model` promises of the formula, and over any tables that a cause
--- is returned and changes nothing. What tables hold that are no formula's is not found out, and of an answer over them nothing is promised.
-pub record SearchedOver (kinds codes index terms preferences rows : List ℕ) (lent : ℕ) (universal? : Bool) (work : List ℕ) (result : Search) (work-then : List ℕ) : Type 0 where
-  pub prepared : (literals : List ℤ) → Prepared kinds literals codes index terms → Searched kinds literals preferences rows lent universal? work result work-then
+-- The last of the known rows of a side's own table, if there is one, leads the side's models over the others' rows in the first block ..
+abbrev pub LastLeads : List ℕ → List ℤ → List ℕ → List ℕ → ℕ → Kind → List Row → Type 0
+LastLeads kinds literals preferences own known side rows =
+    0 < known
+    → LeadsModels (prefer preferences) (flags side (prefix kinds)) (goal side (matrix (clauses literals))) rows (row-of (count side (prefix kinds)) (row-at own (known - 1)))
+
+-- .. over those that are lent. What the first model over some of them yields does.
+abbrev pub KnownLeads : List ℕ → List ℤ → List ℕ → List ℕ → ℕ → List ℕ → ℕ → Bool → Type 0
+KnownLeads kinds literals preferences own known rows lent universal? =
+    LastLeads kinds literals preferences own known (side-of universal?) (lent-rows kinds rows lent universal?)
+
+-- All that `first_model_over` promises: over an accepted formula's tables and a known row that leads what `first_model` promises of the formula, and over
+-- any tables that a cause is returned and changes nothing. What tables hold that are no formula's, or a row that does not lead, is not found out, and of an
+-- answer over them nothing is promised.
+pub record SearchedOver (kinds codes index terms preferences own : List ℕ) (known : ℕ) (rows : List ℕ) (lent : ℕ) (universal? : Bool) (work : List ℕ) (result : Search) (work-then : List ℕ) : Type 0 where
+  pub prepared : (literals : List ℤ) → Prepared kinds literals codes index terms → KnownLeads kinds literals preferences own known rows lent universal?
+      → Searched kinds literals preferences rows lent universal? work result work-then
   pub refused : (cause-over kinds codes index rows lent universal? work ≡ 0 → ⊥)
       → (result ≡ Refused (cause-over kinds codes index rows lent universal? work)) × (work-then ≡ work)

@@ -22,6 +22,7 @@ use Rattle.search_reasons.specs.Reasons.{IsReason}
 use Rattle.search_groups.specs.Parts.{Parting, PartedAt}
 use Rattle.search_terms.specs.Tables.{others, table-size, is-open}
 use Rattle.search_terms.specs.Terms.{own, TermOpen, Listed as TermsListed}
+use Rattle.search.specs.Memory.{Remembered}
 
 -- The sorted rows: entry i of `splits` is the first position where row i and the row before it have different values, or past the last.
 -- The codes are the clauses; the side is 0 or 1.
@@ -46,6 +47,11 @@ pub record Viewed (P : Problem) (kinds splits codes opened : List ℕ) (side : �
   pub fits : Fits P kinds splits codes side
   pub shown : side ≡ 1 → (i start : ℕ) → i < P .count → start < length codes → Begins codes start
       → Some (GivenIn P kinds i) (clause-of (drop start codes)) ⊎ TermOpen kinds codes opened i start ⊎ (is-open opened others i ≡ true)
+
+-- .. and an earlier search has left the values of the first block.
+pub record Known (P : Problem) (kinds splits codes opened memory : List ℕ) (side : ℕ) : Type 0 where
+  pub viewed : Viewed P kinds splits codes opened side
+  pub remembered : Remembered P memory
 
 -- From the work area w and the sets s to u and t: open cells of the group were set, the sets grew, and the group is still a node or is refuted.
 pub record Settled (P : Problem) (k lo hi : ℕ) (v : ℕ → Bool) (mark : ℕ) (w u s t : List ℕ) (r : Bool) : Type 0 where
@@ -76,10 +82,10 @@ pub record Searched (P : Problem) (k lo hi : ℕ) (v : ℕ → Bool) (w u s t : 
   pub won : r ≡ true → Won P k lo hi (cells u)
   pub failed : r ≡ false → Refuted P k v (cut t) lo
 
-abbrev pub Searches : List ℕ → List ℕ → List ℕ → List ℕ → ℕ → ℕ → ℕ → ℕ → List ℕ → List ℕ → List ℕ → List ℕ → Bool → Type 0
-Searches kinds splits codes opened side k lo hi w u s t r =
+abbrev pub Searches : List ℕ → List ℕ → List ℕ → List ℕ → List ℕ → ℕ → ℕ → ℕ → ℕ → List ℕ → List ℕ → List ℕ → List ℕ → Bool → Type 0
+Searches kinds splits codes opened memory side k lo hi w u s t r =
     (P : Problem) (v : ℕ → Bool)
-    → Viewed P kinds splits codes opened side → ((i j : ℕ) → i < P .count → j < P .n → P .own j ≡ true → wants w i j ≡ P .wanted i j) → Node P k lo hi v (cells w) (masks s)
+    → Known P kinds splits codes opened memory side → ((i j : ℕ) → i < P .count → j < P .n → P .own j ≡ true → wants w i j ≡ P .wanted i j) → Node P k lo hi v (cells w) (masks s)
     → Searched P k lo hi v w u s t r
 
 -- The values v with y at position k.
@@ -95,32 +101,32 @@ pub record Tried (P : Problem) (k lo hi : ℕ) (v : ℕ → Bool) (y : Bool) (w 
   pub won : r ≡ true → Won P (k + 1) lo hi (cells u)
   pub failed : r ≡ false → Refuted P (k + 1) (with-value k y v) (cut t) lo
 
-abbrev pub Tries : List ℕ → List ℕ → List ℕ → List ℕ → ℕ → ℕ → ℕ → ℕ → Bool → List ℕ → List ℕ → List ℕ → List ℕ → Bool → Type 0
-Tries kinds splits codes opened side k lo hi y w u s t r =
+abbrev pub Tries : List ℕ → List ℕ → List ℕ → List ℕ → List ℕ → ℕ → ℕ → ℕ → ℕ → Bool → List ℕ → List ℕ → List ℕ → List ℕ → Bool → Type 0
+Tries kinds splits codes opened memory side k lo hi y w u s t r =
     (P : Problem) (v : ℕ → Bool)
-    → Viewed P kinds splits codes opened side → ((i j : ℕ) → i < P .count → j < P .n → P .own j ≡ true → wants w i j ≡ P .wanted i j) → Node P k lo hi v (cells w) (masks s)
+    → Known P kinds splits codes opened memory side → ((i j : ℕ) → i < P .count → j < P .n → P .own j ≡ true → wants w i j ≡ P .wanted i j) → Node P k lo hi v (cells w) (masks s)
     → P .own k ≡ true → cells w .level lo k ≡ 0
     → Tried P k lo hi v y w u s t r
 
 -- A choice at the own position k, open in the group.
-abbrev pub Chooses : List ℕ → List ℕ → List ℕ → List ℕ → ℕ → ℕ → ℕ → ℕ → List ℕ → List ℕ → List ℕ → List ℕ → Bool → Type 0
-Chooses kinds splits codes opened side k lo hi w u s t r =
+abbrev pub Chooses : List ℕ → List ℕ → List ℕ → List ℕ → List ℕ → ℕ → ℕ → ℕ → ℕ → List ℕ → List ℕ → List ℕ → List ℕ → Bool → Type 0
+Chooses kinds splits codes opened memory side k lo hi w u s t r =
     (P : Problem) (v : ℕ → Bool)
-    → Viewed P kinds splits codes opened side → ((i j : ℕ) → i < P .count → j < P .n → P .own j ≡ true → wants w i j ≡ P .wanted i j) → Node P k lo hi v (cells w) (masks s)
+    → Known P kinds splits codes opened memory side → ((i j : ℕ) → i < P .count → j < P .n → P .own j ≡ true → wants w i j ≡ P .wanted i j) → Node P k lo hi v (cells w) (masks s)
     → P .own k ≡ true → cells w .level lo k ≡ 0
     → Searched P k lo hi v w u s t r
 
 -- The other value at k, over what the trial of y, the wanted one, left when it failed.
-abbrev pub Retries : List ℕ → List ℕ → List ℕ → List ℕ → ℕ → ℕ → ℕ → ℕ → Bool → List ℕ → List ℕ → List ℕ → List ℕ → Bool → Type 0
-Retries kinds splits codes opened side k lo hi y w1 u s1 t r =
-    (w s : List ℕ) → wants w lo k ≡ y → Tries kinds splits codes opened side k lo hi y w w1 s s1 false
-    → Chooses kinds splits codes opened side k lo hi w u s t r
+abbrev pub Retries : List ℕ → List ℕ → List ℕ → List ℕ → List ℕ → ℕ → ℕ → ℕ → ℕ → Bool → List ℕ → List ℕ → List ℕ → List ℕ → Bool → Type 0
+Retries kinds splits codes opened memory side k lo hi y w1 u s1 t r =
+    (w s : List ℕ) → wants w lo k ≡ y → Tries kinds splits codes opened memory side k lo hi y w w1 s s1 false
+    → Chooses kinds splits codes opened memory side k lo hi w u s t r
 
 -- The search at the position behind those that stand.
-abbrev pub Steps : List ℕ → List ℕ → List ℕ → List ℕ → ℕ → ℕ → ℕ → ℕ → ℕ → ℕ → List ℕ → List ℕ → List ℕ → List ℕ → Bool → Type 0
-Steps kinds splits codes opened side at until lo mid hi w u s t r =
+abbrev pub Steps : List ℕ → List ℕ → List ℕ → List ℕ → List ℕ → ℕ → ℕ → ℕ → ℕ → ℕ → ℕ → List ℕ → List ℕ → List ℕ → List ℕ → Bool → Type 0
+Steps kinds splits codes opened memory side at until lo mid hi w u s t r =
     (P : Problem) (v : ℕ → Bool)
-    → Viewed P kinds splits codes opened side → ((i j : ℕ) → i < P .count → j < P .n → P .own j ≡ true → wants w i j ≡ P .wanted i j) → Node P at lo hi v (cells w) (masks s)
+    → Known P kinds splits codes opened memory side → ((i j : ℕ) → i < P .count → j < P .n → P .own j ≡ true → wants w i j ≡ P .wanted i j) → Node P at lo hi v (cells w) (masks s)
     → Parting splits lo hi mid → PartedAt splits lo mid (length kinds) until → at ≤ until
     → (at < until → (P .own at ≡ true) × (cells w .level lo at ≡ 0))
     → (until < length kinds → P .own until ≡ false)
@@ -133,12 +139,13 @@ pub record Reached (codes : List ℕ) (side : ℕ) (w : List ℕ) (i : ℕ) (s t
   pub full : r ≡ false → (l : ℕ) → l < max-unknowns → set-at t max-unknowns l ≡ true
 
 -- The search of all rows: what it leaves, over every problem that the tables fit, whose rows' cells are set at level 0 and whose other cells are open.
-abbrev pub FromStart : List ℕ → List ℕ → List ℕ → ℕ → List ℕ → List ℕ → Bool → Type 0
-FromStart kinds splits codes side w u r =
+abbrev pub FromStart : List ℕ → List ℕ → List ℕ → List ℕ → ℕ → List ℕ → List ℕ → Bool → Type 0
+FromStart kinds splits codes memory side w u r =
     (P : Problem)
     → Fits P kinds splits codes side → ((i j : ℕ) → i < P .count → j < P .n → P .own j ≡ true → wants w i j ≡ P .wanted i j)
     → ((i j : ℕ) → i < P .count → j < P .n → P .own j ≡ false → (cells w .level i j ≡ 1) × (cells w .value i j ≡ P .given i j))
     → ((i j : ℕ) → ((i < P .count) × (j < P .n) × (P .own j ≡ false) → ⊥) → cells w .level i j ≡ 0)
+    → Remembered P memory
     → (r ≡ true → Won P 0 0 (P .count) (cells u)) × (r ≡ false → (v : ℕ → Bool) → (D : Mask) × Refuted P 0 v D 0)
 
 -- What a list has from one place to another are starts of clauses.

@@ -18,7 +18,7 @@ use Rattle.expansion.specs.Play.{Row}
 use Rattle.expansion.specs.Model.{search}
 use Rattle.search.specs.declared.Search.{Search}
 use Rattle.search.specs.declared.Search.the-variants.{Refused}
-use Rattle.search.specs.Search.{answer, left, later-cause}
+use Rattle.search.specs.Search.{answer, left, later-cause, LastLeads}
 use Rattle.codes.specs.Clauses.{Coded, Encoded}
 use Rattle.index.specs.Index.{index-size, index-of}
 use Rattle.search_cells.specs.Changes.{FirstDifference}
@@ -26,6 +26,7 @@ use Rattle.search_cells.specs.Steps.{rows-filled, packed}
 use Rattle.search_numbering.specs.Wants.{WantsFilled}
 use Rattle.search_terms.specs.Tables.{table-size}
 use Rattle.search_terms.specs.Terms.{Listed}
+use Rattle.search.specs.Memory.{Reads}
 use Rattle.search.specs.Steps.{Tabled, FromStart}
 
 -- The side as a number: 0 existential, 1 universal.
@@ -67,20 +68,22 @@ pub record Arranged (kinds codes index place : List ℕ) (side : ℕ) (work : Li
   pub met : (i : ℕ) → i < length place → (r : ℕ) × (r < length place) × (getD place r 0 ≡ i)
   pub area : length work ≡ work-size
 
--- The search over a filled table w of the sorted rows: where neighbours differ, what the copies want, and what is left.
-pub record Decided (kinds codes index terms preferences place : List ℕ) (side : ℕ) (w u : List ℕ) (r : Bool) : Type 0 where
+-- The search over a filled table w of the sorted rows: where neighbours differ, what the copies want, what is known of the first block, and what is left.
+pub record Decided (kinds codes index terms preferences own : List ℕ) (known : ℕ) (place : List ℕ) (side : ℕ) (w u : List ℕ) (r : Bool) : Type 0 where
   pub all : List ℕ
   pub wanting-area : List ℕ
   pub long : length place ≤ length all
   pub differences : (i : ℕ) → i + 1 < length place → FirstDifference kinds side w i (getD all (i + 1) 0)
   pub wanting : WantsFilled kinds preferences place all side w wanting-area
-  pub from : Tabled side kinds codes index terms → FromStart kinds (take (length place) all) codes side wanting-area u r
+  pub memory : List ℕ
+  pub reads : Reads kinds own known side memory (length memory)
+  pub from : Tabled side kinds codes index terms → FromStart kinds (take (length place) all) codes memory side wanting-area u r
 
 -- The search over rows at their sorted places, from the area w to x: the table is filled and searched, and its rows are packed, or it is cleared.
-pub record OverPlaces (kinds codes index terms preferences rows place : List ℕ) (side : ℕ) (w x : List ℕ) (r : Bool) : Type 0 where
+pub record OverPlaces (kinds codes index terms preferences own : List ℕ) (known : ℕ) (rows place : List ℕ) (side : ℕ) (w x : List ℕ) (r : Bool) : Type 0 where
   pub searched : List ℕ
   pub sized : length searched ≡ length w
-  pub decided : Decided kinds codes index terms preferences place side (rows-filled kinds rows place side w) searched r
+  pub decided : Decided kinds codes index terms preferences own known place side (rows-filled kinds rows place side w) searched r
   pub yields : r ≡ true → x ≡ packed kinds place side searched
   pub clears : r ≡ false → x ≡ replicate (length w) 0
 
@@ -89,10 +92,11 @@ abbrev pub FoundIs : Option (List Row) → Bool → List ℕ → Type 0
 FoundIs none r u = (r ≡ false) × (u ≡ left none)
 FoundIs (some yielded) r u = (r ≡ true) × (u ≡ left (some yielded))
 
--- What is found over the tables of any formula.
-abbrev pub Finds : List ℕ → List ℕ → List ℕ → List ℕ → List ℕ → List ℕ → ℕ → ℕ → ℕ → Bool → List ℕ → Type 0
-Finds kinds codes index terms preferences rows lent others side r u =
+-- What is found over the tables of any formula, where the known row leads.
+abbrev pub Finds : List ℕ → List ℕ → List ℕ → List ℕ → List ℕ → List ℕ → ℕ → List ℕ → ℕ → ℕ → ℕ → Bool → List ℕ → Type 0
+Finds kinds codes index terms preferences own known rows lent others side r u =
     (literals : List ℤ) → TablesOf kinds literals codes index terms
+    → LastLeads kinds literals preferences own known (side-kind side) (rows-of others lent rows)
     → FoundIs (search (prefer preferences) (side-kind side) (prefix kinds) (matrix (clauses literals)) (rows-of others lent rows)) r u
 
 -- The tables fit, and the other side has `others` unknowns.
@@ -102,8 +106,9 @@ pub record Accepting (kinds codes index : List ℕ) (others side : ℕ) : Type 0
   pub side-fits : side ≤ 1
 
 -- What is answered over tables that fit, and what is left.
-pub record Answered (kinds codes index terms preferences rows : List ℕ) (lent others side : ℕ) (w u : List ℕ) (r : Search) : Type 0 where
+pub record Answered (kinds codes index terms preferences own : List ℕ) (known : ℕ) (rows : List ℕ) (lent others side : ℕ) (w u : List ℕ) (r : Search) : Type 0 where
   pub refused : (later-cause rows lent others w ≡ 0 → ⊥) → (r ≡ Refused (later-cause rows lent others w)) × (u ≡ w)
   pub answered : later-cause rows lent others w ≡ 0 → (literals : List ℤ) → TablesOf kinds literals codes index terms
+      → LastLeads kinds literals preferences own known (side-kind side) (rows-of others lent rows)
       → (r ≡ answer (search (prefer preferences) (side-kind side) (prefix kinds) (matrix (clauses literals)) (rows-of others lent rows)))
       × (u ≡ left (search (prefer preferences) (side-kind side) (prefix kinds) (matrix (clauses literals)) (rows-of others lent rows)))

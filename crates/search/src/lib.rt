@@ -14,6 +14,7 @@ use formula::Formula;
 mod clauses;
 mod force;
 mod hints;
+mod memory;
 mod reasons;
 mod solve;
 mod table;
@@ -58,6 +59,8 @@ pub fn first_model(
                 &terms,
                 preferences,
                 rows,
+                0, // no row of the side's is known
+                rows,
                 count,
                 universal,
                 work,
@@ -83,19 +86,22 @@ pub fn prepare(
 }
 
 // `first_model` over the tables of an accepted formula. The formula is not checked again: what of the tables can be tested at little cost
-// is, so that any may be lent.
+// is, so that any may be lent. Of the side's own rows the last of the `known` ones may come from an earlier search over some of these rows: its first
+// block is then not gone through again.
 pub fn first_model_over(
     kinds: &[u8],
     codes: &[u16],
     index: &[u16],
     terms: &[u16],
     preferences: &[u8],
+    own: &[u8],
+    known: usize,
     rows: &[u8],
     count: usize,
     universal: bool,
     work: &mut [u8],
 ) -> Search
-    ensures { λ r. ⌜ SearchedOver (now (kinds .entry)) (now (codes .entry)) (now (index .entry)) (now (terms .entry)) (now (preferences .entry)) (now (rows .entry)) count universal (now (work .entry)) r (now (work .exit)) ⌝ }
+    ensures { λ r. ⌜ SearchedOver (now (kinds .entry)) (now (codes .entry)) (now (index .entry)) (now (terms .entry)) (now (preferences .entry)) (now (own .entry)) known (now (rows .entry)) count universal (now (work .entry)) r (now (work .exit)) ⌝ }
 {
     let clause = [0i32; 1]; // an empty one: the prefix alone is checked
     match Formula::check(kinds, &clause) {
@@ -113,6 +119,8 @@ pub fn first_model_over(
                     index,
                     terms,
                     preferences,
+                    own,
+                    known,
                     rows,
                     count,
                     others,
@@ -126,6 +134,8 @@ pub fn first_model_over(
                     index,
                     terms,
                     preferences,
+                    own,
+                    known,
                     rows,
                     count,
                     universals,
@@ -144,6 +154,8 @@ fn over_rows(
     index: &[u16],
     terms: &[u16],
     preferences: &[u8],
+    own: &[u8],
+    known: usize,
     rows: &[u8],
     count: usize,
     others: usize,
@@ -151,7 +163,7 @@ fn over_rows(
     work: &mut [u8],
 ) -> Search
     requires { ⌜ Accepting (now kinds) (now codes) (now index) others side ⌝ }
-    ensures { λ r. ⌜ Answered (now (kinds .entry)) (now (codes .entry)) (now (index .entry)) (now (terms .entry)) (now (preferences .entry)) (now (rows .entry)) count others side (now (work .entry)) (now (work .exit)) r ⌝ }
+    ensures { λ r. ⌜ Answered (now (kinds .entry)) (now (codes .entry)) (now (index .entry)) (now (terms .entry)) (now (preferences .entry)) (now (own .entry)) known (now (rows .entry)) count others side (now (work .entry)) (now (work .exit)) r ⌝ }
 {
     if rows::table_fits(rows) {} else {
         return Search::Refused(4);
@@ -171,6 +183,8 @@ fn over_rows(
         index,
         terms,
         preferences,
+        own,
+        known,
         rows,
         count,
         others,
@@ -190,6 +204,8 @@ fn find(
     index: &[u16],
     terms: &[u16],
     preferences: &[u8],
+    own: &[u8],
+    known: usize,
     rows: &[u8],
     count: usize,
     others: usize,
@@ -197,7 +213,7 @@ fn find(
     work: &mut [u8],
 ) -> bool
     requires { ⌜ Ready (now kinds) (now codes) (now index) (now rows) count others side (now work) ⌝ }
-    ensures { λ r. ⌜ Finds (now (kinds .entry)) (now (codes .entry)) (now (index .entry)) (now (terms .entry)) (now (preferences .entry)) (now (rows .entry)) count others side r (now (work .exit)) ⌝ }
+    ensures { λ r. ⌜ Finds (now (kinds .entry)) (now (codes .entry)) (now (index .entry)) (now (terms .entry)) (now (preferences .entry)) (now (own .entry)) known (now (rows .entry)) count others side r (now (work .exit)) ⌝ }
 {
     rows::clear(work);
     if count == 0 {
@@ -211,6 +227,8 @@ fn find(
         index,
         terms,
         preferences,
+        own,
+        known,
         rows,
         &place[..count],
         side,
@@ -225,16 +243,29 @@ fn over_places(
     index: &[u16],
     terms: &[u16],
     preferences: &[u8],
+    own: &[u8],
+    known: usize,
     rows: &[u8],
     place: &[u8],
     side: u8,
     work: &mut [u8],
 ) -> bool
     requires { ⌜ Arranged (now kinds) (now codes) (now index) (now place) side (now work) ⌝ }
-    ensures { λ r. ⌜ OverPlaces (now (kinds .entry)) (now (codes .entry)) (now (index .entry)) (now (terms .entry)) (now (preferences .entry)) (now (rows .entry)) (now (place .entry)) side (now (work .entry)) (now (work .exit)) r ⌝ }
+    ensures { λ r. ⌜ OverPlaces (now (kinds .entry)) (now (codes .entry)) (now (index .entry)) (now (terms .entry)) (now (preferences .entry)) (now (own .entry)) known (now (rows .entry)) (now (place .entry)) side (now (work .entry)) (now (work .exit)) r ⌝ }
 {
     search_cells::fill(kinds, rows, place, side, work);
-    if decide(kinds, codes, index, terms, preferences, place, side, work) {
+    if decide(
+        kinds,
+        codes,
+        index,
+        terms,
+        preferences,
+        own,
+        known,
+        place,
+        side,
+        work,
+    ) {
         search_cells::pack(kinds, place, side, work);
         true
     } else {
@@ -250,16 +281,29 @@ fn decide(
     index: &[u16],
     terms: &[u16],
     preferences: &[u8],
+    own: &[u8],
+    known: usize,
     place: &[u8],
     side: u8,
     work: &mut [u8],
 ) -> bool
     requires { ⌜ Arranged (now kinds) (now codes) (now index) (now place) side (now work) ⌝ }
-    ensures { λ r. ⌜ Decided (now (kinds .entry)) (now (codes .entry)) (now (index .entry)) (now (terms .entry)) (now (preferences .entry)) (now (place .entry)) side (now (work .entry)) (now (work .exit)) r ⌝ }
+    ensures { λ r. ⌜ Decided (now (kinds .entry)) (now (codes .entry)) (now (index .entry)) (now (terms .entry)) (now (preferences .entry)) (now (own .entry)) known (now (place .entry)) side (now (work .entry)) (now (work .exit)) r ⌝ }
 {
     let count = place.len();
     let mut splits = [0u8; Formula::ROWS];
     search_cells::compare(kinds, work, count, side, &mut splits);
     search_numbering::fill(kinds, preferences, place, &splits, side, work);
-    solve::from_start(kinds, &splits[..count], codes, index, terms, side, work)
+    let mut memory = [0u8; Formula::UNKNOWNS];
+    let block = memory::read(kinds, own, known, side, &mut memory);
+    solve::from_start(
+        kinds,
+        &splits[..count],
+        codes,
+        index,
+        terms,
+        &memory[..block],
+        side,
+        work,
+    )
 }

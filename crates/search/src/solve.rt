@@ -13,6 +13,7 @@ ghost use Rattle.search.specs.Steps.{Lent, Indexed, Tabled, SettlesFor, 
 use super::force;
 use super::hints;
 use super::hints::CUT;
+use super::memory;
 use super::table;
 
 // The words of the set at CUT.
@@ -27,11 +28,12 @@ pub(crate) fn from_start(
     codes: &[u16],
     index: &[u16],
     terms: &[u16],
+    memory: &[u8],
     side: u8,
     work: &mut [u8],
 ) -> bool
     requires { ⌜ (length (now kinds) ≤ max-unknowns) × (0 < length (now splits)) × (length (now splits) ≤ max-rows) × (length (now codes) ≤ max-entries) × Coded max-unknowns (now codes) × (length (now index) ≡ index-size) × (side ≤ 1) × (length (now work) ≡ work-size) ⌝ }
-    ensures { λ r. ⌜ (Tabled side (now (kinds .entry)) (now (codes .entry)) (now (index .entry)) (now (terms .entry)) → FromStart (now (kinds .entry)) (now (splits .entry)) (now (codes .entry)) side (now (work .entry)) (now (work .exit)) r) ⌝ }
+    ensures { λ r. ⌜ (Tabled side (now (kinds .entry)) (now (codes .entry)) (now (index .entry)) (now (terms .entry)) → FromStart (now (kinds .entry)) (now (splits .entry)) (now (codes .entry)) (now (memory .entry)) side (now (work .entry)) (now (work .exit)) r) ⌝ }
 {
     let mut sets = [0u64; search_sets::WORDS];
     let mut opened = [0u64; search_terms::WORDS];
@@ -46,6 +48,7 @@ pub(crate) fn from_start(
             &mut sets,
             index,
             &opened,
+            memory,
             side,
             0,
             0,
@@ -106,6 +109,7 @@ fn solve(
     sets: &mut [u64],
     index: &[u16],
     opened: &[u64],
+    memory: &[u8],
     side: u8,
     k: usize,
     lo: usize,
@@ -113,7 +117,7 @@ fn solve(
 ) -> bool
     requires { ⌜ Lent side (now splits) (now codes) (now work) (now sets) (now index) ⌝ }
     requires { ⌜ (length (now kinds) ≤ max-unknowns) × (side ≤ 1) × (k ≤ length (now kinds)) × (lo < hi) × (hi ≤ length (now splits)) ⌝ }
-    ensures { λ r. ⌜ (Indexed side (now (codes .entry)) (now (index .entry)) → Searches (now (kinds .entry)) (now (splits .entry)) (now (codes .entry)) (now (opened .entry)) side k lo hi (now (work .entry)) (now (work .exit)) (now (sets .entry)) (now (sets .exit)) r) ⌝ }
+    ensures { λ r. ⌜ (Indexed side (now (codes .entry)) (now (index .entry)) → Searches (now (kinds .entry)) (now (splits .entry)) (now (codes .entry)) (now (opened .entry)) (now (memory .entry)) side k lo hi (now (work .entry)) (now (work .exit)) (now (sets .entry)) (now (sets .exit)) r) ⌝ }
 {
     let mid = search_groups::parting(splits, lo, hi);
     let until = search_groups::parted_at(splits, lo, mid, kinds.len());
@@ -126,6 +130,7 @@ fn solve(
         sets,
         index,
         opened,
+        memory,
         side,
         at,
         until,
@@ -149,6 +154,7 @@ fn step(
     sets: &mut [u64],
     index: &[u16],
     opened: &[u64],
+    memory: &[u8],
     side: u8,
     at: usize,
     until: usize,
@@ -159,7 +165,7 @@ fn step(
     requires { ⌜ Lent side (now splits) (now codes) (now work) (now sets) (now index) ⌝ }
     requires { ⌜ (length (now kinds) ≤ max-unknowns) × (side ≤ 1) × (at ≤ length (now kinds)) × (until ≤ length (now kinds)) × (lo < hi) × (hi ≤ length (now splits)) ⌝ }
     requires { ⌜ (lo ≤ mid) × (mid < hi) × (until < length (now kinds) → lo < mid) ⌝ }
-    ensures { λ r. ⌜ (Indexed side (now (codes .entry)) (now (index .entry)) → Steps (now (kinds .entry)) (now (splits .entry)) (now (codes .entry)) (now (opened .entry)) side at until lo mid hi (now (work .entry)) (now (work .exit)) (now (sets .entry)) (now (sets .exit)) r) ⌝ }
+    ensures { λ r. ⌜ (Indexed side (now (codes .entry)) (now (index .entry)) → Steps (now (kinds .entry)) (now (splits .entry)) (now (codes .entry)) (now (opened .entry)) (now (memory .entry)) side at until lo mid hi (now (work .entry)) (now (work .exit)) (now (sets .entry)) (now (sets .exit)) r) ⌝ }
 {
     if at == kinds.len() {
         return reached(codes, work, sets, kinds, index, opened, side, lo);
@@ -173,6 +179,7 @@ fn step(
             sets,
             index,
             opened,
+            memory,
             side,
             at,
             lo,
@@ -192,6 +199,7 @@ fn step(
         sets,
         index,
         opened,
+        memory,
         side,
         at + 1,
         from,
@@ -208,6 +216,7 @@ fn step(
         sets,
         index,
         opened,
+        memory,
         side,
         at + 1,
         other_from,
@@ -221,7 +230,7 @@ fn either(first: bool, a: usize, b: usize) -> usize
     if first { a } else { b }
 }
 
-// Tries the wanted value at the open own position k, and the other one if a failure was reached by that.
+// Tries the wanted value at the open own position k, unless an earlier search rules it out, and the other one if a failure was reached by that.
 fn choose(
     kinds: &[u8],
     splits: &[u8],
@@ -230,6 +239,7 @@ fn choose(
     sets: &mut [u64],
     index: &[u16],
     opened: &[u64],
+    memory: &[u8],
     side: u8,
     k: usize,
     lo: usize,
@@ -237,9 +247,27 @@ fn choose(
 ) -> bool
     requires { ⌜ Lent side (now splits) (now codes) (now work) (now sets) (now index) ⌝ }
     requires { ⌜ (length (now kinds) ≤ max-unknowns) × (side ≤ 1) × (k < length (now kinds)) × (lo < hi) × (hi ≤ length (now splits)) ⌝ }
-    ensures { λ r. ⌜ (Indexed side (now (codes .entry)) (now (index .entry)) → Chooses (now (kinds .entry)) (now (splits .entry)) (now (codes .entry)) (now (opened .entry)) side k lo hi (now (work .entry)) (now (work .exit)) (now (sets .entry)) (now (sets .exit)) r) ⌝ }
+    ensures { λ r. ⌜ (Indexed side (now (codes .entry)) (now (index .entry)) → Chooses (now (kinds .entry)) (now (splits .entry)) (now (codes .entry)) (now (opened .entry)) (now (memory .entry)) side k lo hi (now (work .entry)) (now (work .exit)) (now (sets .entry)) (now (sets .exit)) r) ⌝ }
 {
     let wanted = table::wanted(work, lo, k);
+    if memory::rules_out(memory, work, lo, k, wanted) {
+        search_sets::fill(sets, CUT); // by all that stands before
+        return retry(
+            kinds,
+            splits,
+            codes,
+            work,
+            sets,
+            index,
+            opened,
+            memory,
+            side,
+            k,
+            lo,
+            hi,
+            wanted,
+        );
+    }
     if attempt(
         kinds,
         splits,
@@ -248,6 +276,7 @@ fn choose(
         sets,
         index,
         opened,
+        memory,
         side,
         k,
         lo,
@@ -267,6 +296,7 @@ fn choose(
         sets,
         index,
         opened,
+        memory,
         side,
         k,
         lo,
@@ -275,7 +305,7 @@ fn choose(
     )
 }
 
-// After a failure of the value `tried` at the own position k, which names k: tries the other one.
+// After a failure of the value `tried` at the own position k, which names k, or where it is ruled out: tries the other one.
 fn retry(
     kinds: &[u8],
     splits: &[u8],
@@ -284,6 +314,7 @@ fn retry(
     sets: &mut [u64],
     index: &[u16],
     opened: &[u64],
+    memory: &[u8],
     side: u8,
     k: usize,
     lo: usize,
@@ -292,7 +323,7 @@ fn retry(
 ) -> bool
     requires { ⌜ Lent side (now splits) (now codes) (now work) (now sets) (now index) ⌝ }
     requires { ⌜ (length (now kinds) ≤ max-unknowns) × (side ≤ 1) × (k < length (now kinds)) × (lo < hi) × (hi ≤ length (now splits)) ⌝ }
-    ensures { λ r. ⌜ (Indexed side (now (codes .entry)) (now (index .entry)) → Retries (now (kinds .entry)) (now (splits .entry)) (now (codes .entry)) (now (opened .entry)) side k lo hi tried (now (work .entry)) (now (work .exit)) (now (sets .entry)) (now (sets .exit)) r) ⌝ }
+    ensures { λ r. ⌜ (Indexed side (now (codes .entry)) (now (index .entry)) → Retries (now (kinds .entry)) (now (splits .entry)) (now (codes .entry)) (now (opened .entry)) (now (memory .entry)) side k lo hi tried (now (work .entry)) (now (work .exit)) (now (sets .entry)) (now (sets .exit)) r) ⌝ }
 {
     search_cells::undo(work, lo, hi, k as u8 + 1);
     search_sets::trim(sets, k, kinds.len());
@@ -306,6 +337,7 @@ fn retry(
         sets,
         index,
         opened,
+        memory,
         side,
         k,
         lo,
@@ -329,6 +361,7 @@ fn attempt(
     sets: &mut [u64],
     index: &[u16],
     opened: &[u64],
+    memory: &[u8],
     side: u8,
     k: usize,
     lo: usize,
@@ -337,7 +370,7 @@ fn attempt(
 ) -> bool
     requires { ⌜ Lent side (now splits) (now codes) (now work) (now sets) (now index) ⌝ }
     requires { ⌜ (length (now kinds) ≤ max-unknowns) × (side ≤ 1) × (k < length (now kinds)) × (lo < hi) × (hi ≤ length (now splits)) ⌝ }
-    ensures { λ r. ⌜ (Indexed side (now (codes .entry)) (now (index .entry)) → Tries (now (kinds .entry)) (now (splits .entry)) (now (codes .entry)) (now (opened .entry)) side k lo hi value (now (work .entry)) (now (work .exit)) (now (sets .entry)) (now (sets .exit)) r) ⌝ }
+    ensures { λ r. ⌜ (Indexed side (now (codes .entry)) (now (index .entry)) → Tries (now (kinds .entry)) (now (splits .entry)) (now (codes .entry)) (now (opened .entry)) (now (memory .entry)) side k lo hi value (now (work .entry)) (now (work .exit)) (now (sets .entry)) (now (sets .exit)) r) ⌝ }
 {
     search_sets::add(sets, k, k);
     search_cells::set_rows(work, k, lo, hi, k as u8 + 2, value);
@@ -362,6 +395,7 @@ fn attempt(
             sets,
             index,
             opened,
+            memory,
             side,
             k + 1,
             lo,

@@ -14,14 +14,14 @@ same-length-2 : tie.Need-same-length-2
 same-length-2 c = c .before .before .before .before .before .before .before .extend .kept .1 .1 .1 .1 .1 .1 .1 .1 .1 .0
 
 same-length-3 : tie.Need-same-length-3
-same-length-3 c = c .before .before .before .before .before .before .before .extend .kept .1 .1 .1 .1 .1 .1 .1 .1 .1 .1 .1 .1 .0
+same-length-3 c = c .before .before .before .before .before .before .before .extend .kept .1 .1 .1 .1 .1 .1 .1 .1 .1 .1 .1 .1 .1 .0
 
 returns : tie.Need-returns
 returns c =
     let q = c .before .before .before .before .before .before .before .before .before .before .before .before .before .before .before .before .before .before .before .before .before .args in (
       c .before .before .before .before .before .before .before .extend .ensures .0,
-      λ literals of. existential-uncounted (q .kinds .now) literals (q .preferences .now) (q .others .now) (q .other-count) (q .rows .now) (q .marks .now) (q .count) (q .mark) (q .work .now) (q .counts .now)
-          (c .before .before .before .before .before .before .before .extend .result) _ _ _ (c .before .before .before .before .before .before .before .extend .ensures .0 literals of) (c .if1 .taken),
+      λ literals of led. existential-uncounted (q .kinds .now) literals (q .preferences .now) (q .others .now) (q .other-count) (q .rows .now) (q .marks .now) (q .count) (q .mark) (q .work .now) (q .counts .now)
+          (c .before .before .before .before .before .before .before .extend .result) _ _ _ (c .before .before .before .before .before .before .before .extend .ensures .0 literals of led) (c .if1 .taken),
     )
 
 update-requires : tie.Need-update-requires
@@ -37,14 +37,14 @@ same-length-6 : tie.Need-same-length-6
 same-length-6 c = c .before .before .update .kept .1 .1 .1 .1 .1 .1 .0
 
 same-length-7 : tie.Need-same-length-7
-same-length-7 c = c .before .before .before .before .before .before .before .before .before .before .before .before .before .extend .kept .1 .1 .1 .1 .1 .1 .1 .1 .1 .1 .1 .1 .0
+same-length-7 c = c .before .before .before .before .before .before .before .before .before .before .before .before .before .extend .kept .1 .1 .1 .1 .1 .1 .1 .1 .1 .1 .1 .1 .1 .0
 
 returns-2 : tie.Need-returns-2
 returns-2 c =
     let q = c .before .before .before .before .before .before .before .before .before .before .before .before .before .before .before .before .before .before .before .before .before .before .before .before .before .before .before .args in (
       c .before .before .before .before .before .before .before .before .before .before .before .before .before .extend .ensures .0,
-      λ literals of. existential-counted (q .kinds .now) literals (q .preferences .now) (q .others .now) (q .other-count) (q .rows .now) (q .marks .now) (q .count) (q .mark) (q .work .now) (q .counts .now)
-          (c .before .before .before .before .before .before .before .before .before .before .before .before .before .extend .result) _ _ _ (c .before .before .before .before .before .before .before .before .before .before .before .before .before .extend .ensures .0 literals of) (c .before .before .before .before .before .before .before .before .before .before .before .before .before .extend .ensures .1 literals of) (c .before .before .before .before .before .before .if1 .left) _ (c .before .before .update .ensures),
+      λ literals of led. existential-counted (q .kinds .now) literals (q .preferences .now) (q .others .now) (q .other-count) (q .rows .now) (q .marks .now) (q .count) (q .mark) (q .work .now) (q .counts .now)
+          (c .before .before .before .before .before .before .before .before .before .before .before .before .before .extend .result) _ _ _ (c .before .before .before .before .before .before .before .before .before .before .before .before .before .extend .ensures .0 literals of led) (c .before .before .before .before .before .before .before .before .before .before .before .before .before .extend .ensures .1 literals of led) (c .before .before .before .before .before .before .if1 .left) _ (c .before .before .update .ensures),
     )
 
 pub existential-half-spec : {M : Type 1} → statement M

@@ -17,14 +17,14 @@ same-length-2 : tie.Need-same-length-2
 same-length-2 c = c .before .before .before .before .before .before .before .extend .kept .1 .1 .1 .1 .1 .1 .1 .1 .1 .0
 
 same-length-3 : tie.Need-same-length-3
-same-length-3 c = c .before .before .before .before .before .before .before .extend .kept .1 .1 .1 .1 .1 .1 .1 .1 .1 .1 .1 .1 .0
+same-length-3 c = c .before .before .before .before .before .before .before .extend .kept .1 .1 .1 .1 .1 .1 .1 .1 .1 .1 .1 .1 .1 .0
 
 returns : tie.Need-returns
 returns c =
     let q = c .before .before .before .before .before .before .before .before .before .before .before .before .before .before .before .before .before .before .before .before .before .args in (
-      λ literals of. universal-stopped (q .kinds .now) literals (q .preferences .now) (q .others .now) (q .other-count) (q .rows .now) (q .marks .now) (q .count) (q .clear-every) (q .round) (q .mark) (q .work .now)
-          (c .before .before .before .before .before .before .before .before .before .before .before .kept-rows .result) (c .before .before .before .before .before .before .before .before .before .before .before .kept-rows .ensures) (c .before .before .before .before .before .before .before .extend .result) _ _ _ (c .before .before .before .before .before .before .before .extend .ensures .0 literals of) (c .if1 .taken),
-      c .before .before .before .before .before .before .before .extend .ensures .1,
+      λ literals of led. universal-stopped (q .kinds .now) literals (q .preferences .now) (q .others .now) (q .other-count) (q .rows .now) (q .marks .now) (q .count) (q .clear-every) (q .round) (q .mark) (q .work .now)
+          (c .before .before .before .before .before .before .before .before .before .before .before .kept-rows .result) (c .before .before .before .before .before .before .before .before .before .before .before .kept-rows .ensures) (c .before .before .before .before .before .before .before .extend .result) _ _ _ (c .before .before .before .before .before .before .before .extend .ensures .0 literals of led) (c .if1 .taken),
+      λ literals of led. c .before .before .before .before .before .before .before .extend .ensures .1 literals of led,
     )
 
 give-up-requires : tie.Need-give-up-requires
@@ -37,14 +37,14 @@ same-length-5 : tie.Need-same-length-5
 same-length-5 c = c .before .before .before .before .give-up .kept .1 .0 ∙ c .before .before .before .before .before .before .before .before .before .before .before .before .before .before .extend .kept .1 .1 .1 .1 .1 .1 .1 .1 .1 .0
 
 same-length-6 : tie.Need-same-length-6
-same-length-6 c = c .before .before .before .before .before .before .before .before .before .before .before .before .before .before .extend .kept .1 .1 .1 .1 .1 .1 .1 .1 .1 .1 .1 .1 .0
+same-length-6 c = c .before .before .before .before .before .before .before .before .before .before .before .before .before .before .extend .kept .1 .1 .1 .1 .1 .1 .1 .1 .1 .1 .1 .1 .1 .0
 
 returns-2 : tie.Need-returns-2
 returns-2 c =
     let q = c .before .before .before .before .before .before .before .before .before .before .before .before .before .before .before .before .before .before .before .before .before .before .before .before .before .before .before .before .args in (
-      λ literals of. universal-grown (q .kinds .now) literals (q .preferences .now) (q .others .now) (q .other-count) (q .rows .now) (q .marks .now) (q .count) (q .clear-every) (q .round) (q .mark) (q .work .now)
-          (c .before .before .before .before .before .before .before .before .before .before .before .before .before .before .before .before .before .before .kept-rows .result) (c .before .before .before .before .before .before .before .before .before .before .before .before .before .before .before .before .before .before .kept-rows .ensures) (c .before .before .before .before .before .before .before .before .before .before .before .before .before .before .extend .result) _ _ _ (c .before .before .before .before .before .before .before .before .before .before .before .before .before .before .extend .ensures .0 literals of) (c .before .before .before .before .before .before .before .if1 .left) _ _ (c .before .before .before .before .give-up .ensures .0) (c .before .before .before .before .give-up .ensures .1),
-      c .before .before .before .before .before .before .before .before .before .before .before .before .before .before .extend .ensures .1,
+      λ literals of led. universal-grown (q .kinds .now) literals (q .preferences .now) (q .others .now) (q .other-count) (q .rows .now) (q .marks .now) (q .count) (q .clear-every) (q .round) (q .mark) (q .work .now)
+          (c .before .before .before .before .before .before .before .before .before .before .before .before .before .before .before .before .before .before .kept-rows .result) (c .before .before .before .before .before .before .before .before .before .before .before .before .before .before .before .before .before .before .kept-rows .ensures) (c .before .before .before .before .before .before .before .before .before .before .before .before .before .before .extend .result) _ _ _ (c .before .before .before .before .before .before .before .before .before .before .before .before .before .before .extend .ensures .0 literals of led) (c .before .before .before .before .before .before .before .if1 .left) _ _ (c .before .before .before .before .give-up .ensures .0) (c .before .before .before .before .give-up .ensures .1),
+      λ literals of led. c .before .before .before .before .before .before .before .before .before .before .before .before .before .before .extend .ensures .1 literals of led,
     )
 
 pub extend-universal-spec : {M : Type 1} → statement M

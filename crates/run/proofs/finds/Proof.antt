@@ -22,8 +22,8 @@ same-length c = search needs
 
 returns : tie.Need-returns
 returns c = (
-  λ literals of. ap is-found (sym (c .enum-told .given .1) ∙ c .before .before .before .before .first-model-over .ensures .prepared literals of .returned),
-  λ literals of. c .before .before .before .before .first-model-over .ensures .prepared literals of .area,
+  λ literals of led. ap is-found (sym (c .enum-told .given .1) ∙ c .before .before .before .before .first-model-over .ensures .prepared literals of led .returned),
+  λ literals of led. c .before .before .before .before .first-model-over .ensures .prepared literals of led .area,
 )
 
 same-length-2 : tie.Need-same-length-2
@@ -31,8 +31,8 @@ same-length-2 c = search needs
 
 returns-2 : tie.Need-returns-2
 returns-2 c = (
-  λ literals of. ap is-found (sym (c .enum-told2 .given .1) ∙ c .before .before .before .before .first-model-over .ensures .prepared literals of .returned),
-  λ literals of. c .before .before .before .before .first-model-over .ensures .prepared literals of .area,
+  λ literals of led. ap is-found (sym (c .enum-told2 .given .1) ∙ c .before .before .before .before .first-model-over .ensures .prepared literals of led .returned),
+  λ literals of led. c .before .before .before .before .first-model-over .ensures .prepared literals of led .area,
 )
 
 same-length-3 : tie.Need-same-length-3
@@ -40,8 +40,8 @@ same-length-3 c = search needs
 
 returns-3 : tie.Need-returns-3
 returns-3 c = (
-  λ literals of. ap is-found (sym (c .enum-told3 .given .1) ∙ c .before .before .before .before .first-model-over .ensures .prepared literals of .returned),
-  λ literals of. c .before .before .before .before .first-model-over .ensures .prepared literals of .area,
+  λ literals of led. ap is-found (sym (c .enum-told3 .given .1) ∙ c .before .before .before .before .first-model-over .ensures .prepared literals of led .returned),
+  λ literals of led. c .before .before .before .before .first-model-over .ensures .prepared literals of led .area,
 )
 
 pub finds-spec : {M : Type 1} → statement M

@@ -20,8 +20,8 @@ returns : tie.Need-returns
 returns c =
     let q = c .before .before .before .before .before .before .before .before .before .before .before .before .before .before .before .before .before .before .before .before .before .args in (
       c .before .before .before .before .before .before .before .extend-universal .ensures .0,
-      λ literals of. universal-uncounted (q .kinds .now) literals (q .preferences .now) (q .others .now) (q .other-count) (q .rows .now) (q .marks .now) (q .count) (q .mark) (q .work .now) (q .counts .now)
-          (c .before .before .before .before .before .before .before .extend-universal .result) _ _ _ (q .clear-every) (q .round) (c .before .before .before .before .before .before .before .extend-universal .ensures .0 literals of) (c .if1 .taken),
+      λ literals of led. universal-uncounted (q .kinds .now) literals (q .preferences .now) (q .others .now) (q .other-count) (q .rows .now) (q .marks .now) (q .count) (q .mark) (q .work .now) (q .counts .now)
+          (c .before .before .before .before .before .before .before .extend-universal .result) _ _ _ (q .clear-every) (q .round) (c .before .before .before .before .before .before .before .extend-universal .ensures .0 literals of led) (c .if1 .taken),
     )
 
 stood-requires : tie.Need-stood-requires
@@ -46,8 +46,8 @@ returns-2 : tie.Need-returns-2
 returns-2 c =
     let q = c .before .before .before .before .before .before .before .before .before .before .before .before .before .before .before .before .before .before .before .before .before .before .before .before .before .before .before .before .args in (
       c .before .before .before .before .before .before .before .before .before .before .before .before .before .before .extend-universal .ensures .0,
-      λ literals of. universal-counted (q .kinds .now) literals (q .preferences .now) (q .others .now) (q .other-count) (q .rows .now) (q .marks .now) (q .count) (q .mark) (q .work .now) (q .counts .now)
-          (c .before .before .before .before .before .before .before .before .before .before .before .before .before .before .extend-universal .result) _ _ _ (q .clear-every) (q .round) (c .before .before .before .before .before .before .before .before .before .before .before .before .before .before .extend-universal .ensures .0 literals of) (c .before .before .before .before .before .before .before .before .before .before .before .before .before .before .extend-universal .ensures .1 literals of) (c .before .before .before .before .before .before .before .if1 .left) _ (c .before .before .before .before .before .before .stood .ensures) _ (c .before .before .update .ensures),
+      λ literals of led. universal-counted (q .kinds .now) literals (q .preferences .now) (q .others .now) (q .other-count) (q .rows .now) (q .marks .now) (q .count) (q .mark) (q .work .now) (q .counts .now)
+          (c .before .before .before .before .before .before .before .before .before .before .before .before .before .before .extend-universal .result) _ _ _ (q .clear-every) (q .round) (c .before .before .before .before .before .before .before .before .before .before .before .before .before .before .extend-universal .ensures .0 literals of led) (c .before .before .before .before .before .before .before .before .before .before .before .before .before .before .extend-universal .ensures .1 literals of led) (c .before .before .before .before .before .before .before .if1 .left) _ (c .before .before .before .before .before .before .stood .ensures) _ (c .before .before .update .ensures),
     )
 
 pub universal-half-spec : {M : Type 1} → statement M

@@ -60,7 +60,7 @@ returns c =
     (sym (c .before .before .before .check .ensures .0) ∙ c .before .cause .given .1)
 
 same-length : tie.Need-same-length
-same-length c = c .before .before .first-model-over .kept .1 .1 .1 .1 .1 .1 .1 .1 .0
+same-length c = c .before .before .first-model-over .kept .1 .1 .1 .1 .1 .1 .1 .1 .1 .1 .0
 
 returns-2 : tie.Need-returns-2
 returns-2 c =
@@ -68,6 +68,7 @@ returns-2 c =
     c .before .before .first-model-over .ensures .prepared (q .literals .now)
     (c .before .before .before .before .before .before .before .before .before .before .prepare .ensures .prepared (passes (q .kinds .now) (q .literals .now) (sym (c .before .before .before .before .before .before .before .before .before .before .before .before .before .before .before .before .check .ensures .0) ∙ c .before .before .before .before .before .before .before .before .before .before .before .before .before .before .enum-told .given .1))
     (length-replicate {A = ℕ} max-entries 0) (length-replicate {A = ℕ} index-size 0) (length-replicate {A = ℕ} table-size 0))
+    (λ known. absurd (omega arith))
 
 pub first-model-spec : {M : Type 1} → statement M
 first-model-spec =

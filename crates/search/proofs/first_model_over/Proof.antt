@@ -27,20 +27,20 @@ fit-requires c κs = tt
 
 returns : tie.Need-returns
 returns c =
-    let q = c .before .before .before .before .before .before .before .before .before .before .before .before .before .before .args in
-    over-refused-tables (q .kinds .now) (q .codes .now) (q .index .now) (q .terms .now) (q .preferences .now) (q .rows .now) (q .count) (q .universal) (q .work .now)
+    let q = c .before .before .before .before .before .before .before .before .before .before .before .before .before .before .before .args in
+    over-refused-tables (q .kinds .now) (q .codes .now) (q .index .now) (q .terms .now) (q .preferences .now) (q .own .now) (q .known) (q .rows .now) (q .count) (q .universal) (q .work .now)
     (c .before .before .before .formula .given .0 .0) (sym (c .before .before .before .before .before .check .ensures .0) ∙ c .before .before .before .formula .given .1) (sym (c .before .fit .ensures) ∙ c .if1 .left)
 
 sub-others : tie.Need-sub-others
-sub-others c = universals-most (c .before .before .before .before .before .before .before .before .before .before .before .before .before .before .before .args .kinds .now) one (c .before .before .before .before .formula .given .0 .0) (sym (c .before .before .before .before .before .before .check .ensures .0) ∙ c .before .before .before .before .formula .given .1)
+sub-others c = universals-most (c .before .before .before .before .before .before .before .before .before .before .before .before .before .before .before .before .args .kinds .now) one (c .before .before .before .before .formula .given .0 .0) (sym (c .before .before .before .before .before .before .check .ensures .0) ∙ c .before .before .before .before .formula .given .1)
 
 over-rows-requires : tie.Need-over-rows-requires
 over-rows-requires c κs =
     let formula = c .before .before .before .before .before .formula .given .0 .0 in
     let passed = sym (c .before .before .before .before .before .before .before .check .ensures .0) ∙ c .before .before .before .before .before .formula .given .1 in
     record {
-      tables = tables-lent (c .before .before .before .before .before .before .before .before .before .before .before .before .before .before .before .before .args .kinds .now) (c .before .before .before .before .before .before .before .before .before .before .before .before .before .before .before .before .args .codes .now) (c .before .before .before .before .before .before .before .before .before .before .before .before .before .before .before .before .args .index .now) formula passed (sym (c .before .before .before .fit .ensures) ∙ c .before .before .if1 .taken);
-      others-known = others-universal (c .before .before .before .before .before .before .before .before .before .before .before .before .before .before .before .before .args .kinds .now) one formula passed;
+      tables = tables-lent (c .before .before .before .before .before .before .before .before .before .before .before .before .before .before .before .before .before .args .kinds .now) (c .before .before .before .before .before .before .before .before .before .before .before .before .before .before .before .before .before .args .codes .now) (c .before .before .before .before .before .before .before .before .before .before .before .before .before .before .before .before .before .args .index .now) formula passed (sym (c .before .before .before .fit .ensures) ∙ c .before .before .if1 .taken);
+      others-known = others-universal (c .before .before .before .before .before .before .before .before .before .before .before .before .before .before .before .before .before .args .kinds .now) one formula passed;
       side-fits = omega arith;
     }
 
@@ -49,38 +49,38 @@ over-rows-requires-2 c κs =
     let formula = c .before .before .before .before .before .formula .given .0 .0 in
     let passed = sym (c .before .before .before .before .before .before .before .check .ensures .0) ∙ c .before .before .before .before .before .formula .given .1 in
     record {
-      tables = tables-lent (c .before .before .before .before .before .before .before .before .before .before .before .before .before .before .before .before .args .kinds .now) (c .before .before .before .before .before .before .before .before .before .before .before .before .before .before .before .before .args .codes .now) (c .before .before .before .before .before .before .before .before .before .before .before .before .before .before .before .before .args .index .now) formula passed (sym (c .before .before .before .fit .ensures) ∙ c .before .before .if1 .taken);
-      others-known = others-existential (c .before .before .before .before .before .before .before .before .before .before .before .before .before .before .before .before .args .kinds .now) one formula passed;
+      tables = tables-lent (c .before .before .before .before .before .before .before .before .before .before .before .before .before .before .before .before .before .args .kinds .now) (c .before .before .before .before .before .before .before .before .before .before .before .before .before .before .before .before .before .args .codes .now) (c .before .before .before .before .before .before .before .before .before .before .before .before .before .before .before .before .before .args .index .now) formula passed (sym (c .before .before .before .fit .ensures) ∙ c .before .before .if1 .taken);
+      others-known = others-existential (c .before .before .before .before .before .before .before .before .before .before .before .before .before .before .before .before .before .args .kinds .now) one formula passed;
       side-fits = omega arith;
     }
 
 returns-2 : tie.Need-returns-2
 returns-2 c =
-    let q = c .before .before .before .before .before .before .before .before .before .before .before .before .args in
-    over-refused-kinds (q .kinds .now) (q .codes .now) (q .index .now) (q .terms .now) (q .preferences .now) (q .rows .now) (q .count) (q .universal) (q .work .now) _
+    let q = c .before .before .before .before .before .before .before .before .before .before .before .before .before .args in
+    over-refused-kinds (q .kinds .now) (q .codes .now) (q .index .now) (q .terms .now) (q .preferences .now) (q .own .now) (q .known) (q .rows .now) (q .count) (q .universal) (q .work .now) _
     (sym (c .before .before .before .check .ensures .0) ∙ c .before .cause .given .1)
 
 same-length : tie.Need-same-length
-same-length c = c .before .before .over-rows .kept .1 .1 .1 .1 .1 .1 .1 .1 .1 .0
+same-length c = c .before .before .over-rows .kept .1 .1 .1 .1 .1 .1 .1 .1 .1 .1 .1 .0
 
 returns-3 : tie.Need-returns-3
 returns-3 c =
-    let q = c .before .before .before .before .before .before .before .before .before .before .before .before .before .before .before .before .before .before .before .args in
+    let q = c .before .before .before .before .before .before .before .before .before .before .before .before .before .before .before .before .before .before .before .before .args in
     let formula = c .before .before .before .before .before .before .before .before .formula .given .0 .0 in
     let passed = sym (c .before .before .before .before .before .before .before .before .before .before .check .ensures .0) ∙ c .before .before .before .before .before .before .before .before .formula .given .1 in
-    over-answered (q .kinds .now) (q .codes .now) (q .index .now) (q .terms .now) (q .preferences .now) (q .rows .now) (q .count) (q .universal) (q .work .now) formula passed
+    over-answered (q .kinds .now) (q .codes .now) (q .index .now) (q .terms .now) (q .preferences .now) (q .own .now) (q .known) (q .rows .now) (q .count) (q .universal) (q .work .now) formula passed
     (sym (c .before .before .before .before .before .before .fit .ensures) ∙ c .before .before .before .before .before .if1 .taken) (length (q .kinds .now) - formula .universals) 1 (ap side-of (sym (c .before .before .before .before .if2 .taken))) (others-universal (q .kinds .now) one formula passed) _ _
     (c .before .before .over-rows .ensures)
 
 same-length-2 : tie.Need-same-length-2
-same-length-2 c = c .before .before .over-rows2 .kept .1 .1 .1 .1 .1 .1 .1 .1 .1 .0
+same-length-2 c = c .before .before .over-rows2 .kept .1 .1 .1 .1 .1 .1 .1 .1 .1 .1 .1 .0
 
 returns-4 : tie.Need-returns-4
 returns-4 c =
-    let q = c .before .before .before .before .before .before .before .before .before .before .before .before .before .before .before .before .before .before .before .args in
+    let q = c .before .before .before .before .before .before .before .before .before .before .before .before .before .before .before .before .before .before .before .before .args in
     let formula = c .before .before .before .before .before .before .before .before .formula .given .0 .0 in
     let passed = sym (c .before .before .before .before .before .before .before .before .before .before .check .ensures .0) ∙ c .before .before .before .before .before .before .before .before .formula .given .1 in
-    over-answered (q .kinds .now) (q .codes .now) (q .index .now) (q .terms .now) (q .preferences .now) (q .rows .now) (q .count) (q .universal) (q .work .now) formula passed
+    over-answered (q .kinds .now) (q .codes .now) (q .index .now) (q .terms .now) (q .preferences .now) (q .own .now) (q .known) (q .rows .now) (q .count) (q .universal) (q .work .now) formula passed
     (sym (c .before .before .before .before .before .before .fit .ensures) ∙ c .before .before .before .before .before .if1 .taken) (formula .universals) 0 (ap side-of (sym (c .before .before .before .before .if2 .left))) (others-existential (q .kinds .now) one formula passed) _ _
     (c .before .before .over-rows2 .ensures)
 
