@@ -11,7 +11,7 @@ use lib.Seq.{getD-take, length-take-le, getD-set-same, getD-set-other}
 use Rattle.rows.specs.Row.{bit-of}
 use Rattle.rows.specs.Table.{row-at}
 use Rattle.expansion.proofs.Cuts.{below-or-last}
-use Rattle.search_cells.specs.Cells.{cells}
+use Rattle.search_cells.specs.Cells.{cells, wants}
 use Rattle.search.specs.Memory.{said, RuledOut, Reads}
 
 -- ---- values as bytes
@@ -52,8 +52,10 @@ pub one-more-before : (memory w : List ℕ) (i k : ℕ) (v r : Bool) → v ≡ c
 one-more-before memory w i k v r is e has h j lt =
     ⊎-elim (h j) (λ q. subst (λ (x : ℕ). said memory x ≡ cells w .value i x) (sym q) (same (said memory k) v (sym e ∙ has) ∙ is)) (below-or-last j k lt)
 
-pub ruled-out : (memory w : List ℕ) (i k : ℕ) (y r : Bool) → k < length memory → r ≡ Bool·beq (said memory k) y → r ≡ false → Before memory w i k → RuledOut memory w i k y
-ruled-out memory w i k y r below e lacks h = record { below = below; other = unlike (said memory k) y (sym e ∙ lacks); before = h }
+pub ruled-out : (memory w : List ℕ) (i k : ℕ) (y v r q : Bool) → k < length memory → r ≡ Bool·beq (said memory k) y → r ≡ false → v ≡ wants w i k → q ≡ Bool·beq (said memory k) v → q ≡ false
+    → Before memory w i k → RuledOut memory w i k y
+ruled-out memory w i k y v r q below e lacks is f lacks-too h =
+    record { below = below; other = unlike (said memory k) y (sym e ∙ lacks); unwanted = unlike (said memory k) v (sym f ∙ lacks-too) ∙ ap not is; before = h }
 
 -- ---- what is read
 

@@ -11,7 +11,7 @@ use lib.ListN.{length, getD, drop}
 use Rattle.formula.specs.Formula.{max-unknowns}
 use Rattle.expansion.proofs.Cuts.{Problem, Mask, Agree, Refuted, models-agree}
 use Rattle.expansion.proofs.Booleans.{true-or-false, never-both, never-unlike}
-use Rattle.expansion.proofs.Node.{Node, Won, grown-refl}
+use Rattle.expansion.proofs.Node.{Node, Won}
 use Rattle.expansion.proofs.ClauseCuts.{Some, some-map}
 use Rattle.codes.specs.Codes.{row-position}
 use Rattle.codes.specs.Clauses.{position, clause-of, Coded}
@@ -25,8 +25,8 @@ use Rattle.search_sets.specs.Masks.{set-at, masks, cut, SetGrown, SetsKept, Wor
 use Rattle.search.specs.Memory.{said, RuledOut}
 use Rattle.search.specs.Steps.{Fits, GivenIn, Viewed, Known, Settled, SettlesFor, Searched, Searches, with-value, Tried, Tries, Chooses, Retries, Steps, Reached, FromStart}
 use Rattle.search_groups.specs.Parts.{Parting, PartedAt, Stands}
-use Rattle.search.proofs.StepLaws.{masks-grown, masks-kept}
-use Rattle.search.proofs.SolveLaws.{with-same, with-at, tried-node, tried-refuted, tried-searched, chosen-first, failed-without, second-node, second-wants, second-open, chosen-second, failed-both, failed-second, InOrder, first-node, split-first, second-part-node, split-second, searched-leaf, stood-node, at-fits, stood-open, parted-other, stood-searched, stood-won}
+use Rattle.search.proofs.StepLaws.{masks-grown, masks-kept, within-trans}
+use Rattle.search.proofs.SolveLaws.{with-at, tried-node, tried-refuted, tried-searched, chosen-first, failed-without, second-node, second-wants, second-open, chosen-second, failed-both, failed-second, InOrder, first-node, split-first, second-part-node, split-second, searched-leaf, stood-node, at-fits, stood-open, parted-other, stood-searched, stood-won}
 
 unknown : (P : Problem) (kinds splits codes : List ℕ) (side k : ℕ) → Fits P kinds splits codes side → k < length kinds → k < P .n
 unknown P kinds splits codes side k F h = let e : P .n ≡ length kinds = F .unknowns in omega arith
@@ -34,6 +34,36 @@ unknown P kinds splits codes side k F h = let e : P .n ≡ length kinds = F .unk
 module _ (kinds splits codes open-terms memory : List ℕ) (side k lo hi : ℕ) (kk : k < length kinds) (short : length kinds ≤ max-unknowns) where
   below : k < max-unknowns
   below = omega arith
+
+  -- ---- a value that an earlier search rules out
+
+  -- The rows share the positions up to k, which are own, and so the first row's copies.
+  module _ (P : Problem) (v : ℕ → Bool) (F : Known P kinds splits codes open-terms memory side) (w : List ℕ) (W : (i j : ℕ) → i < P .count → j < P .n → P .own j ≡ true → wants w i j ≡ P .wanted i j)
+      (s : List ℕ) (A : Node P (k + 1) lo hi v (cells w) (masks s)) (out : RuledOut memory w lo k (v k)) where
+    row : lo < P .count
+    row = omega (arith, A .some, A .rows)
+
+    inside : k < P .n
+    inside = omega (arith, out .below, F .remembered .inside)
+
+    shared : (j : ℕ) → j ≤ k + 1 → Agree P 0 lo j
+    shared j le l lt o = absurd (never-both (F .remembered .own l (omega (arith, out .below))) o)
+
+    ruled-out-refuted : (D : Mask) → ((l : ℕ) → l < k + 1 → D l ≡ true) → Refuted P (k + 1) v D lo
+    ruled-out-refuted D full m M heeds =
+        ⊎-elim
+        (λ e. never-unlike (v k) (said memory k) (e ∙ first k (omega arith)) (out .other))
+        (λ e. never-unlike (wants w lo k) (said memory k) (e ∙ F .viewed .fits .sound .wanted-alike 0 lo k (omega (arith, row)) row inside own (shared k (omega arith)) ∙ sym (W lo k row inside own)) (out .unwanted))
+        (F .remembered .leads m M k (out .below) before)
+      where
+        own : P .own k ≡ true
+        own = F .remembered .own k (out .below)
+
+        first : (l : ℕ) → l < k + 1 → m 0 l ≡ v l
+        first l lt = models-agree P m M 0 lo (k + 1) (omega (arith, row)) row (omega (arith, inside)) (shared (k + 1) (omega arith)) l lt ∙ heeds l lt (full l lt)
+
+        before : (j : ℕ) → j < k → said memory j ≡ m 0 j
+        before j lt = out .before j lt ∙ A .past lo j (omega arith) (A .some) (omega arith) .1 ∙ sym (first j (omega arith))
 
   -- ---- a trial
 
@@ -45,6 +75,25 @@ module _ (kinds splits codes open-terms memory : List ℕ) (side k lo hi : ℕ) 
         (subst (λ (b : Bool). Settled P (k + 1) lo hi (with-value k y v) (k + 2) w1 w2 s1 s2 b) e
         (followed P (k + 1) (with-value k y v) (F .viewed) (tried-node kinds splits codes side k lo hi below y w w1 w2 s s1 s2 added named stored P v (F .viewed .fits) W A kn o z) (omega arith) (omega arith)))
 
+    pub tries-ruled-out : (s3 : List ℕ) → r1 ≡ true → RuledOut memory w2 lo k y → SetsKept s2 s3 → ((l : ℕ) → l < max-unknowns → set-at s3 max-unknowns l ≡ true)
+        → Tries kinds splits codes open-terms memory side k lo hi y w w2 s s3 false
+    unfolding cut
+    tries-ruled-out s3 e out kept full P v F W A o z =
+        let kn : k < P .n = unknown P kinds splits codes side k (F .viewed .fits) kk in
+        let settled : Settled P (k + 1) lo hi (with-value k y v) (k + 2) w1 w2 s1 s2 true =
+        subst (λ (b : Bool). Settled P (k + 1) lo hi (with-value k y v) (k + 2) w1 w2 s1 s2 b) e
+        (followed P (k + 1) (with-value k y v) (F .viewed) (tried-node kinds splits codes side k lo hi below y w w1 w2 s s1 s2 added named stored P v (F .viewed .fits) W A kn o z) (omega arith) (omega arith)) in
+        tried-refuted kinds splits codes side k lo hi below y w w1 w2 s s1 s3 added named stored P v (F .viewed .fits) W A kn o z
+        (record {
+          grown = settled .grown;
+          wanted = settled .wanted;
+          masked = within-trans (k + 1) (masks s1) (masks s2) (masks s3) (settled .masked) (masks-kept (k + 1) s2 s3 kept);
+          kept = λ f. absurd (never-both f refl);
+          failed = λ _.
+              ruled-out-refuted P (with-value k y v) F w2 (λ i j a b own. settled .wanted i j ∙ stored .wanted i j ∙ W i j a b own) s2 (settled .kept refl)
+              (subst (RuledOut memory w2 lo k) (sym (with-at k y v)) out) (cut s3) (λ l lt. full l (omega (arith, below)));
+        })
+
     pub tries-searched : (w3 s3 : List ℕ) (r : Bool) → r1 ≡ true → Searches kinds splits codes open-terms memory side (k + 1) lo hi w2 w3 s2 s3 r → Tries kinds splits codes open-terms memory side k lo hi y w w3 s s3 r
     tries-searched w3 s3 r e searches P v F W A o z =
         let kn : k < P .n = unknown P kinds splits codes side k (F .viewed .fits) kk in
@@ -53,48 +102,6 @@ module _ (kinds splits codes open-terms memory : List ℕ) (side k lo hi : ℕ) 
         (followed P (k + 1) (with-value k y v) (F .viewed) (tried-node kinds splits codes side k lo hi below y w w1 w2 s s1 s2 added named stored P v (F .viewed .fits) W A kn o z) (omega arith) (omega arith)) in
         tried-searched kinds splits codes side k lo hi below y w w1 w2 s s1 s2 added named stored P v (F .viewed .fits) W A kn o z w3 s3 r settled
         (searches P (with-value k y v) F (λ i j a b own. settled .wanted i j ∙ stored .wanted i j ∙ W i j a b own) (settled .kept refl))
-
-  -- ---- a value that an earlier search rules out
-
-  -- The rows share the positions before k, which are own, and so the first row's copies.
-  module _ (P : Problem) (v : ℕ → Bool) (F : Known P kinds splits codes open-terms memory side) (w : List ℕ) (W : (i j : ℕ) → i < P .count → j < P .n → P .own j ≡ true → wants w i j ≡ P .wanted i j)
-      (s : List ℕ) (A : Node P k lo hi v (cells w) (masks s)) (y : Bool) (wanted : wants w lo k ≡ y) (out : RuledOut memory w lo k y) where
-    row : lo < P .count
-    row = omega (arith, A .some, A .rows)
-
-    inside : k < P .n
-    inside = omega (arith, out .below, F .remembered .inside)
-
-    shared : (j : ℕ) → j ≤ k + 1 → Agree P 0 lo j
-    shared j le l lt o = absurd (never-both (F .remembered .own l (omega (arith, out .below))) o)
-
-    ruled-out-refuted : (D : Mask) → ((l : ℕ) → l < k + 1 → D l ≡ true) → Refuted P (k + 1) (with-value k y v) D lo
-    ruled-out-refuted D full m M heeds =
-        ⊎-elim
-        (λ e. never-unlike y (said memory k) (e ∙ first k (omega arith) ∙ with-at k y v) (out .other))
-        (λ e. never-unlike y (said memory k) (e ∙ F .viewed .fits .sound .wanted-alike 0 lo k (omega (arith, row)) row inside own (shared k (omega arith)) ∙ sym (W lo k row inside own) ∙ wanted) (out .other))
-        (F .remembered .leads m M k (out .below) before)
-      where
-        own : P .own k ≡ true
-        own = F .remembered .own k (out .below)
-
-        first : (l : ℕ) → l < k + 1 → m 0 l ≡ with-value k y v l
-        first l lt = models-agree P m M 0 lo (k + 1) (omega (arith, row)) row (omega (arith, inside)) (shared (k + 1) (omega arith)) l lt ∙ heeds l lt (full l lt)
-
-        before : (j : ℕ) → j < k → said memory j ≡ m 0 j
-        before j lt = out .before j lt ∙ A .past lo j (omega arith) (A .some) lt .1 ∙ with-same k y v j lt ∙ sym (first j (omega arith))
-
-  pub tries-ruled-out : (y : Bool) (w s s1 : List ℕ) → wants w lo k ≡ y → RuledOut memory w lo k y → SetsKept s s1 → ((l : ℕ) → l < max-unknowns → set-at s1 max-unknowns l ≡ true)
-      → Tries kinds splits codes open-terms memory side k lo hi y w w s s1 false
-  unfolding cut
-  tries-ruled-out y w s s1 wanted out kept full P v F W A o z = record {
-    grown = grown-refl (k + 2) lo hi (cells w);
-    wanted = λ i j. refl;
-    masked = masks-kept k s s1 kept;
-    valued = λ e. absurd (never-both e refl);
-    won = λ e. absurd (never-both e refl);
-    failed = λ _. ruled-out-refuted P v F w W s A y wanted out (cut s1) (λ l lt. full l (omega (arith, below)));
-  }
 
   -- ---- a choice
 

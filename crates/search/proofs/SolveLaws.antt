@@ -24,7 +24,7 @@ use Rattle.search_groups.specs.Parts.{Parting, PartedAt, Stands}
 use Rattle.search.proofs.Rows.{agree-group, parted-apart}
 use Rattle.search.proofs.StepLaws.{masks-below, masks-within, within-refl, within-trans, within-shorter, masks-grown, wants-trans}
 
-pub with-same : (k : ℕ) (y : Bool) (v : ℕ → Bool) → SameBelow k v (with-value k y v)
+with-same : (k : ℕ) (y : Bool) (v : ℕ → Bool) → SameBelow k v (with-value k y v)
 unfolding with-value
 with-same k y v l lt = sym (ap (λ (b : Bool). cond b y (v l)) (ne-eqb l k (λ e. omega arith)))
 

@@ -11,7 +11,7 @@ use Rattle.rows.specs.Row.{bit-of}
 use Rattle.rows.specs.Table.{row-at}
 use Rattle.expansion.specs.Cells.{Values}
 use Rattle.expansion.proofs.Cuts.{Problem, Model}
-use Rattle.search_cells.specs.Cells.{cells}
+use Rattle.search_cells.specs.Cells.{cells, wants}
 
 -- The value at position k.
 abbrev pub said : List ℕ → ℕ → Bool
@@ -24,10 +24,11 @@ pub record Remembered (P : Problem) (memory : List ℕ) : Type 0 where
   pub leads : (m : Values) → Model P m → (k : ℕ) → k < length memory → ((j : ℕ) → j < k → said memory j ≡ m 0 j)
       → (said memory k ≡ m 0 k) ⊎ (said memory k ≡ P .wanted 0 k)
 
--- The value y at position k of row i is not the remembered one, and before k the row has the remembered values.
+-- Neither the value y at position k of row i nor the wanted one is the remembered one, and before k the row has the remembered values.
 pub record RuledOut (memory w : List ℕ) (i k : ℕ) (y : Bool) : Type 0 where
   pub below : k < length memory
   pub other : said memory k ≡ not y
+  pub unwanted : said memory k ≡ not (wants w i k)
   pub before : (j : ℕ) → j < k → said memory j ≡ cells w .value i j
 
 -- The first n entries are the values of as many positions of the side's in row `known` - 1 of its table.

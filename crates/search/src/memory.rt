@@ -29,15 +29,19 @@ pub(crate) fn read(kinds: &[u8], own: &[u8], known: usize, side: u8, memory: &mu
     k
 }
 
-// Whether the wanted value at the own position k need not be tried in row i.
-pub(crate) fn rules_out(memory: &[u8], work: &[u8], i: usize, k: usize, wanted: bool) -> bool
+// Whether no model has the value at the own position k of row i: it is the wanted one and not the remembered one, and before k the row has what is
+// remembered.
+pub(crate) fn rules_out(memory: &[u8], work: &[u8], i: usize, k: usize, value: bool) -> bool
     requires { ⌜ (length (now work) ≡ work-size) × (i < max-rows) × (k < max-unknowns) ⌝ }
-    ensures { λ r. ⌜ (r ≡ true → RuledOut (now (memory .entry)) (now (work .entry)) i k wanted) ⌝ }
+    ensures { λ r. ⌜ (r ≡ true → RuledOut (now (memory .entry)) (now (work .entry)) i k value) ⌝ }
 {
     if k < memory.len() {} else {
         return false;
     }
-    if has(memory[k], wanted) {
+    if has(memory[k], value) {
+        return false;
+    }
+    if has(memory[k], table::wanted(work, i, k)) {
         return false;
     }
     let mut j = 0;

@@ -230,7 +230,7 @@ fn either(first: bool, a: usize, b: usize) -> usize
     if first { a } else { b }
 }
 
-// Tries the wanted value at the open own position k, unless an earlier search rules it out, and the other one if a failure was reached by that.
+// Tries the wanted value at the open own position k, and the other one if a failure was reached by that.
 fn choose(
     kinds: &[u8],
     splits: &[u8],
@@ -250,24 +250,6 @@ fn choose(
     ensures { λ r. ⌜ (Indexed side (now (codes .entry)) (now (index .entry)) → Chooses (now (kinds .entry)) (now (splits .entry)) (now (codes .entry)) (now (opened .entry)) (now (memory .entry)) side k lo hi (now (work .entry)) (now (work .exit)) (now (sets .entry)) (now (sets .exit)) r) ⌝ }
 {
     let wanted = table::wanted(work, lo, k);
-    if memory::rules_out(memory, work, lo, k, wanted) {
-        search_sets::fill(sets, CUT); // by all that stands before
-        return retry(
-            kinds,
-            splits,
-            codes,
-            work,
-            sets,
-            index,
-            opened,
-            memory,
-            side,
-            k,
-            lo,
-            hi,
-            wanted,
-        );
-    }
     if attempt(
         kinds,
         splits,
@@ -305,7 +287,7 @@ fn choose(
     )
 }
 
-// After a failure of the value `tried` at the own position k, which names k, or where it is ruled out: tries the other one.
+// After a failure of the value `tried` at the own position k, which names k: tries the other one.
 fn retry(
     kinds: &[u8],
     splits: &[u8],
@@ -352,7 +334,7 @@ fn retry(
     false
 }
 
-// Tries one value at the own position k of the rows from lo to hi.
+// Tries one value at the own position k of the rows from lo to hi. Where its consequences do not refute it, an earlier search may rule it out.
 fn attempt(
     kinds: &[u8],
     splits: &[u8],
@@ -387,6 +369,10 @@ fn attempt(
         lo,
         hi,
     ) {
+        if memory::rules_out(memory, work, lo, k, value) {
+            search_sets::fill(sets, CUT); // by all that stands before
+            return false;
+        }
         solve(
             kinds,
             splits,

@@ -8,7 +8,7 @@ use lib.ListN.{length}
 use Rattle.formula.specs.Formula.{max-unknowns}
 use Rattle.search_sets.specs.Masks.{cut}
 use Rattle.search.proofs.CallLaws.{unites-words, fills-kept, fills, grows, adds, trims, excuses, has-at, parts, parts-there, stands, sets-rows, opens-rows}
-use Rattle.search.proofs.SearchSteps.{tries-refuted, tries-searched, tries-ruled-out, chooses-first, chooses-without, chooses-retried, chooses-second, chooses-last, chooses-neither, splits-first, splits-second, steps-reached, steps-split, steps-choose, searches-won, searches-failed}
+use Rattle.search.proofs.SearchSteps.{tries-refuted, tries-ruled-out, tries-searched, chooses-first, chooses-without, chooses-retried, chooses-second, chooses-last, chooses-neither, splits-first, splits-second, steps-reached, steps-split, steps-choose, searches-won, searches-failed}
 use Rattle.search.proofs.SolveLaws.{in-order, first-part, second-part, part-fits}
 use borrow.Fn.Kinds.{In}
 use borrow.Fn.PlainCycle.{Measures, is, falls, and}
@@ -99,6 +99,10 @@ attempt-add-requires : (t : ℕ) → attempt-lts.Need-add-requires (
   set-rows-reads.Learnt,
   follow-reads.Asked,
   follow-reads.Learnt,
+  rules-out-reads.Asked,
+  rules-out-reads.Learnt,
+  fill-reads.Asked,
+  fill-reads.Learnt,
   solve-below t,
   solve.Post,
 ) (attempt-at t) attempt.Post
@@ -111,6 +115,10 @@ attempt-cast-set-rows : (t : ℕ) → attempt-lts.Need-cast-set-rows (
   set-rows-reads.Learnt,
   follow-reads.Asked,
   follow-reads.Learnt,
+  rules-out-reads.Asked,
+  rules-out-reads.Learnt,
+  fill-reads.Asked,
+  fill-reads.Learnt,
   solve-below t,
   solve.Post,
 ) (attempt-at t) attempt.Post
@@ -123,6 +131,10 @@ attempt-add-set-rows : (t : ℕ) → attempt-lts.Need-add-set-rows (
   set-rows-reads.Learnt,
   follow-reads.Asked,
   follow-reads.Learnt,
+  rules-out-reads.Asked,
+  rules-out-reads.Learnt,
+  fill-reads.Asked,
+  fill-reads.Learnt,
   solve-below t,
   solve.Post,
 ) (attempt-at t) attempt.Post
@@ -135,6 +147,10 @@ attempt-set-rows-requires : (t : ℕ) → attempt-lts.Need-set-rows-requires (
   set-rows-reads.Learnt,
   follow-reads.Asked,
   follow-reads.Learnt,
+  rules-out-reads.Asked,
+  rules-out-reads.Learnt,
+  fill-reads.Asked,
+  fill-reads.Learnt,
   solve-below t,
   solve.Post,
 ) (attempt-at t) attempt.Post
@@ -147,34 +163,46 @@ attempt-follow-requires : (t : ℕ) → attempt-lts.Need-follow-requires (
   set-rows-reads.Learnt,
   follow-reads.Asked,
   follow-reads.Learnt,
+  rules-out-reads.Asked,
+  rules-out-reads.Learnt,
+  fill-reads.Asked,
+  fill-reads.Learnt,
   solve-below t,
   solve.Post,
 ) (attempt-at t) attempt.Post
 attempt-follow-requires t c κs = (record { rows = c .before .before .before .before .before .before .before .before .before .before .before .before .before .before .before .before .before .before .pre .1 .0 .rows; entries = c .before .before .before .before .before .before .before .before .before .before .before .before .before .before .before .before .before .before .pre .1 .0 .entries; coded = c .before .before .before .before .before .before .before .before .before .before .before .before .before .before .before .before .before .before .pre .1 .0 .coded; area = c .before .before .before .before .set-rows .kept .0 ∙ c .before .before .before .before .before .before .before .before .before .before .before .before .before .before .before .before .before .before .pre .1 .0 .area; sets-lent = c .before .before .before .before .before .before .before .before .add .kept .0 ∙ c .before .before .before .before .before .before .before .before .before .before .before .before .before .before .before .before .before .before .pre .1 .0 .sets-lent; index-lent = c .before .before .before .before .before .before .before .before .before .before .before .before .before .before .before .before .before .before .pre .1 .0 .index-lent }, (c .before .before .before .before .before .before .before .before .before .before .before .before .before .before .before .before .before .before .pre .1 .1 .0, c .before .before .before .before .before .before .before .before .before .before .before .before .before .before .before .before .before .before .pre .1 .1 .1, (let p = c .before .before .before .before .before .before .before .before .before .before .before .before .before .before .before .before .before .before .pre in omega arith), c .before .before .before .before .before .before .before .before .before .before .before .before .before .before .before .before .before .before .pre .1 .1 .3, c .before .before .before .before .before .before .before .before .before .before .before .before .before .before .before .before .before .before .pre .1 .1 .4))
 
-attempt-add-solve : (t : ℕ) → attempt-lts.Need-add-solve (
+attempt-rules-out-requires : (t : ℕ) → attempt-lts.Need-rules-out-requires (
   add-reads.Asked,
   add-reads.Learnt,
   set-rows-reads.Asked,
   set-rows-reads.Learnt,
   follow-reads.Asked,
   follow-reads.Learnt,
+  rules-out-reads.Asked,
+  rules-out-reads.Learnt,
+  fill-reads.Asked,
+  fill-reads.Learnt,
   solve-below t,
   solve.Post,
 ) (attempt-at t) attempt.Post
-attempt-add-solve t c = record { fits = (let p = c .before .before .before .before .before .before .before .before .before .before .before .before .before .before .before .before .before .before .before .before .before .before .before .before .before .before .pre in omega arith) }
+attempt-rules-out-requires t c κs = (c .before .before .before .before .before .before .follow .kept .1 .1 .1 .0 ∙ c .before .before .before .before .before .before .before .before .before .before .before .set-rows .kept .0 ∙ c .before .before .before .before .before .before .before .before .before .before .before .before .before .before .before .before .before .before .before .before .before .before .before .before .before .pre .1 .0 .area, omega (arith, c .before .before .before .before .before .before .before .before .before .before .before .before .before .before .before .before .before .before .before .before .before .before .before .before .before .pre .1 .1 .3, c .before .before .before .before .before .before .before .before .before .before .before .before .before .before .before .before .before .before .before .before .before .before .before .before .before .pre .1 .1 .4, c .before .before .before .before .before .before .before .before .before .before .before .before .before .before .before .before .before .before .before .before .before .before .before .before .before .pre .1 .0 .rows), omega (arith, c .before .before .before .before .before .before .before .before .before .before .before .before .before .before .before .before .before .before .before .before .before .before .before .before .before .pre .1 .1 .0, c .before .before .before .before .before .before .before .before .before .before .before .before .before .before .before .before .before .before .before .before .before .before .before .before .before .pre .1 .1 .2))
 
-attempt-solve-requires : (t : ℕ) → attempt-lts.Need-solve-requires (
+attempt-fill-requires : (t : ℕ) → attempt-lts.Need-fill-requires (
   add-reads.Asked,
   add-reads.Learnt,
   set-rows-reads.Asked,
   set-rows-reads.Learnt,
   follow-reads.Asked,
   follow-reads.Learnt,
+  rules-out-reads.Asked,
+  rules-out-reads.Learnt,
+  fill-reads.Asked,
+  fill-reads.Learnt,
   solve-below t,
   solve.Post,
 ) (attempt-at t) attempt.Post
-attempt-solve-requires t c κs = ((let p = c .before .before .before .before .before .before .before .before .before .before .before .before .before .before .before .before .before .before .before .before .before .before .before .before .before .before .pre in omega arith), (record { rows = c .before .before .before .before .before .before .before .before .before .before .before .before .before .before .before .before .before .before .before .before .before .before .before .before .before .before .pre .1 .0 .rows; entries = c .before .before .before .before .before .before .before .before .before .before .before .before .before .before .before .before .before .before .before .before .before .before .before .before .before .before .pre .1 .0 .entries; coded = c .before .before .before .before .before .before .before .before .before .before .before .before .before .before .before .before .before .before .before .before .before .before .before .before .before .before .pre .1 .0 .coded; area = c .before .before .before .before .before .before .before .follow .kept .1 .1 .1 .0 ∙ c .before .before .before .before .before .before .before .before .before .before .before .before .set-rows .kept .0 ∙ c .before .before .before .before .before .before .before .before .before .before .before .before .before .before .before .before .before .before .before .before .before .before .before .before .before .before .pre .1 .0 .area; sets-lent = c .before .before .before .before .before .before .before .follow .kept .1 .1 .1 .1 .0 ∙ c .before .before .before .before .before .before .before .before .before .before .before .before .before .before .before .before .add .kept .0 ∙ c .before .before .before .before .before .before .before .before .before .before .before .before .before .before .before .before .before .before .before .before .before .before .before .before .before .before .pre .1 .0 .sets-lent; index-lent = c .before .before .before .before .before .before .before .before .before .before .before .before .before .before .before .before .before .before .before .before .before .before .before .before .before .before .pre .1 .0 .index-lent }, (c .before .before .before .before .before .before .before .before .before .before .before .before .before .before .before .before .before .before .before .before .before .before .before .before .before .before .pre .1 .1 .0, c .before .before .before .before .before .before .before .before .before .before .before .before .before .before .before .before .before .before .before .before .before .before .before .before .before .before .pre .1 .1 .1, (let p = c .before .before .before .before .before .before .before .before .before .before .before .before .before .before .before .before .before .before .before .before .before .before .before .before .before .before .pre in omega arith), c .before .before .before .before .before .before .before .before .before .before .before .before .before .before .before .before .before .before .before .before .before .before .before .before .before .before .pre .1 .1 .3, c .before .before .before .before .before .before .before .before .before .before .before .before .before .before .before .before .before .before .before .before .before .before .before .before .before .before .pre .1 .1 .4)))
+attempt-fill-requires t c κs = tt
 
 attempt-same-length : (t : ℕ) → attempt-lts.Need-same-length (
   add-reads.Asked,
@@ -183,10 +211,14 @@ attempt-same-length : (t : ℕ) → attempt-lts.Need-same-length (
   set-rows-reads.Learnt,
   follow-reads.Asked,
   follow-reads.Learnt,
+  rules-out-reads.Asked,
+  rules-out-reads.Learnt,
+  fill-reads.Asked,
+  fill-reads.Learnt,
   solve-below t,
   solve.Post,
 ) (attempt-at t) attempt.Post
-attempt-same-length t c = c .before .before .before .before .solve .kept .1 .1 .1 .0 ∙ c .before .before .before .before .before .before .before .before .before .before .before .before .follow .kept .1 .1 .1 .0 ∙ c .before .before .before .before .before .before .before .before .before .before .before .before .before .before .before .before .before .set-rows .kept .0
+attempt-same-length t c = c .before .before .before .before .before .before .before .before .before .before .before .before .follow .kept .1 .1 .1 .0 ∙ c .before .before .before .before .before .before .before .before .before .before .before .before .before .before .before .before .before .set-rows .kept .0
 
 attempt-same-length-2 : (t : ℕ) → attempt-lts.Need-same-length-2 (
   add-reads.Asked,
@@ -195,10 +227,14 @@ attempt-same-length-2 : (t : ℕ) → attempt-lts.Need-same-length-2 (
   set-rows-reads.Learnt,
   follow-reads.Asked,
   follow-reads.Learnt,
+  rules-out-reads.Asked,
+  rules-out-reads.Learnt,
+  fill-reads.Asked,
+  fill-reads.Learnt,
   solve-below t,
   solve.Post,
 ) (attempt-at t) attempt.Post
-attempt-same-length-2 t c = c .before .before .before .before .solve .kept .1 .1 .1 .1 .0 ∙ c .before .before .before .before .before .before .before .before .before .before .before .before .follow .kept .1 .1 .1 .1 .0 ∙ c .before .before .before .before .before .before .before .before .before .before .before .before .before .before .before .before .before .before .before .before .before .add .kept .0
+attempt-same-length-2 t c = c .before .before .fill .kept .0 ∙ c .before .before .before .before .before .before .before .before .before .before .before .before .follow .kept .1 .1 .1 .1 .0 ∙ c .before .before .before .before .before .before .before .before .before .before .before .before .before .before .before .before .before .before .before .before .before .add .kept .0
 
 attempt-returns : (t : ℕ) → attempt-lts.Need-returns (
   add-reads.Asked,
@@ -207,10 +243,46 @@ attempt-returns : (t : ℕ) → attempt-lts.Need-returns (
   set-rows-reads.Learnt,
   follow-reads.Asked,
   follow-reads.Learnt,
+  rules-out-reads.Asked,
+  rules-out-reads.Learnt,
+  fill-reads.Asked,
+  fill-reads.Learnt,
   solve-below t,
   solve.Post,
 ) (attempt-at t) attempt.Post
-attempt-returns t c = λ listed. tries-searched (c .before .before .before .before .before .before .before .before .before .before .before .before .before .before .before .before .before .before .before .before .before .before .before .before .before .before .before .before .before .before .before .args .kinds .now) (c .before .before .before .before .before .before .before .before .before .before .before .before .before .before .before .before .before .before .before .before .before .before .before .before .before .before .before .before .before .before .before .args .splits .now) (c .before .before .before .before .before .before .before .before .before .before .before .before .before .before .before .before .before .before .before .before .before .before .before .before .before .before .before .before .before .before .before .args .codes .now) (c .before .before .before .before .before .before .before .before .before .before .before .before .before .before .before .before .before .before .before .before .before .before .before .before .before .before .before .before .before .before .before .args .opened .now) (c .before .before .before .before .before .before .before .before .before .before .before .before .before .before .before .before .before .before .before .before .before .before .before .before .before .before .before .before .before .before .before .args .memory .now) (c .before .before .before .before .before .before .before .before .before .before .before .before .before .before .before .before .before .before .before .before .before .before .before .before .before .before .before .before .before .before .before .args .side) (c .before .before .before .before .before .before .before .before .before .before .before .before .before .before .before .before .before .before .before .before .before .before .before .before .before .before .before .before .before .before .before .args .k) (c .before .before .before .before .before .before .before .before .before .before .before .before .before .before .before .before .before .before .before .before .before .before .before .before .before .before .before .before .before .before .before .args .lo) (c .before .before .before .before .before .before .before .before .before .before .before .before .before .before .before .before .before .before .before .before .before .before .before .before .before .before .before .before .before .before .before .args .hi) (let p = c .before .before .before .before .before .before .before .before .before .before .before .before .before .before .before .before .before .before .before .before .before .before .before .before .before .before .before .before .before .before .before .pre in omega (arith)) (let p = c .before .before .before .before .before .before .before .before .before .before .before .before .before .before .before .before .before .before .before .before .before .before .before .before .before .before .before .before .before .before .before .pre in omega (arith)) (c .before .before .before .before .before .before .before .before .before .before .before .before .before .before .before .before .before .before .before .before .before .before .before .before .before .before .before .before .before .before .before .args .value) _ _ _ _ _ _ _ (grows _ (c .before .before .before .before .before .before .before .before .before .before .before .before .before .before .before .before .before .before .before .before .before .before .before .before .before .before .before .before .before .before .before .pre .1 .0 .sets-lent) (c .before .before .before .before .before .before .before .before .before .before .before .before .before .before .before .before .before .before .before .before .before .before .before .before .before .before .before .before .before .before .before .args .k) (c .before .before .before .before .before .before .before .before .before .before .before .before .before .before .before .before .before .before .before .before .before .before .before .before .before .before .before .before .before .before .before .args .k) (let p = c .before .before .before .before .before .before .before .before .before .before .before .before .before .before .before .before .before .before .before .before .before .before .before .before .before .before .before .before .before .before .before .pre in omega arith) (let p = c .before .before .before .before .before .before .before .before .before .before .before .before .before .before .before .before .before .before .before .before .before .before .before .before .before .before .before .before .before .before .before .pre in omega arith) (c .before .before .before .before .before .before .before .before .before .before .before .before .before .before .before .before .before .before .before .before .before .add .ensures)) (adds (c .before .before .before .before .before .before .before .before .before .before .before .before .before .before .before .before .before .before .before .before .before .before .before .before .before .before .before .before .before .before .before .args .sets .now) (c .before .before .before .before .before .before .before .before .before .before .before .before .before .before .before .before .before .before .before .before .before .before .before .before .before .before .before .before .before .before .before .pre .1 .0 .sets-lent) (c .before .before .before .before .before .before .before .before .before .before .before .before .before .before .before .before .before .before .before .before .before .before .before .before .before .before .before .before .before .before .before .args .k) (c .before .before .before .before .before .before .before .before .before .before .before .before .before .before .before .before .before .before .before .before .before .before .before .before .before .before .before .before .before .before .before .args .k) (let p = c .before .before .before .before .before .before .before .before .before .before .before .before .before .before .before .before .before .before .before .before .before .before .before .before .before .before .before .before .before .before .before .pre in omega arith) (let p = c .before .before .before .before .before .before .before .before .before .before .before .before .before .before .before .before .before .before .before .before .before .before .before .before .before .before .before .before .before .before .before .pre in omega arith) (c .before .before .before .before .before .before .before .before .before .before .before .before .before .before .before .before .before .before .before .before .before .add .ensures)) (sets-rows (c .before .before .before .before .before .before .before .before .before .before .before .before .before .before .before .before .before .before .before .before .before .before .before .before .before .before .before .before .before .before .before .pre .1 .0 .area) (c .before .before .before .before .before .before .before .before .before .before .before .before .before .before .before .before .before .before .before .before .before .before .before .before .before .before .before .before .before .before .before .args .k) (c .before .before .before .before .before .before .before .before .before .before .before .before .before .before .before .before .before .before .before .before .before .before .before .before .before .before .before .before .before .before .before .args .lo) (c .before .before .before .before .before .before .before .before .before .before .before .before .before .before .before .before .before .before .before .before .before .before .before .before .before .before .before .before .before .before .before .args .hi) _ (c .before .before .before .before .before .before .before .before .before .before .before .before .before .before .before .before .before .before .before .before .before .before .before .before .before .before .before .before .before .before .before .args .value) (let p = c .before .before .before .before .before .before .before .before .before .before .before .before .before .before .before .before .before .before .before .before .before .before .before .before .before .before .before .before .before .before .before .pre in omega arith) (let p = c .before .before .before .before .before .before .before .before .before .before .before .before .before .before .before .before .before .before .before .before .before .before .before .before .before .before .before .before .before .before .before .pre in omega arith) (let p = c .before .before .before .before .before .before .before .before .before .before .before .before .before .before .before .before .before .before .before .before .before .before .before .before .before .before .before .before .before .before .before .pre in omega (arith, c .before .before .before .before .before .before .before .before .before .before .before .before .before .before .before .before .before .before .before .before .before .before .before .before .before .before .before .before .before .before .before .pre .1 .0 .rows)) (c .before .before .before .before .before .before .before .before .before .before .before .before .before .before .before .before .before .set-rows .ensures)) (c .before .before .before .before .before .before .before .before .before .before .before .before .follow .ensures listed) _ _ _ (c .before .before .before .before .before .before .before .if1 .taken) (c .before .before .before .before .solve .ensures listed)
+attempt-returns t c = λ listed. tries-ruled-out (c .before .before .before .before .before .before .before .before .before .before .before .before .before .before .before .before .before .before .before .before .before .before .before .before .before .before .before .before .before .before .before .args .kinds .now) (c .before .before .before .before .before .before .before .before .before .before .before .before .before .before .before .before .before .before .before .before .before .before .before .before .before .before .before .before .before .before .before .args .splits .now) (c .before .before .before .before .before .before .before .before .before .before .before .before .before .before .before .before .before .before .before .before .before .before .before .before .before .before .before .before .before .before .before .args .codes .now) (c .before .before .before .before .before .before .before .before .before .before .before .before .before .before .before .before .before .before .before .before .before .before .before .before .before .before .before .before .before .before .before .args .opened .now) (c .before .before .before .before .before .before .before .before .before .before .before .before .before .before .before .before .before .before .before .before .before .before .before .before .before .before .before .before .before .before .before .args .memory .now) (c .before .before .before .before .before .before .before .before .before .before .before .before .before .before .before .before .before .before .before .before .before .before .before .before .before .before .before .before .before .before .before .args .side) (c .before .before .before .before .before .before .before .before .before .before .before .before .before .before .before .before .before .before .before .before .before .before .before .before .before .before .before .before .before .before .before .args .k) (c .before .before .before .before .before .before .before .before .before .before .before .before .before .before .before .before .before .before .before .before .before .before .before .before .before .before .before .before .before .before .before .args .lo) (c .before .before .before .before .before .before .before .before .before .before .before .before .before .before .before .before .before .before .before .before .before .before .before .before .before .before .before .before .before .before .before .args .hi) (let p = c .before .before .before .before .before .before .before .before .before .before .before .before .before .before .before .before .before .before .before .before .before .before .before .before .before .before .before .before .before .before .before .pre in omega (arith)) (let p = c .before .before .before .before .before .before .before .before .before .before .before .before .before .before .before .before .before .before .before .before .before .before .before .before .before .before .before .before .before .before .before .pre in omega (arith)) (c .before .before .before .before .before .before .before .before .before .before .before .before .before .before .before .before .before .before .before .before .before .before .before .before .before .before .before .before .before .before .before .args .value) _ _ _ _ _ _ _ (grows _ (c .before .before .before .before .before .before .before .before .before .before .before .before .before .before .before .before .before .before .before .before .before .before .before .before .before .before .before .before .before .before .before .pre .1 .0 .sets-lent) (c .before .before .before .before .before .before .before .before .before .before .before .before .before .before .before .before .before .before .before .before .before .before .before .before .before .before .before .before .before .before .before .args .k) (c .before .before .before .before .before .before .before .before .before .before .before .before .before .before .before .before .before .before .before .before .before .before .before .before .before .before .before .before .before .before .before .args .k) (let p = c .before .before .before .before .before .before .before .before .before .before .before .before .before .before .before .before .before .before .before .before .before .before .before .before .before .before .before .before .before .before .before .pre in omega arith) (let p = c .before .before .before .before .before .before .before .before .before .before .before .before .before .before .before .before .before .before .before .before .before .before .before .before .before .before .before .before .before .before .before .pre in omega arith) (c .before .before .before .before .before .before .before .before .before .before .before .before .before .before .before .before .before .before .before .before .before .add .ensures)) (adds (c .before .before .before .before .before .before .before .before .before .before .before .before .before .before .before .before .before .before .before .before .before .before .before .before .before .before .before .before .before .before .before .args .sets .now) (c .before .before .before .before .before .before .before .before .before .before .before .before .before .before .before .before .before .before .before .before .before .before .before .before .before .before .before .before .before .before .before .pre .1 .0 .sets-lent) (c .before .before .before .before .before .before .before .before .before .before .before .before .before .before .before .before .before .before .before .before .before .before .before .before .before .before .before .before .before .before .before .args .k) (c .before .before .before .before .before .before .before .before .before .before .before .before .before .before .before .before .before .before .before .before .before .before .before .before .before .before .before .before .before .before .before .args .k) (let p = c .before .before .before .before .before .before .before .before .before .before .before .before .before .before .before .before .before .before .before .before .before .before .before .before .before .before .before .before .before .before .before .pre in omega arith) (let p = c .before .before .before .before .before .before .before .before .before .before .before .before .before .before .before .before .before .before .before .before .before .before .before .before .before .before .before .before .before .before .before .pre in omega arith) (c .before .before .before .before .before .before .before .before .before .before .before .before .before .before .before .before .before .before .before .before .before .add .ensures)) (sets-rows (c .before .before .before .before .before .before .before .before .before .before .before .before .before .before .before .before .before .before .before .before .before .before .before .before .before .before .before .before .before .before .before .pre .1 .0 .area) (c .before .before .before .before .before .before .before .before .before .before .before .before .before .before .before .before .before .before .before .before .before .before .before .before .before .before .before .before .before .before .before .args .k) (c .before .before .before .before .before .before .before .before .before .before .before .before .before .before .before .before .before .before .before .before .before .before .before .before .before .before .before .before .before .before .before .args .lo) (c .before .before .before .before .before .before .before .before .before .before .before .before .before .before .before .before .before .before .before .before .before .before .before .before .before .before .before .before .before .before .before .args .hi) _ (c .before .before .before .before .before .before .before .before .before .before .before .before .before .before .before .before .before .before .before .before .before .before .before .before .before .before .before .before .before .before .before .args .value) (let p = c .before .before .before .before .before .before .before .before .before .before .before .before .before .before .before .before .before .before .before .before .before .before .before .before .before .before .before .before .before .before .before .pre in omega arith) (let p = c .before .before .before .before .before .before .before .before .before .before .before .before .before .before .before .before .before .before .before .before .before .before .before .before .before .before .before .before .before .before .before .pre in omega arith) (let p = c .before .before .before .before .before .before .before .before .before .before .before .before .before .before .before .before .before .before .before .before .before .before .before .before .before .before .before .before .before .before .before .pre in omega (arith, c .before .before .before .before .before .before .before .before .before .before .before .before .before .before .before .before .before .before .before .before .before .before .before .before .before .before .before .before .before .before .before .pre .1 .0 .rows)) (c .before .before .before .before .before .before .before .before .before .before .before .before .before .before .before .before .before .set-rows .ensures)) (c .before .before .before .before .before .before .before .before .before .before .before .before .follow .ensures listed) _ (c .before .before .before .before .before .before .before .if1 .taken) (c .before .before .before .before .before .rules-out .ensures (c .before .before .before .before .if2 .taken)) (fills-kept _ (c .before .before .before .before .before .before .before .before .before .before .before .before .follow .kept .1 .1 .1 .1 .0 ∙ c .before .before .before .before .before .before .before .before .before .before .before .before .before .before .before .before .before .before .before .before .before .add .kept .0 ∙ c .before .before .before .before .before .before .before .before .before .before .before .before .before .before .before .before .before .before .before .before .before .before .before .before .before .before .before .before .before .before .before .pre .1 .0 .sets-lent) max-unknowns (omega arith) (omega arith) (c .before .before .fill .ensures)) (fills _ (c .before .before .before .before .before .before .before .before .before .before .before .before .follow .kept .1 .1 .1 .1 .0 ∙ c .before .before .before .before .before .before .before .before .before .before .before .before .before .before .before .before .before .before .before .before .before .add .kept .0 ∙ c .before .before .before .before .before .before .before .before .before .before .before .before .before .before .before .before .before .before .before .before .before .before .before .before .before .before .before .before .before .before .before .pre .1 .0 .sets-lent) max-unknowns (omega arith) (c .before .before .fill .ensures))
+
+attempt-add-solve : (t : ℕ) → attempt-lts.Need-add-solve (
+  add-reads.Asked,
+  add-reads.Learnt,
+  set-rows-reads.Asked,
+  set-rows-reads.Learnt,
+  follow-reads.Asked,
+  follow-reads.Learnt,
+  rules-out-reads.Asked,
+  rules-out-reads.Learnt,
+  fill-reads.Asked,
+  fill-reads.Learnt,
+  solve-below t,
+  solve.Post,
+) (attempt-at t) attempt.Post
+attempt-add-solve t c = record { fits = (let p = c .before .before .before .before .before .before .before .before .before .before .before .before .before .before .before .before .before .before .before .before .before .before .before .before .before .before .before .before .before .pre in omega arith) }
+
+attempt-solve-requires : (t : ℕ) → attempt-lts.Need-solve-requires (
+  add-reads.Asked,
+  add-reads.Learnt,
+  set-rows-reads.Asked,
+  set-rows-reads.Learnt,
+  follow-reads.Asked,
+  follow-reads.Learnt,
+  rules-out-reads.Asked,
+  rules-out-reads.Learnt,
+  fill-reads.Asked,
+  fill-reads.Learnt,
+  solve-below t,
+  solve.Post,
+) (attempt-at t) attempt.Post
+attempt-solve-requires t c κs = ((let p = c .before .before .before .before .before .before .before .before .before .before .before .before .before .before .before .before .before .before .before .before .before .before .before .before .before .before .before .before .before .pre in omega arith), (record { rows = c .before .before .before .before .before .before .before .before .before .before .before .before .before .before .before .before .before .before .before .before .before .before .before .before .before .before .before .before .before .pre .1 .0 .rows; entries = c .before .before .before .before .before .before .before .before .before .before .before .before .before .before .before .before .before .before .before .before .before .before .before .before .before .before .before .before .before .pre .1 .0 .entries; coded = c .before .before .before .before .before .before .before .before .before .before .before .before .before .before .before .before .before .before .before .before .before .before .before .before .before .before .before .before .before .pre .1 .0 .coded; area = c .before .before .before .before .before .before .before .before .before .before .follow .kept .1 .1 .1 .0 ∙ c .before .before .before .before .before .before .before .before .before .before .before .before .before .before .before .set-rows .kept .0 ∙ c .before .before .before .before .before .before .before .before .before .before .before .before .before .before .before .before .before .before .before .before .before .before .before .before .before .before .before .before .before .pre .1 .0 .area; sets-lent = c .before .before .before .before .before .before .before .before .before .before .follow .kept .1 .1 .1 .1 .0 ∙ c .before .before .before .before .before .before .before .before .before .before .before .before .before .before .before .before .before .before .before .add .kept .0 ∙ c .before .before .before .before .before .before .before .before .before .before .before .before .before .before .before .before .before .before .before .before .before .before .before .before .before .before .before .before .before .pre .1 .0 .sets-lent; index-lent = c .before .before .before .before .before .before .before .before .before .before .before .before .before .before .before .before .before .before .before .before .before .before .before .before .before .before .before .before .before .pre .1 .0 .index-lent }, (c .before .before .before .before .before .before .before .before .before .before .before .before .before .before .before .before .before .before .before .before .before .before .before .before .before .before .before .before .before .pre .1 .1 .0, c .before .before .before .before .before .before .before .before .before .before .before .before .before .before .before .before .before .before .before .before .before .before .before .before .before .before .before .before .before .pre .1 .1 .1, (let p = c .before .before .before .before .before .before .before .before .before .before .before .before .before .before .before .before .before .before .before .before .before .before .before .before .before .before .before .before .before .pre in omega arith), c .before .before .before .before .before .before .before .before .before .before .before .before .before .before .before .before .before .before .before .before .before .before .before .before .before .before .before .before .before .pre .1 .1 .3, c .before .before .before .before .before .before .before .before .before .before .before .before .before .before .before .before .before .before .before .before .before .before .before .before .before .before .before .before .before .pre .1 .1 .4)))
 
 attempt-same-length-3 : (t : ℕ) → attempt-lts.Need-same-length-3 (
   add-reads.Asked,
@@ -219,10 +291,14 @@ attempt-same-length-3 : (t : ℕ) → attempt-lts.Need-same-length-3 (
   set-rows-reads.Learnt,
   follow-reads.Asked,
   follow-reads.Learnt,
+  rules-out-reads.Asked,
+  rules-out-reads.Learnt,
+  fill-reads.Asked,
+  fill-reads.Learnt,
   solve-below t,
   solve.Post,
 ) (attempt-at t) attempt.Post
-attempt-same-length-3 t c = c .before .before .before .before .before .follow .kept .1 .1 .1 .0 ∙ c .before .before .before .before .before .before .before .before .before .before .set-rows .kept .0
+attempt-same-length-3 t c = c .before .before .before .before .solve .kept .1 .1 .1 .0 ∙ c .before .before .before .before .before .before .before .before .before .before .before .before .before .before .before .follow .kept .1 .1 .1 .0 ∙ c .before .before .before .before .before .before .before .before .before .before .before .before .before .before .before .before .before .before .before .before .set-rows .kept .0
 
 attempt-same-length-4 : (t : ℕ) → attempt-lts.Need-same-length-4 (
   add-reads.Asked,
@@ -231,10 +307,14 @@ attempt-same-length-4 : (t : ℕ) → attempt-lts.Need-same-length-4 (
   set-rows-reads.Learnt,
   follow-reads.Asked,
   follow-reads.Learnt,
+  rules-out-reads.Asked,
+  rules-out-reads.Learnt,
+  fill-reads.Asked,
+  fill-reads.Learnt,
   solve-below t,
   solve.Post,
 ) (attempt-at t) attempt.Post
-attempt-same-length-4 t c = c .before .before .before .before .before .follow .kept .1 .1 .1 .1 .0 ∙ c .before .before .before .before .before .before .before .before .before .before .before .before .before .before .add .kept .0
+attempt-same-length-4 t c = c .before .before .before .before .solve .kept .1 .1 .1 .1 .0 ∙ c .before .before .before .before .before .before .before .before .before .before .before .before .before .before .before .follow .kept .1 .1 .1 .1 .0 ∙ c .before .before .before .before .before .before .before .before .before .before .before .before .before .before .before .before .before .before .before .before .before .before .before .before .add .kept .0
 
 attempt-returns-2 : (t : ℕ) → attempt-lts.Need-returns-2 (
   add-reads.Asked,
@@ -243,315 +323,219 @@ attempt-returns-2 : (t : ℕ) → attempt-lts.Need-returns-2 (
   set-rows-reads.Learnt,
   follow-reads.Asked,
   follow-reads.Learnt,
+  rules-out-reads.Asked,
+  rules-out-reads.Learnt,
+  fill-reads.Asked,
+  fill-reads.Learnt,
   solve-below t,
   solve.Post,
 ) (attempt-at t) attempt.Post
-attempt-returns-2 t c = λ listed. tries-refuted (c .before .before .before .before .before .before .before .before .before .before .before .before .before .before .before .before .before .before .before .before .before .before .before .before .args .kinds .now) (c .before .before .before .before .before .before .before .before .before .before .before .before .before .before .before .before .before .before .before .before .before .before .before .before .args .splits .now) (c .before .before .before .before .before .before .before .before .before .before .before .before .before .before .before .before .before .before .before .before .before .before .before .before .args .codes .now) (c .before .before .before .before .before .before .before .before .before .before .before .before .before .before .before .before .before .before .before .before .before .before .before .before .args .opened .now) (c .before .before .before .before .before .before .before .before .before .before .before .before .before .before .before .before .before .before .before .before .before .before .before .before .args .memory .now) (c .before .before .before .before .before .before .before .before .before .before .before .before .before .before .before .before .before .before .before .before .before .before .before .before .args .side) (c .before .before .before .before .before .before .before .before .before .before .before .before .before .before .before .before .before .before .before .before .before .before .before .before .args .k) (c .before .before .before .before .before .before .before .before .before .before .before .before .before .before .before .before .before .before .before .before .before .before .before .before .args .lo) (c .before .before .before .before .before .before .before .before .before .before .before .before .before .before .before .before .before .before .before .before .before .before .before .before .args .hi) (let p = c .before .before .before .before .before .before .before .before .before .before .before .before .before .before .before .before .before .before .before .before .before .before .before .before .pre in omega (arith)) (let p = c .before .before .before .before .before .before .before .before .before .before .before .before .before .before .before .before .before .before .before .before .before .before .before .before .pre in omega (arith)) (c .before .before .before .before .before .before .before .before .before .before .before .before .before .before .before .before .before .before .before .before .before .before .before .before .args .value) _ _ _ _ _ _ _ (grows _ (c .before .before .before .before .before .before .before .before .before .before .before .before .before .before .before .before .before .before .before .before .before .before .before .before .pre .1 .0 .sets-lent) (c .before .before .before .before .before .before .before .before .before .before .before .before .before .before .before .before .before .before .before .before .before .before .before .before .args .k) (c .before .before .before .before .before .before .before .before .before .before .before .before .before .before .before .before .before .before .before .before .before .before .before .before .args .k) (let p = c .before .before .before .before .before .before .before .before .before .before .before .before .before .before .before .before .before .before .before .before .before .before .before .before .pre in omega arith) (let p = c .before .before .before .before .before .before .before .before .before .before .before .before .before .before .before .before .before .before .before .before .before .before .before .before .pre in omega arith) (c .before .before .before .before .before .before .before .before .before .before .before .before .before .before .add .ensures)) (adds (c .before .before .before .before .before .before .before .before .before .before .before .before .before .before .before .before .before .before .before .before .before .before .before .before .args .sets .now) (c .before .before .before .before .before .before .before .before .before .before .before .before .before .before .before .before .before .before .before .before .before .before .before .before .pre .1 .0 .sets-lent) (c .before .before .before .before .before .before .before .before .before .before .before .before .before .before .before .before .before .before .before .before .before .before .before .before .args .k) (c .before .before .before .before .before .before .before .before .before .before .before .before .before .before .before .before .before .before .before .before .before .before .before .before .args .k) (let p = c .before .before .before .before .before .before .before .before .before .before .before .before .before .before .before .before .before .before .before .before .before .before .before .before .pre in omega arith) (let p = c .before .before .before .before .before .before .before .before .before .before .before .before .before .before .before .before .before .before .before .before .before .before .before .before .pre in omega arith) (c .before .before .before .before .before .before .before .before .before .before .before .before .before .before .add .ensures)) (sets-rows (c .before .before .before .before .before .before .before .before .before .before .before .before .before .before .before .before .before .before .before .before .before .before .before .before .pre .1 .0 .area) (c .before .before .before .before .before .before .before .before .before .before .before .before .before .before .before .before .before .before .before .before .before .before .before .before .args .k) (c .before .before .before .before .before .before .before .before .before .before .before .before .before .before .before .before .before .before .before .before .before .before .before .before .args .lo) (c .before .before .before .before .before .before .before .before .before .before .before .before .before .before .before .before .before .before .before .before .before .before .before .before .args .hi) _ (c .before .before .before .before .before .before .before .before .before .before .before .before .before .before .before .before .before .before .before .before .before .before .before .before .args .value) (let p = c .before .before .before .before .before .before .before .before .before .before .before .before .before .before .before .before .before .before .before .before .before .before .before .before .pre in omega arith) (let p = c .before .before .before .before .before .before .before .before .before .before .before .before .before .before .before .before .before .before .before .before .before .before .before .before .pre in omega arith) (let p = c .before .before .before .before .before .before .before .before .before .before .before .before .before .before .before .before .before .before .before .before .before .before .before .before .pre in omega (arith, c .before .before .before .before .before .before .before .before .before .before .before .before .before .before .before .before .before .before .before .before .before .before .before .before .pre .1 .0 .rows)) (c .before .before .before .before .before .before .before .before .before .before .set-rows .ensures)) (c .before .before .before .before .before .follow .ensures listed) (c .if1 .left)
+attempt-returns-2 t c = λ listed. tries-searched (c .before .before .before .before .before .before .before .before .before .before .before .before .before .before .before .before .before .before .before .before .before .before .before .before .before .before .before .before .before .before .before .before .before .before .args .kinds .now) (c .before .before .before .before .before .before .before .before .before .before .before .before .before .before .before .before .before .before .before .before .before .before .before .before .before .before .before .before .before .before .before .before .before .before .args .splits .now) (c .before .before .before .before .before .before .before .before .before .before .before .before .before .before .before .before .before .before .before .before .before .before .before .before .before .before .before .before .before .before .before .before .before .before .args .codes .now) (c .before .before .before .before .before .before .before .before .before .before .before .before .before .before .before .before .before .before .before .before .before .before .before .before .before .before .before .before .before .before .before .before .before .before .args .opened .now) (c .before .before .before .before .before .before .before .before .before .before .before .before .before .before .before .before .before .before .before .before .before .before .before .before .before .before .before .before .before .before .before .before .before .before .args .memory .now) (c .before .before .before .before .before .before .before .before .before .before .before .before .before .before .before .before .before .before .before .before .before .before .before .before .before .before .before .before .before .before .before .before .before .before .args .side) (c .before .before .before .before .before .before .before .before .before .before .before .before .before .before .before .before .before .before .before .before .before .before .before .before .before .before .before .before .before .before .before .before .before .before .args .k) (c .before .before .before .before .before .before .before .before .before .before .before .before .before .before .before .before .before .before .before .before .before .before .before .before .before .before .before .before .before .before .before .before .before .before .args .lo) (c .before .before .before .before .before .before .before .before .before .before .before .before .before .before .before .before .before .before .before .before .before .before .before .before .before .before .before .before .before .before .before .before .before .before .args .hi) (let p = c .before .before .before .before .before .before .before .before .before .before .before .before .before .before .before .before .before .before .before .before .before .before .before .before .before .before .before .before .before .before .before .before .before .before .pre in omega (arith)) (let p = c .before .before .before .before .before .before .before .before .before .before .before .before .before .before .before .before .before .before .before .before .before .before .before .before .before .before .before .before .before .before .before .before .before .before .pre in omega (arith)) (c .before .before .before .before .before .before .before .before .before .before .before .before .before .before .before .before .before .before .before .before .before .before .before .before .before .before .before .before .before .before .before .before .before .before .args .value) _ _ _ _ _ _ _ (grows _ (c .before .before .before .before .before .before .before .before .before .before .before .before .before .before .before .before .before .before .before .before .before .before .before .before .before .before .before .before .before .before .before .before .before .before .pre .1 .0 .sets-lent) (c .before .before .before .before .before .before .before .before .before .before .before .before .before .before .before .before .before .before .before .before .before .before .before .before .before .before .before .before .before .before .before .before .before .before .args .k) (c .before .before .before .before .before .before .before .before .before .before .before .before .before .before .before .before .before .before .before .before .before .before .before .before .before .before .before .before .before .before .before .before .before .before .args .k) (let p = c .before .before .before .before .before .before .before .before .before .before .before .before .before .before .before .before .before .before .before .before .before .before .before .before .before .before .before .before .before .before .before .before .before .before .pre in omega arith) (let p = c .before .before .before .before .before .before .before .before .before .before .before .before .before .before .before .before .before .before .before .before .before .before .before .before .before .before .before .before .before .before .before .before .before .before .pre in omega arith) (c .before .before .before .before .before .before .before .before .before .before .before .before .before .before .before .before .before .before .before .before .before .before .before .before .add .ensures)) (adds (c .before .before .before .before .before .before .before .before .before .before .before .before .before .before .before .before .before .before .before .before .before .before .before .before .before .before .before .before .before .before .before .before .before .before .args .sets .now) (c .before .before .before .before .before .before .before .before .before .before .before .before .before .before .before .before .before .before .before .before .before .before .before .before .before .before .before .before .before .before .before .before .before .before .pre .1 .0 .sets-lent) (c .before .before .before .before .before .before .before .before .before .before .before .before .before .before .before .before .before .before .before .before .before .before .before .before .before .before .before .before .before .before .before .before .before .before .args .k) (c .before .before .before .before .before .before .before .before .before .before .before .before .before .before .before .before .before .before .before .before .before .before .before .before .before .before .before .before .before .before .before .before .before .before .args .k) (let p = c .before .before .before .before .before .before .before .before .before .before .before .before .before .before .before .before .before .before .before .before .before .before .before .before .before .before .before .before .before .before .before .before .before .before .pre in omega arith) (let p = c .before .before .before .before .before .before .before .before .before .before .before .before .before .before .before .before .before .before .before .before .before .before .before .before .before .before .before .before .before .before .before .before .before .before .pre in omega arith) (c .before .before .before .before .before .before .before .before .before .before .before .before .before .before .before .before .before .before .before .before .before .before .before .before .add .ensures)) (sets-rows (c .before .before .before .before .before .before .before .before .before .before .before .before .before .before .before .before .before .before .before .before .before .before .before .before .before .before .before .before .before .before .before .before .before .before .pre .1 .0 .area) (c .before .before .before .before .before .before .before .before .before .before .before .before .before .before .before .before .before .before .before .before .before .before .before .before .before .before .before .before .before .before .before .before .before .before .args .k) (c .before .before .before .before .before .before .before .before .before .before .before .before .before .before .before .before .before .before .before .before .before .before .before .before .before .before .before .before .before .before .before .before .before .before .args .lo) (c .before .before .before .before .before .before .before .before .before .before .before .before .before .before .before .before .before .before .before .before .before .before .before .before .before .before .before .before .before .before .before .before .before .before .args .hi) _ (c .before .before .before .before .before .before .before .before .before .before .before .before .before .before .before .before .before .before .before .before .before .before .before .before .before .before .before .before .before .before .before .before .before .before .args .value) (let p = c .before .before .before .before .before .before .before .before .before .before .before .before .before .before .before .before .before .before .before .before .before .before .before .before .before .before .before .before .before .before .before .before .before .before .pre in omega arith) (let p = c .before .before .before .before .before .before .before .before .before .before .before .before .before .before .before .before .before .before .before .before .before .before .before .before .before .before .before .before .before .before .before .before .before .before .pre in omega arith) (let p = c .before .before .before .before .before .before .before .before .before .before .before .before .before .before .before .before .before .before .before .before .before .before .before .before .before .before .before .before .before .before .before .before .before .before .pre in omega (arith, c .before .before .before .before .before .before .before .before .before .before .before .before .before .before .before .before .before .before .before .before .before .before .before .before .before .before .before .before .before .before .before .before .before .before .pre .1 .0 .rows)) (c .before .before .before .before .before .before .before .before .before .before .before .before .before .before .before .before .before .before .before .before .set-rows .ensures)) (c .before .before .before .before .before .before .before .before .before .before .before .before .before .before .before .follow .ensures listed) _ _ _ (c .before .before .before .before .before .before .before .before .before .before .if1 .taken) (c .before .before .before .before .solve .ensures listed)
+
+attempt-same-length-5 : (t : ℕ) → attempt-lts.Need-same-length-5 (
+  add-reads.Asked,
+  add-reads.Learnt,
+  set-rows-reads.Asked,
+  set-rows-reads.Learnt,
+  follow-reads.Asked,
+  follow-reads.Learnt,
+  rules-out-reads.Asked,
+  rules-out-reads.Learnt,
+  fill-reads.Asked,
+  fill-reads.Learnt,
+  solve-below t,
+  solve.Post,
+) (attempt-at t) attempt.Post
+attempt-same-length-5 t c = c .before .before .before .before .before .follow .kept .1 .1 .1 .0 ∙ c .before .before .before .before .before .before .before .before .before .before .set-rows .kept .0
+
+attempt-same-length-6 : (t : ℕ) → attempt-lts.Need-same-length-6 (
+  add-reads.Asked,
+  add-reads.Learnt,
+  set-rows-reads.Asked,
+  set-rows-reads.Learnt,
+  follow-reads.Asked,
+  follow-reads.Learnt,
+  rules-out-reads.Asked,
+  rules-out-reads.Learnt,
+  fill-reads.Asked,
+  fill-reads.Learnt,
+  solve-below t,
+  solve.Post,
+) (attempt-at t) attempt.Post
+attempt-same-length-6 t c = c .before .before .before .before .before .follow .kept .1 .1 .1 .1 .0 ∙ c .before .before .before .before .before .before .before .before .before .before .before .before .before .before .add .kept .0
+
+attempt-returns-3 : (t : ℕ) → attempt-lts.Need-returns-3 (
+  add-reads.Asked,
+  add-reads.Learnt,
+  set-rows-reads.Asked,
+  set-rows-reads.Learnt,
+  follow-reads.Asked,
+  follow-reads.Learnt,
+  rules-out-reads.Asked,
+  rules-out-reads.Learnt,
+  fill-reads.Asked,
+  fill-reads.Learnt,
+  solve-below t,
+  solve.Post,
+) (attempt-at t) attempt.Post
+attempt-returns-3 t c = λ listed. tries-refuted (c .before .before .before .before .before .before .before .before .before .before .before .before .before .before .before .before .before .before .before .before .before .before .before .before .args .kinds .now) (c .before .before .before .before .before .before .before .before .before .before .before .before .before .before .before .before .before .before .before .before .before .before .before .before .args .splits .now) (c .before .before .before .before .before .before .before .before .before .before .before .before .before .before .before .before .before .before .before .before .before .before .before .before .args .codes .now) (c .before .before .before .before .before .before .before .before .before .before .before .before .before .before .before .before .before .before .before .before .before .before .before .before .args .opened .now) (c .before .before .before .before .before .before .before .before .before .before .before .before .before .before .before .before .before .before .before .before .before .before .before .before .args .memory .now) (c .before .before .before .before .before .before .before .before .before .before .before .before .before .before .before .before .before .before .before .before .before .before .before .before .args .side) (c .before .before .before .before .before .before .before .before .before .before .before .before .before .before .before .before .before .before .before .before .before .before .before .before .args .k) (c .before .before .before .before .before .before .before .before .before .before .before .before .before .before .before .before .before .before .before .before .before .before .before .before .args .lo) (c .before .before .before .before .before .before .before .before .before .before .before .before .before .before .before .before .before .before .before .before .before .before .before .before .args .hi) (let p = c .before .before .before .before .before .before .before .before .before .before .before .before .before .before .before .before .before .before .before .before .before .before .before .before .pre in omega (arith)) (let p = c .before .before .before .before .before .before .before .before .before .before .before .before .before .before .before .before .before .before .before .before .before .before .before .before .pre in omega (arith)) (c .before .before .before .before .before .before .before .before .before .before .before .before .before .before .before .before .before .before .before .before .before .before .before .before .args .value) _ _ _ _ _ _ _ (grows _ (c .before .before .before .before .before .before .before .before .before .before .before .before .before .before .before .before .before .before .before .before .before .before .before .before .pre .1 .0 .sets-lent) (c .before .before .before .before .before .before .before .before .before .before .before .before .before .before .before .before .before .before .before .before .before .before .before .before .args .k) (c .before .before .before .before .before .before .before .before .before .before .before .before .before .before .before .before .before .before .before .before .before .before .before .before .args .k) (let p = c .before .before .before .before .before .before .before .before .before .before .before .before .before .before .before .before .before .before .before .before .before .before .before .before .pre in omega arith) (let p = c .before .before .before .before .before .before .before .before .before .before .before .before .before .before .before .before .before .before .before .before .before .before .before .before .pre in omega arith) (c .before .before .before .before .before .before .before .before .before .before .before .before .before .before .add .ensures)) (adds (c .before .before .before .before .before .before .before .before .before .before .before .before .before .before .before .before .before .before .before .before .before .before .before .before .args .sets .now) (c .before .before .before .before .before .before .before .before .before .before .before .before .before .before .before .before .before .before .before .before .before .before .before .before .pre .1 .0 .sets-lent) (c .before .before .before .before .before .before .before .before .before .before .before .before .before .before .before .before .before .before .before .before .before .before .before .before .args .k) (c .before .before .before .before .before .before .before .before .before .before .before .before .before .before .before .before .before .before .before .before .before .before .before .before .args .k) (let p = c .before .before .before .before .before .before .before .before .before .before .before .before .before .before .before .before .before .before .before .before .before .before .before .before .pre in omega arith) (let p = c .before .before .before .before .before .before .before .before .before .before .before .before .before .before .before .before .before .before .before .before .before .before .before .before .pre in omega arith) (c .before .before .before .before .before .before .before .before .before .before .before .before .before .before .add .ensures)) (sets-rows (c .before .before .before .before .before .before .before .before .before .before .before .before .before .before .before .before .before .before .before .before .before .before .before .before .pre .1 .0 .area) (c .before .before .before .before .before .before .before .before .before .before .before .before .before .before .before .before .before .before .before .before .before .before .before .before .args .k) (c .before .before .before .before .before .before .before .before .before .before .before .before .before .before .before .before .before .before .before .before .before .before .before .before .args .lo) (c .before .before .before .before .before .before .before .before .before .before .before .before .before .before .before .before .before .before .before .before .before .before .before .before .args .hi) _ (c .before .before .before .before .before .before .before .before .before .before .before .before .before .before .before .before .before .before .before .before .before .before .before .before .args .value) (let p = c .before .before .before .before .before .before .before .before .before .before .before .before .before .before .before .before .before .before .before .before .before .before .before .before .pre in omega arith) (let p = c .before .before .before .before .before .before .before .before .before .before .before .before .before .before .before .before .before .before .before .before .before .before .before .before .pre in omega arith) (let p = c .before .before .before .before .before .before .before .before .before .before .before .before .before .before .before .before .before .before .before .before .before .before .before .before .pre in omega (arith, c .before .before .before .before .before .before .before .before .before .before .before .before .before .before .before .before .before .before .before .before .before .before .before .before .pre .1 .0 .rows)) (c .before .before .before .before .before .before .before .before .before .before .set-rows .ensures)) (c .before .before .before .before .before .follow .ensures listed) (c .if1 .left)
 
 choose-wanted-requires : (t : ℕ) → choose-lts.Need-wanted-requires (
   wanted-reads.Asked,
   wanted-reads.Learnt,
-  rules-out-reads.Asked,
-  rules-out-reads.Learnt,
-  fill-reads.Asked,
-  fill-reads.Learnt,
-  retry-below t,
-  retry.Post,
   attempt-below t,
   attempt.Post,
   has-reads.Asked,
   has-reads.Learnt,
+  retry-below t,
+  retry.Post,
 ) (choose-at t) choose.Post
 choose-wanted-requires t c κs = search needs
-
-choose-rules-out-requires : (t : ℕ) → choose-lts.Need-rules-out-requires (
-  wanted-reads.Asked,
-  wanted-reads.Learnt,
-  rules-out-reads.Asked,
-  rules-out-reads.Learnt,
-  fill-reads.Asked,
-  fill-reads.Learnt,
-  retry-below t,
-  retry.Post,
-  attempt-below t,
-  attempt.Post,
-  has-reads.Asked,
-  has-reads.Learnt,
-) (choose-at t) choose.Post
-choose-rules-out-requires t c κs = (c .before .before .before .before .before .before .before .before .before .before .before .pre .1 .0 .area, omega (arith, c .before .before .before .before .before .before .before .before .before .before .before .pre .1 .1 .3, c .before .before .before .before .before .before .before .before .before .before .before .pre .1 .1 .4, c .before .before .before .before .before .before .before .before .before .before .before .pre .1 .0 .rows), omega (arith, c .before .before .before .before .before .before .before .before .before .before .before .pre .1 .1 .0, c .before .before .before .before .before .before .before .before .before .before .before .pre .1 .1 .2))
-
-choose-fill-requires : (t : ℕ) → choose-lts.Need-fill-requires (
-  wanted-reads.Asked,
-  wanted-reads.Learnt,
-  rules-out-reads.Asked,
-  rules-out-reads.Learnt,
-  fill-reads.Asked,
-  fill-reads.Learnt,
-  retry-below t,
-  retry.Post,
-  attempt-below t,
-  attempt.Post,
-  has-reads.Asked,
-  has-reads.Learnt,
-) (choose-at t) choose.Post
-choose-fill-requires t c κs = tt
-
-choose-retry-requires : (t : ℕ) → choose-lts.Need-retry-requires (
-  wanted-reads.Asked,
-  wanted-reads.Learnt,
-  rules-out-reads.Asked,
-  rules-out-reads.Learnt,
-  fill-reads.Asked,
-  fill-reads.Learnt,
-  retry-below t,
-  retry.Post,
-  attempt-below t,
-  attempt.Post,
-  has-reads.Asked,
-  has-reads.Learnt,
-) (choose-at t) choose.Post
-choose-retry-requires t c κs = ((let p = c .before .before .before .before .before .before .before .before .before .before .before .before .before .before .before .before .before .before .before .pre in omega arith), (record { rows = c .before .before .before .before .before .before .before .before .before .before .before .before .before .before .before .before .before .before .before .pre .1 .0 .rows; entries = c .before .before .before .before .before .before .before .before .before .before .before .before .before .before .before .before .before .before .before .pre .1 .0 .entries; coded = c .before .before .before .before .before .before .before .before .before .before .before .before .before .before .before .before .before .before .before .pre .1 .0 .coded; area = c .before .before .before .before .before .before .before .before .before .before .before .before .before .before .before .before .before .before .before .pre .1 .0 .area; sets-lent = c .before .before .before .before .fill .kept .0 ∙ c .before .before .before .before .before .before .before .before .before .before .before .before .before .before .before .before .before .before .before .pre .1 .0 .sets-lent; index-lent = c .before .before .before .before .before .before .before .before .before .before .before .before .before .before .before .before .before .before .before .pre .1 .0 .index-lent }, (c .before .before .before .before .before .before .before .before .before .before .before .before .before .before .before .before .before .before .before .pre .1 .1 .0, c .before .before .before .before .before .before .before .before .before .before .before .before .before .before .before .before .before .before .before .pre .1 .1 .1, c .before .before .before .before .before .before .before .before .before .before .before .before .before .before .before .before .before .before .before .pre .1 .1 .2, c .before .before .before .before .before .before .before .before .before .before .before .before .before .before .before .before .before .before .before .pre .1 .1 .3, c .before .before .before .before .before .before .before .before .before .before .before .before .before .before .before .before .before .before .before .pre .1 .1 .4)))
-
-choose-same-length : (t : ℕ) → choose-lts.Need-same-length (
-  wanted-reads.Asked,
-  wanted-reads.Learnt,
-  rules-out-reads.Asked,
-  rules-out-reads.Learnt,
-  fill-reads.Asked,
-  fill-reads.Learnt,
-  retry-below t,
-  retry.Post,
-  attempt-below t,
-  attempt.Post,
-  has-reads.Asked,
-  has-reads.Learnt,
-) (choose-at t) choose.Post
-choose-same-length t c = c .before .before .before .before .retry .kept .1 .1 .1 .0
-
-choose-same-length-2 : (t : ℕ) → choose-lts.Need-same-length-2 (
-  wanted-reads.Asked,
-  wanted-reads.Learnt,
-  rules-out-reads.Asked,
-  rules-out-reads.Learnt,
-  fill-reads.Asked,
-  fill-reads.Learnt,
-  retry-below t,
-  retry.Post,
-  attempt-below t,
-  attempt.Post,
-  has-reads.Asked,
-  has-reads.Learnt,
-) (choose-at t) choose.Post
-choose-same-length-2 t c = c .before .before .before .before .retry .kept .1 .1 .1 .1 .0 ∙ c .before .before .before .before .before .before .before .before .before .fill .kept .0
-
-choose-returns : (t : ℕ) → choose-lts.Need-returns (
-  wanted-reads.Asked,
-  wanted-reads.Learnt,
-  rules-out-reads.Asked,
-  rules-out-reads.Learnt,
-  fill-reads.Asked,
-  fill-reads.Learnt,
-  retry-below t,
-  retry.Post,
-  attempt-below t,
-  attempt.Post,
-  has-reads.Asked,
-  has-reads.Learnt,
-) (choose-at t) choose.Post
-choose-returns t c = λ listed. chooses-retried (c .before .before .before .before .before .before .before .before .before .before .before .before .before .before .before .before .before .before .before .before .before .before .before .before .args .kinds .now) (c .before .before .before .before .before .before .before .before .before .before .before .before .before .before .before .before .before .before .before .before .before .before .before .before .args .splits .now) (c .before .before .before .before .before .before .before .before .before .before .before .before .before .before .before .before .before .before .before .before .before .before .before .before .args .codes .now) (c .before .before .before .before .before .before .before .before .before .before .before .before .before .before .before .before .before .before .before .before .before .before .before .before .args .opened .now) (c .before .before .before .before .before .before .before .before .before .before .before .before .before .before .before .before .before .before .before .before .before .before .before .before .args .memory .now) (c .before .before .before .before .before .before .before .before .before .before .before .before .before .before .before .before .before .before .before .before .before .before .before .before .args .side) (c .before .before .before .before .before .before .before .before .before .before .before .before .before .before .before .before .before .before .before .before .before .before .before .before .args .k) (c .before .before .before .before .before .before .before .before .before .before .before .before .before .before .before .before .before .before .before .before .before .before .before .before .args .lo) (c .before .before .before .before .before .before .before .before .before .before .before .before .before .before .before .before .before .before .before .before .before .before .before .before .args .hi) (let p = c .before .before .before .before .before .before .before .before .before .before .before .before .before .before .before .before .before .before .before .before .before .before .before .before .pre in omega arith) (let p = c .before .before .before .before .before .before .before .before .before .before .before .before .before .before .before .before .before .before .before .before .before .before .before .before .pre in omega arith) (c .before .before .before .before .before .before .before .before .before .before .before .before .before .before .wanted .result) _ _ _ _ false (sym (c .before .before .before .before .before .before .before .before .before .before .before .before .before .before .wanted .ensures)) (tries-ruled-out (c .before .before .before .before .before .before .before .before .before .before .before .before .before .before .before .before .before .before .before .before .before .before .before .before .args .kinds .now) (c .before .before .before .before .before .before .before .before .before .before .before .before .before .before .before .before .before .before .before .before .before .before .before .before .args .splits .now) (c .before .before .before .before .before .before .before .before .before .before .before .before .before .before .before .before .before .before .before .before .before .before .before .before .args .codes .now) (c .before .before .before .before .before .before .before .before .before .before .before .before .before .before .before .before .before .before .before .before .before .before .before .before .args .opened .now) (c .before .before .before .before .before .before .before .before .before .before .before .before .before .before .before .before .before .before .before .before .before .before .before .before .args .memory .now) (c .before .before .before .before .before .before .before .before .before .before .before .before .before .before .before .before .before .before .before .before .before .before .before .before .args .side) (c .before .before .before .before .before .before .before .before .before .before .before .before .before .before .before .before .before .before .before .before .before .before .before .before .args .k) (c .before .before .before .before .before .before .before .before .before .before .before .before .before .before .before .before .before .before .before .before .before .before .before .before .args .lo) (c .before .before .before .before .before .before .before .before .before .before .before .before .before .before .before .before .before .before .before .before .before .before .before .before .args .hi) (let p = c .before .before .before .before .before .before .before .before .before .before .before .before .before .before .before .before .before .before .before .before .before .before .before .before .pre in omega arith) (let p = c .before .before .before .before .before .before .before .before .before .before .before .before .before .before .before .before .before .before .before .before .before .before .before .before .pre in omega arith) (c .before .before .before .before .before .before .before .before .before .before .before .before .before .before .wanted .result) _ _ _ (sym (c .before .before .before .before .before .before .before .before .before .before .before .before .before .before .wanted .ensures)) (c .before .before .before .before .before .before .before .before .before .before .before .before .rules-out .ensures (c .before .before .before .before .before .before .before .before .before .before .before .if1 .taken)) (fills-kept _ (c .before .before .before .before .before .before .before .before .before .before .before .before .before .before .before .before .before .before .before .before .before .before .before .before .pre .1 .0 .sets-lent) max-unknowns (omega arith) (omega arith) (c .before .before .before .before .before .before .before .before .before .fill .ensures)) (fills _ (c .before .before .before .before .before .before .before .before .before .before .before .before .before .before .before .before .before .before .before .before .before .before .before .before .pre .1 .0 .sets-lent) max-unknowns (omega arith) (c .before .before .before .before .before .before .before .before .before .fill .ensures))) _ _ _ refl (c .before .before .before .before .retry .ensures listed)
 
 choose-attempt-requires : (t : ℕ) → choose-lts.Need-attempt-requires (
   wanted-reads.Asked,
   wanted-reads.Learnt,
-  rules-out-reads.Asked,
-  rules-out-reads.Learnt,
-  fill-reads.Asked,
-  fill-reads.Learnt,
-  retry-below t,
-  retry.Post,
   attempt-below t,
   attempt.Post,
   has-reads.Asked,
   has-reads.Learnt,
+  retry-below t,
+  retry.Post,
 ) (choose-at t) choose.Post
 choose-attempt-requires t c κs = search needs
 
-choose-same-length-3 : (t : ℕ) → choose-lts.Need-same-length-3 (
+choose-same-length : (t : ℕ) → choose-lts.Need-same-length (
   wanted-reads.Asked,
   wanted-reads.Learnt,
-  rules-out-reads.Asked,
-  rules-out-reads.Learnt,
-  fill-reads.Asked,
-  fill-reads.Learnt,
-  retry-below t,
-  retry.Post,
   attempt-below t,
   attempt.Post,
   has-reads.Asked,
   has-reads.Learnt,
+  retry-below t,
+  retry.Post,
 ) (choose-at t) choose.Post
-choose-same-length-3 t c = c .before .before .before .before .before .attempt .kept .1 .1 .1 .0
+choose-same-length t c = c .before .before .before .before .before .attempt .kept .1 .1 .1 .0
 
-choose-same-length-4 : (t : ℕ) → choose-lts.Need-same-length-4 (
+choose-same-length-2 : (t : ℕ) → choose-lts.Need-same-length-2 (
   wanted-reads.Asked,
   wanted-reads.Learnt,
-  rules-out-reads.Asked,
-  rules-out-reads.Learnt,
-  fill-reads.Asked,
-  fill-reads.Learnt,
-  retry-below t,
-  retry.Post,
   attempt-below t,
   attempt.Post,
   has-reads.Asked,
   has-reads.Learnt,
+  retry-below t,
+  retry.Post,
 ) (choose-at t) choose.Post
-choose-same-length-4 t c = c .before .before .before .before .before .attempt .kept .1 .1 .1 .1 .0
+choose-same-length-2 t c = c .before .before .before .before .before .attempt .kept .1 .1 .1 .1 .0
 
-choose-returns-2 : (t : ℕ) → choose-lts.Need-returns-2 (
+choose-returns : (t : ℕ) → choose-lts.Need-returns (
   wanted-reads.Asked,
   wanted-reads.Learnt,
-  rules-out-reads.Asked,
-  rules-out-reads.Learnt,
-  fill-reads.Asked,
-  fill-reads.Learnt,
-  retry-below t,
-  retry.Post,
   attempt-below t,
   attempt.Post,
   has-reads.Asked,
   has-reads.Learnt,
+  retry-below t,
+  retry.Post,
 ) (choose-at t) choose.Post
-choose-returns-2 t c = λ listed. chooses-first (c .before .before .before .before .before .before .before .before .before .before .before .before .before .before .before .before .before .before .before .before .before .args .kinds .now) (c .before .before .before .before .before .before .before .before .before .before .before .before .before .before .before .before .before .before .before .before .before .args .splits .now) (c .before .before .before .before .before .before .before .before .before .before .before .before .before .before .before .before .before .before .before .before .before .args .codes .now) (c .before .before .before .before .before .before .before .before .before .before .before .before .before .before .before .before .before .before .before .before .before .args .opened .now) (c .before .before .before .before .before .before .before .before .before .before .before .before .before .before .before .before .before .before .before .before .before .args .memory .now) (c .before .before .before .before .before .before .before .before .before .before .before .before .before .before .before .before .before .before .before .before .before .args .side) (c .before .before .before .before .before .before .before .before .before .before .before .before .before .before .before .before .before .before .before .before .before .args .k) (c .before .before .before .before .before .before .before .before .before .before .before .before .before .before .before .before .before .before .before .before .before .args .lo) (c .before .before .before .before .before .before .before .before .before .before .before .before .before .before .before .before .before .before .before .before .before .args .hi) (let p = c .before .before .before .before .before .before .before .before .before .before .before .before .before .before .before .before .before .before .before .before .before .pre in omega (arith)) (let p = c .before .before .before .before .before .before .before .before .before .before .before .before .before .before .before .before .before .before .before .before .before .pre in omega (arith)) (c .before .before .before .before .before .before .before .before .before .before .before .wanted .result) _ _ _ _ _ (sym (c .before .before .before .before .before .before .before .before .before .before .before .wanted .ensures)) (c .before .before .before .before .before .attempt .ensures listed) (c .if2 .taken)
+choose-returns t c = λ listed. chooses-first (c .before .before .before .before .before .before .before .before .before .before .before .before .before .before .before .before .before .before .args .kinds .now) (c .before .before .before .before .before .before .before .before .before .before .before .before .before .before .before .before .before .before .args .splits .now) (c .before .before .before .before .before .before .before .before .before .before .before .before .before .before .before .before .before .before .args .codes .now) (c .before .before .before .before .before .before .before .before .before .before .before .before .before .before .before .before .before .before .args .opened .now) (c .before .before .before .before .before .before .before .before .before .before .before .before .before .before .before .before .before .before .args .memory .now) (c .before .before .before .before .before .before .before .before .before .before .before .before .before .before .before .before .before .before .args .side) (c .before .before .before .before .before .before .before .before .before .before .before .before .before .before .before .before .before .before .args .k) (c .before .before .before .before .before .before .before .before .before .before .before .before .before .before .before .before .before .before .args .lo) (c .before .before .before .before .before .before .before .before .before .before .before .before .before .before .before .before .before .before .args .hi) (let p = c .before .before .before .before .before .before .before .before .before .before .before .before .before .before .before .before .before .before .pre in omega (arith)) (let p = c .before .before .before .before .before .before .before .before .before .before .before .before .before .before .before .before .before .before .pre in omega (arith)) (c .before .before .before .before .before .before .before .before .wanted .result) _ _ _ _ _ (sym (c .before .before .before .before .before .before .before .before .wanted .ensures)) (c .before .before .before .before .before .attempt .ensures listed) (c .if1 .taken)
 
 choose-has-requires : (t : ℕ) → choose-lts.Need-has-requires (
   wanted-reads.Asked,
   wanted-reads.Learnt,
-  rules-out-reads.Asked,
-  rules-out-reads.Learnt,
-  fill-reads.Asked,
-  fill-reads.Learnt,
-  retry-below t,
-  retry.Post,
   attempt-below t,
   attempt.Post,
   has-reads.Asked,
   has-reads.Learnt,
+  retry-below t,
+  retry.Post,
 ) (choose-at t) choose.Post
 choose-has-requires t c κs = tt
+
+choose-same-length-3 : (t : ℕ) → choose-lts.Need-same-length-3 (
+  wanted-reads.Asked,
+  wanted-reads.Learnt,
+  attempt-below t,
+  attempt.Post,
+  has-reads.Asked,
+  has-reads.Learnt,
+  retry-below t,
+  retry.Post,
+) (choose-at t) choose.Post
+choose-same-length-3 t c = c .before .before .before .before .before .before .before .before .attempt .kept .1 .1 .1 .0
+
+choose-same-length-4 : (t : ℕ) → choose-lts.Need-same-length-4 (
+  wanted-reads.Asked,
+  wanted-reads.Learnt,
+  attempt-below t,
+  attempt.Post,
+  has-reads.Asked,
+  has-reads.Learnt,
+  retry-below t,
+  retry.Post,
+) (choose-at t) choose.Post
+choose-same-length-4 t c = c .before .before .before .before .before .before .before .before .attempt .kept .1 .1 .1 .1 .0
+
+choose-returns-2 : (t : ℕ) → choose-lts.Need-returns-2 (
+  wanted-reads.Asked,
+  wanted-reads.Learnt,
+  attempt-below t,
+  attempt.Post,
+  has-reads.Asked,
+  has-reads.Learnt,
+  retry-below t,
+  retry.Post,
+) (choose-at t) choose.Post
+unfolding cut
+choose-returns-2 t c = λ listed. chooses-without (c .before .before .before .before .before .before .before .before .before .before .before .before .before .before .before .before .before .before .before .before .before .args .kinds .now) (c .before .before .before .before .before .before .before .before .before .before .before .before .before .before .before .before .before .before .before .before .before .args .splits .now) (c .before .before .before .before .before .before .before .before .before .before .before .before .before .before .before .before .before .before .before .before .before .args .codes .now) (c .before .before .before .before .before .before .before .before .before .before .before .before .before .before .before .before .before .before .before .before .before .args .opened .now) (c .before .before .before .before .before .before .before .before .before .before .before .before .before .before .before .before .before .before .before .before .before .args .memory .now) (c .before .before .before .before .before .before .before .before .before .before .before .before .before .before .before .before .before .before .before .before .before .args .side) (c .before .before .before .before .before .before .before .before .before .before .before .before .before .before .before .before .before .before .before .before .before .args .k) (c .before .before .before .before .before .before .before .before .before .before .before .before .before .before .before .before .before .before .before .before .before .args .lo) (c .before .before .before .before .before .before .before .before .before .before .before .before .before .before .before .before .before .before .before .before .before .args .hi) (let p = c .before .before .before .before .before .before .before .before .before .before .before .before .before .before .before .before .before .before .before .before .before .pre in omega (arith)) (let p = c .before .before .before .before .before .before .before .before .before .before .before .before .before .before .before .before .before .before .before .before .before .pre in omega (arith)) (c .before .before .before .before .before .before .before .before .before .before .before .wanted .result) _ _ _ _ _ (sym (c .before .before .before .before .before .before .before .before .before .before .before .wanted .ensures)) (c .before .before .before .before .before .before .before .before .attempt .ensures listed) (c .before .before .before .if1 .left) (sym (has-at _ (c .before .before .before .before .before .before .before .before .attempt .kept .1 .1 .1 .1 .0 ∙ c .before .before .before .before .before .before .before .before .before .before .before .before .before .before .before .before .before .before .before .before .before .pre .1 .0 .sets-lent) max-unknowns (c .before .before .before .before .before .before .before .before .before .before .before .before .before .before .before .before .before .before .before .before .before .args .k) (omega arith) (let p = c .before .before .before .before .before .before .before .before .before .before .before .before .before .before .before .before .before .before .before .before .before .pre in omega arith) (c .before .has .ensures)) ∙ c .if2 .left)
+
+choose-retry-requires : (t : ℕ) → choose-lts.Need-retry-requires (
+  wanted-reads.Asked,
+  wanted-reads.Learnt,
+  attempt-below t,
+  attempt.Post,
+  has-reads.Asked,
+  has-reads.Learnt,
+  retry-below t,
+  retry.Post,
+) (choose-at t) choose.Post
+choose-retry-requires t c κs = ((let p = c .before .before .before .before .before .before .before .before .before .before .before .before .before .before .before .before .before .before .before .before .before .before .before .pre in omega arith), (record { rows = c .before .before .before .before .before .before .before .before .before .before .before .before .before .before .before .before .before .before .before .before .before .before .before .pre .1 .0 .rows; entries = c .before .before .before .before .before .before .before .before .before .before .before .before .before .before .before .before .before .before .before .before .before .before .before .pre .1 .0 .entries; coded = c .before .before .before .before .before .before .before .before .before .before .before .before .before .before .before .before .before .before .before .before .before .before .before .pre .1 .0 .coded; area = c .before .before .before .before .before .before .before .before .before .before .attempt .kept .1 .1 .1 .0 ∙ c .before .before .before .before .before .before .before .before .before .before .before .before .before .before .before .before .before .before .before .before .before .before .before .pre .1 .0 .area; sets-lent = c .before .before .before .before .before .before .before .before .before .before .attempt .kept .1 .1 .1 .1 .0 ∙ c .before .before .before .before .before .before .before .before .before .before .before .before .before .before .before .before .before .before .before .before .before .before .before .pre .1 .0 .sets-lent; index-lent = c .before .before .before .before .before .before .before .before .before .before .before .before .before .before .before .before .before .before .before .before .before .before .before .pre .1 .0 .index-lent }, (c .before .before .before .before .before .before .before .before .before .before .before .before .before .before .before .before .before .before .before .before .before .before .before .pre .1 .1 .0, c .before .before .before .before .before .before .before .before .before .before .before .before .before .before .before .before .before .before .before .before .before .before .before .pre .1 .1 .1, c .before .before .before .before .before .before .before .before .before .before .before .before .before .before .before .before .before .before .before .before .before .before .before .pre .1 .1 .2, c .before .before .before .before .before .before .before .before .before .before .before .before .before .before .before .before .before .before .before .before .before .before .before .pre .1 .1 .3, c .before .before .before .before .before .before .before .before .before .before .before .before .before .before .before .before .before .before .before .before .before .before .before .pre .1 .1 .4)))
 
 choose-same-length-5 : (t : ℕ) → choose-lts.Need-same-length-5 (
   wanted-reads.Asked,
   wanted-reads.Learnt,
-  rules-out-reads.Asked,
-  rules-out-reads.Learnt,
-  fill-reads.Asked,
-  fill-reads.Learnt,
-  retry-below t,
-  retry.Post,
   attempt-below t,
   attempt.Post,
   has-reads.Asked,
   has-reads.Learnt,
+  retry-below t,
+  retry.Post,
 ) (choose-at t) choose.Post
-choose-same-length-5 t c = c .before .before .before .before .before .before .before .before .attempt .kept .1 .1 .1 .0
+choose-same-length-5 t c = c .before .before .before .before .retry .kept .1 .1 .1 .0 ∙ c .before .before .before .before .before .before .before .before .before .before .before .before .before .before .before .attempt .kept .1 .1 .1 .0
 
 choose-same-length-6 : (t : ℕ) → choose-lts.Need-same-length-6 (
   wanted-reads.Asked,
   wanted-reads.Learnt,
-  rules-out-reads.Asked,
-  rules-out-reads.Learnt,
-  fill-reads.Asked,
-  fill-reads.Learnt,
-  retry-below t,
-  retry.Post,
   attempt-below t,
   attempt.Post,
   has-reads.Asked,
   has-reads.Learnt,
+  retry-below t,
+  retry.Post,
 ) (choose-at t) choose.Post
-choose-same-length-6 t c = c .before .before .before .before .before .before .before .before .attempt .kept .1 .1 .1 .1 .0
+choose-same-length-6 t c = c .before .before .before .before .retry .kept .1 .1 .1 .1 .0 ∙ c .before .before .before .before .before .before .before .before .before .before .before .before .before .before .before .attempt .kept .1 .1 .1 .1 .0
 
 choose-returns-3 : (t : ℕ) → choose-lts.Need-returns-3 (
   wanted-reads.Asked,
   wanted-reads.Learnt,
-  rules-out-reads.Asked,
-  rules-out-reads.Learnt,
-  fill-reads.Asked,
-  fill-reads.Learnt,
-  retry-below t,
-  retry.Post,
   attempt-below t,
   attempt.Post,
   has-reads.Asked,
   has-reads.Learnt,
-) (choose-at t) choose.Post
-unfolding cut
-choose-returns-3 t c = λ listed. chooses-without (c .before .before .before .before .before .before .before .before .before .before .before .before .before .before .before .before .before .before .before .before .before .before .before .before .args .kinds .now) (c .before .before .before .before .before .before .before .before .before .before .before .before .before .before .before .before .before .before .before .before .before .before .before .before .args .splits .now) (c .before .before .before .before .before .before .before .before .before .before .before .before .before .before .before .before .before .before .before .before .before .before .before .before .args .codes .now) (c .before .before .before .before .before .before .before .before .before .before .before .before .before .before .before .before .before .before .before .before .before .before .before .before .args .opened .now) (c .before .before .before .before .before .before .before .before .before .before .before .before .before .before .before .before .before .before .before .before .before .before .before .before .args .memory .now) (c .before .before .before .before .before .before .before .before .before .before .before .before .before .before .before .before .before .before .before .before .before .before .before .before .args .side) (c .before .before .before .before .before .before .before .before .before .before .before .before .before .before .before .before .before .before .before .before .before .before .before .before .args .k) (c .before .before .before .before .before .before .before .before .before .before .before .before .before .before .before .before .before .before .before .before .before .before .before .before .args .lo) (c .before .before .before .before .before .before .before .before .before .before .before .before .before .before .before .before .before .before .before .before .before .before .before .before .args .hi) (let p = c .before .before .before .before .before .before .before .before .before .before .before .before .before .before .before .before .before .before .before .before .before .before .before .before .pre in omega (arith)) (let p = c .before .before .before .before .before .before .before .before .before .before .before .before .before .before .before .before .before .before .before .before .before .before .before .before .pre in omega (arith)) (c .before .before .before .before .before .before .before .before .before .before .before .before .before .before .wanted .result) _ _ _ _ _ (sym (c .before .before .before .before .before .before .before .before .before .before .before .before .before .before .wanted .ensures)) (c .before .before .before .before .before .before .before .before .attempt .ensures listed) (c .before .before .before .if2 .left) (sym (has-at _ (c .before .before .before .before .before .before .before .before .attempt .kept .1 .1 .1 .1 .0 ∙ c .before .before .before .before .before .before .before .before .before .before .before .before .before .before .before .before .before .before .before .before .before .before .before .before .pre .1 .0 .sets-lent) max-unknowns (c .before .before .before .before .before .before .before .before .before .before .before .before .before .before .before .before .before .before .before .before .before .before .before .before .args .k) (omega arith) (let p = c .before .before .before .before .before .before .before .before .before .before .before .before .before .before .before .before .before .before .before .before .before .before .before .before .pre in omega arith) (c .before .has .ensures)) ∙ c .if3 .left)
-
-choose-retry-requires-2 : (t : ℕ) → choose-lts.Need-retry-requires-2 (
-  wanted-reads.Asked,
-  wanted-reads.Learnt,
-  rules-out-reads.Asked,
-  rules-out-reads.Learnt,
-  fill-reads.Asked,
-  fill-reads.Learnt,
   retry-below t,
   retry.Post,
-  attempt-below t,
-  attempt.Post,
-  has-reads.Asked,
-  has-reads.Learnt,
 ) (choose-at t) choose.Post
-choose-retry-requires-2 t c κs = ((let p = c .before .before .before .before .before .before .before .before .before .before .before .before .before .before .before .before .before .before .before .before .before .before .before .before .before .before .pre in omega arith), (record { rows = c .before .before .before .before .before .before .before .before .before .before .before .before .before .before .before .before .before .before .before .before .before .before .before .before .before .before .pre .1 .0 .rows; entries = c .before .before .before .before .before .before .before .before .before .before .before .before .before .before .before .before .before .before .before .before .before .before .before .before .before .before .pre .1 .0 .entries; coded = c .before .before .before .before .before .before .before .before .before .before .before .before .before .before .before .before .before .before .before .before .before .before .before .before .before .before .pre .1 .0 .coded; area = c .before .before .before .before .before .before .before .before .before .before .attempt .kept .1 .1 .1 .0 ∙ c .before .before .before .before .before .before .before .before .before .before .before .before .before .before .before .before .before .before .before .before .before .before .before .before .before .before .pre .1 .0 .area; sets-lent = c .before .before .before .before .before .before .before .before .before .before .attempt .kept .1 .1 .1 .1 .0 ∙ c .before .before .before .before .before .before .before .before .before .before .before .before .before .before .before .before .before .before .before .before .before .before .before .before .before .before .pre .1 .0 .sets-lent; index-lent = c .before .before .before .before .before .before .before .before .before .before .before .before .before .before .before .before .before .before .before .before .before .before .before .before .before .before .pre .1 .0 .index-lent }, (c .before .before .before .before .before .before .before .before .before .before .before .before .before .before .before .before .before .before .before .before .before .before .before .before .before .before .pre .1 .1 .0, c .before .before .before .before .before .before .before .before .before .before .before .before .before .before .before .before .before .before .before .before .before .before .before .before .before .before .pre .1 .1 .1, c .before .before .before .before .before .before .before .before .before .before .before .before .before .before .before .before .before .before .before .before .before .before .before .before .before .before .pre .1 .1 .2, c .before .before .before .before .before .before .before .before .before .before .before .before .before .before .before .before .before .before .before .before .before .before .before .before .before .before .pre .1 .1 .3, c .before .before .before .before .before .before .before .before .before .before .before .before .before .before .before .before .before .before .before .before .before .before .before .before .before .before .pre .1 .1 .4)))
-
-choose-same-length-7 : (t : ℕ) → choose-lts.Need-same-length-7 (
-  wanted-reads.Asked,
-  wanted-reads.Learnt,
-  rules-out-reads.Asked,
-  rules-out-reads.Learnt,
-  fill-reads.Asked,
-  fill-reads.Learnt,
-  retry-below t,
-  retry.Post,
-  attempt-below t,
-  attempt.Post,
-  has-reads.Asked,
-  has-reads.Learnt,
-) (choose-at t) choose.Post
-choose-same-length-7 t c = c .before .before .before .before .retry2 .kept .1 .1 .1 .0 ∙ c .before .before .before .before .before .before .before .before .before .before .before .before .before .before .before .attempt .kept .1 .1 .1 .0
-
-choose-same-length-8 : (t : ℕ) → choose-lts.Need-same-length-8 (
-  wanted-reads.Asked,
-  wanted-reads.Learnt,
-  rules-out-reads.Asked,
-  rules-out-reads.Learnt,
-  fill-reads.Asked,
-  fill-reads.Learnt,
-  retry-below t,
-  retry.Post,
-  attempt-below t,
-  attempt.Post,
-  has-reads.Asked,
-  has-reads.Learnt,
-) (choose-at t) choose.Post
-choose-same-length-8 t c = c .before .before .before .before .retry2 .kept .1 .1 .1 .1 .0 ∙ c .before .before .before .before .before .before .before .before .before .before .before .before .before .before .before .attempt .kept .1 .1 .1 .1 .0
-
-choose-returns-4 : (t : ℕ) → choose-lts.Need-returns-4 (
-  wanted-reads.Asked,
-  wanted-reads.Learnt,
-  rules-out-reads.Asked,
-  rules-out-reads.Learnt,
-  fill-reads.Asked,
-  fill-reads.Learnt,
-  retry-below t,
-  retry.Post,
-  attempt-below t,
-  attempt.Post,
-  has-reads.Asked,
-  has-reads.Learnt,
-) (choose-at t) choose.Post
-choose-returns-4 t c = λ listed. chooses-retried (c .before .before .before .before .before .before .before .before .before .before .before .before .before .before .before .before .before .before .before .before .before .before .before .before .before .before .before .before .before .before .before .args .kinds .now) (c .before .before .before .before .before .before .before .before .before .before .before .before .before .before .before .before .before .before .before .before .before .before .before .before .before .before .before .before .before .before .before .args .splits .now) (c .before .before .before .before .before .before .before .before .before .before .before .before .before .before .before .before .before .before .before .before .before .before .before .before .before .before .before .before .before .before .before .args .codes .now) (c .before .before .before .before .before .before .before .before .before .before .before .before .before .before .before .before .before .before .before .before .before .before .before .before .before .before .before .before .before .before .before .args .opened .now) (c .before .before .before .before .before .before .before .before .before .before .before .before .before .before .before .before .before .before .before .before .before .before .before .before .before .before .before .before .before .before .before .args .memory .now) (c .before .before .before .before .before .before .before .before .before .before .before .before .before .before .before .before .before .before .before .before .before .before .before .before .before .before .before .before .before .before .before .args .side) (c .before .before .before .before .before .before .before .before .before .before .before .before .before .before .before .before .before .before .before .before .before .before .before .before .before .before .before .before .before .before .before .args .k) (c .before .before .before .before .before .before .before .before .before .before .before .before .before .before .before .before .before .before .before .before .before .before .before .before .before .before .before .before .before .before .before .args .lo) (c .before .before .before .before .before .before .before .before .before .before .before .before .before .before .before .before .before .before .before .before .before .before .before .before .before .before .before .before .before .before .before .args .hi) (let p = c .before .before .before .before .before .before .before .before .before .before .before .before .before .before .before .before .before .before .before .before .before .before .before .before .before .before .before .before .before .before .before .pre in omega arith) (let p = c .before .before .before .before .before .before .before .before .before .before .before .before .before .before .before .before .before .before .before .before .before .before .before .before .before .before .before .before .before .before .before .pre in omega arith) (c .before .before .before .before .before .before .before .before .before .before .before .before .before .before .before .before .before .before .before .before .before .wanted .result) _ _ _ _ _ (sym (c .before .before .before .before .before .before .before .before .before .before .before .before .before .before .before .before .before .before .before .before .before .wanted .ensures)) (c .before .before .before .before .before .before .before .before .before .before .before .before .before .before .before .attempt .ensures listed) _ _ _ (c .before .before .before .before .before .before .before .before .before .before .if2 .left) (c .before .before .before .before .retry2 .ensures listed)
+choose-returns-3 t c = λ listed. chooses-retried (c .before .before .before .before .before .before .before .before .before .before .before .before .before .before .before .before .before .before .before .before .before .before .before .before .before .before .before .before .args .kinds .now) (c .before .before .before .before .before .before .before .before .before .before .before .before .before .before .before .before .before .before .before .before .before .before .before .before .before .before .before .before .args .splits .now) (c .before .before .before .before .before .before .before .before .before .before .before .before .before .before .before .before .before .before .before .before .before .before .before .before .before .before .before .before .args .codes .now) (c .before .before .before .before .before .before .before .before .before .before .before .before .before .before .before .before .before .before .before .before .before .before .before .before .before .before .before .before .args .opened .now) (c .before .before .before .before .before .before .before .before .before .before .before .before .before .before .before .before .before .before .before .before .before .before .before .before .before .before .before .before .args .memory .now) (c .before .before .before .before .before .before .before .before .before .before .before .before .before .before .before .before .before .before .before .before .before .before .before .before .before .before .before .before .args .side) (c .before .before .before .before .before .before .before .before .before .before .before .before .before .before .before .before .before .before .before .before .before .before .before .before .before .before .before .before .args .k) (c .before .before .before .before .before .before .before .before .before .before .before .before .before .before .before .before .before .before .before .before .before .before .before .before .before .before .before .before .args .lo) (c .before .before .before .before .before .before .before .before .before .before .before .before .before .before .before .before .before .before .before .before .before .before .before .before .before .before .before .before .args .hi) (let p = c .before .before .before .before .before .before .before .before .before .before .before .before .before .before .before .before .before .before .before .before .before .before .before .before .before .before .before .before .pre in omega arith) (let p = c .before .before .before .before .before .before .before .before .before .before .before .before .before .before .before .before .before .before .before .before .before .before .before .before .before .before .before .before .pre in omega arith) (c .before .before .before .before .before .before .before .before .before .before .before .before .before .before .before .before .before .before .wanted .result) _ _ _ _ _ (sym (c .before .before .before .before .before .before .before .before .before .before .before .before .before .before .before .before .before .before .wanted .ensures)) (c .before .before .before .before .before .before .before .before .before .before .before .before .before .before .before .attempt .ensures listed) _ _ _ (c .before .before .before .before .before .before .before .before .before .before .if1 .left) (c .before .before .before .before .retry .ensures listed)
 
 retry-cast-undo : (t : ℕ) → retry-lts.Need-cast-undo (
   undo-reads.Asked,
@@ -1365,6 +1349,10 @@ pub +attempt+choose+retry+solve+step-spec : {M : Type 1} → statement M
       set-rows-reads.Learnt,
       follow-reads.Asked,
       follow-reads.Learnt,
+      rules-out-reads.Asked,
+      rules-out-reads.Learnt,
+      fill-reads.Asked,
+      fill-reads.Learnt,
       solve-below t,
       solve.Post,
     )
@@ -1375,49 +1363,44 @@ pub +attempt+choose+retry+solve+step-spec : {M : Type 1} → statement M
     (attempt-add-set-rows t)
     (attempt-set-rows-requires t)
     (attempt-follow-requires t)
-    (attempt-add-solve t)
-    (attempt-solve-requires t)
+    (attempt-rules-out-requires t)
+    (attempt-fill-requires t)
     (attempt-same-length t)
     (attempt-same-length-2 t)
     (attempt-returns t)
+    (attempt-add-solve t)
+    (attempt-solve-requires t)
     (attempt-same-length-3 t)
     (attempt-same-length-4 t)
-    (attempt-returns-2 t))
+    (attempt-returns-2 t)
+    (attempt-same-length-5 t)
+    (attempt-same-length-6 t)
+    (attempt-returns-3 t))
     (λ t. choose-lts.spec (
       wanted-reads.Asked,
       wanted-reads.Learnt,
-      rules-out-reads.Asked,
-      rules-out-reads.Learnt,
-      fill-reads.Asked,
-      fill-reads.Learnt,
-      retry-below t,
-      retry.Post,
       attempt-below t,
       attempt.Post,
       has-reads.Asked,
       has-reads.Learnt,
+      retry-below t,
+      retry.Post,
     )
     (choose-at t)
     choose.Post
     (choose-wanted-requires t)
-    (choose-rules-out-requires t)
-    (choose-fill-requires t)
-    (choose-retry-requires t)
+    (choose-attempt-requires t)
     (choose-same-length t)
     (choose-same-length-2 t)
     (choose-returns t)
-    (choose-attempt-requires t)
+    (choose-has-requires t)
     (choose-same-length-3 t)
     (choose-same-length-4 t)
     (choose-returns-2 t)
-    (choose-has-requires t)
+    (choose-retry-requires t)
     (choose-same-length-5 t)
     (choose-same-length-6 t)
-    (choose-returns-3 t)
-    (choose-retry-requires-2 t)
-    (choose-same-length-7 t)
-    (choose-same-length-8 t)
-    (choose-returns-4 t))
+    (choose-returns-3 t))
     (λ t. retry-lts.spec (
       undo-reads.Asked,
       undo-reads.Learnt,
