@@ -25,10 +25,10 @@ use Rattle.rounds.specs.Opening.{block, opening, opening-length}
 use Rattle.rounds.specs.Counts.{counts}
 use Rattle.rounds.proofs.Bounds.{count-in-room}
 use Rattle.rounds.proofs.Opening.{opening-right}
-use Rattle.run.specs.declared.Outcome.{Outcome as Returned}
-use Rattle.run.specs.Outcome.{areas, Given, accepted as passed, cause, number-of, reported, returned}
-use Rattle.run.specs.Ended.{Ended}
-use Rattle.run.proofs.OutcomeLaws.{number-named}
+use Rattle.engine.specs.declared.run.Outcome.{Outcome as Returned}
+use Rattle.engine.specs.Outcome.{areas, Given, accepted as passed, cause, number-of, reported, returned}
+use Rattle.engine.specs.Ended.{Ended}
+use Rattle.engine.proofs.run.OutcomeLaws.{number-named}
 use Rattle.text.specs.Reading.{Read, Result, taken, refused, over, Read-so}
 use Rattle.text.specs.declared.Reading.{Reading}
 use Rattle.text.specs.declared.Reading.the-variants.{Taken}

@@ -11,8 +11,8 @@ use Rattle.rows.specs.Row.{row-of}
 use Rattle.rows.specs.Table.{row-at, rows-of}
 use Rattle.expansion.specs.Play.{Row}
 use Rattle.rounds.specs.Run.{Entry, Table, under-mark}
-use Rattle.run.specs.Outcome.{number-of}
-use Rattle.run.specs.declared.Outcome.{Outcome}
+use Rattle.engine.specs.Outcome.{number-of}
+use Rattle.engine.specs.declared.run.Outcome.{Outcome}
 use Rattle.account.specs.Account.{each, Facts}
 
 -- Rows with their marks.

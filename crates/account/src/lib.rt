@@ -3,9 +3,9 @@
 // `account` and `account_of_gates` promise, for every input and buffer, the bytes that the definition (specs/Account.antt) gives; what the lines say of the
 // formula is stated in specs/AccountRight.antt.
 // Reading belongs to `text`, the run to `run`, 01's lines to `report`; here what one returns is handed to the next, and the other lines are written.
+use engine::run::Outcome;
 use formula::Check;
 use formula::Formula;
-use run::Outcome;
 use text::Reading;
 ghost use Prim.Native.Nat.{_+_, _*_, _≤_};
 ghost use mathlib.Core.Path.{_≡_};
@@ -13,7 +13,7 @@ ghost use mathlib.Core.List.{_++_, map};
 ghost use lib.ListN.{length, take};
 ghost use Rattle.rows.specs.Row.{row-of};
 ghost use Rattle.rows.specs.Table.{row-at, rows-of};
-ghost use Rattle.run.specs.Outcome.{number-of};
+ghost use Rattle.engine.specs.Outcome.{number-of};
 ghost use Rattle.formula.specs.Formula.{max-unknowns, max-rows, universal, prefix};
 ghost use Rattle.formula.specs.Causes.{count, checked, sizes};
 ghost use Rattle.formula.specs.declared.Check.the-variants.{Accepted};
@@ -90,7 +90,7 @@ fn decided(
     let mut existential_marks = [0u16; Formula::ROWS];
     let mut existential_counts = [0u32; Formula::ROWS];
     let mut work = [0u8; Formula::WORK];
-    let end = run::run(
+    let end = engine::run::run(
         kinds,
         literals,
         &none,
@@ -190,7 +190,7 @@ fn front_lines(
     ensures { λ r. ⌜ take r (now (text .exit)) ≡ head-lines (number-of (end .answer)) variables clauses (end .round) (end .universal) (end .existential) ++ each prefix-line (now (kinds .entry)) (now (names .entry)) ++ each value-line (row-of (end .block) (row-at (end .opening) 0)) (now (names .entry)) ⌝ }
 {
     let answer = end.answer;
-    let number = run::number(answer);
+    let number = engine::run::number(answer);
     let row = end.opening;
     let head = results(
         text,

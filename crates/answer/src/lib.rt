@@ -146,7 +146,7 @@ fn decided(
     let answer = end.answer;
     report::result(
         out,
-        run::number(answer),
+        engine::run::number(answer),
         variables,
         clauses,
         end.round,

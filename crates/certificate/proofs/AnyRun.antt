@@ -19,11 +19,11 @@ use Rattle.judge.specs.Judge.{width, outcome}
 use Rattle.rounds.specs.Run.{Entry, Table, rows, Answer, is-false, is-true, spent, no-room-universal, no-room-existential, number, Outcome, Lent, run}
 use Rattle.rounds.proofs.Bounds.{row-length, count-in-room}
 use Rattle.rounds.proofs.RunLaws.{run-reached}
-use Rattle.run.specs.declared.Outcome.{Outcome as Returned}
-use Rattle.run.specs.Outcome.{number-of, reported, row-bytes}
-use Rattle.run.proofs.OutcomeLaws.{number-named}
-use Rattle.run.proofs.ByteLaws.{Wide, length-table-of}
-use Rattle.run.proofs.GrowingLaws.{wide-of-sized}
+use Rattle.engine.specs.declared.run.Outcome.{Outcome as Returned}
+use Rattle.engine.specs.Outcome.{number-of, reported, row-bytes}
+use Rattle.engine.proofs.run.OutcomeLaws.{number-named}
+use Rattle.engine.proofs.run.ByteLaws.{Wide, length-table-of}
+use Rattle.engine.proofs.run.GrowingLaws.{wide-of-sized}
 use Rattle.witness.specs.declared.Record.{Record}
 use Rattle.witness.specs.File.{made, file, size, write-cause}
 use Rattle.judgement.specs.declared.Finding.the-variants as Finding

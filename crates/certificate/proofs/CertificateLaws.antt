@@ -15,8 +15,8 @@ use Rattle.formula.proofs.Accepted.{accepted}
 use Rattle.preference.specs.Preference.{prefer}
 use Rattle.rows.specs.Table.{table-of}
 use Rattle.rounds.specs.Run.{rows, Answer, is-false, is-true, spent, no-room-universal, no-room-existential, number, Outcome, run, highest}
-use Rattle.run.specs.declared.Outcome.{Outcome as Returned}
-use Rattle.run.specs.Outcome.{Areas, Given, lent, cause, number-of, reported, row-bytes, given-up, after, left as run-left}
+use Rattle.engine.specs.declared.run.Outcome.{Outcome as Returned}
+use Rattle.engine.specs.Outcome.{Areas, Given, lent, cause, number-of, reported, row-bytes, given-up, after, left as run-left}
 use Rattle.text.specs.Reading.{max-variables, Result, refused, read-as}
 use Rattle.text.proofs.TextLaws.{Passes}
 use Rattle.text.proofs.ReadAsLaws.{reading-passes}

@@ -20,8 +20,8 @@ use Rattle.expansion.specs.Judge.{accepted}
 use Rattle.judge.specs.declared.Judgement.{Judgement}
 use Rattle.judge.specs.declared.Judgement.the-variants as Judgement
 use Rattle.judge.specs.Judge.{claims-true, other-claim, width, cause, borne-out, answer, outcome}
-use Rattle.run.proofs.ByteLaws.{Wide, length-table-of, rows-of-table, no-stray-rows}
-use Rattle.run.proofs.ExtendLaws.{few-unknowns}
+use Rattle.engine.proofs.run.ByteLaws.{Wide, length-table-of, rows-of-table, no-stray-rows}
+use Rattle.engine.proofs.run.ExtendLaws.{few-unknowns}
 
 pub none-behind : (l : List ℕ) → l ++ [] ≡ l
 none-behind [] = refl

@@ -6,8 +6,8 @@ use lib.ListN.{length, take}
 use Rattle.formula.specs.Formula.{max-rows}
 use Rattle.rows.specs.Table.{table-of}
 use Rattle.rounds.specs.Run.{Table, rows, is-false, is-true, Outcome}
-use Rattle.run.specs.Outcome.{named}
-use Rattle.run.specs.declared.Outcome.{Outcome as Returned}
+use Rattle.engine.specs.Outcome.{named}
+use Rattle.engine.specs.declared.run.Outcome.{Outcome as Returned}
 
 -- The table's rows stand at the start of these bytes.
 abbrev pub Front : Table → List ℕ → Type 0

@@ -2,8 +2,8 @@
 // `certify` and `certify_gates` promise, for every text, buffers and work area, the bytes that the definition (specs/Certificate.antt) gives; that the
 // file is accepted is stated in specs/CertificateRight.antt.
 // Reading belongs to `text`, the run to `decision`, the file to `witness`, lines to `report`; here what one returns is handed to the next.
+use engine::run::Outcome;
 use formula::Formula;
-use run::Outcome;
 use text::Reading;
 use witness::Record;
 use witness::Written;
@@ -154,7 +154,7 @@ fn deliver(
     ensures { λ r. ⌜ Delivered (on-formula (now (kinds .entry)) (now (literals .entry)) variables clauses) (now (file .entry)) (now (lines .entry)) r (now (file .exit)) (now (lines .exit)) ⌝ }
 {
     let answer = end.answer;
-    let number = run::number(answer);
+    let number = engine::run::number(answer);
     if number == 1 {
         let record = record_of(27, 1, kinds.len(), clauses, 0, end.existential, end.round);
         let count = put_file(record, universal, existential, file);

@@ -10,8 +10,8 @@ use Rattle.formula.specs.Causes.{cause-1, cause-2, cause-3, refused-if, checked
 use Rattle.formula.specs.declared.Formula.{Formula}
 use Rattle.formula.specs.declared.Check.the-variants.{Accepted}
 use Rattle.rounds.specs.Run.{Answer, is-false, is-true, spent, no-room-universal, no-room-existential, number}
-use Rattle.run.specs.Outcome.{Given, tables-fit, tables-counted, cause, accepted, reached, named, returned}
-use Rattle.run.specs.Numbers.{one-number}
+use Rattle.engine.specs.Outcome.{Given, tables-fit, tables-counted, cause, accepted, reached, named, returned}
+use Rattle.engine.specs.Numbers.{one-number}
 use Rattle.door.specs.Door.{run-number}
 
 pub number-named : (a : Answer) → one-number (named a) ≡ number a

@@ -9,7 +9,7 @@ use lib.ListN.{length, replicate}
 use Rattle.formula.specs.Formula.{max-unknowns, max-entries, work-size}
 use Rattle.formula.specs.Meaning.{verdict}
 use Rattle.rounds.specs.Run.{number}
-use Rattle.run.specs.Outcome.{Given, lent, cause, accepted, reached, after, left}
+use Rattle.engine.specs.Outcome.{Given, lent, cause, accepted, reached, after, left}
 use Rattle.rounds.proofs.Verdict.{verdict-right}
 use Rattle.text.specs.Reading.{Read, Result, taken, refused, text-read}
 use Rattle.text.proofs.TextLaws.{Results, Passes, read-passes}

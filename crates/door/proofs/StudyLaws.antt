@@ -9,10 +9,10 @@ use lib.Dec.{eqb}
 use lib.IntN.{ℤ}
 use lib.ListN.{take}
 use Rattle.rounds.specs.Run.{number}
-use Rattle.run.specs.declared.Answer.{Answer}
-use Rattle.run.specs.declared.Answer.the-variants.{False, True, Spent, NoRoomUniversal, NoRoomExistential, Refused}
-use Rattle.run.specs.Outcome.{given, cause as run-cause}
-use Rattle.run.specs.Numbers.{one-number}
+use Rattle.engine.specs.declared.run.Answer.{Answer}
+use Rattle.engine.specs.declared.run.Answer.the-variants.{False, True, Spent, NoRoomUniversal, NoRoomExistential, Refused}
+use Rattle.engine.specs.Outcome.{given, cause as run-cause}
+use Rattle.engine.specs.Numbers.{one-number}
 use Rattle.text.specs.Reading.{Read, Result, taken, refused, text-read}
 use Rattle.text.proofs.FrontLaws.{Front}
 use Rattle.study.specs.declared.Studied.{Studied}

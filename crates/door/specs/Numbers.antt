@@ -9,7 +9,7 @@ use lib.ListN.{length, replicate}
 use Rattle.formula.specs.Formula.{work-size}
 use Rattle.formula.specs.Meaning.{verdict}
 use Rattle.rounds.specs.Run.{number}
-use Rattle.run.specs.Outcome.{reached}
+use Rattle.engine.specs.Outcome.{reached}
 use Rattle.text.specs.Reading.{Read, taken, refused, text-read}
 use Rattle.decision.specs.Decision.{handed-on}
 use Rattle.door.specs.Door.{answer, work-after}

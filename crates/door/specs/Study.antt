@@ -5,7 +5,7 @@ use mathlib.Core.Path.{_≡_}
 use mathlib.Core.Bool.{true, false}
 use mathlib.Core.List.{List}
 use lib.IntN.{ℤ}
-use Rattle.run.specs.Numbers.{one-number}
+use Rattle.engine.specs.Numbers.{one-number}
 use Rattle.text.specs.Reading.{Result, taken, refused, text-read}
 use Rattle.study_answer.specs.House.{house-study}
 use Rattle.door.specs.Numbers.{Verdict}

@@ -9,9 +9,9 @@ use lib.Dec.{eqb}
 use Rattle.formula.specs.declared.Check.{Check}
 use Rattle.formula.specs.Causes.{cause-1, refused-if, checked, number as formula-number}
 use Rattle.rounds.specs.Run.{is-false, is-true, spent, no-room-universal, no-room-existential, run, Answer as RunAnswer}
-use Rattle.run.specs.declared.Outcome.{Outcome}
+use Rattle.engine.specs.declared.run.Outcome.{Outcome}
 use Rattle.formula.specs.Formula.{prefix}
-use Rattle.run.specs.Outcome.{Given, lent, cause, accepted, named, reported, refusal, returned}
+use Rattle.engine.specs.Outcome.{Given, lent, cause, accepted, named, reported, refusal, returned}
 use Rattle.fee.specs.declared.Charge.the-variants.{Cents}
 use Rattle.fee.specs.Fee.{fee, answer, charged}
 use Rattle.fee.specs.Study.{pays, study-fee, StudyPays}

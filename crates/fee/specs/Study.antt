@@ -2,9 +2,9 @@
 use Prim.Native.Nat.{ℕ}
 use mathlib.Core.Path.{_≡_}
 use mathlib.Core.Bool.{true, false}
-use Rattle.run.specs.declared.Answer.{Answer}
-use Rattle.run.specs.declared.Answer.the-variants.{False, True, Spent, NoRoomUniversal, NoRoomExistential, Refused}
-use Rattle.run.specs.Outcome.{Given, accepted, returned}
+use Rattle.engine.specs.declared.run.Answer.{Answer}
+use Rattle.engine.specs.declared.run.Answer.the-variants.{False, True, Spent, NoRoomUniversal, NoRoomExistential, Refused}
+use Rattle.engine.specs.Outcome.{Given, accepted, returned}
 use Rattle.fee.specs.declared.Charge.the-variants.{Cents}
 use Rattle.fee.specs.Fee.{fee, charged}
 

@@ -19,10 +19,10 @@ use Rattle.rounds.specs.Run.{is-false, is-true, spent, no-room-universal, no-ro
 use Rattle.rounds.specs.Claim.{answer-of as run-answer-of, most-with}
 use Rattle.rounds.proofs.Claim.{claim}
 use Rattle.rounds.proofs.Verdict.{verdict-right}
-use Rattle.run.specs.declared.Answer.{Answer}
-use Rattle.run.specs.declared.Answer.the-variants.{False, True, Spent, NoRoomUniversal, NoRoomExistential, Refused}
-use Rattle.run.specs.declared.Outcome.{Outcome}
-use Rattle.run.specs.Outcome.{Areas, Given, lent, cause as run-cause, accepted, reached, named, reported, refusal, returned, left}
+use Rattle.engine.specs.declared.run.Answer.{Answer}
+use Rattle.engine.specs.declared.run.Answer.the-variants.{False, True, Spent, NoRoomUniversal, NoRoomExistential, Refused}
+use Rattle.engine.specs.declared.run.Outcome.{Outcome}
+use Rattle.engine.specs.Outcome.{Areas, Given, lent, cause as run-cause, accepted, reached, named, reported, refusal, returned, left}
 use Rattle.study.specs.declared.Setting.{Setting}
 use Rattle.study.specs.Study.{settings-of, formula-of, preferences-of, given-of, cause, Ending, ending, is-verdict, in-turn, studied}
 use Rattle.study.specs.StudyRight.{answer-of, Promised, StudyRight}

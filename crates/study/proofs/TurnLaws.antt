@@ -17,10 +17,10 @@ use Rattle.trimming.specs.Outcome.{cause as trim-cause, outcome, output-after, 
 use Rattle.trimming.specs.declared.Trimmed.{Trimmed}
 use Rattle.trimming.specs.declared.Trimmed.the-variants.{Entries, Refused}
 use Rattle.rounds.specs.Run.{number}
-use Rattle.run.specs.declared.Answer.{Answer}
-use Rattle.run.specs.declared.Outcome.{Outcome}
-use Rattle.run.specs.Outcome.{Areas, Given, given, cause as run-cause, number-of, reached, refusal, returned, after, left}
-use Rattle.run.specs.Ended.{Ended}
+use Rattle.engine.specs.declared.run.Answer.{Answer}
+use Rattle.engine.specs.declared.run.Outcome.{Outcome}
+use Rattle.engine.specs.Outcome.{Areas, Given, given, cause as run-cause, number-of, reached, refusal, returned, after, left}
+use Rattle.engine.specs.Ended.{Ended}
 use Rattle.study.specs.declared.Setting.{Setting}
 use Rattle.study.specs.declared.Studied.{Studied}
 use Rattle.study.specs.Study.{settings-of, formula-of, preferences-of, given-of, list-cause, cause, Ending, ending, is-verdict, in-turn, studied}

@@ -13,10 +13,10 @@ use Rattle.formula.specs.Causes.{count}
 use Rattle.formula.specs.Meaning.{verdict}
 use Rattle.rows.specs.Table.{room}
 use Rattle.rounds.specs.Claim.{most-rounds}
-use Rattle.run.specs.declared.Answer.{Answer}
-use Rattle.run.specs.declared.Answer.the-variants.{False, True}
-use Rattle.run.specs.Outcome.{Areas, lent, accepted}
-use Rattle.run.specs.Ended.{Ended}
+use Rattle.engine.specs.declared.run.Answer.{Answer}
+use Rattle.engine.specs.declared.run.Answer.the-variants.{False, True}
+use Rattle.engine.specs.Outcome.{Areas, lent, accepted}
+use Rattle.engine.specs.Ended.{Ended}
 use Rattle.study.specs.declared.Setting.{Setting}
 use Rattle.study.specs.declared.Studied.{Studied}
 use Rattle.study.specs.Study.{settings-of, given-of, cause, ending, studied}

@@ -7,8 +7,8 @@ use mathlib.Core.Option.{some}
 use lib.IntN.{ℤ}
 use lib.ListN.{length, take, drop, getElem?}
 use Rattle.trimming_rules.specs.Trimming.{trimmed}
-use Rattle.run.specs.Outcome.{Areas}
-use Rattle.run.specs.Ended.{Ended}
+use Rattle.engine.specs.Outcome.{Areas}
+use Rattle.engine.specs.Ended.{Ended}
 use Rattle.study.specs.declared.Setting.{Setting}
 use Rattle.study.specs.declared.Studied.{Studied}
 use Rattle.study.specs.Study.{setting-from, settings-of, given-of, ending, in-turn}

@@ -93,7 +93,7 @@ fn settled(kinds: &[u8], literals: &[i32], variables: u32, clauses: u32, out: &m
     let answer = outcome.answer;
     report::study_result(
         out,
-        run::number(answer),
+        engine::run::number(answer),
         variables,
         clauses,
         end.setting as u32 + 1,

@@ -13,8 +13,8 @@ use Rattle.formula.specs.Causes.{checked, sizes}
 use Rattle.formula.specs.declared.Check.the-variants.{Accepted}
 use Rattle.formula.proofs.Accepted.{accepted}
 use Rattle.rounds.specs.Run.{is-false, is-true, spent, no-room-universal, no-room-existential, number, Answer as RunAnswer}
-use Rattle.run.specs.declared.Answer.{Answer}
-use Rattle.run.specs.Outcome.{Areas, number-of, named, refusal}
+use Rattle.engine.specs.declared.run.Answer.{Answer}
+use Rattle.engine.specs.Outcome.{Areas, number-of, named, refusal}
 use Rattle.text.specs.Reading.{Read, Result, refused, read-as}
 use Rattle.text.proofs.ReadAsLaws.{reading-passes}
 use Rattle.text.proofs.FrontLaws.{Front}

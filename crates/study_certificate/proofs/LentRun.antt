@@ -14,7 +14,7 @@ use Rattle.formula.specs.declared.Check.the-variants.{Accepted}
 use Rattle.preference.specs.Preference.{prefer}
 use Rattle.rows.specs.Table.{room}
 use Rattle.rounds.specs.Run.{highest}
-use Rattle.run.specs.Outcome.{Areas, Given, lent, cause as run-cause, reached, returned, given-up, after, left}
+use Rattle.engine.specs.Outcome.{Areas, Given, lent, cause as run-cause, reached, returned, given-up, after, left}
 use Rattle.trimming_rules.specs.Proved.{Proved}
 use Rattle.certificate.specs.Steps.{Ran}
 use Rattle.certificate.proofs.AnyRun.{Borne, borne-so, ran-so}

@@ -168,7 +168,7 @@ fn deliver(
 {
     let outcome = end.outcome;
     let answer = outcome.answer;
-    let number = run::number(answer);
+    let number = engine::run::number(answer);
     if number == 1 {
         let record = record_of(
             27,
