@@ -42,6 +42,13 @@ number-0 spent e = absurd (omega arith)
 number-0 no-room-universal e = absurd (omega arith)
 number-0 no-room-existential e = absurd (omega arith)
 
+pub number-2 : (a : Answer) → number a ≡ 2 → a ≡ spent
+number-2 is-false e = absurd (omega arith)
+number-2 is-true e = absurd (omega arith)
+number-2 spent e = refl
+number-2 no-room-universal e = absurd (omega arith)
+number-2 no-room-existential e = absurd (omega arith)
+
 formula-cause-small : (a b c : Bool) (f : Formula) → cause-number (refused-if a 1 (refused-if b 2 (refused-if c 3 (Accepted f)))) ≤ 3
 formula-cause-small true b c f = omega arith
 formula-cause-small false true c f = omega arith

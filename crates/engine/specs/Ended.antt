@@ -4,14 +4,15 @@ use mathlib.Core.Path.{_≡_}
 use mathlib.Core.Logic.{_≢_}
 use mathlib.Core.Bool.{true, false, cond}
 use mathlib.Core.List.{List, map}
-use lib.ListN.{length, getD, take}
-use Rattle.formula.specs.Formula.{Kind, existential, universal, prefix}
+use lib.ListN.{length, getD, take, drop}
+use Rattle.formula.specs.Formula.{Kind, existential, universal, prefix, clauses}
 use Rattle.formula.specs.Causes.{count}
-use Rattle.formula.specs.Meaning.{verdict}
+use Rattle.formula.specs.Meaning.{matrix, meaning, verdict}
+use Rattle.rows.specs.Row.{row-of}
 use Rattle.rows.specs.Table.{row-at, rows-of}
 use Rattle.rounds.specs.Run.{Entry, rows, number, run}
 use Rattle.rounds.specs.Claim.{table, Finished, Uncleared, Claim}
-use Rattle.rounds.specs.Opening.{Opens}
+use Rattle.rounds.specs.Opening.{set-to, Opens}
 use Rattle.rounds.specs.Counts.{counts, CountsRight}
 use Rattle.engine.specs.declared.run.Answer.the-variants.{False, True}
 use Rattle.engine.specs.declared.run.Outcome.{Outcome}
@@ -71,6 +72,9 @@ pub record Ended (g : Given) (r : Outcome) (exit : Areas) : Type 0 where
   pub claim : accepted g ≡ true → Claim (lent g) (g .limit)
   -- 02: 'The formula with that block set to those values has the same verdict.'
   pub opened : accepted g ≡ true → Opens (lent g) (reached g)
+  -- .. and so with the values that the sixteen bytes returned have.
+  pub opened-bytes : accepted g ≡ true
+      → meaning (drop (r .block) (prefix (g .kinds))) (set-to (row-of (r .block) (r .opening)) (matrix (clauses (g .literals)))) ≡ verdict (g .kinds) (g .literals)
   pub tables : accepted g ≡ true → (side : Kind) → TableRight g side (row-part side exit) (mark-part side exit) (count-of side r)
   -- 02: a table of counts 'holds for each row below the count the number of searches of this run .. whose model yielded it, however often'.
   pub counts-read : accepted g ≡ true → (side : Kind) → take (count-of side r) (count-part side exit) ≡ counts (lent g) side (g .limit)

@@ -19,3 +19,4 @@ pub mod GatesPass
 pub mod ReadAsLaws
 pub mod ReadingLaws
 pub mod FrontLaws
+pub mod OfferedLaws

@@ -3,21 +3,34 @@ use mathlib.Core.Path.{refl, sym}
 use lib.Seq.{length-take-le}
 use borrow.Author.Needs.{needs}
 use Rattle.formula.specs.Formula.{work-size}
-use Rattle.answer.proofs.WithinLaws.{reading-usable, short-puts, within-puts}
+use Rattle.answer.proofs.WithinLaws.{reading-usable, short-puts, past-puts, within-puts}
 use Rattle.answer.proofs.within_as.Statement.{statement}
 use Rattle.answer.proofs.within_as.Tie as tie
 
 returns : tie.Need-returns
-returns c = short-puts (c .before .before .before .args .area .now) _ _ (c .before .before .before .args .out .now) (c .if1 .taken)
+returns c =
+    let given = @args in
+    short-puts (given .area .now) _ _ (given .out .now) (c .if1 .taken)
 
-text-end-requires : tie.Need-text-end-requires
-text-end-requires c κs = search needs
+refusal-requires : tie.Need-refusal-requires
+refusal-requires c κs = search needs
+
+same-length : tie.Need-same-length
+same-length c = search needs
+
+same-length-2 : tie.Need-same-length-2
+same-length-2 c = search needs
+
+returns-2 : tie.Need-returns-2
+returns-2 c =
+    let given = @args in
+    past-puts (given .area .now) (given .gates) (given .length) (@if1 .left) (@if2 .taken) (@refusal .ensures .0) (@refusal .ensures .1)
 
 slice-reshare-prefix-read-as : tie.Need-slice-reshare-prefix-read-as
-slice-reshare-prefix-read-as c = c .text-end .ensures .0
+slice-reshare-prefix-read-as c = @if2 .left
 
 slice-aggregate-read-as : tie.Need-slice-aggregate-read-as
-slice-aggregate-read-as c = sym (length-take-le _ _ (c .before .text-end .ensures .0))
+slice-aggregate-read-as c = sym (length-take-le _ _ (@if2 .left))
 
 slice-aggregate-read-as-2 : tie.Need-slice-aggregate-read-as-2
 slice-aggregate-read-as-2 c = search needs
@@ -38,29 +51,36 @@ slice-aggregate-put-lines-2 : tie.Need-slice-aggregate-put-lines-2
 slice-aggregate-put-lines-2 c = search needs
 
 slice-relend-prefix-put-lines : tie.Need-slice-relend-prefix-put-lines
-slice-relend-prefix-put-lines c = c .before .before .before .before .before .before .before .before .before .before .before .if1 .left
+slice-relend-prefix-put-lines c = @if1 .left
 
 slice-aggregate-put-lines-3 : tie.Need-slice-aggregate-put-lines-3
-slice-aggregate-put-lines-3 c = sym (length-take-le work-size (c .before .before .before .before .before .before .before .before .before .before .before .before .before .before .before .args .area .now) (c .before .before .before .before .before .before .before .before .before .before .before .before .if1 .left))
+slice-aggregate-put-lines-3 c = sym (length-take-le work-size (@args .area .now) (@if1 .left))
 
 put-lines-requires : tie.Need-put-lines-requires
-put-lines-requires c κs = (reading-usable (c .before .before .before .before .before .before .before .before .before .before .before .before .before .before .before .before .args .gates) _ (c .before .before .before .before .before .before .before .read-as .ensures), length-take-le work-size (c .before .before .before .before .before .before .before .before .before .before .before .before .before .before .before .before .args .area .now) (c .before .before .before .before .before .before .before .before .before .before .before .before .before .if1 .left))
+put-lines-requires c κs =
+    let given = @args in
+    (reading-usable (given .gates) _ (@read-as .ensures), length-take-le work-size (given .area .now) (@if1 .left))
 
-same-length : tie.Need-same-length
-same-length c = search needs
+same-length-3 : tie.Need-same-length-3
+same-length-3 c = search needs
 
-same-length-2 : tie.Need-same-length-2
-same-length-2 c = search needs
+same-length-4 : tie.Need-same-length-4
+same-length-4 c = search needs
 
-returns-2 : tie.Need-returns-2
-returns-2 c = within-puts (c .before .before .before .before .before .before .before .before .before .before .before .before .before .before .before .before .before .before .before .before .before .args .area .now) (c .before .before .before .before .before .before .before .before .before .before .before .before .before .before .before .before .before .before .before .before .before .args .gates) (c .before .before .before .before .before .before .before .before .before .before .before .before .before .before .before .before .before .before .before .before .before .args .length) (c .before .before .before .before .before .before .before .before .before .before .before .before .before .before .before .before .before .before .if1 .left) (c .before .before .before .before .before .before .before .before .before .before .before .before .before .before .before .before .before .text-end .ensures .1 (c .before .before .before .before .before .before .before .before .before .before .before .before .before .before .before .before .before .before .before .before .before .args .area .now) refl) (c .before .before .before .before .before .before .before .before .before .before .before .before .read-as .ensures) (c .before .before .before .before .put-lines .ensures)
+returns-3 : tie.Need-returns-3
+returns-3 c =
+    let given = @args in
+    within-puts (given .area .now) (given .gates) (given .length) (@if1 .left) (@if2 .left) (@read-as .ensures) (@put-lines .ensures)
 
 pub within-as-spec : {M : Type 1} → statement M
 within-as-spec =
     tie.close
     (tie.spec
     returns
-    text-end-requires
+    refusal-requires
+    same-length
+    same-length-2
+    returns-2
     slice-reshare-prefix-read-as
     slice-aggregate-read-as
     slice-aggregate-read-as-2
@@ -72,6 +92,6 @@ within-as-spec =
     slice-relend-prefix-put-lines
     slice-aggregate-put-lines-3
     put-lines-requires
-    same-length
-    same-length-2
-    returns-2)
+    same-length-3
+    same-length-4
+    returns-3)

@@ -6,13 +6,19 @@ use mathlib.Core.Bool.{Bool, true, false, not, cond, true≢false}
 use mathlib.Core.List.{List, [], _++_}
 use lib.Dec.{eqb}
 use lib.IntN.{ℤ}
-use lib.ListN.{length, take, replicate, length-map}
+use lib.ListN.{length, take, drop, replicate, length-map}
 use lib.Seq.{take-at}
 use borrow.Author.Tests.{eq-eqb, ne-eqb}
 use Rattle.formula.specs.Formula.{work-size, Kind, existential, universal, prefix}
 use Rattle.rows.specs.Table.{zeroed}
 use Rattle.rows.proofs.ZeroedLaws.{drop-zeroed}
-use Rattle.formula.specs.Meaning.{verdict}
+use Rattle.formula.specs.Meaning.{meaning, verdict}
+use Rattle.rows.specs.Row.{row-of}
+use Rattle.rows.specs.Stray.{row-bits}
+use Rattle.rows.proofs.RowLaws.{row-of-bytes-of}
+use Rattle.rounds.specs.Opening.{opening, opening-length, set-to}
+use Rattle.rounds.proofs.Blocks.{block-at-most}
+use Rattle.engine.proofs.run.ExtendLaws.{few-unknowns}
 use Rattle.formula.specs.Causes.{checked, number as cause-number}
 use Rattle.formula.proofs.Accepted.{accepted-sizes}
 use Rattle.formula.proofs.Order.{refused-from-1}
@@ -69,6 +75,7 @@ refused-so g n r e some-cause is =
       only-false = λ h. let z : _≡_ {A = ℕ} 0 1 = cc (sym h ∙ ap (λ (o : Outcome). o .answer) is) in absurd (omega arith);
       claim = λ yes-0. absurd (true≢false (sym yes-0 ∙ not-0));
       opened = λ yes-0. absurd (true≢false (sym yes-0 ∙ not-0));
+      opened-bytes = λ yes-0. absurd (true≢false (sym yes-0 ∙ not-0));
       tables = λ yes-0. absurd (true≢false (sym yes-0 ∙ not-0));
       counts-read = λ yes-0. absurd (true≢false (sym yes-0 ∙ not-0));
       counted = λ yes-0. absurd (true≢false (sym yes-0 ∙ not-0));
@@ -128,6 +135,14 @@ counts-back g existential =
 counts-back g universal =
     take-at (counts (lent g) universal (g .limit)) _ (length (reached g .A)) (length-map (reached g .A) (λ (x : Entry). came (lent g) universal (g .limit) (x .row)))
 
+-- The block is no longer than a row.
+opening-few : (kinds : List ℕ) (literals : List ℤ) → Passes kinds literals → (a : RunAnswer) → opening-length a (prefix kinds) ≤ row-bits
+opening-few kinds literals passes is-true = omega (arith, block-at-most existential (prefix kinds), few-unknowns kinds literals passes existential)
+opening-few kinds literals passes is-false = omega (arith, block-at-most universal (prefix kinds), few-unknowns kinds literals passes universal)
+opening-few kinds literals passes spent = omega arith
+opening-few kinds literals passes no-room-universal = omega arith
+opening-few kinds literals passes no-room-existential = omega arith
+
 -- No cause applies.
 pub answered-so : (g : Given) → cause g ≡ 0 → 1 ≤ g .limit → (end : End) (r : Outcome) (AR AM AC SR SM SC W W′ : List ℕ)
     → ShowsRun g end AR AM SR SM W → CountsShow g (g .limit) AC SC
@@ -147,6 +162,11 @@ answered-so g no-cause some-limit end r AR AM AC SR SM SC W W′ shows counted c
     let held-S = shows .both .holds-S in
     let zero-work : W′ ≡ replicate work-size 0 = clear ∙ ap (λ (n : ℕ). replicate n 0) (shows .work-long) in
     let holds = claim (lent g) (g .limit) some-limit in
+    let block-is : r .block ≡ opening-length (reached g .answer) (prefix (g .kinds)) = ap (λ (o : Outcome). o .block) told in
+    let values-are : row-of (r .block) (r .opening) ≡ opening (prefix (g .kinds)) (reached g) =
+    ap (λ (o : Outcome). row-of (o .block) (o .opening)) told
+    ∙ row-of-bytes-of (opening-length (reached g .answer) (prefix (g .kinds))) (opening (prefix (g .kinds)) (reached g)) (opens .whole)
+    (opening-few (g .kinds) (g .literals) passes (reached g .answer)) in
     let left-so : areas AR AM AC SR SM SC W′ ≡ after g (g .limit) =
     λ d.
     areas (held-A .in-rows .in-bytes d) (held-A .in-marks d) (counted .counts-A d) (held-S .in-rows .in-bytes d) (held-S .in-marks d) (counted .counts-S d)
@@ -160,6 +180,7 @@ answered-so g no-cause some-limit end r AR AM AC SR SM SC W W′ shows counted c
       only-false = λ h. verdict-right (lent g) (g .limit) .only-false (named-false (reached g .answer) (sym answer-is ∙ h));
       claim = λ _. holds;
       opened = λ _. opens;
+      opened-bytes = λ _. (λ d. meaning (drop (block-is d) (prefix (g .kinds))) (set-to (values-are d) (lent g .phi))) ∙ opens .same-verdict;
       tables = λ _. both told passes holds;
       counts-read = λ _. read told;
       counted = λ _. counts-right (lent g) (g .limit);
