@@ -9,8 +9,8 @@ use lib.Dec.{eqb}
 use lib.IntN.{ℤ, pos, natAbs}
 use lib.ListN.{length, getD, take, drop}
 use Rattle.formula.specs.Formula.{clauses}
-use Rattle.expansion.proofs.ClauseCuts.{matrix-at}
-use Rattle.expansion.proofs.Engine.{literal-at}
+use Rattle.expansion.specs.Private.Matrix.{matrix-at, literal-at}
+pub use Rattle.codes.specs.Codes.{clause-of}
 use Rattle.codes.specs.Codes.{with-code, so-far, always-true, encoding-from}
 
 -- The position of a code's unknown, and the value of its literal under values by position.
@@ -30,12 +30,6 @@ abbrev pub code-clauses : List ℕ → List (List ℕ)
 code-clauses [] = []
 code-clauses (zero ∷ cs) = [] ∷ code-clauses cs
 code-clauses (suc c ∷ cs) = code-onto (suc c) (code-clauses cs)
-
--- The codes up to the first zero: the clause that begins here.
-abbrev pub clause-of : List ℕ → List ℕ
-clause-of [] = []
-clause-of (zero ∷ cs) = []
-clause-of (suc c ∷ cs) = suc c ∷ clause-of cs
 
 -- A zero follows: the clause that begins here has its end.
 abbrev pub HasEnd : List ℕ → Type 0

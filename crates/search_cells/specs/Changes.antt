@@ -9,7 +9,7 @@ use lib.ListN.{length, getD}
 use Rattle.rows.specs.Row.{bit-of}
 use Rattle.rows.specs.Table.{row-at}
 use Rattle.expansion.specs.Cells.{others-before}
-use Rattle.expansion.proofs.Node.{Stored, Cleared}
+use Rattle.expansion.specs.Private.Node.{Stored, Cleared}
 use Rattle.search_cells.specs.Cells.{cells, wants, owned}
 
 -- What every cell wants stays as it is.

@@ -7,7 +7,7 @@ use mathlib.Core.Bool.{Bool, false}
 use mathlib.Core.List.{List}
 use lib.ListN.{drop}
 use Rattle.formula.specs.Formula.{max-unknowns}
-use Rattle.expansion.proofs.ClauseCuts.{Every, Some}
+use Rattle.formula.specs.Lists.{Every, Some}
 use Rattle.search_cells.specs.Cells.{cells}
 use Rattle.codes.specs.Clauses.{position, code-true, clause-of, HasEnd}
 

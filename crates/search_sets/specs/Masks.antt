@@ -9,8 +9,8 @@ use lib.Dec.{ltb}
 use lib.ListN.{getD}
 use Rattle.formula.specs.Formula.{max-unknowns}
 use Rattle.preference.specs.Preference.{odd}
-use Rattle.expansion.proofs.Cuts.{Mask}
-use Rattle.expansion.proofs.ClauseCuts.{Every}
+use Rattle.expansion.specs.Private.Problem.{Mask}
+use Rattle.formula.specs.Lists.{Every}
 use Rattle.codes.specs.Clauses.{position}
 
 -- The set that two words make.

@@ -28,7 +28,7 @@ use Rattle.named.specs.Named.{max-variables, max-places, signed}
 use Rattle.named.specs.CircuitRight.{Fits}
 use Rattle.named.proofs.Negation.{signed-size}
 use Rattle.text_gates.specs.GateLine.{marked, literal-of, known-cause, first-cause, known-causes, inputs-of, function-of, room-limit, line-cause, line-entries, line-clauses, output-cause, Put-so}
-use Rattle.text_gates.specs.Steps.{Input-read, Inputs-read, clause-count, Gate-put}
+use Rattle.text_gates.specs.Private.Steps.{Input-read, Inputs-read, clause-count, Gate-put}
 use Rattle.text_gates.proofs.GateShape.{gate-shaped}
 
 -- The clauses of a gate, and their entries.

@@ -13,7 +13,7 @@ use Rattle.trimming_rules.specs.Trimming as Trimming
 use Rattle.trimming_rules.specs.Trimming.{keep}
 use Rattle.trimming_rules.proofs.ClauseLaws.{Every}
 use Rattle.trimming_marks.specs.Marks.{is-left, marked}
-use Rattle.trimming.specs.Table.{literal-of, Entry}
+use Rattle.trimming.specs.Private.Table.{literal-of, Entry}
 use Rattle.trimming.proofs.CodeLaws.{same-code}
 use Rattle.trimming.proofs.BlockLaws.{left-code}
 use Rattle.trimming.proofs.PassLaws.{marked-code}

@@ -11,6 +11,7 @@ use lib.Dec.{T, eqb, eqb→eq, eqb-refl}
 use lib.IntN.{ℤ, pos, negsuc, negℤ, natAbs}
 use lib.ListN.{getD}
 use Rattle.formula.specs.Formula.{Clause}
+pub use Rattle.formula.specs.Lists.{Every, In}
 use Rattle.formula.specs.Causes.{any}
 use Rattle.formula.specs.Meaning.{literal, clause, matrix}
 use Rattle.trimming_rules.specs.Trimming.{same, has, position, keep, behind, without-first, always-true, without-clauses, without-literal, set-true, found}
@@ -116,14 +117,6 @@ literal-ignores v (negsuc w) other vs ws a = ap not (a w other)
 -- ---- lists
 
 module _ {A : Type 0} where
-  abbrev pub Every : (A → Type 0) → List A → Type 0
-  Every Q [] = Unit {0}
-  Every Q (x ∷ xs) = Q x × Every Q xs
-
-  abbrev pub In : A → List A → Type 0
-  In a [] = ⊥
-  In a (x ∷ xs) = (a ≡ x) ⊎ In a xs
-
   pub every-in : (Q : A → Type 0) (xs : List A) (a : A) → Every Q xs → In a xs → Q a
   every-in Q (x ∷ xs) a e (inl p) = subst Q (sym p) (e .0)
   every-in Q (x ∷ xs) a e (inr i) = every-in Q xs a (e .1) i

@@ -12,7 +12,7 @@ use lib.Seq.{length-take-le, take-at, drop-at, drop-drop, drop-cons, getD-drop, 
 use Rattle.witness.specs.declared.Record.{Record}
 use Rattle.witness.specs.File.{stands, part, if-stands, two-bytes, word, rows-field, file, has, sizes-at, universal-at, universal-count, existential-at, existential-count, rounds-at, end-of, record-of, side-rows, bad-claim, bad-count, bad-counts, content-cause, file-cause, over-lent, write-cause, rows-back, out-after, kept}
 use Rattle.witness.specs.RoundTrip.{WrittenAgain, ReadAgain, RoundTrip}
-use Rattle.witness.specs.Steps.{Fitting}
+use Rattle.witness.specs.Private.Steps.{Fitting}
 use Rattle.witness.proofs.TestLaws.{stop, pass, passed, accepted, write-taken}
 use Rattle.witness.proofs.PutLaws.{fields-file, length-fields}
 

@@ -11,7 +11,7 @@ ghost use lib.Dec.{eqb};
 ghost use lib.ListN.{length, getD, take, drop};
 ghost use Rattle.witness.specs.File.{stands as bit-stands, part, if-stands, two-bytes, word, rows-field, end-of, record-of, bad-claim, bad-count, bad-counts, content-cause, file-cause, size, over-lent, write-cause, reading, rows-back, writing, out-after};
 ghost use Rattle.witness.specs.RoundTrip.{RoundTrip};
-ghost use Rattle.witness.specs.Steps.{Placed, Put, Fitting, head, all-fields};
+ghost use Rattle.witness.specs.Private.Steps.{Placed, Put, Fitting, head, all-fields};
 
 // A map and its fields, the counts of rows under their side's name.
 pub struct Record {

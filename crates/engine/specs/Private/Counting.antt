@@ -17,7 +17,7 @@ use Rattle.expansion.specs.OtherSide.{side-of, other}
 use Rattle.expansion.specs.Play.{Row}
 use Rattle.expansion.specs.Copies.{among}
 use Rattle.expansion.specs.Model.{search}
-use Rattle.expansion.proofs.Membership.{In}
+use Rattle.formula.specs.Lists.{In}
 use Rattle.rounds.specs.Run.{Entry, Table, rows, clears}
 use Rattle.rounds.specs.Counts.{rows-found}
 use Rattle.engine.specs.Outcome.{Given, after}

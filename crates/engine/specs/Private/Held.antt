@@ -10,8 +10,9 @@ use mathlib.Core.List.{List}
 use lib.ListN.{length, getD, drop}
 use Rattle.formula.specs.Formula.{max-unknowns, max-rows, work-size}
 use Rattle.preference.specs.Preference.{odd}
-use Rattle.expansion.proofs.Cuts.{Mask}
-use Rattle.expansion.proofs.ClauseCuts.{matrix-at, Every}
+use Rattle.expansion.specs.Private.Problem.{Mask}
+use Rattle.expansion.specs.Private.Matrix.{matrix-at}
+use Rattle.formula.specs.Lists.{Every}
 use Rattle.codes.specs.Codes.{row-position}
 use Rattle.codes.specs.Clauses.{code-true, code-clauses, clause-of, HasEnd, Coded}
 use Rattle.index.specs.Index.{index-size}

@@ -9,7 +9,7 @@ use mathlib.Core.List.{List}
 use lib.Dec.{eqb}
 use lib.ListN.{length, getD, drop}
 use Rattle.formula.specs.Formula.{max-unknowns, max-rows}
-use Rattle.expansion.proofs.ClauseCuts.{Every, Some}
+use Rattle.formula.specs.Lists.{Every, Some}
 use Rattle.codes.specs.Codes.{last-code, row-position}
 use Rattle.codes.specs.Clauses.{position, clause-of, code-clauses, Ended, Begins, Coded}
 use Rattle.search_cells.specs.Cells.{cells}

@@ -10,7 +10,7 @@ use lib.ListN.{length, getD}
 use Rattle.rows.specs.Row.{bit-of}
 use Rattle.rows.specs.Table.{row-at}
 use Rattle.expansion.specs.Cells.{Values}
-use Rattle.expansion.proofs.Cuts.{Problem, Model}
+use Rattle.expansion.specs.Private.Problem.{Problem, Model}
 use Rattle.search_cells.specs.Cells.{cells, wants}
 
 -- The value at position k.

@@ -7,8 +7,8 @@ use mathlib.Core.Bool.{Bool, true, false}
 use mathlib.Core.List.{List}
 use lib.ListN.{getD}
 use Rattle.formula.specs.Formula.{max-unknowns}
-use Rattle.expansion.proofs.Cuts.{Mask}
-use Rattle.expansion.proofs.ClauseCuts.{matrix-at}
+use Rattle.expansion.specs.Private.Problem.{Mask}
+use Rattle.expansion.specs.Private.Matrix.{matrix-at}
 use Rattle.codes.specs.Clauses.{code-true, code-clauses, Coded}
 use Rattle.search_cells.specs.Cells.{cells}
 use Rattle.search_sets.specs.Masks.{words}

@@ -8,9 +8,9 @@ use mathlib.Core.List.{List}
 use lib.Dec.{eqb}
 use lib.ListN.{length, getD, drop}
 use Rattle.formula.specs.Formula.{max-unknowns, max-rows, max-entries, work-size}
-use Rattle.expansion.proofs.Cuts.{Mask, Problem, Agree, Sound, Refuted}
-use Rattle.expansion.proofs.Node.{Node, Won, Grown, MasksWithin}
-use Rattle.expansion.proofs.ClauseCuts.{Some}
+use Rattle.expansion.specs.Private.Problem.{Mask, Problem, Agree, Sound, Refuted}
+use Rattle.expansion.specs.Private.Node.{Node, Won, Grown, MasksWithin}
+use Rattle.formula.specs.Lists.{Some}
 use Rattle.search_cells.specs.Cells.{cells, wants}
 use Rattle.search_cells.specs.Changes.{SameWants}
 use Rattle.index.specs.Index.{code-count, index-size, index-of}

@@ -6,7 +6,7 @@ use mathlib.Core.Bool.{true, false}
 use mathlib.Core.List.{List}
 use lib.ListN.{length, getD, drop}
 use Rattle.formula.specs.Formula.{max-clauses}
-use Rattle.expansion.proofs.ClauseCuts.{Some}
+use Rattle.formula.specs.Lists.{Some}
 use Rattle.codes.specs.Clauses.{position, clause-of}
 use Rattle.search_cells.specs.Cells.{cells}
 use Rattle.engine.specs.Private.TermTables.{others, start-of, term-of, listed-in, row-words, names-from, bit, is-open, first-of, name-of}

@@ -8,7 +8,7 @@ use mathlib.Core.List.{List}
 use lib.Dec.{eqb}
 use lib.ListN.{length, getD, drop}
 use Rattle.formula.specs.Formula.{max-unknowns, max-clauses, max-entries, max-rows, work-size}
-use Rattle.expansion.proofs.ClauseCuts.{Every, Some}
+use Rattle.formula.specs.Lists.{Every, Some}
 use Rattle.codes.specs.Codes.{row-position}
 use Rattle.codes.specs.Clauses.{code-true, clause-of, Begins, Coded}
 use Rattle.search_cells.specs.Cells.{cells}

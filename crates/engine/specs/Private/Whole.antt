@@ -11,7 +11,7 @@ use Rattle.formula.specs.Formula.{max-unknowns, max-rows, max-entries, work-siz
 use Rattle.formula.specs.Meaning.{matrix}
 use Rattle.preference.specs.Preference.{prefer}
 use Rattle.formula.specs.Causes.{count}
-use Rattle.formula.proofs.Accepted.{Accepted}
+use Rattle.formula.specs.Private.Accepted.{Accepted}
 use Rattle.rows.specs.Table.{room, rows-of}
 use Rattle.expansion.specs.OtherSide.{other}
 use Rattle.expansion.specs.Play.{Row}

@@ -10,7 +10,7 @@ ghost use mathlib.Core.Logic.{_⊎_};
 ghost use Prim.Native.Nat.{ℕ, _+_, _*_, _≤_, _<_};
 ghost use lib.ListN.{length, set, drop};
 ghost use Rattle.formula.specs.Formula.{max-unknowns, max-clauses, max-entries, max-rows, work-size};
-ghost use Rattle.expansion.proofs.ClauseCuts.{Some};
+ghost use Rattle.formula.specs.Lists.{Some};
 ghost use Rattle.codes.specs.Codes.{last-code, row-position};
 ghost use Rattle.codes.specs.Clauses.{clause-of, Begins, Coded};
 ghost use Rattle.engine.specs.Private.TermTables.{others, row-words, table-size, open-size, bit};

@@ -55,7 +55,7 @@ use Rattle.season.specs.declared.Study.{Study}
 use Rattle.season.specs.declared.tally.Tally.{Tally}
 use Rattle.season.specs.declared.Summary.{Summary}
 use Rattle.season.specs.Season.{summary}
-use Rattle.season.specs.Tally.{fresh, closed, Room}
+use Rattle.season.specs.Private.Tally.{fresh, closed, Room}
 use Rattle.season.proofs.Folding.{fold, with-study, fold-summary, room-fresh, room-added}
 use Rattle.season.proofs.Study as S
 use Rattle.season.proofs.Study.Laws as S′

@@ -7,7 +7,7 @@ use lib.ListN.{length, drop}
 use borrow.Author.Tests.{eq-eqb, ne-eqb}
 use Rattle.witness.specs.declared.Written.the-variants.{Length, Refused}
 use Rattle.witness.specs.File.{file, size, write-cause, out-after}
-use Rattle.witness.specs.Steps.{Fitting}
+use Rattle.witness.specs.Private.Steps.{Fitting}
 use Rattle.witness.proofs.TestLaws.{stop, pass, write-taken}
 use Rattle.witness.proofs.PutLaws.{fields-file, length-fields}
 use Rattle.witness.proofs.RoundTrip.{round-trip}

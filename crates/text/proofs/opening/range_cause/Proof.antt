@@ -3,7 +3,7 @@ use mathlib.Core.Path.{refl}
 use native.Mathlib.Omega.{arith}
 use borrow.Author.Tests.{lt-ltb, le-ltb}
 use Rattle.text.specs.Reading.{max-variables, max-items}
-use Rattle.text.specs.Steps.{range-cause}
+use Rattle.text.specs.Private.Steps.{range-cause}
 use borrow.Author.Needs.{needs}
 use Rattle.text.proofs.opening.range_cause.Statement.{statement}
 use Rattle.text.proofs.opening.range_cause.Tie as tie

@@ -13,8 +13,8 @@ use lib.ListN.{length, getD, set, take, drop}
 use Rattle.formula.specs.Formula.{max-unknowns, max-entries, Kind, prefix, Clause, clauses}
 use Rattle.codes.specs.Codes.{last-code}
 use Rattle.trimming_rules.specs.Trimming.{keep, first-of, without-literal, set-true, rule-3, found, rule-4}
-use Rattle.trimming_rules.specs.Rounds.{reduced}
-use Rattle.trimming_rules.proofs.ClauseLaws.{Every, In}
+use Rattle.trimming_rules.specs.Private.Rounds.{reduced}
+use Rattle.formula.specs.Lists.{Every, In}
 use Rattle.trimming_marks.specs.Marks.{is-left, mark-clause, always-true, unit}
 use Rattle.index.specs.Occurrences.{listed, Names}
 use Rattle.index.specs.Index.{code-count, index-of, begin-of, end-of}
