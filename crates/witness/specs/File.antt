@@ -154,6 +154,14 @@ reading f = cond (eqb (file-cause f) 0) (Taken (record-of f)) (Refused (file-cau
 unfoldable pub rows-back : List ℕ → Bool → List ℕ
 rows-back f universal = cond (eqb (file-cause f) 0) (side-rows universal f) []
 
+-- 'As a part of the file': where that part begins in the file, counted in bytes; an empty part begins where the file does.
+abbrev pub side-start : Bool → List ℕ → ℕ
+side-start true f = if-stands (has 2 f) (universal-at f + 2)
+side-start false f = if-stands (has 3 f) (existential-at f + 2)
+
+unfoldable pub rows-start : List ℕ → Bool → ℕ
+rows-start f universal = cond (eqb (file-cause f) 0) (side-start universal f) 0
+
 -- 'A write returns the file's length and leaves what lies past it'; a refusal leaves every byte.
 abbrev pub writing : Record → List ℕ → List ℕ → List ℕ → Written
 writing r universal existential out =
