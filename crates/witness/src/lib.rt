@@ -9,7 +9,7 @@ ghost use mathlib.Core.List.{[], _∷_};
 ghost use Prim.Native.Nat.{_+_, _*_, _/_, _%_, _^_, _≤_, _<_};
 ghost use lib.Dec.{eqb};
 ghost use lib.ListN.{length, getD, take, drop};
-ghost use Rattle.witness.specs.File.{stands as bit-stands, part, if-stands, two-bytes, word, rows-field, end-of, record-of, bad-claim, bad-count, bad-counts, content-cause, file-cause, size, over-lent, write-cause, reading, rows-back, rows-start, writing, out-after};
+ghost use Rattle.witness.specs.File.{stands as bit-stands, part, if-stands, two-bytes, word, rows-field, end-of, record-of, bad-claim, bad-count, bad-counts, content-cause, file-cause, size, over-lent, write-cause, reading, reading-number, record-read, read-record, rows-back, rows-start, writing, writing-number, length-written, written-length, out-after};
 ghost use Rattle.witness.specs.RoundTrip.{RoundTrip};
 ghost use Rattle.witness.specs.Steps.{Placed, Put, Fitting, head, all-fields};
 
@@ -63,6 +63,8 @@ const BYTES: usize = 16;
 // The record of a file. A field whose bit does not stand is 0.
 pub fn read(file: &[u8]) -> Reading
     ensures { λ r. ⌜ r ≡ reading (now (file .entry)) ⌝ }
+    ensures numbered { λ r. ⌜ reading-number r ≡ file-cause (now (file .entry)) ⌝ }
+    ensures valued { λ r. ⌜ record-read r ≡ read-record (now (file .entry)) ⌝ }
     ensures round_trip { λ _. ⌜ RoundTrip ⌝ }
 {
     let at = layout_of(file);
@@ -102,6 +104,8 @@ pub fn rows(file: &[u8], universal: bool) -> &[u8]
 pub fn write(record: Record, universal: &[u8], existential: &[u8], out: &mut [u8]) -> Written
     ensures { λ r. ⌜ r ≡ writing «record» (now (universal .entry)) (now (existential .entry)) (now (out .entry)) ⌝ }
     ensures { λ _. ⌜ now (out .exit) ≡ out-after «record» (now (universal .entry)) (now (existential .entry)) (now (out .entry)) ⌝ }
+    ensures numbered { λ r. ⌜ writing-number r ≡ write-cause «record» (now (universal .entry)) (now (existential .entry)) (length (now (out .entry))) ⌝ }
+    ensures valued { λ r. ⌜ length-written r ≡ written-length «record» (now (universal .entry)) (now (existential .entry)) (now (out .entry)) ⌝ }
     ensures round_trip { λ _. ⌜ RoundTrip ⌝ }
 {
     let cause = write_cause(record, universal, existential, out.len());
