@@ -4,3 +4,4 @@ pub mod Fits
 pub mod Folding
 pub mod RecordLaws
 pub mod Printing
+pub mod SeasonRight
