@@ -6,7 +6,7 @@ ghost use mathlib.Core.Path.{_≡_};
 ghost use Prim.Native.Nat.{_≤_};
 ghost use lib.ListN.{take};
 ghost use Rattle.report.specs.Report.{put, put-count};
-ghost use Rattle.season.specs.Season.{max-studies, summary};
+ghost use Rattle.season.specs.Season.{max-studies, summary, Summarized};
 ghost use Rattle.season.specs.Text.{printed, summary-lines};
 ghost use Rattle.season.specs.SeasonRight.{SeasonRight};
 
@@ -51,7 +51,7 @@ pub enum Summary {
 
 // The page over a table of studies, or the number of the first cause that applies.
 pub fn summarize(studies: &[Study]) -> Summary
-    ensures { λ r. ⌜ r ≡ summary (now (studies .entry)) ⌝ }
+    ensures { λ r. ⌜ Summarized (now (studies .entry)) r ⌝ }
 {
     let mut t = tally::start();
     let mut i = 0; // the place of the next record
