@@ -1,6 +1,7 @@
 // The judge over a text or a gate list and a witness file: whether the file's rows bear out its claim about the formula that is read.
-// `find` promises, for every text, file and work area, the finding and every byte of the work area that the definition (specs/Finding.antt) gives;
-// `print` and `print_gates` the bytes of its line. What an accepted claim says of the formula, or of the circuit, is stated in specs/JudgementRight.antt.
+// `find` promises, for every text, file and work area, the finding, its numbers and every byte of the work area that the definitions
+// (specs/Finding.antt, specs/Numbers.antt) give; `print` and `print_gates` the bytes of its line. What an accepted claim says of the formula, or
+// of the circuit, is stated in specs/JudgementRight.antt.
 // Reading belongs to `text` and `witness`, judging to `judge`; here what one returns is handed to the next.
 use formula::Formula;
 use judge::Judgement;
