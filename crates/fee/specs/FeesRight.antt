@@ -2,7 +2,7 @@
 use Prim.Native.Nat.{ℕ}
 use mathlib.Core.Path.{_≡_}
 use mathlib.Core.List.{List}
-use Rattle.run.specs.Outcome.{Given}
+use Rattle.engine.specs.Outcome.{Given}
 use Rattle.fee.specs.Fee.{fee}
 use Rattle.fee.specs.Bands.{Loads, fee-with}
 use Rattle.fee.specs.BandsRight.{BandsRight, BuiltInLoaded}
