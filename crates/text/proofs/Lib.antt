@@ -16,6 +16,7 @@ pub mod ClosedRight
 pub mod DrawnLaws
 pub mod GatesRight
 pub mod GatesPass
+pub mod CausesRight
 pub mod ReadAsLaws
 pub mod ReadingLaws
 pub mod FrontLaws

@@ -3,7 +3,8 @@
 // nowhere are existential in front of everything, `read_gates` that the verdict of what it writes is the circuit's value under the prefix.
 // They are one reader, `read_as`, which is told the form of the text. What a formula means is left to others.
 ghost use lib.ListN.{length};
-ghost use Rattle.text.specs.Reading.{read as definition, read-gates as gates-definition, scan, result-of, Read-so};
+ghost use Rattle.text.specs.Reading.{read as definition, read-gates as gates-definition, scan, result-of, Read-so, text-causes, gates-causes};
+ghost use Rattle.text.specs.CausesRight.{CausesRight};
 ghost use Rattle.text.specs.ClosedRight.{ClosedRight};
 ghost use Rattle.text.specs.GatesRight.{GatesRight};
 use formula::Formula;
@@ -34,6 +35,7 @@ pub enum Reading {
 pub fn read(text: &[u8], kinds: &mut [u8], literals: &mut [i32], names: &mut [u16]) -> Reading
     ensures written { λ r. ⌜ Read-so (definition (now (text .entry)) (length (now (kinds .entry))) (length (now (literals .entry))) (length (now (names .entry)))) r (now (kinds .entry)) (now (literals .entry)) (now (names .entry)) (now (kinds .exit)) (now (literals .exit)) (now (names .exit)) ⌝ }
     ensures proved { λ _. ⌜ ClosedRight (now (text .entry)) ⌝ }
+    ensures causes { λ r. ⌜ CausesRight text-causes r ⌝ }
 {
     read_as(text, false, kinds, literals, names)
 }
@@ -42,6 +44,7 @@ pub fn read(text: &[u8], kinds: &mut [u8], literals: &mut [i32], names: &mut [u1
 pub fn read_gates(text: &[u8], kinds: &mut [u8], literals: &mut [i32], names: &mut [u16]) -> Reading
     ensures written { λ r. ⌜ Read-so (gates-definition (now (text .entry)) (length (now (kinds .entry))) (length (now (literals .entry))) (length (now (names .entry)))) r (now (kinds .entry)) (now (literals .entry)) (now (names .entry)) (now (kinds .exit)) (now (literals .exit)) (now (names .exit)) ⌝ }
     ensures proved { λ _. ⌜ GatesRight (now (text .entry)) ⌝ }
+    ensures causes { λ r. ⌜ CausesRight gates-causes r ⌝ }
 {
     read_as(text, true, kinds, literals, names)
 }

@@ -160,8 +160,7 @@ fn items(gates: bool) -> usize
     ensures { λ r. ⌜ r ≡ max-items gates ⌝ }
 {
     if gates {
-        Formula::UNKNOWNS
-    } else {
-        Formula::CLAUSES
+        return Formula::UNKNOWNS;
     }
+    Formula::CLAUSES
 }
