@@ -1,0 +1,1 @@
+pub fn open_shown(area: &mut [u8]) {}
