@@ -11,6 +11,10 @@
 #     command_of CRATE WORDS..    with its own words
 #     command_or_gates CRATE WORDS..      so too, or CRATE_gates if the first word is --gates
 # What is kept lies in target/command: the program as it last passed its check, the log of its build, and a lock.
+#
+# The exit statuses. A command that decides ends as solvers do: 10 true, 20 false, 0 undecided, and 1 for a text that is refused. Every other one ends
+# with 0 if what was asked for is there (the file is accepted, or written), 1 if it is not (not borne out; nothing to write), and 3 if the text or the
+# file is refused. 2 is trouble, of all: wrong use, input that cannot be read, a build that failed, output that could not be written.
 
 root=$(dirname "$(dirname "$(readlink -f "${BASH_SOURCE[0]}")")")
 made=$root/target/command
@@ -18,13 +22,23 @@ made=$root/target/command
 # No program here takes a text or a file of so many bytes, so the rest of a longer one need not be read for it to be refused.
 MOST_BYTES=4194304
 
-# The status for 01's lines.
+# The status for 01's lines, of a command that decides.
 status_of_answer() { # LINE
     case $1 in
     's cnf 1 '*) echo 10 ;;
     's cnf 0 '*) echo 20 ;;
     's cnf -1 '*) echo 0 ;;
     'c refused '*) echo 1 ;;
+    *) echo 2 ;;
+    esac
+}
+
+# The status of a command that writes a witness file. A file begins with its map: 27 (escape) where the rows are existential, 23 where they are universal.
+status_of_witness() { # LINE
+    case $1 in
+    $'\033'* | $'\027'*) echo 0 ;;
+    's cnf -1 '*) echo 1 ;;
+    'c refused '*) echo 3 ;;
     *) echo 2 ;;
     esac
 }
