@@ -22,6 +22,9 @@ made=$root/target/command
 # No program here takes a text or a file of so many bytes, so the rest of a longer one need not be read for it to be refused.
 MOST_BYTES=4194304
 
+# The bytes of a crate's sources that are proved in a second on one processor, more or less: for the estimate before there is a measured pace.
+PACE=6000
+
 # The status for 01's lines, of a command that decides.
 status_of_answer() { # LINE
     case $1 in
@@ -148,9 +151,12 @@ build() {
 # Proves and builds the program. rt goes on from the crates that it has proved before. What has passed is copied, so that a later check never
 # changes it under a call; its time is that at which the check began.
 locked_build() {
-    local began=$made/$crate.began log=$made/$crate.log
-    say "proving and building the program; log in $log"
+    local began=$made/$crate.began log=$made/$crate.log needed
+    needed=$(crates_needed)
+    say "proving and building the program, $(wc -l <<<"$needed") crates; log in $log"
     : >"$began"
+    local used
+    while read -r used _; do rm -f "$root/target/log/$used.res"; done <<<"$needed"
     # rt does not look for the program of a crate that is unchanged
     [ -x "$root/target/bin/$crate" ] || rm -f "$root/target/stamp/$crate"
     SECONDS=0
@@ -160,7 +166,7 @@ locked_build() {
     set +m
     local signal
     for signal in HUP INT TERM; do trap "stop_build $signal" "$signal"; done
-    watch_build "$log"
+    watch_build "$needed"
     if wait "$building" && cp "$root/target/bin/$crate" "$program.new" && touch -r "$began" "$program.new" && mv -f "$program.new" "$program"; then
         trap - HUP INT TERM
     else
@@ -169,36 +175,58 @@ locked_build() {
     fi
 }
 
-# Shows how many crates are proved, and the time, until the build ends: on a terminal in one line that changes, else in a line for each number.
-watch_build() {
-    local all proved shown='' running=yes
-    all=$(crates_needed)
+# Shows how far the build is until it ends: on a terminal in one line that changes, else in a line for each number of crates.
+watch_build() { # CRATES
+    local now shown='' running=yes
     while [ "$running" = yes ]; do
         kill -0 "$building" 2>/dev/null || running=no
-        proved=$(grep -c '^rt: [A-Za-z0-9_]* proved (' "$1")
+        now=$(progress "$1")
         if [ -t 2 ]; then
-            printf '\r%s: %s of %s crates proved, %s s ' "$name" "$proved" "$all" "$SECONDS" >&2
-        elif [ "$proved" != "$shown" ]; then
-            say "$proved of $all crates proved, $SECONDS s"
+            printf '\r%s: %-56s' "$name" "$now" >&2
+        elif [ "${now%% *}" != "$shown" ]; then
+            say "$now"
         fi
-        shown=$proved
+        shown=${now%% *}
         [ "$running" = no ] || sleep 0.5
     done
     [ ! -t 2 ] || echo >&2
 }
 
-# How many crates of the repository the program is made of.
+# How many crates are proved, the time, and about how long the others take. A crate counts as soon as rt leaves the word for it, since what rt prints
+# comes in lots. The pace is that of the bytes proved so far; at first, while much is begun and little has ended, the usual one weighs more.
+progress() { # CRATES
+    awk -v folder="$root/target/log" -v seconds="$SECONDS" -v processors="$(nproc)" -v usual="$PACE" '
+        function first_line(file,    line) {
+            if ((getline line <file) <= 0) line = ""
+            close(file)
+            return line
+        }
+        first_line(folder "/" $1 ".res") !~ /^(proved|built)$/ { left += $2; next }
+        { proved++ }
+        first_line(folder "/" $1 ".out") !~ /unchanged/ { done += $2 }
+        END {
+            if (processors > 4) processors = 4 # crates wait for each other
+            pace = (120 * usual * processors + done) / (120 + seconds)
+            minutes = int(left / pace / 60 + 1)
+            about = !left ? "" : minutes == 1 ? ", about a minute left" : ", about " minutes " minutes left"
+            print proved + 0 " of " NR " crates proved, " seconds " s" about
+        }' <<<"$1"
+}
+
+# The crates of the repository that the program is made of, a line each, with the bytes of their sources.
 crates_needed() {
-    awk -v crate="$crate" '
+    find "$root/crates" -name must-fail -prune -o -type f -printf '%P/%s\n' | awk -v crate="$crate" '
         function visit(name,    i, n, used) {
             if (name in seen || !(name in uses)) return
-            seen[name] = ++count
+            seen[name] = 1
             n = split(uses[name], used, " ")
             for (i = 1; i <= n; i++) visit(used[i])
+            print name, bytes[name] + 0
         }
+        sizes { n = split($0, part, "/"); bytes[part[1]] += part[n]; next }
         { sub(/#.*/, ""); at = index($0, ":") }
         at { name = substr($0, 1, at - 1); gsub(/[ \t]/, "", name); uses[name] = substr($0, at + 1) }
-        END { visit(crate); print count + 0 }' "$root/crates.txt"
+        END { visit(crate) }' sizes=1 - sizes='' "$root/crates.txt"
 }
 
 stop_build() { # SIGNAL
