@@ -1,7 +1,7 @@
-# shellcheck shell=bash disable=SC2064,SC2094,SC2154
+# shellcheck shell=bash disable=SC2034,SC2064,SC2094,SC2154
 # What the commands at the root share: a command builds its program where that is needed, hands it one text, or a text and a file, prints what it
 # prints, and ends with a status that tells what was printed. A command sources this file, sets
-#     help        what --help prints; its first line is the usage
+#     help        what --help prints, with the parts that are the same for all; its first line is the usage
 #     name        what it calls itself, if that is not its crate
 #     second      set where it takes a second file, which the program reads from descriptor 3
 # defines
@@ -18,6 +18,25 @@
 
 root=$(dirname "$(dirname "$(readlink -f "${BASH_SOURCE[0]}")")")
 made=$root/target/command
+
+# Whether this is an installed copy, which has no sources: its programs passed their check when it was made.
+is_installed() { [ ! -e "$root/crates.txt" ]; }
+
+# Parts of the help: what stands before a command's name here, the first command's whole name, and sentences.
+if is_installed; then
+    me=vulzhenn- solver=vulzhenn first_call=''
+    trouble='2 wrong use, unreadable input, or output that could not be written'
+    closing='The formats and all numbers: man 5 vulzhenn. -h and --help print this, --version the commit.'
+else
+    me=./ solver=./vulzhenn first_call='The first call proves and builds the program, which takes some minutes.
+'
+    trouble='2 wrong use, unreadable input, a failed build, or output that could not be written'
+    closing='The formats and all numbers: README.md. -h and --help print this, --version the commit and the toolchain.'
+fi
+when_decided="Exit status: 10 true, 20 false, 0 undecided; 1 the text is refused;
+$trouble."
+when_written="Exit status: 0 the file is written; 1 undecided, so there is none; 3 the text is refused;
+$trouble."
 
 # No program here takes a text or a file of so many bytes, so the rest of a longer one need not be read for it to be refused.
 MOST_BYTES=4194304
@@ -113,19 +132,21 @@ can_open() { # FILE
 
 misused() { fail "$*; ${help%%$'\n'*}"; }
 
+# Of a checkout, also one of somebody else's; an unpacked archive knows of none, whatever repository it lies in.
+commit_of_sources() {
+    { [ -e "$root/.git" ] && git -c safe.directory="$root" -C "$root" describe --always --dirty 2>/dev/null; } || echo "of no known commit"
+}
+
 version() {
     local commit kit
     if is_installed; then
         sed "s/^/$name /" "$root/version"
         return
     fi
-    commit=$(git -C "$root" describe --always --dirty) || commit="of no known commit"
+    commit=$(commit_of_sources)
     kit=$(rt version) || kit="none on PATH"
     printf '%s\n' "$name $commit" "toolchain: $kit"
 }
-
-# Whether this is an installed copy, which has no sources: its programs passed their check when it was made.
-is_installed() { [ ! -e "$root/crates.txt" ]; }
 
 # Whether the program passed its check and nothing that it could be made of has changed since the check began. The time compared is that of the
 # file's last change of any kind, which nothing sets back; folders count, since theirs moves on when a file goes.
@@ -193,7 +214,7 @@ watch_build() { # CRATES
 }
 
 # How many crates are proved, the time, and about how long the others take. A crate counts as soon as rt leaves the word for it, since what rt prints
-# comes in lots. The pace is that of the bytes proved so far; at first, while much is begun and little has ended, the usual one weighs more.
+# comes in lots. Before it has looked which are unchanged, nothing is said of the rest. The pace is that of the bytes proved so far; at first, while much is begun and little has ended, the usual one weighs more.
 progress() { # CRATES
     awk -v folder="$root/target/log" -v seconds="$SECONDS" -v processors="$(nproc)" -v usual="$PACE" '
         function first_line(file,    line) {
@@ -208,7 +229,7 @@ progress() { # CRATES
             if (processors > 4) processors = 4 # crates wait for each other
             pace = (120 * usual * processors + done) / (120 + seconds)
             minutes = int(left / pace / 60 + 1)
-            about = !left ? "" : minutes == 1 ? ", about a minute left" : ", about " minutes " minutes left"
+            about = !left || seconds < 3 ? "" : minutes == 1 ? ", about a minute left" : ", about " minutes " minutes left"
             print proved + 0 " of " NR " crates proved, " seconds " s" about
         }' <<<"$1"
 }
