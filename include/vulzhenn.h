@@ -35,12 +35,12 @@ extern "C" {
 /* The bytes of stack that a call needs at most, rounded up: a thread that calls has this much left. */
 #define VULZHENN_STACK 311296
 
-/* Answers. */
+/* Answers. Undecided is said of the run, not of the formula: another run may settle it with fewer rows, as those of vulzhenn_study. */
 #define VULZHENN_FALSE 0
 #define VULZHENN_TRUE 1
 #define VULZHENN_SPENT 2               /* undecided: the limit's rounds were made; never with a limit from 256 on */
-#define VULZHENN_NO_ROOM_UNIVERSAL 3   /* undecided: more than 256 universal rows are needed */
-#define VULZHENN_NO_ROOM_EXISTENTIAL 4 /* undecided: more than 256 existential rows are needed */
+#define VULZHENN_NO_ROOM_UNIVERSAL 3   /* undecided: a round's new universal rows did not fit into 256 */
+#define VULZHENN_NO_ROOM_EXISTENTIAL 4 /* undecided: a round's new existential rows did not fit into 256 */
 
 /* Refusals: 100 plus the number of the cause. The text's causes come first, in the order of reading; then 5, then 6. */
 #define VULZHENN_REFUSED 100
