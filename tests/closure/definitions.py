@@ -27,7 +27,7 @@ class Names:
         crate, module, names, alias = use.groups()
         parts = module.split(".")
         if parts[1] == "declared":
-            path = (crate, parts[2])
+            path = (crate, "::".join(part for part in parts[2:] if part != "the-variants"))
         else:
             path = f"crates/{crate}/{'/'.join(parts)}.antt"
         if names is None:
