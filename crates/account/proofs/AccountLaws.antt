@@ -39,7 +39,7 @@ use Rattle.decision.specs.Decision.{handed-on, own-lent}
 use Rattle.decision.proofs.DecisionLaws.{cause-so, returned-so}
 use Rattle.answer.specs.Printed.{round-limit, settled}
 use Rattle.account.specs.Account.{each, prefix-line, value-line, row-lines, head-lines, lines, facts, shown, Delivered}
-use Rattle.account.specs.Steps.{joined, Accepts, told, Tables}
+use Rattle.account.specs.Private.Steps.{joined, Accepts, told, Tables}
 use Rattle.account.proofs.ListLaws.{length-joined, joined-back}
 use Rattle.account.proofs.RoomLaws.{longest, refusal-most, result-most, Fronted, fronted}
 

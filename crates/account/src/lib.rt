@@ -21,7 +21,7 @@ ghost use Rattle.report.specs.Report.{decimal};
 ghost use Rattle.text.specs.Reading.{read-as};
 ghost use Rattle.account.specs.Account.{each, digit, name-line, prefix-line, value-line, row-line, row-lines, head-lines, lines, facts, shown, account as account-lines, account-of-gates, Delivered};
 ghost use Rattle.account.specs.AccountRight.{AccountRight, GatesAccountRight};
-ghost use Rattle.account.specs.Steps.{joined, told, Tables, Accepts, Side};
+ghost use Rattle.account.specs.Private.Steps.{joined, told, Tables, Accepts, Side};
 
 // Room for every account.
 pub const LONGEST: usize = 106_496;

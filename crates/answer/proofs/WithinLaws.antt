@@ -18,7 +18,7 @@ use Rattle.text.proofs.FrontLaws.{read-refused, read-taken}
 use Rattle.report.specs.Report.{refusal-line, put, put-count}
 use Rattle.answer.specs.Printed.{shown, printed-as}
 use Rattle.answer.specs.Within.{printed-in, used, area-after, Puts}
-use Rattle.answer.specs.Steps.{usable, lines-of, work-after}
+use Rattle.answer.specs.Private.Steps.{usable, lines-of, work-after}
 use Rattle.answer.proofs.AnswerLaws.{refused-printed, line-small, front-passes, variables-small, clauses-small, taken-printed}
 
 -- The same lines and the same area under other names.

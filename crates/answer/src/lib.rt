@@ -13,7 +13,7 @@ ghost use Rattle.text.specs.Reading.{text-read, gates-read, read-as};
 ghost use Rattle.text.specs.Offered.{offered};
 ghost use Rattle.answer.specs.Printed.{result-of, printed, gates-printed, printed-as};
 ghost use Rattle.answer.specs.Within.{printed-in, area-after, Puts};
-ghost use Rattle.answer.specs.Steps.{usable, lines-of, work-after};
+ghost use Rattle.answer.specs.Private.Steps.{usable, lines-of, work-after};
 ghost use Rattle.answer.specs.AnswerRight.{AnswerRight};
 ghost use Rattle.answer.specs.GatesAnswerRight.{GatesAnswerRight};
 

@@ -30,7 +30,7 @@ use Rattle.judgement.specs.declared.Finding.the-variants as Finding
 use Rattle.judgement.specs.Finding as judging
 use Rattle.judgement.proofs.FindingLaws.{same-sizes, record-claimed, formula-read}
 use Rattle.certificate.specs.Certificate.{true-record, false-record}
-use Rattle.certificate.specs.Steps.{Front, Ran}
+use Rattle.certificate.specs.Private.Steps.{Front, Ran}
 use Rattle.certificate.proofs.Settled.{rows-accepted, some-row}
 use Rattle.certificate.proofs.Judged.{judge-accepts}
 use Rattle.certificate.proofs.FileLaws.{again, read-so, true-fine, false-fine, true-same, false-same, true-size, false-size}

@@ -29,7 +29,7 @@ use Rattle.decision.proofs.DecisionLaws.{cause-so, returned-so}
 use Rattle.answer.specs.Printed.{round-limit, settled}
 use Rattle.certificate.specs.declared.Counts.{Counts}
 use Rattle.certificate.specs.Certificate.{Output, only-file, only-lines, true-record, false-record, lines-of, by-answer, on-outcome, on-formula, on-text, work-by, Delivered}
-use Rattle.certificate.specs.Steps.{Ran}
+use Rattle.certificate.specs.Private.Steps.{Ran}
 use Rattle.certificate.proofs.AnyRun as any
 use Rattle.certificate.proofs.AnyRun.{true-if, false-if}
 

@@ -19,7 +19,7 @@ ghost use Rattle.witness.specs.File.{made, file as file-of, size, write-cause};
 ghost use Rattle.answer.specs.Printed.{settled};
 ghost use Rattle.certificate.specs.Certificate.{only-lines, on-formula, on-text, work-by, output, gates-output, left, gates-left, Delivered};
 ghost use Rattle.certificate.specs.CertificateRight.{CertificateRight, GatesCertificateRight};
-ghost use Rattle.certificate.specs.Steps.{Ran};
+ghost use Rattle.certificate.specs.Private.Steps.{Ran};
 
 // How many bytes were put into each buffer.
 pub struct Counts {

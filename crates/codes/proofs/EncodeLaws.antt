@@ -19,7 +19,7 @@ use Rattle.formula.proofs.Any.{or-none}
 use Rattle.expansion.proofs.ClauseCuts.{Every, every-map, clause-at, matrix-at}
 use Rattle.expansion.proofs.Engine.{literal-at}
 use Rattle.codes.specs.Codes.{code-of, opposite, has, with-code, Reading, so-far, always-true, read-code, closed, encoding-from, encoding, refused, used, filled}
-use Rattle.codes.specs.Clauses.{position, code-true, code-onto, code-clauses, HasEnd, Ended, Encoded, Names}
+use Rattle.codes.specs.Private.Clauses.{position, code-true, code-onto, code-clauses, HasEnd, Ended, Encoded, Names}
 
 -- ---- a code and its literal
 

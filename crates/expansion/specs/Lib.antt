@@ -10,6 +10,5 @@ pub mod Model
 pub mod Order
 pub mod Judge
 pub mod Right
-pub mod Memory
 pub mod Cells
 pub mod Private

@@ -3,3 +3,4 @@
 pub mod Matrix
 pub mod Problem
 pub mod Node
+pub mod Memory

@@ -15,7 +15,7 @@ use Rattle.expansion.specs.OtherSide.{other}
 use Rattle.expansion.specs.Play.{Row, Strategy, part, later-values}
 use Rattle.expansion.specs.Copies.{fresh}
 use Rattle.expansion.specs.Model.{search}
-use Rattle.expansion.specs.Memory.{LeadsModels}
+use Rattle.expansion.specs.Private.Memory.{LeadsModels}
 use Rattle.expansion.proofs.Booleans.{never-both}
 use Rattle.expansion.proofs.Membership.{In, Distinct, in-append-cases, in-append-left, in-append-right, in-map-cases, in-or-not, in-fresh, fresh-in}
 use Rattle.expansion.proofs.Progress.{Answers, search-answers, yields-fresh}

@@ -26,7 +26,7 @@ use Rattle.engine.specs.Outcome.{Areas, Given, lent, cause as run-cause, accept
 use Rattle.study.specs.declared.Setting.{Setting}
 use Rattle.study.specs.Study.{settings-of, formula-of, preferences-of, given-of, cause, Ending, ending, is-verdict, in-turn, studied}
 use Rattle.study.specs.StudyRight.{answer-of, Promised, StudyRight}
-use Rattle.study.specs.Turns.{SameSizes}
+use Rattle.study.specs.Private.Turns.{SameSizes}
 use Rattle.study.proofs.SettingLaws.{length-settings}
 use Rattle.study.proofs.CauseLaws.{some-setting, each-accepted, trimming-proved, limit-if-none}
 use Rattle.study.proofs.SizeLaws.{same-cause, left-sizes}

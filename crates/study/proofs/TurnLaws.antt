@@ -25,7 +25,7 @@ use Rattle.study.specs.declared.Setting.{Setting}
 use Rattle.study.specs.declared.Studied.{Studied}
 use Rattle.study.specs.Study.{settings-of, formula-of, preferences-of, given-of, list-cause, cause, Ending, ending, is-verdict, in-turn, studied}
 use Rattle.study.specs.StudyRight.{Studies}
-use Rattle.study.specs.Turns.{setting-at, formula-from, Holds, SameSizes, Turned}
+use Rattle.study.specs.Private.Turns.{setting-at, formula-from, Holds, SameSizes, Turned}
 use Rattle.study.proofs.SettingLaws.{length-settings, next-setting, setting-there}
 use Rattle.study.proofs.CauseLaws.{tested, never-accepted, cause-tested, each-accepted, formula-accepted, trimming-proved, passes}
 use Rattle.study.proofs.SizeLaws.{same-cause}

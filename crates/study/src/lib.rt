@@ -19,7 +19,7 @@ ghost use Rattle.engine.specs.Outcome.{areas, refusal};
 ghost use Rattle.engine.specs.Ended.{Ended};
 ghost use Rattle.study.specs.Study.{settings-of, preferences-of, given-of, unknown, no-round, list-cause, is-verdict};
 ghost use Rattle.study.specs.StudyRight.{Studies};
-ghost use Rattle.study.specs.Turns.{setting-at, formula-from, Holds, Turned};
+ghost use Rattle.study.specs.Private.Turns.{setting-at, formula-from, Holds, Turned};
 
 // How a run of a study is made: over the trimmed formula (1) or the lent one (0), with a preference byte or `HOUSE`, the universal table cleared in
 // each round that `clearing` divides, and never if it is 0, within the limit of rounds.

@@ -34,7 +34,7 @@ use Rattle.study_answer.specs.Printed.{lines-of}
 use Rattle.study_certificate.specs.WitnessList.{witness-list, witness-study}
 use Rattle.study_certificate.specs.StudyCertificate.{true-record, false-record, by-answer, on-ending, on-formula, on-reading, work-by, output, left}
 use Rattle.study_certificate.specs.StudyCertificateRight.{StudyCertificateRight}
-use Rattle.study_certificate.specs.Steps.{Ready}
+use Rattle.study_certificate.specs.Private.Steps.{Ready}
 use Rattle.study_certificate.proofs.LentRun.{stopped, study-lent}
 
 abbrev counts : ℕ → ℕ → Counts

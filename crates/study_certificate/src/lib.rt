@@ -22,7 +22,7 @@ ghost use Rattle.certificate.specs.Certificate.{Delivered};
 ghost use Rattle.study_certificate.specs.WitnessList.{witness-study};
 ghost use Rattle.study_certificate.specs.StudyCertificate.{by-answer, on-formula, output, left};
 ghost use Rattle.study_certificate.specs.StudyCertificateRight.{StudyCertificateRight};
-ghost use Rattle.study_certificate.specs.Steps.{Ready};
+ghost use Rattle.study_certificate.specs.Private.Steps.{Ready};
 
 // Room for every file, and for the lines.
 pub const FILE: usize = 4_106;

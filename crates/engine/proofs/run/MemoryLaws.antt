@@ -19,7 +19,7 @@ use Rattle.expansion.specs.Side.{flags, goal}
 use Rattle.expansion.specs.OtherSide.{side-of, other}
 use Rattle.expansion.specs.Play.{Row}
 use Rattle.expansion.specs.Model.{search}
-use Rattle.expansion.specs.Memory.{LeadsModels}
+use Rattle.expansion.specs.Private.Memory.{LeadsModels}
 use Rattle.engine.specs.Private.Prepared.{KnownLeads}
 use Rattle.rounds.specs.Run.{Table, rows, grown, clears, run}
 use Rattle.rounds.specs.Opening.{last-row}

@@ -11,32 +11,32 @@ use lib.ListN.{length, getD, drop, replicate, List·getD-eq-default}
 use Rattle.formula.specs.Formula.{max-unknowns, max-entries, max-rows, work-size}
 use Rattle.expansion.proofs.ClauseCuts.{matrix-at}
 use Rattle.search_cells.specs.Cells.{cells}
-use Rattle.search_cells.specs.Changes.{CellsSet, CellsOpened, FirstDifference}
+use Rattle.search_cells.specs.Private.Changes.{CellsSet, CellsOpened, FirstDifference}
 use Rattle.search_cells.specs.Steps.{rows-set, rows-opened, rows-compared}
 use Rattle.search_cells.proofs.SetLaws.{rows-are-set}
 use Rattle.search_cells.proofs.OpenLaws.{rows-are-opened}
 use Rattle.search_cells.proofs.DifferenceLaws.{rows-are-compared}
 use Rattle.search_order.specs.Order.{places}
-use Rattle.search_order.specs.Sorted.{Sorted}
+use Rattle.search_order.specs.Private.Sorted.{Sorted}
 use Rattle.search_order.proofs.PlaceLaws.{places-sorted}
 use Rattle.search_numbering.specs.Numbering.{filled as numbered}
-use Rattle.search_numbering.specs.Wants.{WantsFilled}
+use Rattle.search_numbering.specs.Private.Wants.{WantsFilled}
 use Rattle.search_numbering.proofs.WantsFill.{wants-filled}
 use Rattle.codes.specs.Codes.{last-code}
-use Rattle.codes.specs.Clauses.{code-true, code-clauses, clause-of, Ended, Begins, Coded}
+use Rattle.codes.specs.Private.Clauses.{code-true, code-clauses, clause-of, Ended, Begins, Coded}
 use Rattle.index.specs.Occurrences.{begins}
 use Rattle.index.specs.Index.{code-count, index-size, all-codes, table-fits, index-of, filled as indexed}
 use Rattle.index.proofs.LayoutLaws.{end-is}
 use Rattle.index.proofs.IndexLaws.{read-names}
 use Rattle.search_sets.specs.Sets.{set-places, sets-size, united, united-words, added, has, emptied, filled, trimmed, excused, blamed}
-use Rattle.search_sets.specs.Masks.{set-at, SetGrown, SetsKept, United, WordsUnited, Trimmed, Excused, Blamed}
+use Rattle.search_sets.specs.Private.Masks.{set-at, SetGrown, SetsKept, United, WordsUnited, Trimmed, Excused, Blamed}
 use Rattle.search_sets.proofs.SetLaws.{unite-unites, words-unite, add-grows, add-adds, has-is, empty-keeps, fill-keeps, fill-fills, trim-trims, excuse-excuses, blame-blames}
 use Rattle.search_evaluation.specs.Evaluation.{look-at, matrix-in}
-use Rattle.search_evaluation.specs.Looked.{Looked}
+use Rattle.search_evaluation.specs.Private.Looked.{Looked}
 use Rattle.search_evaluation.proofs.LookLaws.{look-looked}
 use Rattle.search_evaluation.proofs.MatrixLaws.{matrix-is}
 use Rattle.search_groups.specs.Groups.{copy-start, copy-end, parting-row, parted-at, open-position}
-use Rattle.search_groups.specs.Parts.{CopyFrom, CopyTo, Parting, PartedAt, Stands}
+use Rattle.search_groups.specs.Private.Parts.{CopyFrom, CopyTo, Parting, PartedAt, Stands}
 use Rattle.engine.specs.Private.Steps.{Listed, Indexed}
 use Rattle.search_groups.proofs.PartLaws.{copy-start-from, copy-end-to, parting-row-parts, parted-at-there, open-position-stands}
 

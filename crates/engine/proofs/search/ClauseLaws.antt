@@ -10,7 +10,7 @@ use lib.Bits.{bitAnd}
 use lib.ListN.{length, getD, drop, drop-of-length-le}
 use Rattle.expansion.proofs.Booleans.{true-or-false}
 use Rattle.expansion.proofs.ClauseCuts.{Every, Some}
-use Rattle.codes.specs.Clauses.{clause-of, HasEnd, Ended, Begins, code-onto, code-clauses}
+use Rattle.codes.specs.Private.Clauses.{clause-of, HasEnd, Ended, Begins, code-onto, code-clauses}
 use Rattle.codes.proofs.CodeLaws.{clause-step, clause-stop}
 use Rattle.engine.specs.Private.TermTables.{bit}
 use Rattle.engine.specs.Private.TermSteps.{Hits, Remaining}

@@ -17,14 +17,14 @@ use Rattle.expansion.proofs.Node.{Node, MasksWithin, grown-refl, grown-stored}
 use Rattle.expansion.proofs.Steps.{node-store}
 use Rattle.expansion.proofs.ClauseCuts.{Every, Rests, dead-clause, unit-clause, matrix-at}
 use Rattle.search_cells.specs.Cells.{cells}
-use Rattle.search_cells.specs.Changes.{CellsSet}
-use Rattle.search_sets.specs.Masks.{set-at, masks, cut, SetsKept, Blamed}
+use Rattle.search_cells.specs.Private.Changes.{CellsSet}
+use Rattle.search_sets.specs.Private.Masks.{set-at, masks, cut, SetsKept, Blamed}
 use Rattle.codes.specs.Codes.{last-code}
-use Rattle.codes.specs.Clauses.{position, code-true, code-clauses, clause-of, code-goal, Begins, Coded}
+use Rattle.codes.specs.Private.Clauses.{position, code-true, code-clauses, clause-of, code-goal, Begins, Coded}
 use Rattle.index.specs.Index.{code-count}
 use Rattle.engine.specs.Private.Steps.{Fits, Settled, Settles, Starts, Indexed, Lent}
-use Rattle.search_evaluation.specs.Looked.{IsAt, Looked}
-use Rattle.search_groups.specs.Parts.{CopyFrom, CopyTo}
+use Rattle.search_evaluation.specs.Private.Looked.{IsAt, Looked}
+use Rattle.search_groups.specs.Private.Parts.{CopyFrom, CopyTo}
 use Rattle.engine.proofs.search.StepLaws.{masks-below, masks-grown, masks-kept, within-refl, within-trans, settles-refl, settles-then}
 use Rattle.engine.proofs.search.CallLaws.{lists-starts}
 use Rattle.engine.proofs.search.Rows.{agree-between, parted-apart}

@@ -10,14 +10,14 @@ use Rattle.formula.specs.Formula.{max-unknowns, max-rows, work-size}
 use Rattle.expansion.proofs.Booleans.{never-both, true-or-false}
 use Rattle.expansion.proofs.ClauseCuts.{clause-at, matrix-at, clause-false, true-clause}
 use Rattle.search_cells.specs.Cells.{cells}
-use Rattle.codes.specs.Clauses.{position, code-true, code-clauses, clause-of, Ended, code-goal, Begins, Coded}
+use Rattle.codes.specs.Private.Clauses.{position, code-true, code-clauses, clause-of, Ended, code-goal, Begins, Coded}
 use Rattle.codes.proofs.CodeLaws.{clause-among, clause-coded, every-both}
 use Rattle.search_evaluation.specs.Evaluation.{look-at}
-use Rattle.search_evaluation.specs.Looked.{IsAt, Looked}
+use Rattle.search_evaluation.specs.Private.Looked.{IsAt, Looked}
 use Rattle.search_evaluation.proofs.LookLaws.{look-looked}
 use Rattle.search_sets.proofs.MaskLaws.{kept-trans}
 use Rattle.engine.specs.Private.Live.{FalseFound}
-use Rattle.search_sets.specs.Masks.{set-at, SetsKept}
+use Rattle.search_sets.specs.Private.Masks.{set-at, SetsKept}
 use Rattle.engine.specs.Private.Steps.{Reached}
 
 -- The side's goal is the matrix on the existential side, and its opposite on the other.

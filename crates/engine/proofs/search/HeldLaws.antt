@@ -14,10 +14,10 @@ use Rattle.preference.specs.Preference.{odd}
 use Rattle.expansion.proofs.Booleans.{true-or-false, never-both}
 use Rattle.expansion.proofs.Cuts.{Mask, other-value}
 use Rattle.expansion.proofs.ClauseCuts.{Every, clause-at, clause-false, unit-true, true-clause}
-use Rattle.codes.specs.Clauses.{position, code-true, code-clauses, clause-of, Begins, Coded}
+use Rattle.codes.specs.Private.Clauses.{position, code-true, code-clauses, clause-of, Begins, Coded}
 use Rattle.codes.proofs.CodeLaws.{code-sign, clause-among, clause-coded, every-both, row-position-is}
 use Rattle.search_cells.specs.Cells.{cells}
-use Rattle.search_sets.specs.Masks.{set-at, SetsKept, Blamed}
+use Rattle.search_sets.specs.Private.Masks.{set-at, SetsKept, Blamed}
 use Rattle.engine.specs.Private.Reasons.{Fixed, Keeps, IsReason}
 use Rattle.engine.specs.Private.Held.{Model, Implied, Denied, Held, LineSet, LineOpened, IsFalse, FalseBut, SetsBut}
 

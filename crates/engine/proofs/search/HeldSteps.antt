@@ -18,11 +18,11 @@ use Rattle.expansion.proofs.Booleans.{never-both}
 use Rattle.expansion.proofs.Cuts.{Mask}
 use Rattle.expansion.proofs.ClauseCuts.{Every}
 use Rattle.codes.specs.Codes.{last-code, row-position}
-use Rattle.codes.specs.Clauses.{position, clause-of, HasEnd, Begins, Coded}
+use Rattle.codes.specs.Private.Clauses.{position, clause-of, HasEnd, Begins, Coded}
 use Rattle.codes.proofs.CodeLaws.{row-position-is, clause-step, clause-stop}
 use Rattle.search_cells.specs.Cells.{cells}
 use Rattle.search_sets.specs.Sets.{set-places, sets-size, added, has, emptied, blamed}
-use Rattle.search_sets.specs.Masks.{set-at, SetGrown, SetsKept, Put, Blamed}
+use Rattle.search_sets.specs.Private.Masks.{set-at, SetGrown, SetsKept, Put, Blamed}
 use Rattle.search_sets.proofs.SetLaws.{add-grows, add-adds, has-is, empty-empties, empty-keeps, blame-blames}
 use Rattle.search_sets.proofs.MaskLaws.{store-elsewhere}
 use Rattle.search_evaluation.specs.Evaluation.{has-row, level-in}

@@ -8,7 +8,7 @@ use native.Mathlib.Decide.{decLt}
 use lib.ListN.{length, getD, set, length-set}
 use lib.Seq.{getD-set-same, getD-set-other}
 use Rattle.formula.specs.Formula.{max-clauses}
-use Rattle.codes.specs.Clauses.{Begins}
+use Rattle.codes.specs.Private.Clauses.{Begins}
 use Rattle.engine.specs.Private.TermTables.{others, table-size, start-of, term-of, first-of, listed-in}
 use Rattle.engine.specs.Private.Terms.{StandsFor, HasTerm, Entered, Listed}
 use Rattle.engine.specs.Private.TermSteps.{Past, EntryMade, Closed}

@@ -15,9 +15,9 @@ use Rattle.expansion.proofs.Cuts.{Mask, Problem, Within, Implied, Refuted, refu
 use Rattle.expansion.proofs.Node.{Node, grown-refl}
 use Rattle.expansion.proofs.ClauseCuts.{Every, Some, Rests, matrix-at, every-map, some-map, dead-row}
 use Rattle.search_cells.specs.Cells.{cells}
-use Rattle.search_sets.specs.Masks.{set-at, masks, cut, SetsKept}
+use Rattle.search_sets.specs.Private.Masks.{set-at, masks, cut, SetsKept}
 use Rattle.codes.specs.Codes.{row-position}
-use Rattle.codes.specs.Clauses.{position, code-true, clause-of, code-clauses, code-goal, Coded}
+use Rattle.codes.specs.Private.Clauses.{position, code-true, clause-of, code-clauses, code-goal, Coded}
 use Rattle.codes.proofs.CodeLaws.{code-local, clause-coded, row-position-is}
 use Rattle.engine.specs.Private.Terms.{GivenTrue}
 use Rattle.engine.specs.Private.Live.{IsGiven, TakenIn, TrueBy, RowKnown, RowLost, Checked}

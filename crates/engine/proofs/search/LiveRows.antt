@@ -13,13 +13,13 @@ use Rattle.formula.specs.Formula.{max-unknowns}
 use Rattle.expansion.proofs.Booleans.{never-both}
 use Rattle.expansion.proofs.ClauseCuts.{Every, Some, every-map, some-map}
 use Rattle.codes.specs.Codes.{row-position}
-use Rattle.codes.specs.Clauses.{position, code-onto, code-clauses, Ended, Begins, Coded}
+use Rattle.codes.specs.Private.Clauses.{position, code-onto, code-clauses, Ended, Begins, Coded}
 use Rattle.codes.proofs.CodeLaws.{clauses-some, row-position-is}
 use Rattle.search_evaluation.specs.Evaluation.{look-at, satisfied-at}
 use Rattle.search_evaluation.proofs.LiteralLaws.{IsLiteral, satisfied-is-at}
 use Rattle.search_sets.specs.Sets.{sets-size, united, emptied}
 use borrow.Rule.Slice.PartMut.{putMid, postOf}
-use Rattle.search_sets.specs.Masks.{words, set-at, SetGrown, SetsKept, United}
+use Rattle.search_sets.specs.Private.Masks.{words, set-at, SetGrown, SetsKept, United}
 use Rattle.search_sets.proofs.MaskLaws.{store-elsewhere, store-behind, kept-trans, kept-grown, set-grown-refl, set-grown-trans}
 use Rattle.search_sets.proofs.SetLaws.{unite-unites, empty-keeps}
 use Rattle.engine.specs.Private.Live.{given-mark, IsGiven, TakenIn, TrueBy, RowKnown, RowLost, RowDead, Checked, RowTold, RowLooked, RowBlamed, TakesIn, FalseFound}

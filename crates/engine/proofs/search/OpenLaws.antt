@@ -11,7 +11,7 @@ use lib.Seq.{getD-set-same, getD-set-other}
 use Rattle.formula.specs.Formula.{max-clauses, max-rows}
 use Rattle.expansion.proofs.Booleans.{never-both}
 use Rattle.expansion.proofs.ClauseCuts.{Every, Some, every-map, some-map}
-use Rattle.codes.specs.Clauses.{position, clause-of, code-clauses, Ended, Coded}
+use Rattle.codes.specs.Private.Clauses.{position, clause-of, code-clauses, Ended, Coded}
 use Rattle.codes.proofs.CodeLaws.{clause-coded, every-some}
 use Rattle.engine.specs.Private.TermTables.{others, start-of, term-of, first-of, listed-in, row-words, names-from, bit, is-open, name-of}
 use Rattle.engine.specs.Private.Terms.{own, StandsFor, Entered, Listed, GivenTrue, TermOpen, Opened, RowOpened}

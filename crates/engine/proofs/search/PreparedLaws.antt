@@ -17,7 +17,7 @@ use Rattle.formula.proofs.Accepted.{Accepted, accepted, accepting, accepted-siz
 use Rattle.formula.proofs.Any.{any-none, none-any, or-none}
 use Rattle.expansion.specs.OtherSide.{side-of, other}
 use Rattle.codes.specs.Codes.{last-code, encoding, refused, used as entries-used, filled as codes-filled}
-use Rattle.codes.specs.Clauses.{Coded, Names, Encoded}
+use Rattle.codes.specs.Private.Clauses.{Coded, Names, Encoded}
 use Rattle.codes.proofs.EncodeLaws.{accepted as encodable, encoding-length, encoding-encoded, used-part}
 use Rattle.index.specs.Index.{index-size, index-of, filled as index-filled}
 use Rattle.index.proofs.IndexLaws.{index-laid}

@@ -14,10 +14,10 @@ use Rattle.expansion.specs.Cells.{Values}
 use Rattle.expansion.proofs.Booleans.{never-both}
 use Rattle.expansion.proofs.Cuts.{Mask, Problem, Model, Refuted, refuted-row}
 use Rattle.expansion.proofs.Node.{Node}
-use Rattle.codes.specs.Clauses.{Coded}
+use Rattle.codes.specs.Private.Clauses.{Coded}
 use Rattle.search_cells.specs.Cells.{cells}
 use Rattle.search_sets.specs.Sets.{sets-size, emptied, united-words}
-use Rattle.search_sets.specs.Masks.{words, set-at, masks, cut, SetsKept}
+use Rattle.search_sets.specs.Private.Masks.{words, set-at, masks, cut, SetsKept}
 use Rattle.search_sets.proofs.MaskLaws.{words-none, kept-trans, kept-grown}
 use Rattle.engine.specs.Private.Reasons.{Fixed, IsReason, Shorter}
 use Rattle.engine.specs.Private.Held.{Same}

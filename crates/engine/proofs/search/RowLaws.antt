@@ -14,7 +14,7 @@ use borrow.Author.Tests.{eq-eqb, ne-eqb}
 use Rattle.formula.specs.Formula.{max-unknowns, max-clauses, max-rows}
 use Rattle.expansion.proofs.ClauseCuts.{Some}
 use Rattle.codes.specs.Codes.{last-code, row-position}
-use Rattle.codes.specs.Clauses.{position, code-true, clause-of}
+use Rattle.codes.specs.Private.Clauses.{position, code-true, clause-of}
 use Rattle.codes.proofs.CodeLaws.{row-position-is}
 use Rattle.search_cells.specs.Cells.{flags, cells}
 use Rattle.search_cells.proofs.CellLaws.{value-at}

@@ -14,17 +14,17 @@ use Rattle.expansion.proofs.Booleans.{true-or-false, never-both, never-unlike}
 use Rattle.expansion.proofs.Node.{Node, Won}
 use Rattle.expansion.proofs.ClauseCuts.{Some, some-map}
 use Rattle.codes.specs.Codes.{row-position}
-use Rattle.codes.specs.Clauses.{position, clause-of, Coded}
+use Rattle.codes.specs.Private.Clauses.{position, clause-of, Coded}
 use Rattle.codes.proofs.CodeLaws.{code-local, clause-coded, row-position-is}
 use Rattle.engine.specs.Private.Terms.{own, GivenTrue, Opened}
 use Rattle.engine.proofs.search.LiveRows.{some-with}
 use Rattle.engine.proofs.search.TermLaws.{own-of}
 use Rattle.search_cells.specs.Cells.{cells, wants}
-use Rattle.search_cells.specs.Changes.{CellsSet, CellsOpened}
-use Rattle.search_sets.specs.Masks.{set-at, masks, cut, SetGrown, SetsKept, WordsUnited, Trimmed, Excused}
+use Rattle.search_cells.specs.Private.Changes.{CellsSet, CellsOpened}
+use Rattle.search_sets.specs.Private.Masks.{set-at, masks, cut, SetGrown, SetsKept, WordsUnited, Trimmed, Excused}
 use Rattle.engine.specs.Private.Memory.{said, RuledOut}
 use Rattle.engine.specs.Private.Steps.{Fits, GivenIn, Viewed, Known, Settled, SettlesFor, Searched, Searches, with-value, Tried, Tries, Chooses, Retries, Steps, Reached, FromStart}
-use Rattle.search_groups.specs.Parts.{Parting, PartedAt, Stands}
+use Rattle.search_groups.specs.Private.Parts.{Parting, PartedAt, Stands}
 use Rattle.engine.proofs.search.StepLaws.{masks-grown, masks-kept, within-trans}
 use Rattle.engine.proofs.search.SolveLaws.{with-at, tried-node, tried-refuted, tried-searched, chosen-first, failed-without, second-node, second-wants, second-open, chosen-second, failed-both, failed-second, InOrder, first-node, split-first, second-part-node, split-second, searched-leaf, stood-node, at-fits, stood-open, parted-other, stood-searched, stood-won}
 

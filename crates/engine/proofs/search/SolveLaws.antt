@@ -17,10 +17,10 @@ use Rattle.expansion.proofs.Steps.{node-part, node-same, node-next, node-decide
 use Rattle.expansion.proofs.Success.{past-kept, won-leaf, won-wanted, won-other, won-parts, won-kept}
 use Rattle.expansion.proofs.Stand.{node-stand, won-stand, refuted-stand}
 use Rattle.search_cells.specs.Cells.{cells, wants}
-use Rattle.search_cells.specs.Changes.{SameWants, CellsSet, CellsOpened}
-use Rattle.search_sets.specs.Masks.{set-at, masks, cut, SetGrown, Trimmed, Excused}
+use Rattle.search_cells.specs.Private.Changes.{SameWants, CellsSet, CellsOpened}
+use Rattle.search_sets.specs.Private.Masks.{set-at, masks, cut, SetGrown, Trimmed, Excused}
 use Rattle.engine.specs.Private.Steps.{Fits, Settled, Searched, with-value, Tried, Reached}
-use Rattle.search_groups.specs.Parts.{Parting, PartedAt, Stands}
+use Rattle.search_groups.specs.Private.Parts.{Parting, PartedAt, Stands}
 use Rattle.engine.proofs.search.Rows.{agree-group, parted-apart}
 use Rattle.engine.proofs.search.StepLaws.{masks-below, masks-within, within-refl, within-trans, within-shorter, masks-grown, wants-trans}
 

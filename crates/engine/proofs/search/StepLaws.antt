@@ -13,8 +13,8 @@ use Rattle.expansion.proofs.Cuts.{Mask, Problem}
 use Rattle.expansion.proofs.Node.{Node, MasksWithin, grown-refl, grown-trans}
 use Rattle.expansion.proofs.Steps.{node-same}
 use Rattle.search_cells.specs.Cells.{cells}
-use Rattle.search_cells.specs.Changes.{SameWants}
-use Rattle.search_sets.specs.Masks.{set-at, masks, SetGrown, SetsKept}
+use Rattle.search_cells.specs.Private.Changes.{SameWants}
+use Rattle.search_sets.specs.Private.Masks.{set-at, masks, SetGrown, SetsKept}
 use Rattle.engine.specs.Private.Steps.{Settled, Settles, Steps}
 
 -- ---- masks

@@ -12,11 +12,11 @@ use Rattle.formula.specs.Formula.{max-unknowns}
 use Rattle.expansion.proofs.Booleans.{never-both}
 use Rattle.expansion.proofs.ClauseCuts.{Every, Some, every-map, some-map}
 use Rattle.codes.specs.Codes.{row-position}
-use Rattle.codes.specs.Clauses.{position, clause-of, code-clauses, Coded}
+use Rattle.codes.specs.Private.Clauses.{position, clause-of, code-clauses, Coded}
 use Rattle.codes.proofs.CodeLaws.{row-position-is}
 use Rattle.search_evaluation.specs.Evaluation.{satisfied-at}
 use Rattle.search_evaluation.proofs.LiteralLaws.{satisfied-is-at}
-use Rattle.search_sets.specs.Masks.{set-at, SetGrown, SetsKept}
+use Rattle.search_sets.specs.Private.Masks.{set-at, SetGrown, SetsKept}
 use Rattle.search_sets.proofs.MaskLaws.{kept-trans, kept-grown, set-grown-refl, set-grown-trans}
 use Rattle.engine.specs.Private.TermTables.{others, is-open, name-of}
 use Rattle.engine.specs.Private.Terms.{own, GivenTrue}

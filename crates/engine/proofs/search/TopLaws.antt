@@ -32,14 +32,14 @@ use Rattle.expansion.proofs.Leading.{wanted}
 use Rattle.expansion.proofs.Memory.{counted-in-block, model-led}
 use Rattle.expansion.proofs.Engine.{restriction-of-values, values-of-restriction, literal-at, goal-at, Names, Places, problem, problem-sound, refuted-is-none, won-is-first}
 use Rattle.search_cells.specs.Cells.{cells, wants, owned}
-use Rattle.search_cells.specs.Changes.{Filled, FirstDifference}
-use Rattle.codes.specs.Clauses.{Coded, code-true, code-clauses, code-goal, Encoded}
-use Rattle.search_order.specs.Sorted.{up-to, Sorted}
+use Rattle.search_cells.specs.Private.Changes.{Filled, FirstDifference}
+use Rattle.codes.specs.Private.Clauses.{Coded, code-true, code-clauses, code-goal, Encoded}
+use Rattle.search_order.specs.Private.Sorted.{up-to, Sorted}
 use Rattle.engine.specs.Private.Prepared.{LastLeads}
 use Rattle.engine.specs.Private.Memory.{said, Remembered, Reads}
 use Rattle.engine.specs.Private.Steps.{Fits, FromStart}
 use Rattle.engine.specs.Private.Whole.{side-kind}
-use Rattle.search_numbering.specs.Wants.{WantsFilled}
+use Rattle.search_numbering.specs.Private.Wants.{WantsFilled}
 use Rattle.search_cells.proofs.OwnedLaws.{owned-at, length-owned}
 use Rattle.search_order.proofs.BetweenLaws.{sandwich}
 use Rattle.search_numbering.proofs.WantsLaws.{Placed, wants-of-copies}

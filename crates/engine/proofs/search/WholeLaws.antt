@@ -24,8 +24,8 @@ use Rattle.expansion.proofs.Verdict.{search-none}
 use Rattle.expansion.specs.Cells.{others-before, tabulate}
 use Rattle.expansion.proofs.Engine.{length-tabulate}
 use Rattle.search_cells.specs.Cells.{cells, owned, spot}
-use Rattle.search_cells.specs.Changes.{Filled, FirstDifference}
-use Rattle.search_order.specs.Sorted.{Sorted}
+use Rattle.search_cells.specs.Private.Changes.{Filled, FirstDifference}
+use Rattle.search_order.specs.Private.Sorted.{Sorted}
 use Rattle.search_cells.specs.Steps.{rows-filled}
 use Rattle.search_cells.proofs.FillLaws.{rows-are-filled}
 use Rattle.search_cells.proofs.PackLaws.{packed-inside}

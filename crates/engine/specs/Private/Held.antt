@@ -14,11 +14,11 @@ use Rattle.expansion.specs.Private.Problem.{Mask}
 use Rattle.expansion.specs.Private.Matrix.{matrix-at}
 use Rattle.formula.specs.Lists.{Every}
 use Rattle.codes.specs.Codes.{row-position}
-use Rattle.codes.specs.Clauses.{code-true, code-clauses, clause-of, HasEnd, Coded}
+use Rattle.codes.specs.Private.Clauses.{code-true, code-clauses, clause-of, HasEnd, Coded}
 use Rattle.index.specs.Index.{index-size}
 use Rattle.search_cells.specs.Cells.{cells}
 use Rattle.search_sets.specs.Sets.{sets-size}
-use Rattle.search_sets.specs.Masks.{set-at}
+use Rattle.search_sets.specs.Private.Masks.{set-at}
 use Rattle.engine.specs.Private.Reasons.{Keeps}
 
 -- Values that satisfy the clauses, keep what is fixed and are the row's at the positions of D ..

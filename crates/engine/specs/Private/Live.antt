@@ -11,12 +11,12 @@ use lib.ListN.{length, getD, drop}
 use Rattle.formula.specs.Formula.{max-unknowns, max-rows}
 use Rattle.formula.specs.Lists.{Every, Some}
 use Rattle.codes.specs.Codes.{last-code, row-position}
-use Rattle.codes.specs.Clauses.{position, clause-of, code-clauses, Ended, Begins, Coded}
+use Rattle.codes.specs.Private.Clauses.{position, clause-of, code-clauses, Ended, Begins, Coded}
 use Rattle.search_cells.specs.Cells.{cells}
 use Rattle.search_evaluation.specs.Evaluation.{look-at, satisfied-at}
-use Rattle.search_evaluation.specs.Looked.{IsAt}
+use Rattle.search_evaluation.specs.Private.Looked.{IsAt}
 use Rattle.search_sets.specs.Sets.{set-places}
-use Rattle.search_sets.specs.Masks.{set-at, SetGrown, SetsKept}
+use Rattle.search_sets.specs.Private.Masks.{set-at, SetGrown, SetsKept}
 use Rattle.engine.specs.Private.TermTables.{others, is-open, name-of}
 use Rattle.engine.specs.Private.Terms.{own, RowOpened}
 

@@ -18,7 +18,7 @@ use Rattle.rows.specs.Stray.{stray-rows}
 use Rattle.expansion.specs.Side.{flags, goal}
 use Rattle.expansion.specs.OtherSide.{side-of, other}
 use Rattle.expansion.specs.Play.{Row}
-use Rattle.expansion.specs.Memory.{LeadsModels}
+use Rattle.expansion.specs.Private.Memory.{LeadsModels}
 use Rattle.codes.specs.Codes.{last-code, encoding, used as entries-used, filled as codes-filled}
 pub use Rattle.index.specs.Index.{index-size}
 use Rattle.index.specs.Index.{index-of, filled as index-filled}

@@ -9,9 +9,9 @@ use lib.ListN.{getD}
 use Rattle.formula.specs.Formula.{max-unknowns}
 use Rattle.expansion.specs.Private.Problem.{Mask}
 use Rattle.expansion.specs.Private.Matrix.{matrix-at}
-use Rattle.codes.specs.Clauses.{code-true, code-clauses, Coded}
+use Rattle.codes.specs.Private.Clauses.{code-true, code-clauses, Coded}
 use Rattle.search_cells.specs.Cells.{cells}
-use Rattle.search_sets.specs.Masks.{words}
+use Rattle.search_sets.specs.Private.Masks.{words}
 
 -- Row i has a value at position j that was reached by no decision.
 pub record Fixed (w s : List ℕ) (i j : ℕ) : Type 0 where

@@ -12,14 +12,14 @@ use Rattle.expansion.specs.Private.Problem.{Mask, Problem, Agree, Sound, Refute
 use Rattle.expansion.specs.Private.Node.{Node, Won, Grown, MasksWithin}
 use Rattle.formula.specs.Lists.{Some}
 use Rattle.search_cells.specs.Cells.{cells, wants}
-use Rattle.search_cells.specs.Changes.{SameWants}
+use Rattle.search_cells.specs.Private.Changes.{SameWants}
 use Rattle.index.specs.Index.{code-count, index-size, index-of}
 use Rattle.search_sets.specs.Sets.{sets-size}
-use Rattle.search_sets.specs.Masks.{set-at, masks, cut, SetsKept}
+use Rattle.search_sets.specs.Private.Masks.{set-at, masks, cut, SetsKept}
 use Rattle.codes.specs.Codes.{last-code}
-use Rattle.codes.specs.Clauses.{Ended, code-true, code-goal, clause-of, Begins, Coded}
+use Rattle.codes.specs.Private.Clauses.{Ended, code-true, code-goal, clause-of, Begins, Coded}
 use Rattle.engine.specs.Private.Reasons.{IsReason}
-use Rattle.search_groups.specs.Parts.{Parting, PartedAt}
+use Rattle.search_groups.specs.Private.Parts.{Parting, PartedAt}
 use Rattle.engine.specs.Private.TermTables.{others, table-size, is-open}
 use Rattle.engine.specs.Private.Terms.{own, TermOpen, Listed as TermsListed}
 use Rattle.engine.specs.Private.Memory.{Remembered}

@@ -7,7 +7,7 @@ use mathlib.Core.List.{List}
 use lib.ListN.{length, getD, drop}
 use Rattle.formula.specs.Formula.{max-clauses}
 use Rattle.formula.specs.Lists.{Some}
-use Rattle.codes.specs.Clauses.{position, clause-of}
+use Rattle.codes.specs.Private.Clauses.{position, clause-of}
 use Rattle.search_cells.specs.Cells.{cells}
 use Rattle.engine.specs.Private.TermTables.{others, start-of, term-of, listed-in, row-words, names-from, bit, is-open, first-of, name-of}
 use Rattle.engine.specs.Private.Terms.{Entered, GivenTrue}

@@ -10,7 +10,7 @@ use lib.ListN.{length, getD, drop}
 use Rattle.formula.specs.Formula.{max-unknowns, max-clauses, max-entries, max-rows, work-size}
 use Rattle.formula.specs.Lists.{Every, Some}
 use Rattle.codes.specs.Codes.{row-position}
-use Rattle.codes.specs.Clauses.{code-true, clause-of, Begins, Coded}
+use Rattle.codes.specs.Private.Clauses.{code-true, clause-of, Begins, Coded}
 use Rattle.search_cells.specs.Cells.{cells}
 use Rattle.engine.specs.Private.TermTables.{others, table-size, start-of, term-of, first-of, listed-in, open-size, is-open, name-of}
 

@@ -20,11 +20,11 @@ use Rattle.engine.specs.declared.search.Search.{Search}
 use Rattle.engine.specs.declared.search.Search.the-variants.{Refused}
 use Rattle.engine.specs.Search.{answer, left}
 use Rattle.engine.specs.Private.Prepared.{later-cause, LastLeads}
-use Rattle.codes.specs.Clauses.{Coded, Encoded}
+use Rattle.codes.specs.Private.Clauses.{Coded, Encoded}
 use Rattle.index.specs.Index.{index-size, index-of}
-use Rattle.search_cells.specs.Changes.{FirstDifference}
+use Rattle.search_cells.specs.Private.Changes.{FirstDifference}
 use Rattle.search_cells.specs.Steps.{rows-filled, packed}
-use Rattle.search_numbering.specs.Wants.{WantsFilled}
+use Rattle.search_numbering.specs.Private.Wants.{WantsFilled}
 use Rattle.engine.specs.Private.TermTables.{table-size}
 use Rattle.engine.specs.Private.Terms.{Listed}
 use Rattle.engine.specs.Private.Memory.{Reads}

@@ -1,7 +1,7 @@
 // Single codes of the clauses.
 ghost use mathlib.Core.Path.{_≡_};
 ghost use Prim.Native.Nat.{_≤_};
-ghost use Rattle.codes.specs.Clauses.{position as code-position};
+ghost use Rattle.codes.specs.Private.Clauses.{position as code-position};
 
 // The position of a code's unknown.
 pub(crate) fn position(c: usize) -> usize

@@ -5,7 +5,7 @@ ghost use Prim.Native.Nat.{_≤_, _<_};
 ghost use lib.ListN.{length};
 ghost use Rattle.formula.specs.Formula.{max-unknowns, max-rows};
 ghost use Rattle.search_sets.specs.Sets.{set-places, sets-size};
-ghost use Rattle.search_sets.specs.Masks.{SetsKept};
+ghost use Rattle.search_sets.specs.Private.Masks.{SetsKept};
 ghost use Rattle.engine.specs.Private.Held.{Same};
 use formula::Formula;
 

@@ -17,9 +17,9 @@ ghost use Rattle.formula.specs.Formula.{max-unknowns, max-rows};
 ghost use Rattle.engine.specs.Private.TermTables.{others, open-size, is-open, name-of};
 ghost use Rattle.engine.specs.Private.Terms.{own};
 ghost use Rattle.codes.specs.Codes.{last-code, row-position};
-ghost use Rattle.codes.specs.Clauses.{Begins};
+ghost use Rattle.codes.specs.Private.Clauses.{Begins};
 ghost use Rattle.search_sets.specs.Sets.{sets-size};
-ghost use Rattle.search_sets.specs.Masks.{SetsKept};
+ghost use Rattle.search_sets.specs.Private.Masks.{SetsKept};
 ghost use Rattle.search_evaluation.specs.Evaluation.{look-at, satisfied-at};
 ghost use Rattle.engine.specs.Private.Live.{given-mark, IsGiven, IsOwn, OwnTrue, Checked, RowTold, RowLooked, RowBlamed, TermsMet, TermPassed, TermMet, TakesIn, FalseFound};
 

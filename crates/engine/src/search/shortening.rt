@@ -16,11 +16,11 @@ ghost use lib.ListN.{length, getD};
 ghost use Rattle.formula.specs.Formula.{max-unknowns, max-rows, work-size};
 ghost use Rattle.rows.specs.Row.{weight};
 ghost use Rattle.codes.specs.Codes.{last-code, row-position};
-ghost use Rattle.codes.specs.Clauses.{Begins, Coded};
+ghost use Rattle.codes.specs.Private.Clauses.{Begins, Coded};
 ghost use Rattle.index.specs.Index.{index-size};
 ghost use Rattle.search_cells.specs.Cells.{cells};
 ghost use Rattle.search_sets.specs.Sets.{sets-size};
-ghost use Rattle.search_sets.specs.Masks.{set-at, SetsKept};
+ghost use Rattle.search_sets.specs.Private.Masks.{set-at, SetsKept};
 ghost use Rattle.engine.specs.Private.Reasons.{Fixed, IsReason, Shorter};
 ghost use Rattle.engine.specs.Private.Held.{IsFalse, FalseBut, LineSet, LineOpened, Held, Moves, StepsOn, Same, Inheriting, Inherited, Lent};
 

@@ -5,7 +5,7 @@ ghost use Prim.Native.Nat.{_+_, _≤_, _<_};
 ghost use mathlib.Core.Bool.{cond};
 ghost use lib.ListN.{length};
 ghost use Rattle.formula.specs.Formula.{max-unknowns, max-rows, max-entries, work-size};
-ghost use Rattle.codes.specs.Clauses.{Coded};
+ghost use Rattle.codes.specs.Private.Clauses.{Coded};
 ghost use Rattle.index.specs.Index.{index-size};
 ghost use Rattle.search_sets.specs.Sets.{sets-size};
 ghost use Rattle.engine.specs.Private.Terms.{OpenedIn};

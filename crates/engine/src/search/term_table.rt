@@ -12,7 +12,7 @@ ghost use lib.ListN.{length, set, drop};
 ghost use Rattle.formula.specs.Formula.{max-unknowns, max-clauses, max-entries, max-rows, work-size};
 ghost use Rattle.formula.specs.Lists.{Some};
 ghost use Rattle.codes.specs.Codes.{last-code, row-position};
-ghost use Rattle.codes.specs.Clauses.{clause-of, Begins, Coded};
+ghost use Rattle.codes.specs.Private.Clauses.{clause-of, Begins, Coded};
 ghost use Rattle.engine.specs.Private.TermTables.{others, row-words, table-size, open-size, bit};
 ghost use Rattle.engine.specs.Private.Terms.{own, OwnWithin, HasTerm, Listed, ListedIn, SizesFit, OpenedIn};
 ghost use Rattle.engine.specs.Private.TermSteps.{Past, EntryMade, Closed, Named, Joined, Told, RowsLooked, Remaining, WordFilled, Filled};

@@ -4,7 +4,7 @@ use Prim.Native.Nat.{_-_, _≤_}
 use native.Mathlib.Omega.{arith}
 use lib.ListN.{length, length-set}
 use Rattle.search_sets.specs.Sets.{sets-size}
-use Rattle.search_sets.specs.Masks.{SetsKept}
+use Rattle.search_sets.specs.Private.Masks.{SetsKept}
 use Rattle.search_sets.proofs.MaskLaws.{kept-trans}
 use Rattle.engine.proofs.search.LiveRows.{rows-live, a-row-dead}
 use borrow.Author.Needs.{needs}

@@ -3,7 +3,7 @@ use Prim.Native.Nat.{ℕ, _≤_, _<_, _-_}
 use mathlib.Core.Path.{_≡_, refl, sym, _∙_}
 use mathlib.Core.Bool.{false}
 use Rattle.formula.specs.Formula.{max-unknowns}
-use Rattle.search_sets.specs.Masks.{set-at}
+use Rattle.search_sets.specs.Private.Masks.{set-at}
 use Rattle.expansion.proofs.Booleans.{never-both}
 use Rattle.engine.proofs.search.HeldSteps.{has-at, none-more}
 use native.Mathlib.Omega.{arith}

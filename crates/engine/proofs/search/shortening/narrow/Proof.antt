@@ -4,8 +4,8 @@ use mathlib.Core.Path.{_≡_, refl, sym, _∙_}
 use mathlib.Core.Bool.{true}
 use lib.ListN.{length}
 use Rattle.formula.specs.Formula.{max-unknowns}
-use Rattle.codes.specs.Clauses.{Coded}
-use Rattle.search_sets.specs.Masks.{words}
+use Rattle.codes.specs.Private.Clauses.{Coded}
+use Rattle.search_sets.specs.Private.Masks.{words}
 use Rattle.engine.specs.Private.Reasons.{IsReason}
 use Rattle.expansion.proofs.Booleans.{never-both}
 use Rattle.engine.proofs.search.HeldSteps.{reason-later}

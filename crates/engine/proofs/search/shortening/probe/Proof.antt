@@ -3,7 +3,7 @@ use Prim.Native.Nat.{ℕ}
 use mathlib.Core.Path.{_≡_, refl}
 use lib.ListN.{length}
 use Rattle.formula.specs.Formula.{max-unknowns}
-use Rattle.codes.specs.Clauses.{Coded}
+use Rattle.codes.specs.Private.Clauses.{Coded}
 use Rattle.engine.specs.Private.Held.{Moved}
 use Rattle.expansion.proofs.Booleans.{never-both}
 use Rattle.engine.proofs.search.HeldSteps.{moved-same, ends}

@@ -6,7 +6,7 @@ use mathlib.Core.Path.{refl, sym, _∙_}
 use mathlib.Core.Bool.{false}
 use lib.ListN.{length}
 use Rattle.formula.specs.Formula.{max-unknowns}
-use Rattle.search_sets.specs.Masks.{cut}
+use Rattle.search_sets.specs.Private.Masks.{cut}
 use Rattle.engine.proofs.search.CallLaws.{unites-words, fills-kept, fills, grows, adds, trims, excuses, has-at, parts, parts-there, stands, sets-rows, opens-rows}
 use Rattle.engine.proofs.search.SearchSteps.{tries-refuted, tries-ruled-out, tries-searched, chooses-first, chooses-without, chooses-retried, chooses-second, chooses-last, chooses-neither, splits-first, splits-second, steps-reached, steps-split, steps-choose, searches-won, searches-failed}
 use Rattle.engine.proofs.search.SolveLaws.{in-order, first-part, second-part, part-fits}

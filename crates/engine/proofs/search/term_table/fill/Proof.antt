@@ -2,7 +2,7 @@
 use Rattle.engine.specs.Private.TermTables.{row-words}
 use Rattle.engine.proofs.search.OpenLaws.{filled-none, filled-more}
 use Rattle.engine.specs.Private.TermSteps.{Filled}
-use Rattle.codes.specs.Clauses.{Coded}
+use Rattle.codes.specs.Private.Clauses.{Coded}
 use lib.ListN.{length}
 use mathlib.Core.Path.{_≡_, subst}
 use native.Mathlib.Omega.{arith}

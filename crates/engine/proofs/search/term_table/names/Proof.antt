@@ -1,7 +1,7 @@
 -- `search_terms::names` meets its contract. The invariant: a code in the rest is one in the clause. Assumes nothing.
 use Rattle.engine.proofs.search.ClauseLaws.{some-later, some-here}
 use Rattle.expansion.proofs.ClauseCuts.{Some}
-use Rattle.codes.specs.Clauses.{clause-of}
+use Rattle.codes.specs.Private.Clauses.{clause-of}
 use lib.ListN.{drop, length}
 use Rattle.expansion.proofs.Booleans.{never-both}
 use mathlib.Core.Path.{_≡_, refl}

@@ -2,7 +2,7 @@
 use Rattle.engine.proofs.search.ClauseLaws.{every-later, every-end, every-past}
 use Rattle.engine.specs.Private.Terms.{own, OwnWithin}
 use Rattle.expansion.proofs.ClauseCuts.{Some, Every}
-use Rattle.codes.specs.Clauses.{clause-of}
+use Rattle.codes.specs.Private.Clauses.{clause-of}
 use lib.ListN.{drop, length}
 use mathlib.Core.Bool.{true}
 use Rattle.expansion.proofs.Booleans.{never-both}

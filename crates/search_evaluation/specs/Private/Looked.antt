@@ -9,7 +9,7 @@ use lib.ListN.{drop}
 use Rattle.formula.specs.Formula.{max-unknowns}
 use Rattle.formula.specs.Lists.{Every, Some}
 use Rattle.search_cells.specs.Cells.{cells}
-use Rattle.codes.specs.Clauses.{position, code-true, clause-of, HasEnd}
+use Rattle.codes.specs.Private.Clauses.{position, code-true, clause-of, HasEnd}
 
 -- The code's cell is set in row i, and its literal is y there.
 pub record IsAt (w : List ℕ) (i : ℕ) (y : Bool) (c : ℕ) : Type 0 where

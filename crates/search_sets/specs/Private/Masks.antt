@@ -11,7 +11,7 @@ use Rattle.formula.specs.Formula.{max-unknowns}
 use Rattle.preference.specs.Preference.{odd}
 use Rattle.expansion.specs.Private.Problem.{Mask}
 use Rattle.formula.specs.Lists.{Every}
-use Rattle.codes.specs.Clauses.{position}
+use Rattle.codes.specs.Private.Clauses.{position}
 
 -- The set that two words make.
 unfoldable pub words : ℕ → ℕ → Mask

@@ -2,7 +2,7 @@
 use Prim.Native.Nat.{ℕ, _<_}
 use mathlib.Core.List.{List}
 use Rattle.rounds.specs.Run.{Outcome}
-use Rattle.certificate.specs.Steps.{Ran}
+use Rattle.certificate.specs.Private.Steps.{Ran}
 use Rattle.study.specs.declared.Studied.{Studied}
 use Rattle.study.specs.Study.{max-settings}
 
