@@ -14,7 +14,8 @@ pub record Node (P : Problem) (k lo hi : ℕ) (v : ℕ → Bool) (T : Cells) (M 
   pub agree : (i h : ℕ) → lo ≤ i → i < hi → lo ≤ h → h < hi → Agree P i h k
   pub past : (i j : ℕ) → lo ≤ i → i < hi → j < k → (0 < T .level i j) × (T .value i j ≡ v j)
   pub given : (i j : ℕ) → lo ≤ i → i < hi → j < P .n → P .own j ≡ false → (0 < T .level i j) × (T .value i j ≡ P .given i j)
-  pub alike : (i h j : ℕ) → lo ≤ i → i < hi → lo ≤ h → h < hi → j < P .n → P .own j ≡ true → Agree P i h j → 0 < T .level i j → (0 < T .level h j) × (T .value h j ≡ T .value i j)
+  pub alike : (i h j : ℕ) → lo ≤ i → i < hi → lo ≤ h → h < hi → j < P .n → P .own j ≡ true → Agree P i h j
+      → 0 < T .level i j → (0 < T .level h j) × (T .value h j ≡ T .value i j)
   pub implied : (i j : ℕ) → lo ≤ i → i < hi → j < P .n → 0 < T .level i j → Implied P k v (M j) i j (T .value i j)
   pub levels : (i j : ℕ) → lo ≤ i → i < hi → T .level i j ≤ k + 1
 
@@ -23,9 +24,11 @@ pub record Node (P : Problem) (k lo hi : ℕ) (v : ℕ → Bool) (T : Cells) (M 
 pub record Won (P : Problem) (k lo hi : ℕ) (T : Cells) : Type 0 where
   pub complete : (i j : ℕ) → lo ≤ i → i < hi → j < P .n → 0 < T .level i j
   pub given : (i j : ℕ) → lo ≤ i → i < hi → j < P .n → P .own j ≡ false → T .value i j ≡ P .given i j
-  pub alike : (i h j : ℕ) → lo ≤ i → i < hi → lo ≤ h → h < hi → j < P .n → P .own j ≡ true → Agree P i h j → T .value h j ≡ T .value i j
+  pub alike : (i h j : ℕ) → lo ≤ i → i < hi → lo ≤ h → h < hi → j < P .n → P .own j ≡ true → Agree P i h j
+      → T .value h j ≡ T .value i j
   pub reaches : (i : ℕ) → lo ≤ i → i < hi → P .goal (T .value i) ≡ true
-  pub leads : (m : Values) → Model P m → (i j : ℕ) → lo ≤ i → i < hi → k ≤ j → j < P .n → P .own j ≡ true → SameBelow j (m i) (T .value i) → (m i j ≡ T .value i j) ⊎ (T .value i j ≡ P .wanted i j)
+  pub leads : (m : Values) → Model P m → (i j : ℕ) → lo ≤ i → i < hi → k ≤ j → j < P .n → P .own j ≡ true
+      → SameBelow j (m i) (T .value i) → (m i j ≡ T .value i j) ⊎ (T .value i j ≡ P .wanted i j)
 
 -- Two cells say the same: the same level and, where they are set, the same value.
 abbrev pub SameCell : Cells → Cells → ℕ → ℕ → Type 0
