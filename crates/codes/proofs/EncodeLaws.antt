@@ -362,11 +362,5 @@ all-made literals codes written cleared end accept counted is sized made =
     )
 
 module _ (literals : List ℤ) (codes : List ℕ) (accept : refused literals (length codes) ≡ false) where
-  pub used-length : used literals (length codes) ≤ length literals
-  used-length = rw accept (encoding-length literals)
-
   pub used-part : take (used literals (length codes)) (filled literals codes) ≡ encoding literals
   used-part = rw accept (take-at (encoding literals) (replicate (length codes - length (encoding literals)) 0) (length (encoding literals)) refl)
-
-  pub filled-encoded : ended literals ≡ true → Encoded literals (take (used literals (length codes)) (filled literals codes))
-  filled-encoded end = rw used-part (encoding-encoded literals end)

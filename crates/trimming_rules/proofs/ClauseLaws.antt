@@ -223,10 +223,6 @@ pub in-matrix : (vs : List Bool) (cs : List Clause) → ((c : Clause) → In c c
 in-matrix vs [] f = refl
 in-matrix vs (c ∷ cs) f = rw (f c (inl refl), in-matrix vs cs (λ d i. f d (inr i)))
 
-not-true : (b : Bool) → b ≡ false → not b ≡ true
-not-true true e = absurd (true≢false e)
-not-true false e = refl
-
 not-is-true : (b : Bool) → not b ≡ true → b ≡ false
 not-is-true true e = absurd (false≢true e)
 not-is-true false e = refl

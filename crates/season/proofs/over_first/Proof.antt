@@ -159,9 +159,6 @@ module _ {M : Type 1} (𝓤 : URA M) (H : Heap 𝓤) (A : Atoms 𝓤) (W : Given
   abbrev x : ℕ → GName → RefT (List Study)
   x l γ = record { ptr = (l, 0); name = γ; now = take n xs }
 
-  abbrev lent : ℕ → Vals summarize.signature (0 ∷ [], tt)
-  lent l = (sliceVal (l, 0) (length (take n xs)) ∷ [], tt)
-
   abbrev to : ℕ → ℕ → GName → Summarize 𝓤 H A mem run .Ghost
   to α l γ = (((α ∷ [], tt), (fullShare, tt), tt, (x l γ, tt), (sliceVal (l, 0) (length (take n xs)) ∷ [], tt)), tt)
 
