@@ -214,7 +214,8 @@ watch_build() { # CRATES
 }
 
 # How many crates are proved, the time, and about how long the others take. A crate counts as soon as rt leaves the word for it, since what rt prints
-# comes in lots. While it finds crates unchanged, nothing is said of the rest. The pace is that of the bytes proved so far; at first, while much is begun and little has ended, the usual one weighs more.
+# comes in lots. While it finds crates unchanged, nothing is said of the rest. The pace is that of the bytes proved so far; at first, while much is
+# begun and little has ended, the usual one weighs more.
 progress() { # CRATES
     awk -v folder="$root/target/log" -v seconds="$SECONDS" -v processors="$(nproc)" -v usual="$PACE" '
         function first_line(file,    line) {
