@@ -214,7 +214,8 @@ watch_build() { # CRATES
 }
 
 # How many crates are proved, the time, and about how long the others take. A crate counts as soon as rt leaves the word for it, since what rt prints
-# comes in lots. Before it has looked which are unchanged, nothing is said of the rest. The pace is that of the bytes proved so far; at first, while much is begun and little has ended, the usual one weighs more.
+# comes in lots. While it finds crates unchanged, nothing is said of the rest. The pace is that of the bytes proved so far; at first, while much is
+# begun and little has ended, the usual one weighs more.
 progress() { # CRATES
     awk -v folder="$root/target/log" -v seconds="$SECONDS" -v processors="$(nproc)" -v usual="$PACE" '
         function first_line(file,    line) {
@@ -229,7 +230,7 @@ progress() { # CRATES
             if (processors > 4) processors = 4 # crates wait for each other
             pace = (120 * usual * processors + done) / (120 + seconds)
             minutes = int(left / pace / 60 + 1)
-            about = !left || seconds < 3 ? "" : minutes == 1 ? ", about a minute left" : ", about " minutes " minutes left"
+            about = !left || (!done && seconds < 10) ? "" : minutes == 1 ? ", about a minute left" : ", about " minutes " minutes left"
             print proved + 0 " of " NR " crates proved, " seconds " s" about
         }' <<<"$1"
 }
