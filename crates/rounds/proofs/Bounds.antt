@@ -9,7 +9,8 @@ use Rattle.expansion.specs.Play.{Row}
 use Rattle.expansion.proofs.Membership.{In}
 use Rattle.rounds.specs.Run.{rows, spent, Lent, run}
 use Rattle.rounds.specs.Claim.{table}
-use Rattle.rounds.proofs.GrowthLaws.{room, length-at-most}
+use Rattle.rounds.specs.GivenUp.{room}
+use Rattle.rounds.proofs.GrowthLaws.{length-at-most}
 use Rattle.rounds.proofs.RunLaws.{run-reached}
 
 module _ (l : Lent) (limit : ℕ) where

@@ -7,7 +7,7 @@ use Prim.Native.Nat.{ℕ, zero, suc, _+_, _*_, _/_, _%_, _^_, _≤_, _<_, min, z
 use native.Mathlib.Nat.{le-of-suc-le-suc, not-suc-le-zero}
 use native.Mathlib.Decide.{decLt}
 use native.Mathlib.Omega.{arith}
-use lib.ListN.{length, getD, take, drop, length-drop}
+use lib.ListN.{length, getD, take, drop, length-drop, length-append}
 use lib.Seq.{getD-take, getD-drop, drop-drop, take-at, drop-at, length-take-le}
 use borrow.Author.Tests.{le-leb, lt-leb}
 use Rattle.preference.specs.Preference.{odd}
@@ -83,7 +83,14 @@ rows-of-next m n t h = go n t ∙ ap (λ (b : List ℕ). rows-of m n t ++ (row-o
         ap (λ (l : List (List Bool)). row-of m (take 16 t) ∷ l)
         (go n (drop 16 t) ∙ ap (λ (l : List ℕ). rows-of m n (drop 16 t) ++ (row-of m (take 16 l) ∷ [])) (drop-row t n))
 
--- The table that holds just some rows holds those rows.
+-- The table that holds just some rows is sixteen bytes a row, and holds those rows.
+pub length-table-of : (rows : List (List Bool)) → length (table-of rows) ≡ 16 * length rows
+length-table-of [] = refl
+length-table-of (r ∷ rows) =
+    let later = length-table-of rows in
+    let first = length-bytes-of r in
+    omega (arith, length-append (bytes-of r) (table-of rows))
+
 pub rows-of-table-of : (m : ℕ) (rows : List (List Bool)) → m ≤ row-bits → ((i : ℕ) → i < length rows → length (getD rows i []) ≡ m)
     → rows-of m (length rows) (table-of rows) ≡ rows
 rows-of-table-of m [] h wide = refl
