@@ -130,7 +130,8 @@ module _ (l : Lent) (part : Part) where
 
   -- Nothing was zeroed behind the existential rows.
   behind : (side : Kind) (r : ℕ) (found : List ℕ)
-      → drop (length (cells part l side r)) (zeroed (most side r) found) ≡ drop (length (cells part l side r)) (zeroed (width part * reached-over side l r) found)
+      → drop (length (cells part l side r)) (zeroed (most side r) found)
+      ≡ drop (length (cells part l side r)) (zeroed (width part * reached-over side l r) found)
   behind universal r found = refl
   behind existential r found =
       let n = length (cells part l existential r) in

@@ -39,7 +39,7 @@ stored-after standing (suc r) found = stored (standing (suc r)) (length (standin
 abbrev pub left-after : Part → Lent → Kind → ℕ → List ℕ → List ℕ
 left-after part l side r found = stored-after (cells part l side) r found
 
--- The places that are zero or written once the rounds up to r are made: the existential table gives none up.
+-- The places that the rounds up to r have reached over: past the count they were given up. The existential table gives none up.
 abbrev pub reached-over : Kind → Lent → ℕ → ℕ
 reached-over universal l r = highest l r
 reached-over existential l r = 0
