@@ -34,7 +34,7 @@ extern "C" {
 #define VULZHENN_TEXT 65536
 
 /* The bytes of stack that a call needs at most, rounded up: a thread that calls has this much left. */
-#define VULZHENN_STACK 311296
+#define VULZHENN_STACK 262144
 
 /* Answers. Undecided is said of the run, not of the formula: another run may settle it with fewer rows, as those of vulzhenn_study. */
 #define VULZHENN_FALSE 0

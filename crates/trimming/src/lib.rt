@@ -55,10 +55,32 @@ pub fn trim(kinds: &[u8], literals: &[i32], output: &mut [i32]) -> Trimmed
             if output.len() < literals.len() {
                 return Trimmed::Refused(15);
             }
-            let mut table = [0u16; Formula::ENTRIES];
-            Trimmed::Entries(over_table(kinds, literals, output, &mut table))
+            Trimmed::Entries(over_output(kinds, literals, output))
         }
     }
+}
+
+// Over as much of the output as there are literals. For that it calls itself, because the compiler then leaves it, and the tables below, out of its
+// caller: 50,000 bytes are on the stack only while it trims. As part of `study` they would stand there through every run.
+fn over_output(kinds: &[u8], literals: &[i32], output: &mut [i32]) -> usize
+    requires { ⌜ AcceptedFormula (now kinds) (now literals) × (length (now literals) ≤ length (now output)) ⌝ }
+    ensures { λ r. ⌜ r ≡ length (trimmed (now (kinds .entry)) (now (literals .entry))) ⌝ }
+    ensures { λ r. ⌜ now (output .exit) ≡ trimmed (now (kinds .entry)) (now (literals .entry)) ++ drop r (now (output .entry)) ⌝ }
+{
+    let entries = literals.len();
+    if entries < output.len() {
+        return over_output(kinds, literals, &mut output[..entries]);
+    }
+    with_table(kinds, literals, output)
+}
+
+fn with_table(kinds: &[u8], literals: &[i32], output: &mut [i32]) -> usize
+    requires { ⌜ AcceptedFormula (now kinds) (now literals) × (length (now literals) ≤ length (now output)) ⌝ }
+    ensures { λ r. ⌜ r ≡ length (trimmed (now (kinds .entry)) (now (literals .entry))) ⌝ }
+    ensures { λ r. ⌜ now (output .exit) ≡ trimmed (now (kinds .entry)) (now (literals .entry)) ++ drop r (now (output .entry)) ⌝ }
+{
+    let mut table = [0u16; Formula::ENTRIES];
+    over_table(kinds, literals, output, &mut table)
 }
 
 // As much of the table as there are literals.
