@@ -12,13 +12,13 @@ use Rattle.formula.specs.Formula.{max-unknowns, max-entries, work-size}
 use Rattle.rounds.specs.Run.{Answer as RunAnswer, is-false, number}
 use Rattle.engine.specs.declared.run.Answer.{Answer}
 use Rattle.engine.specs.declared.run.Answer.the-variants.{False, True, Spent, NoRoomUniversal, NoRoomExistential, Refused}
-use Rattle.engine.specs.Outcome.{given, cause as run-cause}
+use Rattle.engine.specs.Outcome.{given, refusal, cause as run-cause}
 use Rattle.engine.specs.Numbers.{one-number}
 use Rattle.text.specs.Reading.{Read, Result, taken, refused, text-read}
 use Rattle.text.proofs.TextLaws.{Results, Passes, read-passes}
 use Rattle.text.proofs.FrontLaws.{Front}
 use Rattle.study.specs.declared.Studied.{Studied}
-use Rattle.study.specs.Study.{list-cause, cause, studied}
+use Rattle.study.specs.Study.{settings-of, list-cause, cause, ending, in-turn, studied}
 use Rattle.study.proofs.StudyRight.{study-right}
 use Rattle.study_answer.specs.House.{house-list, own-areas, house-study, Decided}
 use Rattle.study_answer.proofs.HouseLaws.{list-fine, cause-left}
@@ -50,7 +50,9 @@ module _ (kinds : List ℕ) (literals : List ℤ) (work : List ℕ) where
 
   refused-area : eqb (cause kinds literals house-list (own-areas work)) 0 ≡ false → study-left kinds literals work ≡ work
   unfolding studied
-  refused-area e = rw e refl
+  refused-area e =
+      ap (λ (b : Bool).
+      cond b (in-turn kinds literals (settings-of house-list) 0 (own-areas work)) (ending (refusal (cause kinds literals house-list (own-areas work))) 0 (own-areas work)) .areas-left .work) e
 
   pub number-fits : {r : Studied} {work′ : List ℕ} → Decided kinds literals work r work′ → one-number (r .outcome .answer) ≤ 116
   number-fits {r} d = go (eqb (cause kinds literals house-list (own-areas work)) 0) refl

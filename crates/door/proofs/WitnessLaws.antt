@@ -49,9 +49,9 @@ module _ (work : List ℕ) where
   said-zero : {n : ℕ} → n ≤ 1 → Said work n (replicate work-size 0)
   said-zero small = record { known = inl (omega arith); zero-after = λ _. refl; as-found = λ large. absurd (omega arith) }
 
-  choose : (b : Bool) {x y : Found} → SaidOf work x → SaidOf work y → SaidOf work (cond b x y)
-  choose true on-x on-y = on-x
-  choose false on-x on-y = on-y
+  choose : (b : Bool) (x y : Found) → SaidOf work x → SaidOf work y → SaidOf work (cond b x y)
+  choose true x y on-x on-y = on-x
+  choose false x y on-x on-y = on-y
 
   -- The judge's number and area, by its tests in order and what is borne out.
   by-tests : (claim : ℕ) (a b c d e : Bool) → let k : ℕ = cond a 4 (cond b 5 (cond c 7 (cond d 8 0))) in
@@ -84,23 +84,27 @@ module _ (work : List ℕ) where
     said-record : (clauses : ℕ) (r : Record) → SaidOf work (on-record kinds literals clauses f r work)
     unfolding on-record
     said-record clauses r =
-        choose (of-another r (length kinds) clauses) (said-left (inl (omega arith)) (omega arith))
-        (choose (stands 0 (r .map)) (said-claim (r .claim)) (said-left (inr (inr (inr (inl refl)))) (omega arith)))
+        let claimed = on-claim kinds literals f (r .claim) work in
+        let unclaimed = unjudged (Refused 7 0) work in
+        choose (of-another r (length kinds) clauses) (unjudged OtherFormula work) (cond (stands 0 (r .map)) claimed unclaimed)
+        (said-left (inl (omega arith)) (omega arith))
+        (choose (stands 0 (r .map)) claimed unclaimed (said-claim (r .claim)) (said-left (inr (inr (inr (inl refl)))) (omega arith)))
 
     -- The file's causes, by their tests in order.
-    by-file : (a b c d e : Bool) {x : Found} → SaidOf work x → let k : ℕ = cond a 18 (cond b 17 (cond c (cond d 7 (cond e 4 0)) 18)) in
+    by-file : (a b c d e : Bool) (x : Found) → SaidOf work x → let k : ℕ = cond a 18 (cond b 17 (cond c (cond d 7 (cond e 4 0)) 18)) in
         SaidOf work (cond (eqb k 0) x (unjudged (Refused k 0) work))
-    by-file true b c d e on-x = said-left (inr (inr (inr (inr (inr (inr (inl refl))))))) (omega arith)
-    by-file false true c d e on-x = said-left (inr (inr (inr (inr (inr (inl refl)))))) (omega arith)
-    by-file false false false d e on-x = said-left (inr (inr (inr (inr (inr (inr (inl refl))))))) (omega arith)
-    by-file false false true true e on-x = said-left (inr (inr (inr (inl refl)))) (omega arith)
-    by-file false false true false true on-x = said-left (inr (inl refl)) (omega arith)
-    by-file false false true false false on-x = on-x
+    by-file true b c d e x on-x = said-left (inr (inr (inr (inr (inr (inr (inl refl))))))) (omega arith)
+    by-file false true c d e x on-x = said-left (inr (inr (inr (inr (inr (inl refl)))))) (omega arith)
+    by-file false false false d e x on-x = said-left (inr (inr (inr (inr (inr (inr (inl refl))))))) (omega arith)
+    by-file false false true true e x on-x = said-left (inr (inr (inr (inl refl)))) (omega arith)
+    by-file false false true false true x on-x = said-left (inr (inl refl)) (omega arith)
+    by-file false false true false false x on-x = on-x
 
     said-formula : (clauses : ℕ) → SaidOf work (on-formula kinds literals clauses f work)
     unfolding on-formula file-cause
     said-formula clauses =
-        by-file (eqb (length f) 0) (ltb 31 (getD f 0 0)) (eqb (length f) (end-of f)) (bad-claim (record-of f)) (bad-counts (record-of f)) (said-record clauses (record-of f))
+        by-file (eqb (length f) 0) (ltb 31 (getD f 0 0)) (eqb (length f) (end-of f)) (bad-claim (record-of f)) (bad-counts (record-of f))
+        (on-record kinds literals clauses f (record-of f) work) (said-record clauses (record-of f))
 
 module _ (text f work : List ℕ) (right : FindingRight text f work) where
   verdict-by : (x : Finding) → finding text f work ≡ x → number-of x ≡ 1 → IsVerdict (record-of f .claim) (text-read text)

@@ -19,8 +19,8 @@ same-length-2 c = search needs
 returns : tie.Need-returns
 unfolding printed printed-as read
 returns c =
-    let given = @args in
-    (@within-as .ensures, answer-right (offered (given .area .now) (given .length)))
+    let given = c .before .before .before .before .before .before .before .before .before .args in
+    (c .before .before .before .before .within-as .ensures, answer-right (offered (given .area .now) (given .length)))
 
 pub answer-within-spec : {M : Type 1} → statement M
 answer-within-spec =

@@ -9,7 +9,7 @@ use Rattle.answer.proofs.within_as.Tie as tie
 
 returns : tie.Need-returns
 returns c =
-    let given = @args in
+    let given = c .before .before .before .args in
     short-puts (given .area .now) _ _ (given .out .now) (c .if1 .taken)
 
 refusal-requires : tie.Need-refusal-requires
@@ -18,19 +18,16 @@ refusal-requires c κs = search needs
 same-length : tie.Need-same-length
 same-length c = search needs
 
-same-length-2 : tie.Need-same-length-2
-same-length-2 c = search needs
-
 returns-2 : tie.Need-returns-2
 returns-2 c =
-    let given = @args in
-    past-puts (given .area .now) (given .gates) (given .length) (@if1 .left) (@if2 .taken) (@refusal .ensures .0) (@refusal .ensures .1)
+    let given = c .before .before .before .before .before .before .before .before .args in
+    past-puts (given .area .now) (given .gates) (given .length) (c .before .before .before .before .before .if1 .left) (c .before .before .before .before .if2 .taken) (c .before .before .refusal .ensures .0) (c .before .before .refusal .ensures .1)
 
 slice-reshare-prefix-read-as : tie.Need-slice-reshare-prefix-read-as
-slice-reshare-prefix-read-as c = @if2 .left
+slice-reshare-prefix-read-as c = c .if2 .left
 
 slice-aggregate-read-as : tie.Need-slice-aggregate-read-as
-slice-aggregate-read-as c = sym (length-take-le _ _ (@if2 .left))
+slice-aggregate-read-as c = sym (length-take-le _ _ (c .before .if2 .left))
 
 slice-aggregate-read-as-2 : tie.Need-slice-aggregate-read-as-2
 slice-aggregate-read-as-2 c = search needs
@@ -51,26 +48,26 @@ slice-aggregate-put-lines-2 : tie.Need-slice-aggregate-put-lines-2
 slice-aggregate-put-lines-2 c = search needs
 
 slice-relend-prefix-put-lines : tie.Need-slice-relend-prefix-put-lines
-slice-relend-prefix-put-lines c = @if1 .left
+slice-relend-prefix-put-lines c = c .before .before .before .before .before .before .before .before .before .before .before .if1 .left
 
 slice-aggregate-put-lines-3 : tie.Need-slice-aggregate-put-lines-3
-slice-aggregate-put-lines-3 c = sym (length-take-le work-size (@args .area .now) (@if1 .left))
+slice-aggregate-put-lines-3 c = sym (length-take-le work-size (c .before .before .before .before .before .before .before .before .before .before .before .before .before .before .before .args .area .now) (c .before .before .before .before .before .before .before .before .before .before .before .before .if1 .left))
 
 put-lines-requires : tie.Need-put-lines-requires
 put-lines-requires c κs =
-    let given = @args in
-    (reading-usable (given .gates) _ (@read-as .ensures), length-take-le work-size (given .area .now) (@if1 .left))
+    let given = c .before .before .before .before .before .before .before .before .before .before .before .before .before .before .before .before .args in
+    (reading-usable (given .gates) _ (c .before .before .before .before .before .before .before .read-as .ensures), length-take-le work-size (given .area .now) (c .before .before .before .before .before .before .before .before .before .before .before .before .before .if1 .left))
+
+same-length-2 : tie.Need-same-length-2
+same-length-2 c = search needs
 
 same-length-3 : tie.Need-same-length-3
 same-length-3 c = search needs
 
-same-length-4 : tie.Need-same-length-4
-same-length-4 c = search needs
-
 returns-3 : tie.Need-returns-3
 returns-3 c =
-    let given = @args in
-    within-puts (given .area .now) (given .gates) (given .length) (@if1 .left) (@if2 .left) (@read-as .ensures) (@put-lines .ensures)
+    let given = c .before .before .before .before .before .before .before .before .before .before .before .before .before .before .before .before .before .before .before .before .before .args in
+    within-puts (given .area .now) (given .gates) (given .length) (c .before .before .before .before .before .before .before .before .before .before .before .before .before .before .before .before .before .before .if1 .left) (c .before .before .before .before .before .before .before .before .before .before .before .before .before .before .before .before .before .if2 .left) (c .before .before .before .before .before .before .before .before .before .before .before .before .read-as .ensures) (c .before .before .before .before .put-lines .ensures)
 
 pub within-as-spec : {M : Type 1} → statement M
 within-as-spec =
@@ -79,7 +76,6 @@ within-as-spec =
     returns
     refusal-requires
     same-length
-    same-length-2
     returns-2
     slice-reshare-prefix-read-as
     slice-aggregate-read-as
@@ -92,6 +88,6 @@ within-as-spec =
     slice-relend-prefix-put-lines
     slice-aggregate-put-lines-3
     put-lines-requires
+    same-length-2
     same-length-3
-    same-length-4
     returns-3)
