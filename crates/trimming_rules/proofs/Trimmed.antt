@@ -35,7 +35,7 @@ clauses-entries n [] within = refl
 clauses-entries n (c ∷ cs) within = clauses-clause n c (entries cs) (within .0) ∙ ap (λ x. c ∷ x) (clauses-entries n cs (within .1))
 
 -- A clause that is not the last has its end, so a literal goes in front of one.
-abbrev Started : List Clause → Type 0
+abbrev pub Started : List Clause → Type 0
 Started cs = 0 < length cs
 
 size-onto : (z : ℤ) (cs : List Clause) → Started cs → size (onto z cs) ≡ suc (size cs)
@@ -53,7 +53,7 @@ started-onto z (c ∷ cs) = omega arith
 pub ended-behind : (z y : ℤ) (zs : List ℤ) → ended (z ∷ y ∷ zs) ≡ ended (y ∷ zs)
 ended-behind z y zs = simp sub-one
 
-started : (z : ℤ) (zs : List ℤ) → Started (clauses (z ∷ zs))
+pub started : (z : ℤ) (zs : List ℤ) → Started (clauses (z ∷ zs))
 started (pos zero) zs = omega arith
 started (pos (suc v)) zs = started-onto (pos (suc v)) (clauses zs)
 started (negsuc v) zs = started-onto (negsuc v) (clauses zs)
