@@ -13,6 +13,7 @@ use Rattle.formula.specs.Meaning.{matrix}
 use Rattle.formula.specs.Causes.{checked, sizes}
 use Rattle.formula.specs.declared.Check.the-variants as Check
 use Rattle.rows.specs.Table.{table-of, room}
+use Rattle.rows.proofs.TableLaws.{length-table-of}
 use Rattle.expansion.specs.Judge.{accepted}
 use Rattle.judge.specs.declared.Judgement.the-variants as Judgement
 use Rattle.judge.specs.Judge.{width, outcome}
@@ -22,7 +23,7 @@ use Rattle.rounds.proofs.RunLaws.{run-reached}
 use Rattle.engine.specs.declared.run.Outcome.{Outcome as Returned}
 use Rattle.engine.specs.Outcome.{number-of, reported, row-bytes}
 use Rattle.engine.proofs.run.OutcomeLaws.{number-named}
-use Rattle.engine.proofs.run.ByteLaws.{Wide, length-table-of}
+use Rattle.engine.proofs.run.ByteLaws.{Wide}
 use Rattle.engine.proofs.run.GrowingLaws.{wide-of-sized}
 use Rattle.witness.specs.declared.Record.{Record}
 use Rattle.witness.specs.File.{made, file, size, write-cause}

@@ -8,6 +8,7 @@ pub mod LoopLaws
 pub mod TableClaim
 pub mod CountingLaws
 pub mod RoundCounts
+pub mod ByRounds
 pub mod OpeningLaws
 pub mod MemoryLaws
 pub mod OutcomeLaws

@@ -16,7 +16,7 @@ use Rattle.rounds.specs.Opening.{set-to, Opens}
 use Rattle.rounds.specs.Counts.{counts, CountsRight}
 use Rattle.engine.specs.declared.run.Answer.the-variants.{False, True}
 use Rattle.engine.specs.declared.run.Outcome.{Outcome}
-use Rattle.engine.specs.Outcome.{Areas, Given, lent, cause, accepted, reached, number-of, returned, written, after, left}
+use Rattle.engine.specs.Outcome.{Areas, Given, lent, cause, accepted, reached, number-of, returned, written, after, after-by-rounds, left}
 
 -- A side's rows, marks, return counts, and the count of its rows.
 abbrev pub row-part : Kind → Areas → List ℕ
@@ -64,6 +64,8 @@ pub record Ended (g : Given) (r : Outcome) (exit : Areas) : Type 0 where
   pub returned-so : r ≡ returned g
   pub numbered : number-of (r .answer) ≡ cond (accepted g) (number (reached g .answer)) (cause g)
   pub left-so : exit ≡ left g
+  -- 'Rows and marks of places given up (below the old count, not the new) are zeroed; the others past the count stay as found': round by round.
+  pub by-rounds : accepted g ≡ true → exit ≡ after-by-rounds g (g .limit)
   -- Demand 1 word for word where the universal table is never cleared: 'rows and marks past the reported counts .. as found'.
   pub as-found : accepted g ≡ true → g .clear-every ≡ 0 → exit ≡ written (lent g) (g .limit) (g .found)
   -- 'The verdict is this value of the whole formula': true only where it is true, false only where it is false.

@@ -14,6 +14,7 @@ use Rattle.rows.specs.Table.{table-of, room, table-fits, one-a-row, zeroed}
 use Rattle.rounds.specs.Run.{Entry, Table, rows, Lent, run, highest, is-false, is-true, spent, no-room-universal, no-room-existential, Answer as RunAnswer, Outcome as RunOutcome}
 use Rattle.rounds.specs.Opening.{opening, opening-length}
 use Rattle.rounds.specs.Counts.{counts}
+use Rattle.rounds.specs.GivenUp.{of-rows, of-marks, of-counts, left-after}
 use Rattle.engine.specs.declared.run.Answer.{Answer}
 use Rattle.engine.specs.declared.run.Answer.the-variants.{False, True, Spent, NoRoomUniversal, NoRoomExistential, Refused}
 use Rattle.engine.specs.declared.run.Outcome.{Outcome}
@@ -158,6 +159,18 @@ given-up n found =
 -- What the rounds up to r leave.
 abbrev pub after : Given → ℕ → Areas
 after g r = written (lent g) r (given-up (highest (lent g) r) (g .found))
+
+-- The same in 02's own words, one round after the other: what a round finds below the old count and not the new becomes zero, and all behind it stays.
+abbrev pub after-by-rounds : Given → ℕ → Areas
+after-by-rounds g r =
+    areas
+    (left-after of-rows (lent g) universal r (g .found .universal-rows))
+    (left-after of-marks (lent g) universal r (g .found .universal-marks))
+    (left-after of-counts (lent g) universal r (g .found .universal-counts))
+    (left-after of-rows (lent g) existential r (g .found .existential-rows))
+    (left-after of-marks (lent g) existential r (g .found .existential-marks))
+    (left-after of-counts (lent g) existential r (g .found .existential-counts))
+    (replicate work-size 0)
 
 -- After an answer the areas are as the run leaves them, after a refusal as found.
 unfoldable pub left : Given → Areas

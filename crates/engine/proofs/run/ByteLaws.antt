@@ -13,7 +13,7 @@ use Rattle.rows.specs.Stray.{stray-rows}
 use Rattle.rows.specs.Access.{equal-rows, first-place}
 use Rattle.rows.specs.declared.Found.the-variants.{At, Absent}
 use Rattle.rows.proofs.RowLaws.{IsRow, length-bytes-of, row-of-bytes-of, bytes-of-is-row}
-use Rattle.rows.proofs.TableLaws.{row-at-inside, length-rows-of, getD-rows-of, none-stray-rows}
+use Rattle.rows.proofs.TableLaws.{length-table-of, row-at-inside, length-rows-of, getD-rows-of, none-stray-rows}
 use Rattle.rows.proofs.FindLaws.{equal-rows-true, equal-values-equal-rows, first-place-at, first-place-absent}
 use Rattle.expansion.specs.Play.{Row}
 use Rattle.expansion.proofs.Membership.{In, in-of-place, place-of-in}
@@ -21,13 +21,6 @@ use Rattle.expansion.proofs.Membership.{In, in-of-place, place-of-in}
 -- Rows that have a value for each of m unknowns.
 abbrev pub Wide : ℕ → List Row → Type 0
 Wide m rows = (i : ℕ) → i < length rows → length (getD rows i []) ≡ m
-
-pub length-table-of : (rows : List Row) → length (table-of rows) ≡ 16 * length rows
-length-table-of [] = refl
-length-table-of (r ∷ rows) =
-    let later = length-table-of rows in
-    let first = length-bytes-of r in
-    omega (arith, length-append (bytes-of r) (table-of rows))
 
 pub table-of-append : (rows more : List Row) → table-of (rows ++ more) ≡ table-of rows ++ table-of more
 table-of-append [] more = refl

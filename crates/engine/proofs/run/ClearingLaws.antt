@@ -13,11 +13,11 @@ use Rattle.formula.specs.Formula.{work-size, Kind, existential, universal}
 use Rattle.rows.specs.Table.{table-of, room, zeroed}
 use Rattle.rows.specs.Access.{zeroed-from, places-below, rows-given-up, marks-given-up}
 use Rattle.rows.proofs.ZeroedLaws.{length-zeroed, zeroed-again, drop-zeroed, zeroed-over, given-up-behind}
+use Rattle.rows.proofs.TableLaws.{length-table-of}
 use Rattle.rounds.specs.Run.{Entry, Table, rows, clears}
 use Rattle.engine.specs.declared.run.Step.{Step}
 use Rattle.engine.specs.Outcome.{row-bytes, mark-numbers}
 use Rattle.engine.specs.Private.Growing.{Passes, HoldsRows, Holds, Blank, Half, no-model, no-room, grows, half-of, Extended, Extends, ExtendsUniversal}
-use Rattle.engine.proofs.run.ByteLaws.{length-table-of}
 use Rattle.engine.proofs.run.GrowingLaws.{length-row-bytes, length-mark-numbers}
 use Rattle.engine.proofs.run.ExtendLaws.{table-fits-length}
 

@@ -17,6 +17,7 @@ use Rattle.formula.proofs.Accepted.{accepted}
 use Rattle.preference.specs.Preference.{prefer}
 use Rattle.rows.specs.Table.{table-of, room, table-fits, rows-of}
 use Rattle.rows.specs.Stray.{stray-rows}
+use Rattle.rows.proofs.TableLaws.{length-table-of}
 use Rattle.expansion.specs.OtherSide.{side-of, other}
 use Rattle.expansion.specs.Play.{Row}
 use Rattle.expansion.specs.Copies.{fresh}
@@ -31,7 +32,7 @@ use Rattle.growth.specs.declared.Growth.the-variants.{Grown, NoRoom}
 use Rattle.growth.specs.Growth.{is-new, count-below, all-fit, Bytes, bytes, with-new-rows, growth, grown as grown-bytes}
 use Rattle.engine.specs.Private.Growing.{Passes, is-found, step-of, HoldsRows, Holds, Half, half, half-fit, half-of, Extended}
 use Rattle.rounds.proofs.GrowthLaws.{sized-found}
-use Rattle.engine.proofs.run.ByteLaws.{Wide, length-table-of, rows-of-table, no-stray-rows}
+use Rattle.engine.proofs.run.ByteLaws.{Wide, rows-of-table, no-stray-rows}
 use Rattle.engine.proofs.run.GrowingLaws.{wide-of-sized, sized-of-wide, length-row-bytes, image, counted-fresh, added-image, sized-grown}
 
 -- No side has more unknowns than the formula, nor more than a row has bits.

@@ -17,6 +17,7 @@ use Rattle.rows.specs.Access.{first-place, placed}
 use Rattle.rows.specs.declared.Found.{Found}
 use Rattle.rows.specs.declared.Found.the-variants.{At, Absent}
 use Rattle.rows.proofs.WriteLaws.{rows-written-inside, marks-written-inside}
+use Rattle.rows.proofs.TableLaws.{length-table-of}
 use Rattle.expansion.specs.Play.{Row}
 use Rattle.expansion.specs.Copies.{fresh}
 use Rattle.expansion.proofs.Membership.{In, in-of-place, place-of-in, in-append-cases, in-append-left, fresh-in}
@@ -26,7 +27,7 @@ use Rattle.rounds.specs.Run.{Entry, Table, rows, under-mark, grown}
 use Rattle.engine.specs.Outcome.{row-bytes, mark-numbers}
 use Rattle.growth.specs.Growth.{is-absent, is-new, count-below, Bytes, bytes, with-row, with-new-row, with-new-rows}
 use Rattle.rounds.proofs.TableLaws.{rows-append, rows-grown}
-use Rattle.engine.proofs.run.ByteLaws.{Wide, length-table-of, table-of-append, row-at-table, at-in, absent-not-in}
+use Rattle.engine.proofs.run.ByteLaws.{Wide, table-of-append, row-at-table, at-in, absent-not-in}
 
 pub wide-of-sized : (m : ℕ) (l : List Row) → Sized m l → Wide m l
 wide-of-sized m l sized i h = sized (getD l i []) (in-of-place l i [] h)

@@ -38,6 +38,7 @@ use Rattle.engine.specs.Private.Counting.{CountsShow}
 use Rattle.engine.proofs.run.ClearingLaws.{rows-if-never, marks-if-never}
 use Rattle.engine.proofs.run.TableClaim.{table-right}
 use Rattle.engine.proofs.run.OpeningLaws.{opening-read}
+use Rattle.engine.proofs.run.ByRounds.{left-by-rounds}
 use Rattle.rounds.proofs.Claim.{claim}
 use Rattle.rounds.proofs.Highest.{highest-if-never}
 use Rattle.rounds.proofs.Verdict.{verdict-right}
@@ -70,6 +71,7 @@ refused-so g n r e some-cause is =
       returned-so = value;
       numbered = numbered-so g r value;
       left-so = sym (ap (λ (b : Bool). cond b (after g (g .limit)) (g .found)) not-0);
+      by-rounds = λ yes-0. absurd (true≢false (sym yes-0 ∙ not-0));
       as-found = λ yes-0. absurd (true≢false (sym yes-0 ∙ not-0));
       only-true = λ h. let z : _≡_ {A = ℕ} 0 1 = cc (sym h ∙ ap (λ (o : Outcome). o .answer) is) in absurd (omega arith);
       only-false = λ h. let z : _≡_ {A = ℕ} 0 1 = cc (sym h ∙ ap (λ (o : Outcome). o .answer) is) in absurd (omega arith);
@@ -175,6 +177,7 @@ answered-so g no-cause some-limit end r AR AM AC SR SM SC W W′ shows counted c
       returned-so = value;
       numbered = numbered-so g r value;
       left-so = left-so ∙ sym (ap (λ (b : Bool). cond b (after g (g .limit)) (g .found)) yes-0);
+      by-rounds = λ _. left-so ∙ left-by-rounds g passes no-cause (g .limit);
       as-found = λ _ never. left-so ∙ after-if-never g never;
       only-true = λ h. verdict-right (lent g) (g .limit) .only-true (named-true (reached g .answer) (sym answer-is ∙ h));
       only-false = λ h. verdict-right (lent g) (g .limit) .only-false (named-false (reached g .answer) (sym answer-is ∙ h));

@@ -38,7 +38,7 @@ use Rattle.engine.proofs.run.LoopLaws.{least-bytes, tables-fitting, row
 
 -- ---- the tables that are lent
 
-counts-fitting : (A A-counts S S-counts : List ℕ) → tables-counted A A-counts S S-counts ≡ true → (length A-counts ≡ room A) × (length S-counts ≡ room S)
+pub counts-fitting : (A A-counts S S-counts : List ℕ) → tables-counted A A-counts S S-counts ≡ true → (length A-counts ≡ room A) × (length S-counts ≡ room S)
 unfolding tables-counted
 counts-fitting A A-counts S S-counts e =
     let both = and-eq-true-iff (one-a-row A A-counts) (one-a-row S S-counts) .0 e in

@@ -49,7 +49,7 @@ returns-2 c =
           model-extended (given .kinds .now) literals (given .preferences .now) (given .others .now) (given .other-count) (given .universal) (given .work .now) from from-found passes counted held long
           (given .mark) (given .rows .now) (given .marks .now) (given .count) t found found-marks counted-t held-t
           _ _ (c .before .before .before .before .before .before .before .before .before .before .before .before .finds .ensures .0 literals of led) (c .before .before .before .before .before .before .before .before .before .before .before .before .finds .ensures .1 literals of led) (c .before .before .before .before .before .before .before .before .before .if1 .taken)
-          _ _ _ (c .after-growth .ensures ∙ ap (λ (g : Growth). step-of g (given .count)) (c .before .before .before .before .before .grow .ensures .0)) (c .before .before .before .before .before .grow .ensures .1 .0) (c .before .before .before .before .before .grow .ensures .1 .1),
+          _ _ _ (c .after-growth .ensures ∙ ap (λ (g : Growth). step-of g (given .count)) (c .before .before .before .before .before .grow .ensures .0)) (c .before .before .before .before .before .grow .ensures .1 .0) (c .before .before .before .before .before .grow .ensures .1 .1 .0),
       λ literals of led. packs (given .kinds .now) literals (given .preferences .now) (given .others .now) (given .other-count) (given .universal) (given .work .now) _ (c .before .before .before .before .before .before .before .before .before .before .before .before .finds .ensures .1 literals of led),
     )
 
