@@ -17,11 +17,11 @@ use Rattle.season.specs.SeasonRight.{SeasonRight}
 
 within-places : (places n : ℕ) → length (decimal-within places n) ≤ places
 within-places zero n = omega arith
-within-places (suc places) n = go (ltb n 10) (within-places places (n / 10))
+within-places (suc places) n = go (ltb n 10) (decimal-within places (n / 10)) (within-places places (n / 10))
   where
-    go : (b : Bool) → length (decimal-within places (n / 10)) ≤ places → length (cond b [] (decimal-within places (n / 10)) ++ ((48 + n % 10) ∷ [])) ≤ suc places
-    go true more = omega arith
-    go false more = omega (arith, more, length-append (decimal-within places (n / 10)) ((48 + n % 10) ∷ []))
+    go : (b : Bool) (front : List ℕ) → length front ≤ places → length (cond b [] front ++ ((48 + n % 10) ∷ [])) ≤ suc places
+    go true front more = omega arith
+    go false front more = omega (arith, more, length-append front ((48 + n % 10) ∷ []))
 
 digits : (n : ℕ) → AtMost 20 (decimal n)
 unfolding decimal
@@ -67,10 +67,13 @@ pub season-right : (text : Bytes) → SeasonRight text
 unfolding printed
 season-right text = record { short = long (ltb max-bytes (length text)) }
   where
-    other : (k : ℕ) → length (unless-other k (summary-lines (summary (records (lines text))))) ≤ longest
+    page : Bytes
+    page = summary-lines (summary (records (lines text)))
+
+    other : (k : ℕ) → length (unless-other k page) ≤ longest
     other zero = summary-most (summary (records (lines text)))
     other (suc k) = refusal-most 10 (suc k)
 
-    long : (b : Bool) → length (cond b (refusal-line 9 0) (unless-other (other-line 1 (lines text)) (summary-lines (summary (records (lines text)))))) ≤ longest
+    long : (b : Bool) → length (cond b (refusal-line 9 0) (unless-other (other-line 1 (lines text)) page)) ≤ longest
     long true = refusal-most 9 0
     long false = other (other-line 1 (lines text))

@@ -37,7 +37,8 @@ returns-2 : tie.Need-returns-2
 returns-2 c =
     let checked = c .before .before .before .before .before .before in
     let text = checked .before .before .before .before .args .text .now in
-    let other = printed-other text (checked .before .if1 .left) (checked .check .result .other) (checked .check .ensures .right) (c .before .before .before .before .if2 .taken) in
+    let some = c .before .before .before .before .if2 .taken in
+    let other = printed-other text (checked .before .if1 .left) (checked .check .result .other) (checked .check .ensures .right) some in
     let put = c .before .before .refusal2 .ensures in
     rw other (put .0, (put .1, season-right text))
 
