@@ -82,15 +82,6 @@ module _ (kinds : List ℕ) (literals : List ℤ) (variables clauses : ℕ) {r :
   unfolding on-formula on-outcome
   formula-so a e = ap (λ (x : Answer). by-answer x (length kinds) variables clauses o) (sym e)
 
-  pub small-universal : r .universal < 65536
-  small-universal = omega (arith, ran .universal-so, ran .few-universal)
-
-  pub small-existential : r .existential < 65536
-  small-existential = omega (arith, ran .existential-so, ran .few-existential)
-
-  pub small-round : r .round < 65536
-  small-round = omega (arith, ran .round-so, ran .few-rounds)
-
   -- True.
   module _ (one : number (o .answer) ≡ 1) {R : Record} (is : R ≡ made 27 1 (length kinds) clauses 0 (r .existential) (r .round)) where
     pub true-writes : write-cause R U E (size R) ≡ 0

@@ -60,15 +60,6 @@ module _ (unknowns variables clauses : ℕ) {r : Studied} {U E : List ℕ} (read
   pub number-so : {n : ℕ} → n ≡ number-of (r .outcome .answer) → n ≡ number (ready .end .answer)
   number-so = any.number-so unknowns clauses (ready .ran)
 
-  pub small-universal : r .outcome .universal < 65536
-  small-universal = omega (arith, ready .ran .universal-so, ready .ran .few-universal)
-
-  pub small-existential : r .outcome .existential < 65536
-  small-existential = omega (arith, ready .ran .existential-so, ready .ran .few-existential)
-
-  pub small-round : r .outcome .round < 65536
-  small-round = omega (arith, ready .ran .round-so, ready .ran .few-rounds)
-
   module _ {R : Record} (out lines : List ℕ) {n : ℕ} {out-then : List ℕ} (counted : n ≡ put-count (file R U E) out) (written : out-then ≡ put (file R U E) out) where
     delivered : (x : Record) {a : RunAnswer} → R ≡ x → ready .end .answer ≡ a → only-file (file x U E) ≡ gives (named a)
         → Delivered (gives (r .outcome .answer)) out lines (counts n 0) out-then lines

@@ -25,27 +25,24 @@ use Rattle.search_numbering.proofs.WantsFill.{wants-filled}
 use Rattle.codes.specs.Codes.{last-code}
 use Rattle.codes.specs.Private.Clauses.{code-true, code-clauses, clause-of, Ended, Begins, Coded}
 use Rattle.index.specs.Occurrences.{begins}
-use Rattle.index.specs.Index.{code-count, index-size, all-codes, table-fits, index-of, filled as indexed}
+use Rattle.index.specs.Index.{index-size, all-codes, table-fits, index-of, filled as indexed}
 use Rattle.index.proofs.LayoutLaws.{end-is}
 use Rattle.index.proofs.IndexLaws.{read-names}
-use Rattle.search_sets.specs.Sets.{set-places, sets-size, united, united-words, added, has, emptied, filled, trimmed, excused, blamed}
-use Rattle.search_sets.specs.Private.Masks.{set-at, SetGrown, SetsKept, United, WordsUnited, Trimmed, Excused, Blamed}
-use Rattle.search_sets.proofs.SetLaws.{unite-unites, words-unite, add-grows, add-adds, has-is, empty-keeps, fill-keeps, fill-fills, trim-trims, excuse-excuses, blame-blames}
+use Rattle.search_sets.specs.Sets.{set-places, sets-size, united-words, added, has, emptied, filled, trimmed, excused, blamed}
+use Rattle.search_sets.specs.Private.Masks.{set-at, SetGrown, SetsKept, WordsUnited, Trimmed, Excused, Blamed}
+use Rattle.search_sets.proofs.SetLaws.{words-unite, add-grows, add-adds, has-is, empty-keeps, fill-keeps, fill-fills, trim-trims, excuse-excuses, blame-blames}
 use Rattle.search_evaluation.specs.Evaluation.{look-at, matrix-in}
 use Rattle.search_evaluation.specs.Private.Looked.{Looked}
 use Rattle.search_evaluation.proofs.LookLaws.{look-looked}
 use Rattle.search_evaluation.proofs.MatrixLaws.{matrix-is}
 use Rattle.search_groups.specs.Groups.{copy-start, copy-end, parting-row, parted-at, open-position}
 use Rattle.search_groups.specs.Private.Parts.{CopyFrom, CopyTo, Parting, PartedAt, Stands}
-use Rattle.engine.specs.Private.Steps.{Listed, Indexed}
+use Rattle.engine.specs.Private.Steps.{Listed}
 use Rattle.search_groups.proofs.PartLaws.{copy-start-from, copy-end-to, parting-row-parts, parted-at-there, open-position-stands}
 
 -- ---- sets of positions
 
 module _ (s : List ℕ) {t : List ℕ} (size : length s ≡ sets-size) where
-  pub unites : (to from : ℕ) → to < set-places → from < set-places → t ≡ united s to from → United to from s t
-  unites to from place other e = subst (λ (x : List ℕ). United to from s x) (sym e) (unite-unites s size to from place other)
-
   pub unites-words : (to low high : ℕ) → to < set-places → t ≡ united-words s to low high → WordsUnited to low high s t
   unites-words to low high place e = subst (λ (x : List ℕ). WordsUnited to low high s x) (sym e) (words-unite s size to low high place)
 
@@ -182,12 +179,6 @@ lists-starts codes index few coded e = subst (λ (x : List ℕ). Listed codes x)
     starts c at small low high =
         let names = read-names codes few c (omega arith) at low (omega (arith, end-is (index-of codes) c (omega arith))) in
         start (getD (index-of codes) at 0) (names .first) (names .inside)
-
--- A number that is read there is one.
-pub starts-there : (codes index : List ℕ) → length codes ≤ max-entries → Coded max-unknowns codes → (c at start : ℕ) → c ≤ last-code → getD index c 0 ≤ at → at < getD index (code-count + c) 0 → start ≡ getD index at 0
-    → Indexed 0 codes index → Begins codes start
-starts-there codes index few coded c at start small low high read listed =
-    subst (λ (x : ℕ). Begins codes x) (sym read) (lists-starts codes index few coded (listed refl) c at small low high)
 
 -- A table of zeros has 0 at every place, and past its end.
 pub zero-at : (n x : ℕ) → _≡_ {A = ℕ} (getD (replicate n 0) x 0) 0

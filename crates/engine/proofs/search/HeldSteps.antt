@@ -184,11 +184,6 @@ fixed-held w s a o b q i p y size small fixed e1 ey stored codes held =
 pub moves-nothing : (codes a o : List ℕ) → Moves codes a a o o true
 moves-nothing codes a o = record { on = λ w s i coded held. record { held = held; denied = λ e. absurd (never-both refl e) } }
 
-pub moves-kept : {codes a b o q t : List ℕ} → Moves codes a b o q true → SetsKept q t → Moves codes a b o t true
-moves-kept {codes} {a} {b} {o} {q} {t} first kept = record {
-  on = λ w s i coded held. record { held = held-same codes w s i b q (first .on w s i coded held .held) t kept; denied = λ e. absurd (never-both refl e) };
-}
-
 pub moves-then : {codes a b o q c t : List ℕ} {r r′ : Bool} → Moves codes a b o q r → Moves codes b c q t r′ → Moves codes a c o t r′
 moves-then first second = record { on = λ w s i coded held. second .on w s i coded (first .on w s i coded held .held) }
 

@@ -220,9 +220,6 @@ module _ (P : Problem) (kinds splits codes : List ℕ) (side : ℕ) (F : Fits P 
   other-given false false c f g = absurd (f refl)
 
   module _ (k lo mid hi : ℕ) (v : ℕ → Bool) (w s : List ℕ) (A : Node P k lo hi v (cells w) (masks s)) (kn : k < P .n) (o : P .own k ≡ false) (parting : Parting splits lo hi mid) (lm : lo < mid) (at-k : getD splits mid 0 ≡ k) where
-    inside : k < length kinds
-    inside = let b : P .n ≡ length kinds = F .unknowns in omega arith
-
     -- rows of the two parts have different values at k
     pub parts-differ : (i h : ℕ) → lo ≤ i → i < mid → mid ≤ h → h < hi → P .given i k ≡ P .given h k → ⊥
     parts-differ i h p q r t e =

@@ -156,7 +156,7 @@ Starts codes list begin end = (at : ℕ) → begin ≤ at → at < end → Begin
 abbrev pub Listed : List ℕ → List ℕ → Type 0
 Listed codes index = (c at : ℕ) → c ≤ last-code → getD index c 0 ≤ at → at < getD index (code-count + c) 0 → Begins codes (getD index at 0)
 
--- The existential side finds a code's clauses through the index of the codes; the universal side looks up none. What the steps promise is promised
+-- The existential side finds a code's clauses through the index of the codes; the universal side takes what it looks up for a hint. What the steps promise is promised
 -- over such an index: what is lent from outside can't be compared with it at little cost, and is safe to read in any case.
 abbrev pub Indexed : ℕ → List ℕ → List ℕ → Type 0
 Indexed side codes index = side ≡ 0 → index ≡ index-of codes
