@@ -7,7 +7,7 @@ use mathlib.Core.List.{List, [], _∷_, _++_, map}
 use borrow.Author.Tests.{le-ltb}
 use lib.IntN.{ℤ, pos, negsuc, natAbs}
 use lib.ListN.{length, getD, replicate, length-replicate, length-append}
-use Rattle.formula.specs.Causes.{any, zeros, is-zero, ended, beyond}
+use Rattle.formula.specs.Causes.{any, other-kind, zeros, is-zero, ended, beyond}
 use Rattle.named.specs.Named.{position, signed, placed}
 use Rattle.named.specs.Names.{In, Known}
 use Rattle.named.specs.Closing.{closed-names, closed-kinds}
@@ -17,6 +17,11 @@ use Rattle.named.proofs.PlaceLaws.{position-within}
 pub length-map : {A B : Type 0} (f : A → B) (l : List A) → length (map f l) ≡ length l
 length-map f [] = refl
 length-map f (x ∷ l) = ap suc (length-map f l)
+
+-- The kinds of the names in front.
+pub kinds-known : (free kinds : List ℕ) → any other-kind kinds ≡ false → any other-kind (closed-kinds free kinds) ≡ false
+kinds-known [] kinds e = e
+kinds-known (x ∷ free) kinds e = kinds-known free kinds e
 
 pub as-many-closed : (free kinds names : List ℕ) → length kinds ≡ length names → length (closed-kinds free kinds) ≡ length (closed-names free names)
 as-many-closed [] kinds names e = e
