@@ -58,7 +58,7 @@ module _ (kinds : List ℕ) (literals : List ℤ) (values : List ℕ) (output : 
 
   -- What comes after causes 1 to 3.
   abbrev later : ℕ
-  later = cond (ltb (length output) (length literals)) 15 (cond (wrong-values (length kinds) values) 26 0)
+  later = cond (ltb (length output) (length literals)) 15 (cond (wrong-values (length kinds) values) 27 0)
 
   by-cause : (n : ℕ) → cause kinds literals values output ≡ n → eqb n 0 ≡ false → End (Refused n) output
   unfolding outcome output-after
@@ -90,23 +90,23 @@ module _ (kinds : List ℕ) (literals : List ℤ) (values : List ℕ) (output : 
     pub output-refused : length output < length literals → End (Refused 15) output
     output-refused short =
         by-cause 15
-        (cause-later ∙ ap (λ (b : Bool). cond b 15 (cond (wrong-values (length kinds) values) 26 0)) (lt-ltb (length output) (length literals) short)) refl
+        (cause-later ∙ ap (λ (b : Bool). cond b 15 (cond (wrong-values (length kinds) values) 27 0)) (lt-ltb (length output) (length literals) short)) refl
 
     module _ (room : length literals ≤ length output) where
-      cause-last : cause kinds literals values output ≡ cond (wrong-values (length kinds) values) 26 0
+      cause-last : cause kinds literals values output ≡ cond (wrong-values (length kinds) values) 27 0
       cause-last =
-          cause-later ∙ ap (λ (b : Bool). cond b 15 (cond (wrong-values (length kinds) values) 26 0)) (le-ltb (length output) (length literals) room)
+          cause-later ∙ ap (λ (b : Bool). cond b 15 (cond (wrong-values (length kinds) values) 27 0)) (le-ltb (length output) (length literals) room)
 
-      -- .. then 26 ..
-      pub values-refused : wrong-values (length kinds) values ≡ true → End (Refused 26) output
-      values-refused wrong = by-cause 26 (cause-last ∙ ap (λ (b : Bool). cond b 26 0) wrong) refl
+      -- .. then 27 ..
+      pub values-refused : wrong-values (length kinds) values ≡ true → End (Refused 27) output
+      values-refused wrong = by-cause 27 (cause-last ∙ ap (λ (b : Bool). cond b 27 0) wrong) refl
 
       -- .. and without a cause the unknowns are set.
       pub answered : wrong-values (length kinds) values ≡ false → (n : ℕ) (exit : List ℤ) → n ≡ length (walked (values-of values) literals)
           → exit ≡ walked (values-of values) literals ++ drop n output → End (Entries n) exit
       unfolding outcome output-after
       answered good n exit en ex =
-          let none = cause-last ∙ ap (λ (b : Bool). cond b 26 0) good in
+          let none = cause-last ∙ ap (λ (b : Bool). cond b 27 0) good in
           let same = walked-restricted (values-of values) literals (ap is-zero (accepted kinds literals e .last-is-zero)) in
           let as-many = en ∙ ap length same in (
             ap Entries as-many ∙ sym (ap (λ (k : ℕ). cond (eqb k 0) (Entries (length left)) (Refused k)) none),

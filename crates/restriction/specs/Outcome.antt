@@ -1,4 +1,4 @@
--- What `set_first` returns and leaves, for everything that is lent: 01's causes 1 to 3, then 02's 15, then 26, then the literals that are left.
+-- What `set_first` returns and leaves, for everything that is lent: 01's causes 1 to 3, then 02's 15, then 27, then the literals that are left.
 -- Assumes nothing.
 use Prim.Native.Nat.{ℕ, zero, suc}
 use mathlib.Core.Bool.{Bool, true, false, cond, _||_}
@@ -28,10 +28,10 @@ formula-cause kinds literals = Causes.number (Causes.checked kinds literals)
 unfoldable pub wrong-values : ℕ → List ℕ → Bool
 wrong-values unknowns values = ltb unknowns (length values) || any other-kind values
 
--- 'It refuses with 15, tested after 3, an output table shorter than the literals', as trimming does; then, with 26, wrong values.
+-- 'It refuses with 15, tested after 3, an output table shorter than the literals', as trimming does; then, with 27, wrong values.
 unfoldable pub cause : List ℕ → List ℤ → List ℕ → List ℤ → ℕ
 cause kinds literals values output =
-    let later : ℕ = cond (ltb (length output) (length literals)) 15 (cond (wrong-values (length kinds) values) 26 0) in
+    let later : ℕ = cond (ltb (length output) (length literals)) 15 (cond (wrong-values (length kinds) values) 27 0) in
     cond (eqb (formula-cause kinds literals) 0) later (formula-cause kinds literals)
 
 -- The entries used, or the cause ..

@@ -38,7 +38,7 @@ pub fn set_first(kinds: &[u8], literals: &[i32], values: &[u8], output: &mut [i3
                 return Set::Refused(15);
             }
             if are_wrong(kinds.len(), values) {
-                return Set::Refused(26);
+                return Set::Refused(27);
             }
             Set::Entries(write_left(literals, values, output))
         }
