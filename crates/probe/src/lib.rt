@@ -2,6 +2,7 @@
 // and content. Each promises what the function that it calls promises. Of a row that is handed back the length and each byte are told, since
 // an exported function returns no reference.
 pub mod outlook;
+pub mod restrictions;
 pub mod study_runs;
 pub mod text_reader;
 pub mod witness_file;
