@@ -58,10 +58,10 @@ tells-by-kind existential o p m n h g v e = tells-or o p m n h g v e
 tells-by-kind universal o p m n h g v e = tells-and o p m n h g v e
 
 -- There is an answer.
-abbrev Answered : Option Bool → Type 0
+abbrev pub Answered : Option Bool → Type 0
 Answered o = (v : Bool) × (o ≡ some v)
 
-not-none : (o : Option Bool) → (o ≡ none → ⊥) → Answered o
+pub not-none : (o : Option Bool) → (o ≡ none → ⊥) → Answered o
 not-none none h = absurd (h refl)
 not-none (some v) h = (v, refl)
 
@@ -75,7 +75,7 @@ some-by-some existential false w = refl
 some-by-some universal true w = refl
 some-by-some universal false w = refl
 
-answered-by-kind : (k : Kind) (o p : Option Bool) → Answered o → Answered p → Answered (some-by-kind k o p)
+pub answered-by-kind : (k : Kind) (o p : Option Bool) → Answered o → Answered p → Answered (some-by-kind k o p)
 answered-by-kind k o p h g = (by-kind k (h .0) (g .0), ap₂ (some-by-kind k) (h .1) (g .1) ∙ some-by-some k (h .0) (g .0))
 
 -- ---- the decision
@@ -143,7 +143,7 @@ tried-right study right depth kinds literals v a e = tried-meaning study right l
 
 -- .. and where the study answers of every formula without unknowns, it answers within the depth of the prefix.
 module _ (study : Study) (ends : EndsStudy study) (literals : List ℤ) where
-  at-end : (front : List ℕ) (path : List Bool) → length front ≡ length path → Accepted (front ++ []) literals
+  pub at-end : (front : List ℕ) (path : List Bool) → length front ≡ length path → Accepted (front ++ []) literals
       → Answered (study path [] (restricted path literals))
   at-end front path l a =
       let left = restricted path literals in

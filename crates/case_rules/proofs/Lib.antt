@@ -4,6 +4,7 @@ pub mod RestrictedLaws
 pub mod RestrictedTwice
 pub mod AcceptedLaws
 pub mod ByCasesLaws
+pub mod UnnamedLaws
 pub mod BudgetLaws
 pub mod RowLaws
 pub mod CasebookLaws

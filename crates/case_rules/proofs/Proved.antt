@@ -8,7 +8,7 @@ use Rattle.formula.proofs.Accepted.{accepted, accepting}
 use Rattle.case_rules.specs.Restricted.{restricted, kinds-behind}
 use Rattle.case_rules.specs.RestrictedRight.{RestrictedRight}
 use Rattle.case_rules.specs.ByCases.{Study}
-use Rattle.case_rules.specs.ByCasesRight.{ByFirst, ByCasesRight}
+use Rattle.case_rules.specs.ByCasesRight.{ByFirst, PassedOver, ByCasesRight}
 use Rattle.case_rules.specs.Casebook.{Casebook}
 use Rattle.case_rules.specs.Evidence.{Finding}
 use Rattle.case_rules.specs.CasebookRight.{RowsRight, JudgedRight, CasebookRight, EvidenceRight, HasCasebook}
@@ -16,7 +16,8 @@ use Rattle.case_rules.proofs.RestrictedLaws.{restricted-verdict, verdic
 use Rattle.case_rules.proofs.RestrictedTwice as twice
 use Rattle.case_rules.proofs.AcceptedLaws.{restricted-accepted, restricted-fits}
 use Rattle.case_rules.proofs.ByCasesLaws.{decided-verdict, tried-right, tried-verdict}
-use Rattle.case_rules.proofs.BudgetLaws.{asked-right, asked-left}
+use Rattle.case_rules.proofs.UnnamedLaws.{unnamed-verdict}
+use Rattle.case_rules.proofs.BudgetLaws.{asked-right, asked-left, asked-enough}
 use Rattle.case_rules.proofs.RowLaws.{search-both, search-one, accepted-one, accepted-together}
 use Rattle.case_rules.proofs.CasebookLaws.{casebook-verdict, gathered-accepted, gathered-few}
 use Rattle.case_rules.proofs.EvidenceLaws.{shown-holds, casebook-exists}
@@ -33,6 +34,9 @@ restricted-right vs kinds literals =
 
 pub by-first : (k : ℕ) (kinds : List ℕ) (literals : List ℤ) → ByFirst k kinds literals
 by-first = verdict-by-first
+
+pub passed-over : (k : ℕ) (kinds : List ℕ) (literals : List ℤ) → PassedOver k kinds literals
+passed-over = unnamed-verdict
 
 pub rows-right : (side k : Kind) (ks : List Kind) (phi : List Bool → Bool) → RowsRight side k ks phi
 rows-right side k ks phi =
@@ -56,6 +60,7 @@ by-cases-right study kinds literals =
       at-depth = λ right ends a depth h. tried-verdict study right ends depth kinds literals a h;
       bounded = λ right a budget v e. asked-right study right budget kinds literals v a e;
       kept = λ budget. asked-left study budget kinds literals;
+      with-enough = λ right ends a budget room. asked-enough study right ends budget kinds literals a room;
     }
 
 pub evidence-right : (find : Finding) (kinds : List ℕ) (literals : List ℤ) → EvidenceRight find kinds literals

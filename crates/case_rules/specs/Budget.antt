@@ -1,6 +1,6 @@
 -- Deciding by cases with a bound on the studies made: depth first, the case where the unknown is true before the one where it is false, which is left
 -- out if the first is enough. Assumes nothing.
-use Prim.Native.Nat.{ℕ, zero, suc}
+use Prim.Native.Nat.{ℕ, zero, suc, _+_}
 use mathlib.Core.Bool.{Bool, true, false}
 use mathlib.Core.List.{List, [], _∷_, _++_}
 use mathlib.Core.Option.{Option, none, some}
@@ -51,3 +51,8 @@ asked-behind study literals path (k ∷ kinds) budget =
 
 unfoldable pub asked-about : Study → ℕ → List ℕ → List ℤ → Asked
 asked-about study budget kinds literals = asked-behind study literals [] kinds budget
+
+-- The most studies of a formula with so many unknowns: one of it, and those of both cases.
+abbrev pub most-studies : ℕ → ℕ
+most-studies zero = 1
+most-studies (suc n) = suc (most-studies n + most-studies n)

@@ -5,7 +5,8 @@ use mathlib.Core.Path.{_≡_}
 use mathlib.Core.Bool.{Bool, true, false, _&&_, _||_}
 use mathlib.Core.List.{List, [], _∷_, _++_}
 use mathlib.Core.Option.{Option, none, some}
-use lib.IntN.{ℤ}
+use lib.Dec.{eqb}
+use lib.IntN.{ℤ, natAbs}
 use Rattle.formula.specs.Formula.{Kind, existential, universal, kind-of, clauses}
 use Rattle.formula.specs.Meaning.{matrix, verdict}
 use Rattle.case_rules.specs.Restricted.{IsAccepted, restricted}
@@ -14,6 +15,10 @@ use Rattle.case_rules.specs.Restricted.{IsAccepted, restricted}
 abbrev pub by-kind : Kind → Bool → Bool → Bool
 by-kind existential a b = a || b
 by-kind universal a b = a && b
+
+-- An entry names the first unknown.
+abbrev pub names-first : ℤ → Bool
+names-first z = eqb (natAbs z) 1
 
 -- A study of kinds and literals, which may give no answer. What is lent to it besides may differ from case to case, so it is given the values that
 -- are set, too.

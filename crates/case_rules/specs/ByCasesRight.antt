@@ -7,16 +7,22 @@ use mathlib.Core.Option.{some}
 use lib.IntN.{ℤ}
 use lib.ListN.{length}
 use Rattle.formula.specs.Formula.{kind-of}
+use Rattle.formula.specs.Causes.{any}
 use Rattle.formula.specs.Meaning.{verdict}
 use Rattle.case_rules.specs.Restricted.{IsAccepted, restricted}
-use Rattle.case_rules.specs.ByCases.{by-kind, Study, RightStudy, EndsStudy, decided, tried}
-use Rattle.case_rules.specs.Budget.{asked-about}
+use Rattle.case_rules.specs.ByCases.{by-kind, names-first, Study, RightStudy, EndsStudy, decided, tried}
+use Rattle.case_rules.specs.Budget.{asked-about, most-studies}
 
 -- The two cases of the first unknown are formulas of one unknown less, and their verdicts give the formula's.
 abbrev pub ByFirst : ℕ → List ℕ → List ℤ → Type 0
 ByFirst k kinds literals =
     verdict (k ∷ kinds) literals
     ≡ by-kind (kind-of k) (verdict kinds (restricted (true ∷ []) literals)) (verdict kinds (restricted (false ∷ []) literals))
+
+-- Where no clause names the first unknown, one case of it is enough, whichever value it has.
+abbrev pub PassedOver : ℕ → List ℕ → List ℤ → Type 0
+PassedOver k kinds literals =
+    any names-first literals ≡ false → (v : Bool) → verdict (k ∷ kinds) literals ≡ verdict kinds (restricted (v ∷ []) literals)
 
 pub record ByCasesRight (study : Study) (kinds : List ℕ) (literals : List ℤ) : Type 0 where
   -- The decision of an accepted formula is its verdict.
@@ -33,3 +39,7 @@ pub record ByCasesRight (study : Study) (kinds : List ℕ) (literals : List ℤ)
       RightStudy study → IsAccepted kinds literals → (budget : ℕ) (v : Bool) → asked-about study budget kinds literals .answer ≡ some v
       → verdict kinds literals ≡ v
   pub kept : (budget : ℕ) → asked-about study budget kinds literals .left ≤ budget
+  -- With as many studies as there can be, there is an answer if the study answers where no unknown is left.
+  pub with-enough :
+      RightStudy study → EndsStudy study → IsAccepted kinds literals → (budget : ℕ) → most-studies (length kinds) ≤ budget
+      → asked-about study budget kinds literals .answer ≡ some (verdict kinds literals)
