@@ -19,6 +19,7 @@ ghost use Rattle.formula.specs.Causes.{count, checked, sizes};
 ghost use Rattle.formula.specs.declared.Check.the-variants.{Accepted};
 ghost use Rattle.report.specs.Report.{decimal};
 ghost use Rattle.text.specs.Reading.{read-as};
+ghost use Rattle.text.specs.Offered.{offered};
 ghost use Rattle.account.specs.Account.{each, digit, name-line, prefix-line, value-line, row-line, row-lines, head-lines, lines, facts, shown, account as account-lines, account-of-gates, Delivered};
 ghost use Rattle.account.specs.AccountRight.{AccountRight, GatesAccountRight};
 ghost use Rattle.account.specs.Private.Steps.{joined, told, Tables, Accepts, Side};
@@ -29,29 +30,29 @@ pub const LONGEST: usize = 106_496;
 const ROUNDS: u32 = 1_000;
 
 // Puts the lines of a text at the start of `out`, if they fit: how many bytes they are. A buffer of `LONGEST` bytes is long enough for every text.
-pub fn account(text: &[u8], out: &mut [u8]) -> usize
-    ensures delivered { λ r. ⌜ Delivered (account-lines (now (text .entry))) (now (out .entry)) r (now (out .exit)) ⌝ }
-    ensures proved { λ _. ⌜ AccountRight (now (text .entry)) ⌝ }
+pub fn account(input: &[u8], length: usize, out: &mut [u8]) -> usize
+    ensures delivered { λ r. ⌜ Delivered (account-lines (offered (now (input .entry)) length)) (now (out .entry)) r (now (out .exit)) ⌝ }
+    ensures proved { λ _. ⌜ AccountRight (offered (now (input .entry)) length) ⌝ }
 {
-    account_as(text, false, out)
+    account_as(input, length, false, out)
 }
 
 // The same of a gate list.
-pub fn account_of_gates(text: &[u8], out: &mut [u8]) -> usize
-    ensures delivered { λ r. ⌜ Delivered (account-of-gates (now (text .entry))) (now (out .entry)) r (now (out .exit)) ⌝ }
-    ensures proved { λ _. ⌜ GatesAccountRight (now (text .entry)) ⌝ }
+pub fn account_of_gates(input: &[u8], length: usize, out: &mut [u8]) -> usize
+    ensures delivered { λ r. ⌜ Delivered (account-of-gates (offered (now (input .entry)) length)) (now (out .entry)) r (now (out .exit)) ⌝ }
+    ensures proved { λ _. ⌜ GatesAccountRight (offered (now (input .entry)) length) ⌝ }
 {
-    account_as(text, true, out)
+    account_as(input, length, true, out)
 }
 
 // The lines of a text of clauses or of gates.
-fn account_as(text: &[u8], gates: bool, out: &mut [u8]) -> usize
-    ensures { λ r. ⌜ Delivered (shown (read-as gates (now (text .entry)))) (now (out .entry)) r (now (out .exit)) ⌝ }
+fn account_as(input: &[u8], length: usize, gates: bool, out: &mut [u8]) -> usize
+    ensures { λ r. ⌜ Delivered (shown (read-as gates (offered (now (input .entry)) length))) (now (out .entry)) r (now (out .exit)) ⌝ }
 {
     let mut kinds = [0u8; Formula::UNKNOWNS];
     let mut literals = [0i32; Formula::ENTRIES];
     let mut names = [0u16; Formula::UNKNOWNS];
-    match text::read_as(text, gates, &mut kinds, &mut literals, &mut names) {
+    match text::read_offered(input, length, gates, &mut kinds, &mut literals, &mut names) {
         Reading::Refused { number, line } => report::refusal(out, number, line as u32),
         Reading::Taken {
             unknowns,

@@ -11,6 +11,7 @@ pub mod CasebookLaws
 pub mod SizedLaws
 pub mod EvidenceLaws
 pub mod RunStudy
+pub mod RunEnds
 pub mod RunFinding
 pub mod Worked
 pub mod Proved

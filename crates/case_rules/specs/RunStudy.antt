@@ -1,5 +1,5 @@
 -- Any run of rounds as a study: the values that are set may choose whatever it is lent besides the formula. Assumes nothing.
-use Prim.Native.Nat.{ℕ}
+use Prim.Native.Nat.{ℕ, _≤_}
 use mathlib.Core.Bool.{Bool, true, false}
 use mathlib.Core.List.{List}
 use mathlib.Core.Option.{Option, none, some}
@@ -7,7 +7,7 @@ use lib.IntN.{ℤ}
 use Rattle.formula.specs.Formula.{prefix, clauses}
 use Rattle.formula.specs.Meaning.{matrix}
 use Rattle.rounds.specs.Run.{rows, Answer, is-false, is-true, spent, no-room-universal, no-room-existential, Outcome, Lent, run}
-use Rattle.case_rules.specs.ByCases.{Study, RightStudy}
+use Rattle.case_rules.specs.ByCases.{Study, RightStudy, EndsStudy}
 
 abbrev pub answer-as : Answer → Option Bool
 answer-as is-false = some false
@@ -34,3 +34,7 @@ module _ (prefer : List Bool → ℕ → Bool) (room-A room-S clear-every limit 
   -- It is right where it answers, with any preferences, tables and limits.
   abbrev pub RunRight : Type 0
   RunRight = RightStudy run-study
+
+  -- With at least one row a side and one round it answers where no unknown is left.
+  abbrev pub RunEnds : Type 0
+  RunEnds = ((path : List Bool) → (1 ≤ room-A path) × ((1 ≤ room-S path) × (1 ≤ limit path))) → EndsStudy run-study
