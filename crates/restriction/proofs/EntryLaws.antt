@@ -13,7 +13,7 @@ use Rattle.named.specs.Named.{signed}
 use Rattle.case_rules.specs.Restricted.{Standing, known, behind, standing, Remains, is-true, is-false, stays, plain, negated, of-literal}
 use Rattle.case_rules.proofs.RestrictedLaws.{NotZero}
 use Rattle.restriction.specs.Outcome.{value-of, values-of}
-use Rattle.restriction.specs.Walk.{meets, is-set, literal-left, entry-left}
+use Rattle.restriction.specs.Private.Walk.{meets, is-set, literal-left, entry-left}
 use Rattle.restriction.proofs.WalkLaws.{is-met}
 
 -- ---- an unknown by its position

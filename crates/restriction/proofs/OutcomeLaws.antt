@@ -22,7 +22,7 @@ use Rattle.case_rules.proofs.Proved.{restricted-right}
 use Rattle.restriction.specs.declared.Set.{Set}
 use Rattle.restriction.specs.declared.Set.the-variants.{Entries, Refused}
 use Rattle.restriction.specs.Outcome.{values-of, wrong-values, cause, outcome, output-after, number}
-use Rattle.restriction.specs.Walk.{walked}
+use Rattle.restriction.specs.Private.Walk.{walked}
 use Rattle.restriction.proofs.WalkLaws.{walked-restricted}
 
 -- ---- wrong values

@@ -8,7 +8,7 @@ use lib.ListN.{length, getD, drop, drop-of-length-le}
 use Rattle.formula.specs.Literal.{negative}
 use Rattle.formula.proofs.Places.{drop-front}
 use Rattle.case_rules.specs.Restricted.{standing}
-use Rattle.restriction.specs.Walk.{meets, stands, kept-after}
+use Rattle.restriction.specs.Private.Walk.{meets, stands, kept-after}
 use Rattle.restriction.proofs.WalkLaws.{stands-past, stands-end, stands-more}
 use Rattle.restriction.proofs.EntryLaws.{met-literal, end-known, literal-known}
 

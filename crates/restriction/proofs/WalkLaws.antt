@@ -12,7 +12,7 @@ use Rattle.trimming_rules.specs.Trimming.{entries}
 use Rattle.trimming_rules.proofs.Trimmed.{Started, started, ended-behind}
 use Rattle.case_rules.specs.Restricted.{Remains, is-true, is-false, stays, of-literal, in-front, of-clause, if-left, of-clauses, restricted}
 use Rattle.case_rules.proofs.RestrictedLaws.{NotZero}
-use Rattle.restriction.specs.Walk.{is-left, first-left, stands, literal-left, entry-left, kept-after, walked-from, walked}
+use Rattle.restriction.specs.Private.Walk.{is-left, first-left, stands, literal-left, entry-left, kept-after, walked-from, walked}
 
 -- ---- whether the first clause is kept
 

@@ -12,7 +12,7 @@ use Rattle.formula.proofs.Places.{drop-front}
 use Rattle.named.specs.Named.{signed}
 use Rattle.case_rules.specs.Restricted.{Remains, is-true, is-false, stays, of-literal}
 use Rattle.restriction.specs.Outcome.{values-of}
-use Rattle.restriction.specs.Walk.{stands, is-set, literal-left, entry-left, kept-after, walked-from, walked, put}
+use Rattle.restriction.specs.Private.Walk.{stands, is-set, literal-left, entry-left, kept-after, walked-from, walked, put}
 use Rattle.restriction.proofs.EntryLaws.{as-many, entry-set, entry-moved}
 
 -- ---- an entry

@@ -1,3 +1,3 @@
--- What `set_first` returns and leaves (Outcome), and how it goes over the entries, for contracts of private functions alone (Walk).
+-- What `set_first` returns and leaves (Outcome). Private has how it goes over the entries.
 pub mod Outcome
-pub mod Walk
+pub mod Private

@@ -15,7 +15,7 @@ ghost use Rattle.formula.specs.Causes.{any, other-kind};
 ghost use Rattle.case_rules.specs.Restricted.{standing};
 ghost use Rattle.case_rules.specs.RestrictedRight.{RestrictedRight};
 ghost use Rattle.restriction.specs.Outcome.{values-of, wrong-values, cause as cause-of, outcome, output-after, number};
-ghost use Rattle.restriction.specs.Walk.{Names, meets, stands as stands-so, is-set as set-name, left-at, kept-after, put, walked};
+ghost use Rattle.restriction.specs.Private.Walk.{Names, meets, stands as stands-so, is-set as set-name, left-at, kept-after, put, walked};
 
 // The entries used, zeros included; a refusal has the number of its cause.
 pub enum Set {

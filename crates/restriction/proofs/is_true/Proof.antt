@@ -8,7 +8,7 @@ use mathlib.Core.Bool.{Bool, true, false}
 use lib.ListN.{getD}
 use Rattle.case_rules.specs.Restricted.{standing}
 use Rattle.restriction.specs.Outcome.{values-of}
-use Rattle.restriction.specs.Walk.{meets}
+use Rattle.restriction.specs.Private.Walk.{meets}
 use Rattle.restriction.proofs.EntryLaws.{meets-known, meets-behind, value-positive, value-negative}
 use Rattle.restriction.proofs.is_true.Statement.{statement}
 use Rattle.restriction.proofs.is_true.Tie as tie

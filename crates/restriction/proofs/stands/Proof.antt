@@ -6,7 +6,7 @@ use borrow.Author.Needs.{needs}
 use mathlib.Core.Path.{_≡_, refl, sym, _∙_}
 use lib.ListN.{length, drop}
 use Rattle.restriction.specs.Outcome.{values-of}
-use Rattle.restriction.specs.Walk.{stands as stands-so}
+use Rattle.restriction.specs.Private.Walk.{stands as stands-so}
 use Rattle.restriction.proofs.StandLaws.{at-last, at-end, at-true, at-other}
 use Rattle.restriction.proofs.stands.Statement.{statement}
 use Rattle.restriction.proofs.stands.Tie as tie
