@@ -1,7 +1,7 @@
-# shellcheck shell=bash disable=SC2064,SC2094,SC2154
+# shellcheck shell=bash disable=SC2034,SC2064,SC2094,SC2154
 # What the commands at the root share: a command builds its program where that is needed, hands it one text, or a text and a file, prints what it
 # prints, and ends with a status that tells what was printed. A command sources this file, sets
-#     help        what --help prints; its first line is the usage
+#     help        what --help prints, with the parts that are the same for all; its first line is the usage
 #     name        what it calls itself, if that is not its crate
 #     second      set where it takes a second file, which the program reads from descriptor 3
 # defines
@@ -11,20 +11,56 @@
 #     command_of CRATE WORDS..    with its own words
 #     command_or_gates CRATE WORDS..      so too, or CRATE_gates if the first word is --gates
 # What is kept lies in target/command: the program as it last passed its check, the log of its build, and a lock.
+#
+# The exit statuses. A command that decides ends as solvers do: 10 true, 20 false, 0 undecided, and 1 for a text that is refused. Every other one ends
+# with 0 if what was asked for is there (the file is accepted, or written), 1 if it is not (not borne out; nothing to write), and 3 if the text or the
+# file is refused. 2 is trouble, of all: wrong use, input that cannot be read, a build that failed, output that could not be written.
 
 root=$(dirname "$(dirname "$(readlink -f "${BASH_SOURCE[0]}")")")
 made=$root/target/command
 
+# Whether this is an installed copy, which has no sources: its programs passed their check when it was made.
+is_installed() { [ ! -e "$root/crates.txt" ]; }
+
+# Parts of the help: what stands before a command's name here, the first command's whole name, and sentences.
+if is_installed; then
+    me=vulzhenn- solver=vulzhenn first_call=''
+    trouble='2 wrong use, unreadable input, or output that could not be written'
+    closing='The formats and all numbers: man 5 vulzhenn. -h and --help print this, --version the commit.'
+else
+    me=./ solver=./vulzhenn first_call='The first call proves and builds the program, which takes some minutes.
+'
+    trouble='2 wrong use, unreadable input, a failed build, or output that could not be written'
+    closing='The formats and all numbers: README.md. -h and --help print this, --version the commit and the toolchain.'
+fi
+when_decided="Exit status: 10 true, 20 false, 0 undecided; 1 the text is refused;
+$trouble."
+when_written="Exit status: 0 the file is written; 1 undecided, so there is none; 3 the text is refused;
+$trouble."
+
 # No program here takes a text or a file of so many bytes, so the rest of a longer one need not be read for it to be refused.
 MOST_BYTES=4194304
 
-# The status for 01's lines.
+# The bytes of a crate's sources that are proved in a second on one processor, more or less: for the estimate before there is a measured pace.
+PACE=6000
+
+# The status for 01's lines, of a command that decides.
 status_of_answer() { # LINE
     case $1 in
     's cnf 1 '*) echo 10 ;;
     's cnf 0 '*) echo 20 ;;
     's cnf -1 '*) echo 0 ;;
     'c refused '*) echo 1 ;;
+    *) echo 2 ;;
+    esac
+}
+
+# The status of a command that writes a witness file. A file begins with its map: 27 (escape) where the rows are existential, 23 where they are universal.
+status_of_witness() { # LINE
+    case $1 in
+    $'\033'* | $'\027'*) echo 0 ;;
+    's cnf -1 '*) echo 1 ;;
+    'c refused '*) echo 3 ;;
     *) echo 2 ;;
     esac
 }
@@ -96,19 +132,21 @@ can_open() { # FILE
 
 misused() { fail "$*; ${help%%$'\n'*}"; }
 
+# Of a checkout, also one of somebody else's; an unpacked archive knows of none, whatever repository it lies in.
+commit_of_sources() {
+    { [ -e "$root/.git" ] && git -c safe.directory="$root" -C "$root" describe --always --dirty 2>/dev/null; } || echo "of no known commit"
+}
+
 version() {
     local commit kit
     if is_installed; then
         sed "s/^/$name /" "$root/version"
         return
     fi
-    commit=$(git -C "$root" describe --always --dirty) || commit="of no known commit"
+    commit=$(commit_of_sources)
     kit=$(rt version) || kit="none on PATH"
     printf '%s\n' "$name $commit" "toolchain: $kit"
 }
-
-# Whether this is an installed copy, which has no sources: its programs passed their check when it was made.
-is_installed() { [ ! -e "$root/crates.txt" ]; }
 
 # Whether the program passed its check and nothing that it could be made of has changed since the check began. The time compared is that of the
 # file's last change of any kind, which nothing sets back; folders count, since theirs moves on when a file goes.
@@ -134,9 +172,12 @@ build() {
 # Proves and builds the program. rt goes on from the crates that it has proved before. What has passed is copied, so that a later check never
 # changes it under a call; its time is that at which the check began.
 locked_build() {
-    local began=$made/$crate.began log=$made/$crate.log
-    say "proving and building the program; log in $log"
+    local began=$made/$crate.began log=$made/$crate.log needed
+    needed=$(crates_needed)
+    say "proving and building the program, $(wc -l <<<"$needed") crates; log in $log"
     : >"$began"
+    local used
+    while read -r used _; do rm -f "$root/target/log/$used.res"; done <<<"$needed"
     # rt does not look for the program of a crate that is unchanged
     [ -x "$root/target/bin/$crate" ] || rm -f "$root/target/stamp/$crate"
     SECONDS=0
@@ -146,7 +187,7 @@ locked_build() {
     set +m
     local signal
     for signal in HUP INT TERM; do trap "stop_build $signal" "$signal"; done
-    watch_build "$log"
+    watch_build "$needed"
     if wait "$building" && cp "$root/target/bin/$crate" "$program.new" && touch -r "$began" "$program.new" && mv -f "$program.new" "$program"; then
         trap - HUP INT TERM
     else
@@ -155,36 +196,59 @@ locked_build() {
     fi
 }
 
-# Shows how many crates are proved, and the time, until the build ends: on a terminal in one line that changes, else in a line for each number.
-watch_build() {
-    local all proved shown='' running=yes
-    all=$(crates_needed)
+# Shows how far the build is until it ends: on a terminal in one line that changes, else in a line for each number of crates.
+watch_build() { # CRATES
+    local now shown='' running=yes
     while [ "$running" = yes ]; do
         kill -0 "$building" 2>/dev/null || running=no
-        proved=$(grep -c '^rt: [A-Za-z0-9_]* proved (' "$1")
+        now=$(progress "$1")
         if [ -t 2 ]; then
-            printf '\r%s: %s of %s crates proved, %s s ' "$name" "$proved" "$all" "$SECONDS" >&2
-        elif [ "$proved" != "$shown" ]; then
-            say "$proved of $all crates proved, $SECONDS s"
+            printf '\r%s: %-56s' "$name" "$now" >&2
+        elif [ "${now%% *}" != "$shown" ]; then
+            say "$now"
         fi
-        shown=$proved
+        shown=${now%% *}
         [ "$running" = no ] || sleep 0.5
     done
     [ ! -t 2 ] || echo >&2
 }
 
-# How many crates of the repository the program is made of.
+# How many crates are proved, the time, and about how long the others take. A crate counts as soon as rt leaves the word for it, since what rt prints
+# comes in lots. While it finds crates unchanged, nothing is said of the rest. The pace is that of the bytes proved so far; at first, while much is
+# begun and little has ended, the usual one weighs more.
+progress() { # CRATES
+    awk -v folder="$root/target/log" -v seconds="$SECONDS" -v processors="$(nproc)" -v usual="$PACE" '
+        function first_line(file,    line) {
+            if ((getline line <file) <= 0) line = ""
+            close(file)
+            return line
+        }
+        first_line(folder "/" $1 ".res") !~ /^(proved|built)$/ { left += $2; next }
+        { proved++ }
+        first_line(folder "/" $1 ".out") !~ /unchanged/ { done += $2 }
+        END {
+            if (processors > 4) processors = 4 # crates wait for each other
+            pace = (120 * usual * processors + done) / (120 + seconds)
+            minutes = int(left / pace / 60 + 1)
+            about = !left || (!done && seconds < 10) ? "" : minutes == 1 ? ", about a minute left" : ", about " minutes " minutes left"
+            print proved + 0 " of " NR " crates proved, " seconds " s" about
+        }' <<<"$1"
+}
+
+# The crates of the repository that the program is made of, a line each, with the bytes of their sources.
 crates_needed() {
-    awk -v crate="$crate" '
+    find "$root/crates" -name must-fail -prune -o -type f -printf '%P/%s\n' | awk -v crate="$crate" '
         function visit(name,    i, n, used) {
             if (name in seen || !(name in uses)) return
-            seen[name] = ++count
+            seen[name] = 1
             n = split(uses[name], used, " ")
             for (i = 1; i <= n; i++) visit(used[i])
+            print name, bytes[name] + 0
         }
+        sizes { n = split($0, part, "/"); bytes[part[1]] += part[n]; next }
         { sub(/#.*/, ""); at = index($0, ":") }
         at { name = substr($0, 1, at - 1); gsub(/[ \t]/, "", name); uses[name] = substr($0, at + 1) }
-        END { visit(crate); print count + 0 }' "$root/crates.txt"
+        END { visit(crate) }' sizes=1 - sizes='' "$root/crates.txt"
 }
 
 stop_build() { # SIGNAL

@@ -4,7 +4,8 @@
  *     gcc -O2 -Iinclude examples/study.c target/staticlib/libdoor.a -o target/study
  *     target/study examples/published/d000-ex4.qdimacs
  *
- * Status 0 if the line was written, whatever it says; 2 for wrong use, input that cannot be read, output that cannot be written.
+ * Status 10 for true, 20 for false, 0 for undecided, as solvers have it; 1 for a text that is refused; 2 for wrong use, input that cannot be read,
+ * output that cannot be written.
  */
 #include <stdio.h>
 
@@ -29,6 +30,14 @@ static int print_words(uint32_t number)
     }
 }
 
+/* The exit status for such a number. */
+static int status_of(uint32_t number)
+{
+    if (number > VULZHENN_REFUSED)
+        return 1;
+    return number == VULZHENN_TRUE ? 10 : number == VULZHENN_FALSE ? 20 : 0;
+}
+
 int main(int count, char **words)
 {
     FILE *file = stdin;
@@ -45,9 +54,10 @@ int main(int count, char **words)
         perror("study");
         return 2;
     }
-    if (print_words(vulzhenn_study(text, length, work, sizeof work)) < 0 || fflush(stdout) != 0) {
+    uint32_t number = vulzhenn_study(text, length, work, sizeof work);
+    if (print_words(number) < 0 || fflush(stdout) != 0) {
         perror("study: standard output");
         return 2;
     }
-    return 0;
+    return status_of(number);
 }

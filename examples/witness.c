@@ -4,7 +4,8 @@
  *     gcc -O2 -Iinclude examples/witness.c target/staticlib/libdoor.a -o target/witness
  *     target/witness examples/published/d000-ex4.qdimacs ex4.witness
  *
- * Status 0 if a file was written, 1 if there is none, 2 for wrong use, input that cannot be read, output that cannot be written.
+ * Status 0 if the file was written; 1 if the formula is undecided, so that there is none; 3 if the text is refused; 2 for wrong use, input that cannot be
+ * read, output that cannot be written.
  */
 #include <stdio.h>
 
@@ -14,6 +15,9 @@
 static uint8_t text[VULZHENN_TEXT + 1];
 static uint8_t work[VULZHENN_WORK];
 static uint8_t out[VULZHENN_WITNESS];
+
+/* The rounds that vulzhenn_witness makes at most. */
+static const uint32_t LIMIT = 1000;
 
 int main(int count, char **words)
 {
@@ -31,13 +35,19 @@ int main(int count, char **words)
         perror(words[1]);
         return 2;
     }
-    length = vulzhenn_witness(text, length, out, sizeof out, work, sizeof work);
-    if (length == 0) {
-        puts("no witness: undecided, or refused");
+    size_t made = vulzhenn_witness(text, length, out, sizeof out, work, sizeof work);
+    if (made == 0) {
+        /* there is room in out, so this tells which it is */
+        uint32_t number = vulzhenn_decide(text, length, work, sizeof work, LIMIT);
+        if (number > VULZHENN_REFUSED) {
+            fprintf(stderr, "refused: number %u\n", (unsigned)(number - VULZHENN_REFUSED));
+            return 3;
+        }
+        fprintf(stderr, "no witness: undecided\n");
         return 1;
     }
     FILE *file = fopen(words[2], "wb");
-    if (file == NULL || fwrite(out, 1, length, file) != length || fclose(file) != 0) {
+    if (file == NULL || fwrite(out, 1, made, file) != made || fclose(file) != 0) {
         perror(words[2]);
         return 2;
     }

@@ -1,7 +1,8 @@
 /* Vulzhenn: decides a quantified Boolean formula in narrowed QDIMACS, writes the rows that bear the answer out, and judges such rows.
  *
- * Link with target/staticlib/libdoor.a, which `rt staticlib door` proves and writes for x86-64 Linux. It uses memcpy and memset, and nothing
- * else of the C library. What each function returns and leaves is defined in crates/door/specs and proved for every input.
+ * Link with what `pkg-config --cflags --libs vulzhenn` says of an installed copy, or with target/staticlib/libdoor.a, which `rt staticlib door` proves and
+ * writes for x86-64 Linux. It uses memcpy, memmove and memset, and nothing else of the C library. What each function returns and leaves is defined in
+ * crates/door/specs and proved for every input.
  */
 #ifndef VULZHENN_H
 #define VULZHENN_H
@@ -33,14 +34,14 @@ extern "C" {
 #define VULZHENN_TEXT 65536
 
 /* The bytes of stack that a call needs at most, rounded up: a thread that calls has this much left. */
-#define VULZHENN_STACK 311296
+#define VULZHENN_STACK 262144
 
-/* Answers. */
+/* Answers. Undecided is said of the run, not of the formula: another run may settle it with fewer rows, as those of vulzhenn_study. */
 #define VULZHENN_FALSE 0
 #define VULZHENN_TRUE 1
 #define VULZHENN_SPENT 2               /* undecided: the limit's rounds were made; never with a limit from 256 on */
-#define VULZHENN_NO_ROOM_UNIVERSAL 3   /* undecided: more than 256 universal rows are needed */
-#define VULZHENN_NO_ROOM_EXISTENTIAL 4 /* undecided: more than 256 existential rows are needed */
+#define VULZHENN_NO_ROOM_UNIVERSAL 3   /* undecided: a round's new universal rows did not fit into 256 */
+#define VULZHENN_NO_ROOM_EXISTENTIAL 4 /* undecided: a round's new existential rows did not fit into 256 */
 
 /* Refusals: 100 plus the number of the cause. The text's causes come first, in the order of reading; then 5, then 6. */
 #define VULZHENN_REFUSED 100
@@ -117,8 +118,8 @@ size_t vulzhenn_witness(const uint8_t *text, size_t text_length, uint8_t *out, s
  *
  * Returns VULZHENN_ACCEPTED only if the text's formula has the value that the file claims; VULZHENN_NOT_BORNE_OUT; VULZHENN_OTHER_FORMULA if the file has sizes
  * that are not the formula's, when it is not judged; or 100 plus the number of a refusal: those of the text, then of the file 17 (a map with bit 5, 6 or
- * 7), 18 (it is empty, stops short or goes on), 7 (the claim is above 1, or there is none), 4 (a count of 0 or over 256, or no rows of the claim's side), 8 (a bit
- * beyond a row's unknowns), and 5 (the work area's length). The work area is zero after 0 and 1, and as it was found otherwise. No pointer is null, and
+ * 7), 18 (it is empty, stops short or goes on), 7 (the claim is above 1), 4 (a count of 0 or over 256); VULZHENN_OTHER_FORMULA comes here; then 7 (there is no
+ * claim), 4 (no rows of the claim's side), 5 (the work area's length), and 8 (a bit beyond a row's unknowns). The work area is zero after 0 and 1, and as it was found otherwise. No pointer is null, and
  * the work area shares no byte with the others. A call needs VULZHENN_STACK bytes of stack at most.
  */
 uint32_t vulzhenn_judge(const uint8_t *text, size_t text_length, const uint8_t *witness, size_t witness_length, uint8_t *work, size_t work_length);

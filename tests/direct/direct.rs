@@ -15,6 +15,7 @@ mod known;
 mod parts;
 mod probe;
 mod refused;
+mod restrictions;
 mod runs;
 mod searches;
 mod sheets;
@@ -46,6 +47,7 @@ fn topics() -> Vec<Topic> {
     topics.push(Box::new(counted::compare_all));
     topics.push(Box::new(trimmings::compare_small));
     topics.push(Box::new(trimmings::compare_large));
+    topics.push(Box::new(restrictions::compare_all));
     topics.push(Box::new(refused::compare_all));
     topics.push(Box::new(known::compare_all));
     topics.push(Box::new(fees::compare_all));

@@ -14,12 +14,12 @@ use crate::tally::Tally;
 const MEANT: usize = 10;
 
 /// Anything in the output table, the lowest number among it.
-fn output(random: &mut Random, length: usize) -> Vec<i32> {
+pub fn output(random: &mut Random, length: usize) -> Vec<i32> {
     (0..length).map(|_| if random.chance(1, 20) { i32::MIN } else { random.next() as i32 }).collect()
 }
 
 /// As long as the literals, longer or, in one case of eight, shorter.
-fn room(random: &mut Random, entries: usize) -> usize {
+pub fn room(random: &mut Random, entries: usize) -> usize {
     match random.below(8) {
         0 => random.below(entries + 1),
         1 | 2 => entries + random.between(1, 40),
@@ -29,7 +29,7 @@ fn room(random: &mut Random, entries: usize) -> usize {
 }
 
 /// Clauses of few entries over few unknowns, so that the rules meet: units, repeats, always-true clauses, empty ones.
-fn tangled(random: &mut Random, n: usize, most: usize) -> Vec<i32> {
+pub fn tangled(random: &mut Random, n: usize, most: usize) -> Vec<i32> {
     let mut literals = Vec::new();
     let longest = random.pick(&[2, 3, 4, 6]);
     for _ in 0..random.below(most + 1) {

@@ -98,7 +98,7 @@ impl Player {
             Err(_) => Vec::new(),
         };
         let said = if file.is_empty() { printed.as_str() } else { "" };
-        let wrong = program::wrong_run(&program::WITNESS_GATES, &mut self.random, text, None, program::status(&printed), &file, said);
+        let wrong = program::wrong_run(&program::WITNESS_GATES, &mut self.random, text, None, program::status_of_file(&printed), &file, said);
         *self.found.entry(if file.is_empty() { "no file" } else { "a file" }.to_string()).or_insert(0) += 1;
         self.tally.case(wrong.map(|words| described(&words, text)));
         let studied = study::witnessed(&read, LOOKS)?;

@@ -30,10 +30,9 @@ impl Finding {
     /// The exit status of the command.
     pub fn status(self) -> i32 {
         match self {
-            Finding::NotBorneOut => 0,
-            Finding::Accepted(1) => 10,
-            Finding::Accepted(_) => 20,
-            Finding::OtherFormula | Finding::Refused(..) => 1,
+            Finding::Accepted(_) => 0,
+            Finding::NotBorneOut | Finding::OtherFormula => 1,
+            Finding::Refused(..) => 3,
         }
     }
 

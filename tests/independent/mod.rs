@@ -1,6 +1,6 @@
 //! 01's rules, written from its words apart from the engine: the formula, its meaning by brute force, preferences, rows, copies and the
 //! first model, the run, the judge, the reader; 02's opening, clearing, return counts, trimming, forecast, fee, witness file, gate lists and season
-//! sheet; the study; and what the programs print and the C functions return. With them what the tests share: random cases, lent tables with guards, calls of
+//! sheet; the study; unknowns set; and what the programs print and the C functions return. With them what the tests share: random cases, lent tables with guards, calls of
 //! programs and readers, the count of cases, jobs on several threads.
 
 // No test uses all of it.
@@ -24,6 +24,7 @@ pub mod preference;
 pub mod program;
 pub mod random;
 pub mod reader;
+pub mod restriction;
 pub mod rounds;
 pub mod rows;
 pub mod season;

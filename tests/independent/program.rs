@@ -43,7 +43,7 @@ pub fn run(program: &Program, random: &mut Random, text: &[u8]) -> Result<String
     let output = if by_script { from_files(program, random, text, None) } else { from_a_pipe(program, random, text, None) };
     let output = output.map_err(|error| error.to_string())?;
     let printed = String::from_utf8(output.stdout).map_err(|error| error.to_string())?;
-    let wanted = if by_script { status(&printed) } else { 0 };
+    let wanted = if by_script { status(program, &printed) } else { 0 };
     if !output.stderr.is_empty() || output.status.code() != Some(wanted) {
         return Err(format!("ended with {}, {:?}", output.status, String::from_utf8_lossy(&output.stderr)));
     }
@@ -66,13 +66,24 @@ pub fn wrong_run(program: &Program, random: &mut Random, text: &[u8], second: Op
     Some(format!("{} gave {:?}, wanted status {}, {:02x?} and {:?}", program.script, output, wanted, out, said))
 }
 
-/// 10 for true, 20 for false, 1 for a refusal, 0 for undecided and for a page.
-pub fn status(printed: &str) -> i32 {
+/// Of a script that decides 10 for true, 20 for false, 0 for undecided, 1 for a refusal; of one that prints a page 0, and 3 for a refusal.
+fn status(program: &Program, printed: &str) -> i32 {
     let begins = |start: &str| printed.starts_with(start);
     match () {
         _ if begins("s cnf 1 ") => 10,
         _ if begins("s cnf 0 ") => 20,
+        _ if begins("c refused ") && program.script == SHEET.script => 3,
         _ if begins("c refused ") => 1,
+        _ => 0,
+    }
+}
+
+/// Of a script that writes the file of an answer, by what is printed of that answer: 0 for a file, 1 for none since it is undecided, 3 for a refusal.
+pub fn status_of_file(printed: &str) -> i32 {
+    let begins = |start: &str| printed.starts_with(start);
+    match () {
+        _ if begins("s cnf -1 ") => 1,
+        _ if begins("c refused ") => 3,
         _ => 0,
     }
 }

@@ -88,12 +88,12 @@ pub struct Witnessed {
 }
 
 impl Witnessed {
-    /// The command's status.
+    /// The command's status: a file is written, there is none, or the text is refused.
     pub fn status(&self) -> i32 {
-        match self.file.get(1) {
-            Some(0) => 20,
-            Some(_) => 10,
-            None => i32::from(self.setting == 0),
+        match (self.file.is_empty(), self.setting) {
+            (false, _) => 0,
+            (true, 0) => 3,
+            (true, _) => 1,
         }
     }
 }

@@ -91,7 +91,7 @@ impl Player {
     fn written_by_program(&mut self, text: &[u8], read: &Result<Read, Refusal>, file: &[u8]) -> Result<Option<String>, TooLong> {
         let printed = answers::printed(read, LOOKS)?;
         let said = if file.is_empty() { printed.clone() } else { String::new() };
-        let status = program::status(&printed);
+        let status = program::status_of_file(&printed);
         Ok(program::wrong_run(&program::WITNESS, &mut self.random, text, None, status, file, &said))
     }
 

@@ -25,10 +25,10 @@ use Rattle.rounds.specs.Opening.{block, opening, opening-length}
 use Rattle.rounds.specs.Counts.{counts}
 use Rattle.rounds.proofs.Bounds.{count-in-room}
 use Rattle.rounds.proofs.Opening.{opening-right}
-use Rattle.run.specs.declared.Outcome.{Outcome as Returned}
-use Rattle.run.specs.Outcome.{areas, Given, accepted as passed, cause, number-of, reported, returned}
-use Rattle.run.specs.Ended.{Ended}
-use Rattle.run.proofs.OutcomeLaws.{number-named}
+use Rattle.engine.specs.declared.run.Outcome.{Outcome as Returned}
+use Rattle.engine.specs.Outcome.{areas, Given, accepted as passed, cause, number-of, reported, returned}
+use Rattle.engine.specs.Ended.{Ended}
+use Rattle.engine.proofs.run.OutcomeLaws.{number-named}
 use Rattle.text.specs.Reading.{Read, Result, taken, refused, over, Read-so}
 use Rattle.text.specs.declared.Reading.{Reading}
 use Rattle.text.specs.declared.Reading.the-variants.{Taken}
@@ -39,7 +39,7 @@ use Rattle.decision.specs.Decision.{handed-on, own-lent}
 use Rattle.decision.proofs.DecisionLaws.{cause-so, returned-so}
 use Rattle.answer.specs.Printed.{round-limit, settled}
 use Rattle.account.specs.Account.{each, prefix-line, value-line, row-lines, head-lines, lines, facts, shown, Delivered}
-use Rattle.account.specs.Steps.{joined, Accepts, told, Tables}
+use Rattle.account.specs.Private.Steps.{joined, Accepts, told, Tables}
 use Rattle.account.proofs.ListLaws.{length-joined, joined-back}
 use Rattle.account.proofs.RoomLaws.{longest, refusal-most, result-most, Fronted, fronted}
 

@@ -17,7 +17,7 @@ use Rattle.text.proofs.GatesRight.{gates-right}
 use Rattle.report.specs.Report.{refusal-line}
 use Rattle.decision.specs.Decision.{own-lent}
 use Rattle.certificate.proofs.Settled.{rows-accepted}
-use Rattle.answer.specs.Printed.{round-limit, result-of, shown as shown-answer, printed}
+use Rattle.answer.specs.Printed.{gates-printed, round-limit, result-of, shown as shown-answer, printed}
 use Rattle.account.specs.Account.{head-lines, lines, facts, shown, account, account-of-gates}
 use Rattle.account.specs.AccountRight.{RunRight, Told, a-refusal, a-run, AccountRight, GatesAccountRight}
 
@@ -53,31 +53,21 @@ lines-start r =
     let self : Starts (result-of (r .kinds) (r .literals) (r .variables) (r .clauses)) (result-of (r .kinds) (r .literals) (r .variables) (r .clauses) ++ _) = record { rest = _; is = refl } in
     longer (longer (longer (longer (longer (longer self _) _) _) _) _) _
 
+-- What is shown of a reading begins with what the program shows of it, and tells its run.
+begins-so : (result : Result) → take (length (shown-answer result)) (shown result) ≡ shown-answer result
+begins-so (refused n line) = take-length (refusal-line n line)
+begins-so (taken r) = starts-taken (lines-start r)
+
+tells-so : (result reading : Result) → result ≡ reading → Told result (shown result)
+tells-so result (refused n line) e = a-refusal n line e (ap shown e)
+tells-so result (taken r) e = a-run r e (ap shown e) (run-right r)
+
 module _ (text : List ℕ) where
   pub account-right : AccountRight text
   unfolding account printed
-  account-right = go (text-read text) refl
-    where
-      go : (result : Result) → text-read text ≡ result → AccountRight text
-      go (refused n line) e =
-          let told = ap shown e in
-          record {
-            begins = ap (λ (x : Result). take (length (shown-answer x)) (shown x)) e ∙ take-length (refusal-line n line) ∙ sym (ap shown-answer e);
-            tells = a-refusal n line e told;
-          }
-      go (taken r) e =
-          record {
-            begins =
-                ap (λ (x : Result). take (length (shown-answer x)) (shown x)) e
-                ∙ starts-taken (lines-start r)
-                ∙ sym (ap shown-answer e);
-            tells = a-run r e (ap shown e) (run-right r);
-          }
+  account-right = record { begins = begins-so (text-read text); tells = tells-so (text-read text) (text-read text) refl }
 
   pub gates-account-right : GatesAccountRight text
-  unfolding account-of-gates
-  gates-account-right = record { tells = go (gates-read text) refl; meaning = gates-right text }
-    where
-      go : (result : Result) → gates-read text ≡ result → Told (gates-read text) (account-of-gates text)
-      go (refused n line) e = a-refusal n line e (ap shown e)
-      go (taken r) e = a-run r e (ap shown e) (run-right r)
+  unfolding account-of-gates gates-printed
+  gates-account-right =
+      record { begins = begins-so (gates-read text); tells = tells-so (gates-read text) (gates-read text) refl; meaning = gates-right text }

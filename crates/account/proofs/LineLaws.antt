@@ -14,7 +14,7 @@ use Rattle.rows.proofs.TableLaws.{length-rows-of, getD-rows-of}
 use Rattle.rounds.specs.Run.{Entry, Table, under-mark}
 use Rattle.report.specs.Report.{ascii, decimal}
 use Rattle.account.specs.Account.{each, name-line, prefix-line, value-line, digit, row-line, row-lines}
-use Rattle.account.specs.Steps.{joined}
+use Rattle.account.specs.Private.Steps.{joined}
 use Rattle.account.proofs.ListLaws.{take-one, each-next, each-short, length-joined, getD-joined}
 
 pub name-behind : (front label : List ℕ) (name : ℕ) → front ++ label ++ decimal name ++ ascii " 0\n" ≡ front ++ name-line label name

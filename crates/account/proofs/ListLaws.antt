@@ -10,7 +10,7 @@ use lib.Seq.{take-suc, length-take-le}
 use Rattle.expansion.specs.Play.{Row}
 use Rattle.rounds.specs.Run.{Entry, Table, rows, under-mark}
 use Rattle.account.specs.Account.{each}
-use Rattle.account.specs.Steps.{joined}
+use Rattle.account.specs.Private.Steps.{joined}
 
 pub take-one : {A : Type 0} (l : List A) (i : ℕ) (d : A) → i < length l → take (i + 1) l ≡ take i l ++ (getD l i d ∷ [])
 take-one l i d h = ap (λ (n : ℕ). take n l) (add-one i) ∙ take-suc l i d h

@@ -11,7 +11,7 @@ use lib.Seq.{length-take-le, take-at}
 use Rattle.formula.specs.Formula.{max-unknowns, max-rows}
 use Rattle.report.specs.Report.{ascii, decimal, decimal-within, truth, line-one, line-two, result-lines, pair-line, refusal-line, put, put-count}
 use Rattle.report.proofs.Lengths.{AtMost, fixed, behind}
-use Rattle.account.specs.Steps.{Side}
+use Rattle.account.specs.Private.Steps.{Side}
 
 -- Room for every account, and for all lines before the rows.
 abbrev pub longest : ℕ

@@ -15,7 +15,7 @@ use Rattle.text.specs.Reading.{Read, Result, taken, refused, text-read, gates-r
 use Rattle.text.specs.GatesRight.{GatesRight}
 use Rattle.report.specs.Report.{refusal-line}
 use Rattle.decision.specs.Decision.{own-lent}
-use Rattle.answer.specs.Printed.{round-limit, settled, printed}
+use Rattle.answer.specs.Printed.{round-limit, settled, printed, gates-printed}
 use Rattle.account.specs.Account.{facts, lines, account, account-of-gates}
 
 -- The run whose facts are told.
@@ -45,7 +45,8 @@ pub record AccountRight (text : List ℕ) : Type 0 where
   pub begins : take (length (printed text)) (account text) ≡ printed text
   pub tells : Told (text-read text) (account text)
 
--- Of a gate list: the verdict of its clauses is the circuit's value.
+-- Of a gate list: the same, and the verdict of its clauses is the circuit's value.
 pub record GatesAccountRight (text : List ℕ) : Type 0 where
+  pub begins : take (length (gates-printed text)) (account-of-gates text) ≡ gates-printed text
   pub tells : Told (gates-read text) (account-of-gates text)
   pub meaning : GatesRight text

@@ -1,4 +1,4 @@
 -- The account of a decision: its lines, and what they say.
 pub mod Account
 pub mod AccountRight
-pub mod Steps
+pub mod Private

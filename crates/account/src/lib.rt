@@ -3,9 +3,9 @@
 // `account` and `account_of_gates` promise, for every input and buffer, the bytes that the definition (specs/Account.antt) gives; what the lines say of the
 // formula is stated in specs/AccountRight.antt.
 // Reading belongs to `text`, the run to `run`, 01's lines to `report`; here what one returns is handed to the next, and the other lines are written.
+use engine::run::Outcome;
 use formula::Check;
 use formula::Formula;
-use run::Outcome;
 use text::Reading;
 ghost use Prim.Native.Nat.{_+_, _*_, _≤_};
 ghost use mathlib.Core.Path.{_≡_};
@@ -13,15 +13,16 @@ ghost use mathlib.Core.List.{_++_, map};
 ghost use lib.ListN.{length, take};
 ghost use Rattle.rows.specs.Row.{row-of};
 ghost use Rattle.rows.specs.Table.{row-at, rows-of};
-ghost use Rattle.run.specs.Outcome.{number-of};
+ghost use Rattle.engine.specs.Outcome.{number-of};
 ghost use Rattle.formula.specs.Formula.{max-unknowns, max-rows, universal, prefix};
 ghost use Rattle.formula.specs.Causes.{count, checked, sizes};
 ghost use Rattle.formula.specs.declared.Check.the-variants.{Accepted};
 ghost use Rattle.report.specs.Report.{decimal};
 ghost use Rattle.text.specs.Reading.{read-as};
+ghost use Rattle.text.specs.Offered.{offered};
 ghost use Rattle.account.specs.Account.{each, digit, name-line, prefix-line, value-line, row-line, row-lines, head-lines, lines, facts, shown, account as account-lines, account-of-gates, Delivered};
 ghost use Rattle.account.specs.AccountRight.{AccountRight, GatesAccountRight};
-ghost use Rattle.account.specs.Steps.{joined, told, Tables, Accepts, Side};
+ghost use Rattle.account.specs.Private.Steps.{joined, told, Tables, Accepts, Side};
 
 // Room for every account.
 pub const LONGEST: usize = 106_496;
@@ -29,29 +30,29 @@ pub const LONGEST: usize = 106_496;
 const ROUNDS: u32 = 1_000;
 
 // Puts the lines of a text at the start of `out`, if they fit: how many bytes they are. A buffer of `LONGEST` bytes is long enough for every text.
-pub fn account(text: &[u8], out: &mut [u8]) -> usize
-    ensures delivered { λ r. ⌜ Delivered (account-lines (now (text .entry))) (now (out .entry)) r (now (out .exit)) ⌝ }
-    ensures proved { λ _. ⌜ AccountRight (now (text .entry)) ⌝ }
+pub fn account(input: &[u8], length: usize, out: &mut [u8]) -> usize
+    ensures delivered { λ r. ⌜ Delivered (account-lines (offered (now (input .entry)) length)) (now (out .entry)) r (now (out .exit)) ⌝ }
+    ensures proved { λ _. ⌜ AccountRight (offered (now (input .entry)) length) ⌝ }
 {
-    account_as(text, false, out)
+    account_as(input, length, false, out)
 }
 
 // The same of a gate list.
-pub fn account_of_gates(text: &[u8], out: &mut [u8]) -> usize
-    ensures delivered { λ r. ⌜ Delivered (account-of-gates (now (text .entry))) (now (out .entry)) r (now (out .exit)) ⌝ }
-    ensures proved { λ _. ⌜ GatesAccountRight (now (text .entry)) ⌝ }
+pub fn account_of_gates(input: &[u8], length: usize, out: &mut [u8]) -> usize
+    ensures delivered { λ r. ⌜ Delivered (account-of-gates (offered (now (input .entry)) length)) (now (out .entry)) r (now (out .exit)) ⌝ }
+    ensures proved { λ _. ⌜ GatesAccountRight (offered (now (input .entry)) length) ⌝ }
 {
-    account_as(text, true, out)
+    account_as(input, length, true, out)
 }
 
 // The lines of a text of clauses or of gates.
-fn account_as(text: &[u8], gates: bool, out: &mut [u8]) -> usize
-    ensures { λ r. ⌜ Delivered (shown (read-as gates (now (text .entry)))) (now (out .entry)) r (now (out .exit)) ⌝ }
+fn account_as(input: &[u8], length: usize, gates: bool, out: &mut [u8]) -> usize
+    ensures { λ r. ⌜ Delivered (shown (read-as gates (offered (now (input .entry)) length))) (now (out .entry)) r (now (out .exit)) ⌝ }
 {
     let mut kinds = [0u8; Formula::UNKNOWNS];
     let mut literals = [0i32; Formula::ENTRIES];
     let mut names = [0u16; Formula::UNKNOWNS];
-    match text::read_as(text, gates, &mut kinds, &mut literals, &mut names) {
+    match text::read_offered(input, length, gates, &mut kinds, &mut literals, &mut names) {
         Reading::Refused { number, line } => report::refusal(out, number, line as u32),
         Reading::Taken {
             unknowns,
@@ -90,7 +91,7 @@ fn decided(
     let mut existential_marks = [0u16; Formula::ROWS];
     let mut existential_counts = [0u32; Formula::ROWS];
     let mut work = [0u8; Formula::WORK];
-    let end = run::run(
+    let end = engine::run::run(
         kinds,
         literals,
         &none,
@@ -190,7 +191,7 @@ fn front_lines(
     ensures { λ r. ⌜ take r (now (text .exit)) ≡ head-lines (number-of (end .answer)) variables clauses (end .round) (end .universal) (end .existential) ++ each prefix-line (now (kinds .entry)) (now (names .entry)) ++ each value-line (row-of (end .block) (row-at (end .opening) 0)) (now (names .entry)) ⌝ }
 {
     let answer = end.answer;
-    let number = run::number(answer);
+    let number = engine::run::number(answer);
     let row = end.opening;
     let head = results(
         text,

@@ -11,9 +11,9 @@ use Rattle.formula.specs.Formula.{max-rows, max-clauses, work-size, universal, 
 use Rattle.formula.specs.Causes.{checked, sizes}
 use Rattle.formula.specs.declared.Check.the-variants.{Accepted}
 use Rattle.rounds.proofs.Bounds.{count-in-room}
-use Rattle.run.specs.declared.Outcome.{Outcome}
-use Rattle.run.specs.Outcome.{number-of, cause, reported, returned, left}
-use Rattle.run.proofs.OutcomeLaws.{number-named}
+use Rattle.engine.specs.declared.run.Outcome.{Outcome}
+use Rattle.engine.specs.Outcome.{number-of, cause, reported, returned, left}
+use Rattle.engine.proofs.run.OutcomeLaws.{number-named}
 use Rattle.text.specs.Reading.{max-bytes, refused, read-as, max-variables}
 use Rattle.text.proofs.TextLaws.{Passes}
 use Rattle.text.proofs.ReadAsLaws.{reading-passes, reading-line}

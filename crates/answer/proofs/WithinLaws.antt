@@ -11,12 +11,14 @@ use borrow.Author.Tests.{lt-ltb, le-ltb}
 use Rattle.formula.specs.Formula.{work-size}
 use Rattle.text.specs.declared.Reading.{Reading}
 use Rattle.text.specs.declared.Reading.the-variants.{Taken, Refused}
-use Rattle.text.specs.Reading.{Result, read-as, Read-so}
+use Rattle.text.specs.Reading.{Result, refused, read-as, Read-so}
+use Rattle.text.specs.Offered.{offered}
+use Rattle.text.proofs.OfferedLaws.{too-long-refused, offered-inside, offered-past}
 use Rattle.text.proofs.FrontLaws.{read-refused, read-taken}
-use Rattle.report.specs.Report.{put, put-count}
-use Rattle.answer.specs.Printed.{printed-as}
+use Rattle.report.specs.Report.{refusal-line, put, put-count}
+use Rattle.answer.specs.Printed.{shown, printed-as}
 use Rattle.answer.specs.Within.{printed-in, used, area-after, Puts}
-use Rattle.answer.specs.Steps.{usable, lines-of, work-after}
+use Rattle.answer.specs.Private.Steps.{usable, lines-of, work-after}
 use Rattle.answer.proofs.AnswerLaws.{refused-printed, line-small, front-passes, variables-small, clauses-small, taken-printed}
 
 -- The same lines and the same area under other names.
@@ -83,14 +85,30 @@ module _ (area : List ℕ) where
         left-so = refl;
       }
 
-  pub within-puts : (gates : Bool) (asked : ℕ) → work-size ≤ length area → {text : List ℕ} → text ≡ take asked area
-      → {reading : Reading} {K : List ℕ} {L : List ℤ} {N K′ : List ℕ} {L′ : List ℤ} {N′ : List ℕ} → Read-so (read-as gates text) reading K L N K′ L′ N′
-      → {out : List ℕ} {count : ℕ} {out′ work′ : List ℕ} → Puts (lines-of reading K′ L′) (work-after reading (take work-size area)) out count out′ work′
-      → Puts (printed-in area (printed-as gates (take asked area))) (area-after (read-as gates (take asked area)) area) out count out′ (work′ ++ drop work-size area)
-  unfolding printed-in area-after
-  within-puts gates asked room {text} same so p =
+  -- A text that is longer than the area.
+  pub past-puts : (gates : Bool) (asked : ℕ) → work-size ≤ length area → length area < asked
+      → {out : List ℕ} {count : ℕ} {out′ : List ℕ} → count ≡ put-count (refusal-line 9 0) out → out′ ≡ put (refusal-line 9 0) out
+      → Puts (printed-in area (printed-as gates (offered area asked))) (area-after (read-as gates (offered area asked)) area) out count out′ area
+  unfolding printed-in area-after printed-as
+  past-puts gates asked room past counted written =
       let wide = le-ltb (length area) work-size room in
+      let read-so : read-as gates (offered area asked) ≡ refused 9 0 = ap (λ (t : List ℕ). read-as gates t) (offered-past area asked past) ∙ too-long-refused gates in
       puts-as
-      (lines-printed gates text so ∙ ap (λ (t : List ℕ). printed-as gates t) same ∙ sym (ap (λ (b : Bool). cond b [] (printed-as gates (take asked area))) wide))
-      (area-used gates text so area ∙ ap (λ (t : List ℕ). used (read-as gates t) area) same ∙ sym (ap (λ (b : Bool). cond b area (used (read-as gates (take asked area)) area)) wide))
+      (sym (ap shown read-so) ∙ sym (ap (λ (b : Bool). cond b [] (printed-as gates (offered area asked))) wide))
+      (sym (ap (λ (r : Result). used r area) read-so) ∙ sym (ap (λ (b : Bool). cond b area (used (read-as gates (offered area asked)) area)) wide))
+      record { counted = counted; written = written; left-so = refl }
+
+  pub within-puts : (gates : Bool) (asked : ℕ) → work-size ≤ length area → asked ≤ length area
+      → {reading : Reading} {K : List ℕ} {L : List ℤ} {N K′ : List ℕ} {L′ : List ℤ} {N′ : List ℕ} → Read-so (read-as gates (take asked area)) reading K L N K′ L′ N′
+      → {out : List ℕ} {count : ℕ} {out′ work′ : List ℕ} → Puts (lines-of reading K′ L′) (work-after reading (take work-size area)) out count out′ work′
+      → Puts (printed-in area (printed-as gates (offered area asked))) (area-after (read-as gates (offered area asked)) area) out count out′ (work′ ++ drop work-size area)
+  unfolding printed-in area-after
+  within-puts gates asked room inside so p =
+      let wide = le-ltb (length area) work-size room in
+      let same = sym (offered-inside area asked inside) in
+      puts-as
+      (lines-printed gates (take asked area) so ∙ ap (λ (t : List ℕ). printed-as gates t) same
+      ∙ sym (ap (λ (b : Bool). cond b [] (printed-as gates (offered area asked))) wide))
+      (area-used gates (take asked area) so area ∙ ap (λ (t : List ℕ). used (read-as gates t) area) same
+      ∙ sym (ap (λ (b : Bool). cond b area (used (read-as gates (offered area asked)) area)) wide))
       record { counted = p .counted; written = p .written; left-so = ap (λ (w : List ℕ). w ++ drop work-size area) (p .left-so) }

@@ -13,24 +13,25 @@ use Rattle.formula.specs.Meaning.{matrix}
 use Rattle.formula.specs.Causes.{checked, sizes}
 use Rattle.formula.specs.declared.Check.the-variants as Check
 use Rattle.rows.specs.Table.{table-of, room}
+use Rattle.rows.proofs.TableLaws.{length-table-of}
 use Rattle.expansion.specs.Judge.{accepted}
 use Rattle.judge.specs.declared.Judgement.the-variants as Judgement
 use Rattle.judge.specs.Judge.{width, outcome}
 use Rattle.rounds.specs.Run.{Entry, Table, rows, Answer, is-false, is-true, spent, no-room-universal, no-room-existential, number, Outcome, Lent, run}
 use Rattle.rounds.proofs.Bounds.{row-length, count-in-room}
 use Rattle.rounds.proofs.RunLaws.{run-reached}
-use Rattle.run.specs.declared.Outcome.{Outcome as Returned}
-use Rattle.run.specs.Outcome.{number-of, reported, row-bytes}
-use Rattle.run.proofs.OutcomeLaws.{number-named}
-use Rattle.run.proofs.ByteLaws.{Wide, length-table-of}
-use Rattle.run.proofs.GrowingLaws.{wide-of-sized}
+use Rattle.engine.specs.declared.run.Outcome.{Outcome as Returned}
+use Rattle.engine.specs.Outcome.{number-of, reported, row-bytes}
+use Rattle.engine.proofs.run.OutcomeLaws.{number-named}
+use Rattle.engine.proofs.run.ByteLaws.{Wide}
+use Rattle.engine.proofs.run.GrowingLaws.{wide-of-sized}
 use Rattle.witness.specs.declared.Record.{Record}
 use Rattle.witness.specs.File.{made, file, size, write-cause}
 use Rattle.judgement.specs.declared.Finding.the-variants as Finding
 use Rattle.judgement.specs.Finding as judging
 use Rattle.judgement.proofs.FindingLaws.{same-sizes, record-claimed, formula-read}
 use Rattle.certificate.specs.Certificate.{true-record, false-record}
-use Rattle.certificate.specs.Steps.{Front, Ran}
+use Rattle.certificate.specs.Private.Steps.{Front, Ran}
 use Rattle.certificate.proofs.Settled.{rows-accepted, some-row}
 use Rattle.certificate.proofs.Judged.{judge-accepts}
 use Rattle.certificate.proofs.FileLaws.{again, read-so, true-fine, false-fine, true-same, false-same, true-size, false-size}

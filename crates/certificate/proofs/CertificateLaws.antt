@@ -15,8 +15,8 @@ use Rattle.formula.proofs.Accepted.{accepted}
 use Rattle.preference.specs.Preference.{prefer}
 use Rattle.rows.specs.Table.{table-of}
 use Rattle.rounds.specs.Run.{rows, Answer, is-false, is-true, spent, no-room-universal, no-room-existential, number, Outcome, run, highest}
-use Rattle.run.specs.declared.Outcome.{Outcome as Returned}
-use Rattle.run.specs.Outcome.{Areas, Given, lent, cause, number-of, reported, row-bytes, given-up, after, left as run-left}
+use Rattle.engine.specs.declared.run.Outcome.{Outcome as Returned}
+use Rattle.engine.specs.Outcome.{Areas, Given, lent, cause, number-of, reported, row-bytes, given-up, after, left as run-left}
 use Rattle.text.specs.Reading.{max-variables, Result, refused, read-as}
 use Rattle.text.proofs.TextLaws.{Passes}
 use Rattle.text.proofs.ReadAsLaws.{reading-passes}
@@ -29,7 +29,7 @@ use Rattle.decision.proofs.DecisionLaws.{cause-so, returned-so}
 use Rattle.answer.specs.Printed.{round-limit, settled}
 use Rattle.certificate.specs.declared.Counts.{Counts}
 use Rattle.certificate.specs.Certificate.{Output, only-file, only-lines, true-record, false-record, lines-of, by-answer, on-outcome, on-formula, on-text, work-by, Delivered}
-use Rattle.certificate.specs.Steps.{Ran}
+use Rattle.certificate.specs.Private.Steps.{Ran}
 use Rattle.certificate.proofs.AnyRun as any
 use Rattle.certificate.proofs.AnyRun.{true-if, false-if}
 
@@ -81,15 +81,6 @@ module _ (kinds : List ℕ) (literals : List ℤ) (variables clauses : ℕ) {r :
   formula-so : (a : Answer) → o .answer ≡ a → by-answer a (length kinds) variables clauses o ≡ on-formula kinds literals variables clauses
   unfolding on-formula on-outcome
   formula-so a e = ap (λ (x : Answer). by-answer x (length kinds) variables clauses o) (sym e)
-
-  pub small-universal : r .universal < 65536
-  small-universal = omega (arith, ran .universal-so, ran .few-universal)
-
-  pub small-existential : r .existential < 65536
-  small-existential = omega (arith, ran .existential-so, ran .few-existential)
-
-  pub small-round : r .round < 65536
-  small-round = omega (arith, ran .round-so, ran .few-rounds)
 
   -- True.
   module _ (one : number (o .answer) ≡ 1) {R : Record} (is : R ≡ made 27 1 (length kinds) clauses 0 (r .existential) (r .round)) where

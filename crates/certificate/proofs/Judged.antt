@@ -14,14 +14,15 @@ use Rattle.formula.specs.Causes as Causes
 use Rattle.formula.specs.declared.Check.the-variants as Check
 use Rattle.rows.specs.Table.{rows-of, table-of, room, table-fits}
 use Rattle.rows.specs.Stray.{stray-rows}
+use Rattle.rows.proofs.TableLaws.{length-table-of}
 use Rattle.expansion.specs.OtherSide.{side-of, other}
 use Rattle.expansion.specs.Play.{Row}
 use Rattle.expansion.specs.Judge.{accepted}
 use Rattle.judge.specs.declared.Judgement.{Judgement}
 use Rattle.judge.specs.declared.Judgement.the-variants as Judgement
 use Rattle.judge.specs.Judge.{claims-true, other-claim, width, cause, borne-out, answer, outcome}
-use Rattle.run.proofs.ByteLaws.{Wide, length-table-of, rows-of-table, no-stray-rows}
-use Rattle.run.proofs.ExtendLaws.{few-unknowns}
+use Rattle.engine.proofs.run.ByteLaws.{Wide, rows-of-table, no-stray-rows}
+use Rattle.engine.proofs.run.ExtendLaws.{few-unknowns}
 
 pub none-behind : (l : List ℕ) → l ++ [] ≡ l
 none-behind [] = refl

@@ -2,8 +2,8 @@
 // `certify` and `certify_gates` promise, for every text, buffers and work area, the bytes that the definition (specs/Certificate.antt) gives; that the
 // file is accepted is stated in specs/CertificateRight.antt.
 // Reading belongs to `text`, the run to `decision`, the file to `witness`, lines to `report`; here what one returns is handed to the next.
+use engine::run::Outcome;
 use formula::Formula;
-use run::Outcome;
 use text::Reading;
 use witness::Record;
 use witness::Written;
@@ -14,12 +14,13 @@ ghost use Rattle.formula.specs.Formula.{max-unknowns, max-clauses, work-size};
 ghost use Rattle.formula.specs.Causes.{checked, sizes};
 ghost use Rattle.formula.specs.declared.Check.the-variants.{Accepted};
 ghost use Rattle.text.specs.Reading.{read-as};
+ghost use Rattle.text.specs.Offered.{offered};
 ghost use Rattle.report.specs.Report.{refusal-line, put, put-count};
 ghost use Rattle.witness.specs.File.{made, file as file-of, size, write-cause};
 ghost use Rattle.answer.specs.Printed.{settled};
 ghost use Rattle.certificate.specs.Certificate.{only-lines, on-formula, on-text, work-by, output, gates-output, left, gates-left, Delivered};
 ghost use Rattle.certificate.specs.CertificateRight.{CertificateRight, GatesCertificateRight};
-ghost use Rattle.certificate.specs.Steps.{Ran};
+ghost use Rattle.certificate.specs.Private.Steps.{Ran};
 
 // How many bytes were put into each buffer.
 pub struct Counts {
@@ -40,33 +41,55 @@ pub fn certify(text: &[u8], file: &mut [u8], lines: &mut [u8], work: &mut [u8]) 
     ensures left { λ _. ⌜ now (work .exit) ≡ left (now (text .entry)) (now (work .entry)) ⌝ }
     ensures proved { λ _. ⌜ CertificateRight (now (text .entry)) ⌝ }
 {
-    certify_as(text, false, file, lines, work)
+    certify_as(text, text.len(), false, file, lines, work)
+}
+
+// The same for a text of `length` bytes at the front of the buffer `input`; one that is longer than it is refused, and not cut.
+pub fn certify_offered(
+    input: &[u8],
+    length: usize,
+    file: &mut [u8],
+    lines: &mut [u8],
+    work: &mut [u8],
+) -> Counts
+    ensures delivered { λ r. ⌜ Delivered (output (offered (now (input .entry)) length) (now (work .entry))) (now (file .entry)) (now (lines .entry)) r (now (file .exit)) (now (lines .exit)) ⌝ }
+    ensures left { λ _. ⌜ now (work .exit) ≡ left (offered (now (input .entry)) length) (now (work .entry)) ⌝ }
+    ensures proved { λ _. ⌜ CertificateRight (offered (now (input .entry)) length) ⌝ }
+{
+    certify_as(input, length, false, file, lines, work)
 }
 
 // The same for a gate list.
-pub fn certify_gates(text: &[u8], file: &mut [u8], lines: &mut [u8], work: &mut [u8]) -> Counts
-    ensures delivered { λ r. ⌜ Delivered (gates-output (now (text .entry)) (now (work .entry))) (now (file .entry)) (now (lines .entry)) r (now (file .exit)) (now (lines .exit)) ⌝ }
-    ensures left { λ _. ⌜ now (work .exit) ≡ gates-left (now (text .entry)) (now (work .entry)) ⌝ }
-    ensures proved { λ _. ⌜ GatesCertificateRight (now (text .entry)) ⌝ }
+pub fn certify_gates(
+    input: &[u8],
+    length: usize,
+    file: &mut [u8],
+    lines: &mut [u8],
+    work: &mut [u8],
+) -> Counts
+    ensures delivered { λ r. ⌜ Delivered (gates-output (offered (now (input .entry)) length) (now (work .entry))) (now (file .entry)) (now (lines .entry)) r (now (file .exit)) (now (lines .exit)) ⌝ }
+    ensures left { λ _. ⌜ now (work .exit) ≡ gates-left (offered (now (input .entry)) length) (now (work .entry)) ⌝ }
+    ensures proved { λ _. ⌜ GatesCertificateRight (offered (now (input .entry)) length) ⌝ }
 {
-    certify_as(text, true, file, lines, work)
+    certify_as(input, length, true, file, lines, work)
 }
 
 // The same for a text of clauses or of gates.
 fn certify_as(
-    text: &[u8],
+    input: &[u8],
+    length: usize,
     gates: bool,
     file: &mut [u8],
     lines: &mut [u8],
     work: &mut [u8],
 ) -> Counts
-    ensures { λ r. ⌜ Delivered (on-text (read-as gates (now (text .entry))) (now (work .entry))) (now (file .entry)) (now (lines .entry)) r (now (file .exit)) (now (lines .exit)) ⌝ }
-    ensures { λ _. ⌜ now (work .exit) ≡ work-by (read-as gates (now (text .entry))) (now (work .entry)) ⌝ }
+    ensures { λ r. ⌜ Delivered (on-text (read-as gates (offered (now (input .entry)) length)) (now (work .entry))) (now (file .entry)) (now (lines .entry)) r (now (file .exit)) (now (lines .exit)) ⌝ }
+    ensures { λ _. ⌜ now (work .exit) ≡ work-by (read-as gates (offered (now (input .entry)) length)) (now (work .entry)) ⌝ }
 {
     let mut kinds = [0u8; Formula::UNKNOWNS];
     let mut literals = [0i32; Formula::ENTRIES];
     let mut names = [0u16; Formula::UNKNOWNS];
-    match text::read_as(text, gates, &mut kinds, &mut literals, &mut names) {
+    match text::read_offered(input, length, gates, &mut kinds, &mut literals, &mut names) {
         Reading::Refused { number, line } => refuse(number, line as u32, file, lines),
         Reading::Taken {
             unknowns,
@@ -154,7 +177,7 @@ fn deliver(
     ensures { λ r. ⌜ Delivered (on-formula (now (kinds .entry)) (now (literals .entry)) variables clauses) (now (file .entry)) (now (lines .entry)) r (now (file .exit)) (now (lines .exit)) ⌝ }
 {
     let answer = end.answer;
-    let number = run::number(answer);
+    let number = engine::run::number(answer);
     if number == 1 {
         let record = record_of(27, 1, kinds.len(), clauses, 0, end.existential, end.round);
         let count = put_file(record, universal, existential, file);

@@ -13,7 +13,7 @@ use lib.Seq.{drop-cons, getD-drop}
 use Rattle.formula.specs.Formula.{max-unknowns}
 use Rattle.expansion.proofs.ClauseCuts.{Every, Some}
 use Rattle.codes.specs.Codes.{row-position}
-use Rattle.codes.specs.Clauses.{position, code-true, code-onto, code-clauses, clause-of, HasEnd, Begins, Coded}
+use Rattle.codes.specs.Private.Clauses.{position, code-true, code-onto, code-clauses, clause-of, HasEnd, Begins, Coded}
 
 -- ---- literals
 

@@ -19,7 +19,7 @@ use Rattle.formula.proofs.Any.{or-none}
 use Rattle.expansion.proofs.ClauseCuts.{Every, every-map, clause-at, matrix-at}
 use Rattle.expansion.proofs.Engine.{literal-at}
 use Rattle.codes.specs.Codes.{code-of, opposite, has, with-code, Reading, so-far, always-true, read-code, closed, encoding-from, encoding, refused, used, filled}
-use Rattle.codes.specs.Clauses.{position, code-true, code-onto, code-clauses, HasEnd, Ended, Encoded, Names}
+use Rattle.codes.specs.Private.Clauses.{position, code-true, code-onto, code-clauses, HasEnd, Ended, Encoded, Names}
 
 -- ---- a code and its literal
 
@@ -362,11 +362,5 @@ all-made literals codes written cleared end accept counted is sized made =
     )
 
 module _ (literals : List ℤ) (codes : List ℕ) (accept : refused literals (length codes) ≡ false) where
-  pub used-length : used literals (length codes) ≤ length literals
-  used-length = rw accept (encoding-length literals)
-
   pub used-part : take (used literals (length codes)) (filled literals codes) ≡ encoding literals
   used-part = rw accept (take-at (encoding literals) (replicate (length codes - length (encoding literals)) 0) (length (encoding literals)) refl)
-
-  pub filled-encoded : ended literals ≡ true → Encoded literals (take (used literals (length codes)) (filled literals codes))
-  filled-encoded end = rw used-part (encoding-encoded literals end)

@@ -18,7 +18,7 @@ use Rattle.formula.specs.Causes.{any, beyond}
 use Rattle.formula.proofs.Any.{any-none}
 use Rattle.formula.proofs.Places.{drop-front}
 use Rattle.codes.specs.Codes.{last-code, code-of, opposite, has, with-code, Reading, so-far, always-true, read-code, closed, encoding-from, encoding}
-use Rattle.codes.specs.Clauses.{Names, PastClause, Added, ClauseEncoded}
+use Rattle.codes.specs.Private.Clauses.{Names, PastClause, Added, ClauseEncoded}
 use Rattle.codes.proofs.EncodeLaws.{even-or-odd, or-swap, with-code-cases, with-code-length}
 
 -- ---- codes as indices

@@ -30,6 +30,12 @@ row-position c = (c / 2 + (max-unknowns - 1)) % max-unknowns
 abbrev pub has : ℕ → List ℕ → Bool
 has c clause = any (eqb c) clause
 
+-- The codes up to the first zero: the clause that begins here.
+abbrev pub clause-of : List ℕ → List ℕ
+clause-of [] = []
+clause-of (zero ∷ cs) = []
+clause-of (suc c ∷ cs) = suc c ∷ clause-of cs
+
 -- A clause with one code more, at its end. The largest code stands first: a first one that is smaller makes room, and goes to the end.
 unfoldable pub with-code : ℕ → List ℕ → List ℕ
 with-code c [] = c ∷ []

@@ -1,3 +1,3 @@
--- The literals of a formula as codes (Codes), and what codes mean (Clauses). The public contract cites Codes alone.
+-- The literals of a formula as codes (Codes). Private has what codes mean.
 pub mod Codes
-pub mod Clauses
+pub mod Private

@@ -12,7 +12,7 @@ ghost use lib.ListN.{length, take, drop, replicate};
 ghost use Rattle.formula.specs.Formula.{max-unknowns};
 ghost use Rattle.formula.specs.Causes.{any, beyond};
 ghost use Rattle.codes.specs.Codes.{last-code, code-of, opposite as code-opposite, encoding, used, filled, entry-by-entry};
-ghost use Rattle.codes.specs.Clauses.{Names, PastClause, Added, ClauseEncoded};
+ghost use Rattle.codes.specs.Private.Clauses.{Names, PastClause, Added, ClauseEncoded};
 
 // That of the last unknown's opposite literal.
 pub const LAST_CODE: usize = 2 * Formula::UNKNOWNS + 1;

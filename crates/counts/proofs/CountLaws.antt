@@ -10,11 +10,6 @@ use Rattle.counts.specs.Counts.{one-more, counted-up, filled}
 
 -- ---- counted up
 
-pub length-counted-up : (came : ℕ → Bool) (n : ℕ) (l : List ℕ) → length (counted-up came n l) ≡ length l
-length-counted-up came zero l = refl
-length-counted-up came (suc n) [] = refl
-length-counted-up came (suc n) (x ∷ l) = ap suc (length-counted-up (λ i. came (suc i)) n l)
-
 -- The place behind those that are passed is as it was.
 pub counted-up-there : (came : ℕ → Bool) (n : ℕ) (l : List ℕ) → getD (counted-up came n l) n 0 ≡ getD l n 0
 counted-up-there came zero l = refl
@@ -39,12 +34,6 @@ counted-up-most came (suc n) (suc i) [] h = refl
 counted-up-most came (suc n) (suc i) (x ∷ l) h = ap (λ (r : List ℕ). one-more (came zero) x ∷ r) (counted-up-most (λ j. came (suc j)) n i l (omega arith))
 
 -- ---- filled
-
-pub length-filled : (from to value : ℕ) (l : List ℕ) → length (filled from to value l) ≡ length l
-length-filled from zero value l = refl
-length-filled from (suc to) value [] = refl
-length-filled zero (suc to) value (x ∷ l) = ap suc (length-filled zero to value l)
-length-filled (suc from) (suc to) value (x ∷ l) = ap suc (length-filled from to value l)
 
 -- Nothing is filled where the end is not behind the start.
 pub filled-none : (from to value : ℕ) (l : List ℕ) → to ≤ from → filled from to value l ≡ l

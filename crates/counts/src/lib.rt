@@ -36,7 +36,7 @@ pub fn update(
 }
 
 // Each of the first `stand` places whose row is among the first `number` yielded ones gets one more.
-pub fn count_up(rows: &[u8], stand: usize, yielded: &[u8], number: usize, counts: &mut [u32])
+fn count_up(rows: &[u8], stand: usize, yielded: &[u8], number: usize, counts: &mut [u32])
     ensures { λ _. ⌜ now (counts .exit) ≡ counted-up (was-yielded (now (rows .entry)) (now (yielded .entry)) number) stand (now (counts .entry)) ⌝ }
 {
     let end = at_most(stand, counts.len());

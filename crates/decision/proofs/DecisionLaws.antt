@@ -12,9 +12,9 @@ use Rattle.formula.specs.declared.Check.the-variants.{Accepted}
 use Rattle.rows.specs.Table.{table-fits}
 use Rattle.formula.specs.Formula.{work-size, prefix}
 use Rattle.rounds.specs.Run.{run}
-use Rattle.run.specs.declared.Outcome.{Outcome}
-use Rattle.run.specs.Outcome.{Areas, areas, Given, side-fits, tables-fit, tables-counted, cause, reported, returned, left}
-use Rattle.run.specs.Ended.{Ended}
+use Rattle.engine.specs.declared.run.Outcome.{Outcome}
+use Rattle.engine.specs.Outcome.{Areas, areas, Given, side-fits, tables-fit, tables-counted, cause, reported, returned}
+use Rattle.engine.specs.Ended.{Ended}
 use Rattle.decision.specs.Decision.{own-rows, own-marks, own-counts, handed-on, own-lent, Decided}
 
 own-rows-fit : tables-fit own-rows own-marks own-rows own-marks ≡ true
@@ -50,8 +50,3 @@ ended-so e =
       existential-so = ap (λ (a : Areas). a .existential-rows) (e .left-so);
       work-so = ap (λ (a : Areas). a .work) (e .left-so);
     }
-
--- .. and of that, what `decide` hands on.
-pub decided-so : {g : Given} {r : Outcome} {universal existential work : List ℕ} → Decided g r universal existential work
-    → (r ≡ returned g) × (work ≡ left g .work)
-decided-so d = (d .returned-so, d .work-so)

@@ -9,8 +9,8 @@ use Rattle.formula.specs.Formula.{max-rows, prefix, clauses}
 use Rattle.formula.specs.Meaning.{matrix}
 use Rattle.preference.specs.Preference.{prefer}
 use Rattle.rounds.specs.Run.{Lent}
-use Rattle.run.specs.declared.Outcome.{Outcome}
-use Rattle.run.specs.Outcome.{Given, areas, given, returned, left}
+use Rattle.engine.specs.declared.run.Outcome.{Outcome}
+use Rattle.engine.specs.Outcome.{Given, areas, given, returned, left}
 
 -- '256 rows a side': a row is 16 bytes, and a mark table has one number a row, as has a table of counts. All are zero when the run begins.
 abbrev pub own-rows : List ℕ

@@ -1,10 +1,10 @@
 // The run as the programs and the C functions make it (01, 'Text', last paragraph): no preferences lent, 256 rows a side, the universal table never
 // cleared.
 // `decide` and `decide_rows` promise, for every formula, work area and limit, what `run` returns then and every byte that is lent.
+use engine::run::Outcome;
 use formula::Formula;
-use run::Outcome;
 ghost use mathlib.Core.Path.{_≡_};
-ghost use Rattle.run.specs.Outcome.{returned, left};
+ghost use Rattle.engine.specs.Outcome.{returned, left};
 ghost use Rattle.decision.specs.Decision.{with-rows, handed-on, Decided};
 
 // Over rows of its own.
@@ -40,7 +40,7 @@ pub fn decide_rows(
     let mut universal_counts = [0u32; Formula::ROWS];
     let mut existential_marks = [0u16; Formula::ROWS];
     let mut existential_counts = [0u32; Formula::ROWS];
-    run::run(
+    engine::run::run(
         kinds,
         literals,
         &none,

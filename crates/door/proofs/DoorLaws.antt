@@ -6,9 +6,9 @@ use mathlib.Core.List.{List}
 use lib.IntN.{ℤ}
 use lib.ListN.{take}
 use Rattle.formula.specs.Formula.{max-unknowns, max-entries}
-use Rattle.run.specs.declared.Outcome.{Outcome}
-use Rattle.run.specs.Outcome.{Given, returned, left}
-use Rattle.run.specs.Numbers.{one-number}
+use Rattle.engine.specs.declared.run.Outcome.{Outcome}
+use Rattle.engine.specs.Outcome.{Given, returned, left}
+use Rattle.engine.specs.Numbers.{one-number}
 use Rattle.text.specs.Reading.{Result, taken, refused, text-read}
 use Rattle.text.proofs.TextLaws.{OfText, Results, Passes, read-passes}
 use Rattle.text.proofs.FrontLaws.{Front}

@@ -10,8 +10,8 @@ use Rattle.formula.specs.Causes.{cause-1, cause-2, cause-3, refused-if, checked
 use Rattle.formula.specs.declared.Formula.{Formula}
 use Rattle.formula.specs.declared.Check.the-variants.{Accepted}
 use Rattle.rounds.specs.Run.{Answer, is-false, is-true, spent, no-room-universal, no-room-existential, number}
-use Rattle.run.specs.Outcome.{Given, tables-fit, tables-counted, cause, accepted, reached, named, returned}
-use Rattle.run.specs.Numbers.{one-number}
+use Rattle.engine.specs.Outcome.{Given, tables-fit, tables-counted, cause, accepted, reached, named, returned}
+use Rattle.engine.specs.Numbers.{one-number}
 use Rattle.door.specs.Door.{run-number}
 
 pub number-named : (a : Answer) → one-number (named a) ≡ number a
@@ -41,6 +41,13 @@ number-0 is-true e = absurd (omega arith)
 number-0 spent e = absurd (omega arith)
 number-0 no-room-universal e = absurd (omega arith)
 number-0 no-room-existential e = absurd (omega arith)
+
+pub number-2 : (a : Answer) → number a ≡ 2 → a ≡ spent
+number-2 is-false e = absurd (omega arith)
+number-2 is-true e = absurd (omega arith)
+number-2 spent e = refl
+number-2 no-room-universal e = absurd (omega arith)
+number-2 no-room-existential e = absurd (omega arith)
 
 formula-cause-small : (a b c : Bool) (f : Formula) → cause-number (refused-if a 1 (refused-if b 2 (refused-if c 3 (Accepted f)))) ≤ 3
 formula-cause-small true b c f = omega arith

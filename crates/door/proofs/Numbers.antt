@@ -2,22 +2,24 @@
 use Prim.Native.Nat.{ℕ, _+_, _≤_}
 use native.Mathlib.Omega.{arith}
 use mathlib.Core.Path.{_≡_, refl, sym, ap, subst, _∙_}
+use mathlib.Core.Logic.{_≢_}
 use mathlib.Core.Bool.{Bool, true, false, not, cond}
 use mathlib.Core.List.{List}
 use lib.Dec.{eqb}
 use lib.ListN.{length, replicate}
-use Rattle.formula.specs.Formula.{max-unknowns, max-entries, work-size}
+use Rattle.formula.specs.Formula.{max-unknowns, max-entries, max-rows, work-size}
 use Rattle.formula.specs.Meaning.{verdict}
-use Rattle.rounds.specs.Run.{number}
-use Rattle.run.specs.Outcome.{Given, lent, cause, accepted, reached, after, left}
+use Rattle.rounds.specs.Run.{spent, number}
+use Rattle.engine.specs.Outcome.{Given, lent, cause, accepted, reached, after, left}
 use Rattle.rounds.proofs.Verdict.{verdict-right}
+use Rattle.rounds.proofs.Bounds.{spent-below-room}
 use Rattle.text.specs.Reading.{Read, Result, taken, refused, text-read}
 use Rattle.text.proofs.TextLaws.{Results, Passes, read-passes}
-use Rattle.decision.specs.Decision.{handed-on}
+use Rattle.decision.specs.Decision.{handed-on, own-lent}
 use Rattle.decision.proofs.DecisionLaws.{cause-so}
 use Rattle.door.specs.Door.{run-number, number-back, work-back, answer, work-after}
 use Rattle.door.specs.Numbers.{Verdict, NumbersRight}
-use Rattle.door.proofs.NumberLaws.{number-small, number-1, number-0, run-numbered}
+use Rattle.door.proofs.NumberLaws.{number-small, number-2, number-1, number-0, run-numbered}
 use Rattle.door.proofs.DoorLaws.{refused-of-text, refused-back}
 
 -- By what a run's number is: an answer with the work area zero, or a cause with the work area as found.
@@ -69,6 +71,13 @@ module _ (text work : List ℕ) (limit : ℕ) where
     taken-number : answer text work limit ≡ cond (not (eqb (length work) work-size)) 105 (cond (eqb limit 0) 106 (number (reached (handed s) .answer)))
     taken-number = answer-taken ∙ run-refused-or-answered (handed s) (not (eqb (length work) work-size)) (eqb limit 0) cause-taken
 
+    taken-unspent : max-rows ≤ limit → answer text work limit ≢ number spent
+    taken-unspent many is =
+        let back : run-number (handed s) ≡ 2 = sym answer-taken ∙ is in
+        let is-spent : reached (handed s) .answer ≡ spent = number-2 (reached (handed s) .answer) (run-answered (handed s) (omega arith) ∙ back) in
+        let few = spent-below-room (own-lent (s .kinds) (s .literals)) limit (omega arith) refl is-spent in
+        omega (arith, few)
+
     taken-true : answer text work limit ≡ 1 → Verdict text true
     unfolding verdict
     taken-true one =
@@ -109,6 +118,7 @@ module _ (text work : List ℕ) (limit : ℕ) where
       record {
         of-text = λ n line e. (sym (refused-back text work limit n line e .0), refused-of-text text n line e .from-9, refused-of-text text n line e .to-14, refused-of-text text n line e .not-13);
         of-run = taken-number;
+        never-spent = λ many is. by-reading (λ s e. taken-unspent s e many is) (λ n line e. absurd (omega (arith, refused-large n line e)));
         zero-after =
             λ small.
             by-reading (λ s e. work-taken s e ∙ run-zero (handed s) (omega (arith, answer-taken s e)))

@@ -3,8 +3,8 @@
 -- Assumes nothing.
 use Prim.Native.Nat.{ℕ, _+_}
 use mathlib.Core.List.{List}
-use Rattle.run.specs.Outcome.{Given, returned, left}
-use Rattle.run.specs.Numbers.{one-number}
+use Rattle.engine.specs.Outcome.{Given, returned, left}
+use Rattle.engine.specs.Numbers.{one-number}
 use Rattle.text.specs.Reading.{Result, taken, refused, text-read}
 use Rattle.decision.specs.Decision.{handed-on}
 

@@ -2,14 +2,15 @@
 -- Assumes nothing.
 use Prim.Native.Nat.{ℕ, _+_, _≤_}
 use mathlib.Core.Path.{_≡_}
+use mathlib.Core.Logic.{_≢_}
 use mathlib.Core.Bool.{Bool, true, false, not, cond}
 use mathlib.Core.List.{List}
 use lib.Dec.{eqb}
 use lib.ListN.{length, replicate}
-use Rattle.formula.specs.Formula.{work-size}
+use Rattle.formula.specs.Formula.{max-rows, work-size}
 use Rattle.formula.specs.Meaning.{verdict}
-use Rattle.rounds.specs.Run.{number}
-use Rattle.run.specs.Outcome.{reached}
+use Rattle.rounds.specs.Run.{spent, number}
+use Rattle.engine.specs.Outcome.{reached}
 use Rattle.text.specs.Reading.{Read, taken, refused, text-read}
 use Rattle.decision.specs.Decision.{handed-on}
 use Rattle.door.specs.Door.{answer, work-after}
@@ -29,6 +30,8 @@ pub record NumbersRight (text work : List ℕ) (limit : ℕ) : Type 0 where
       → answer text work limit
       ≡ cond (not (eqb (length work) work-size)) 105
       (cond (eqb limit 0) 106 (number (reached (handed-on (r .kinds) (r .literals) work limit) .answer)))
+  -- With 256 rows a side no more than 255 rounds are ever finished: from a limit of 256 on the answer is never spent.
+  pub never-spent : max-rows ≤ limit → answer text work limit ≢ number spent
   -- 'Zero after an answer'; a refusal leaves it as found.
   pub zero-after : answer text work limit ≤ 4 → work-after text work limit ≡ replicate work-size 0
   pub as-found : 100 ≤ answer text work limit → work-after text work limit ≡ work

@@ -7,7 +7,7 @@ use formula::Formula;
 use judgement::Finding;
 use text::Reading;
 ghost use mathlib.Core.Path.{_≡_};
-ghost use Rattle.run.specs.Outcome.{left};
+ghost use Rattle.engine.specs.Outcome.{left};
 ghost use Rattle.decision.specs.Decision.{handed-on};
 ghost use Rattle.door.specs.Door.{run-number, answer, work-after};
 ghost use Rattle.door.specs.Numbers.{NumbersRight};
@@ -83,7 +83,7 @@ fn decide(kinds: &[u8], literals: &[i32], work: &mut [u8], limit: u32) -> u32
 {
     let end = decision::decide(kinds, literals, work, limit);
     let answer = end.answer;
-    run::one_number(answer) as u32
+    engine::run::one_number(answer) as u32
 }
 
 // The number of the study's answer, or 100 plus the number of the refusal.
@@ -114,5 +114,5 @@ fn study_formula(kinds: &[u8], literals: &[i32], work: &mut [u8]) -> u32
     let end = study_answer::decide(kinds, literals, work);
     let outcome = end.outcome;
     let answer = outcome.answer;
-    run::one_number(answer) as u32
+    engine::run::one_number(answer) as u32
 }

@@ -18,6 +18,7 @@ use Rattle.expansion.specs.Model.{wins, yielded, search}
 use Rattle.expansion.proofs.CopyLaws.{Own}
 use Rattle.expansion.proofs.FirstModel.{none-if-no-strategy}
 use Rattle.expansion.specs.Cells.{Values, Cells, others-before, tabulate}
+pub use Rattle.expansion.specs.Private.Matrix.{literal-at, goal-at, Names}
 use Rattle.expansion.proofs.Leading.{wanted, Playing, Leading}
 use Rattle.expansion.proofs.LeadingPath.{first-at, later-at, play-at-own, play-at-other, own-within}
 use Rattle.expansion.proofs.LeadingFirst.{played, play-of-played, played-wins, leading-is-first}
@@ -76,16 +77,6 @@ module _ {A : Type 0} where
 
 -- ---- the matrix over values by position
 
-abbrev pub literal-at : (ℕ → Bool) → ℤ → Bool
-literal-at f (pos zero) = false
-literal-at f (pos (suc x)) = f x
-literal-at f (negsuc x) = not (f x)
-
--- the side's goal
-abbrev pub goal-at : Kind → List Clause → (ℕ → Bool) → Bool
-goal-at existential cs f = matrix-at literal-at cs f
-goal-at universal cs f = not (matrix-at literal-at cs f)
-
 literal-of-list : (vs : List Bool) (z : ℤ) → literal vs z ≡ literal-at (λ j. getD vs j false) z
 literal-of-list vs (pos zero) = refl
 literal-of-list vs (pos (suc x)) = refl
@@ -102,12 +93,6 @@ matrix-of-list (c ∷ cs) vs = rw (clause-of-list, matrix-of-list cs vs) refl
 goal-of-list : (side : Kind) (cs : List Clause) (vs : List Bool) → goal side (matrix cs) vs ≡ goal-at side cs (λ j. getD vs j false)
 goal-of-list existential cs vs = matrix-of-list cs vs
 goal-of-list universal cs vs = ap not (matrix-of-list cs vs)
-
--- The literal names one of n unknowns.
-abbrev pub Names : ℕ → ℤ → Type 0
-Names n (pos zero) = ⊥
-Names n (pos (suc x)) = x < n
-Names n (negsuc x) = x < n
 
 -- the matrix looks only at unknowns that are named
 module _ (n : ℕ) (f g : ℕ → Bool) (same : (j : ℕ) → j < n → f j ≡ g j) where

@@ -8,20 +8,12 @@ use mathlib.Core.Bool.{Bool, true, false, Bool·beq, and-eq-true-iff, false≢tr
 use mathlib.Core.List.{List, [], _∷_, _++_, map}
 use mathlib.Core.Logic.{_⊎_, inl, inr, ⊎-elim, ⊎-map}
 use lib.ListN.{length, getD}
+pub use Rattle.formula.specs.Lists.{In, Distinct}
 use Rattle.expansion.specs.Play.{Row}
 use Rattle.expansion.specs.Copies.{same, among, fresh}
 use Rattle.expansion.proofs.Booleans.{true-or-false, never-both, false-if-not-true}
 
 module _ {A : Type 0} where
-  abbrev pub In : A → List A → Type 0
-  In x [] = ⊥
-  In x (y ∷ ys) = (x ≡ y) ⊎ In x ys
-
-  -- No entry stands twice.
-  abbrev pub Distinct : List A → Type 0
-  Distinct [] = Unit {0}
-  Distinct (x ∷ xs) = (In x xs → ⊥) × Distinct xs
-
   pub in-append-left : (x : A) (xs ys : List A) → In x xs → In x (xs ++ ys)
   in-append-left x [] ys h = absurd h
   in-append-left x (y ∷ xs) ys (inl e) = inl e

@@ -20,7 +20,7 @@ use Rattle.expansion.specs.Play.{Row, Strategy, later-values, restrictio
 use Rattle.expansion.specs.Copies.{Copy, copy-at, fresh, copies-at, copies-from, copies}
 use Rattle.expansion.specs.Model.{strategy-of, search}
 use Rattle.expansion.specs.Order.{Leads}
-use Rattle.expansion.specs.Memory.{LeadsModels}
+use Rattle.expansion.specs.Private.Memory.{LeadsModels}
 use Rattle.expansion.specs.Cells.{Values}
 use Rattle.expansion.proofs.Booleans.{false-if-not-true, never-both, never-unlike}
 use Rattle.expansion.proofs.Membership.{In, in-map-cases, place-of-in}

@@ -21,9 +21,6 @@ below-or-not j k = go (decLt j k)
 
 module _ (P : Problem) (k at lo hi : ℕ) (v : ℕ → Bool) (T : Cells) (M : ℕ → Mask) (A : Node P k lo hi v T M) (ka : k ≤ at) (an : at ≤ P .n)
     (agree : (i h : ℕ) → lo ≤ i → i < hi → lo ≤ h → h < hi → Agree P i h at) (stands : (i j : ℕ) → lo ≤ i → i < hi → k ≤ j → j < at → 0 < T .level i j) where
-  group : lo < hi
-  group = A .some
-
   -- the group's rows have one value at each position that stands
   stand-value : (i j : ℕ) → lo ≤ i → i < hi → k ≤ j → j < at → T .value i j ≡ T .value lo j
   stand-value i j p q kj ja =

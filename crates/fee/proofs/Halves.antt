@@ -9,7 +9,7 @@ use Rattle.fee.specs.Rounding.{nearest-even}
 use Rattle.fee.specs.HalfUp.{half-up}
 use Rattle.fee.specs.Fee.{price, total, changes, risen, fee-on}
 use Rattle.fee.specs.Bands.{price-with}
-use Rattle.fee.specs.Halves.{OnHalf, Within, RoundedRight, FeesRight}
+use Rattle.fee.specs.Halves.{OnHalf, Within, RoundedRight, FeesRounded}
 
 -- Below the half, above it, and on it.
 data Place (x : ℕ) : Type 0 where
@@ -61,9 +61,9 @@ module _ (x : ℕ) where
         of-two = two (place x);
       }
 
-pub fees-right : FeesRight
+pub fees-rounded : FeesRounded
 unfolding fee-on
-fees-right =
+fees-rounded =
     record {
       built-in = λ kinds rounds. rounded-right (risen (total price rounds) (changes kinds)) .off-half;
       by-bands = λ firsts prices kinds rounds. rounded-right (risen (total (price-with firsts prices) rounds) (changes kinds)) .off-half;

@@ -10,3 +10,4 @@ pub mod Halves
 pub mod Worked
 pub mod BandCases
 pub mod Study
+pub mod FeesRight

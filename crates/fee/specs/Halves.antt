@@ -28,7 +28,7 @@ pub record RoundedRight (x : ℕ) : Type 0 where
   pub of-two : (others : ℕ) → Within x others → (others ≡ nearest-even x → ⊥) → nearest-even x % 2 ≡ 0
 
 -- So of the fees, by the built-in prices and by lent bands, for all rounds, kinds and columns.
-pub record FeesRight : Type 0 where
+pub record FeesRounded : Type 0 where
   pub built-in : (kinds : List ℕ) (rounds : ℕ) → (OnHalf (risen (total price rounds) (changes kinds)) → ⊥)
       → fee kinds rounds ≡ half-up (risen (total price rounds) (changes kinds))
   pub by-bands : (firsts prices kinds : List ℕ) (rounds : ℕ) → (OnHalf (risen (total (price-with firsts prices) rounds) (changes kinds)) → ⊥)

@@ -1,7 +1,7 @@
 // What a venue pays for a study (02, C-21 to C-23): a price for each round, a rise for each change of kind in the prefix, rounded to a cent.
 // `fee`, by the built-in bands, and `fee_with`, by bands that are lent, promise for every input the cents that the definitions (specs/Fee.antt,
-// specs/Bands.antt) give, or the refusal. They cost as many steps as there are kinds and bands, however many the rounds are. Whose rounds
-// they are, and who pays, is a theorem over the run (specs/Study.antt).
+// specs/Bands.antt) give, or the refusal; and of every fee, who pays it, what bands a table comes to and how it is rounded
+// (specs/FeesRight.antt). They cost as many steps as there are kinds and bands, however many the rounds are.
 use formula::Check;
 use formula::Formula;
 ghost use mathlib.Core.Path.{_≡_};
@@ -13,6 +13,7 @@ ghost use Rattle.formula.specs.Causes.{any, cause-1};
 ghost use Rattle.fee.specs.Rounding.{nearest-even};
 ghost use Rattle.fee.specs.Fee.{changes as changes-of, risen as risen-of, fee-on, cause, answer, Charged};
 ghost use Rattle.fee.specs.Bands.{max-price, cause-21, rises as rises-of, ChargedWith};
+ghost use Rattle.fee.specs.FeesRight.{FeesRight};
 ghost use Rattle.fee.specs.ByBands.{next-on, by-bands, Summable};
 
 // A fee, or the number of the cause that refuses it.
@@ -34,6 +35,7 @@ const DEAREST: u32 = 100_000;
 // The fee for so many rounds of a study with these kinds.
 pub fn fee(rounds: u32, kinds: &[u8]) -> Charge
     ensures { λ r. ⌜ Charged (now (kinds .entry)) rounds r ⌝ }
+    ensures proved { λ _. ⌜ FeesRight ⌝ }
 {
     fee_on(sum(&FIRSTS, &PRICES, rounds), kinds)
 }
@@ -41,6 +43,7 @@ pub fn fee(rounds: u32, kinds: &[u8]) -> Charge
 // The same by the bands of two columns, the first round of each and the price of its rounds.
 pub fn fee_with(firsts: &[u32], prices: &[u32], rounds: u32, kinds: &[u8]) -> Charge
     ensures { λ r. ⌜ ChargedWith (now (firsts .entry)) (now (prices .entry)) (now (kinds .entry)) rounds r ⌝ }
+    ensures proved { λ _. ⌜ FeesRight ⌝ }
 {
     if is_no_table(firsts, prices) {
         return Charge::Refused(21);

@@ -17,7 +17,7 @@ use Rattle.rows.specs.Table.{row-at, room}
 use Rattle.rows.proofs.BitLaws.{bits-determine}
 use Rattle.rows.proofs.RowLaws.{bit-in-byte}
 use Rattle.rows.proofs.TableLaws.{getD-row-at}
-use Rattle.forecast.specs.Starts.{AlikeBits, Alike, Shared, Tells, Told}
+use Rattle.forecast.specs.Private.Starts.{AlikeBits, Alike, Shared, Tells, Told}
 
 -- ---- two rows
 

@@ -26,7 +26,7 @@ use Rattle.expansion.specs.Cells.{others-before}
 use Rattle.expansion.proofs.Membership.{In, in-of-place, place-of-in, in-map, in-map-cases}
 use Rattle.expansion.proofs.FreshLaws.{fresh-old, fresh-new}
 use Rattle.forecast.specs.Outcome.{width, lent-rows, copies-over}
-use Rattle.forecast.specs.Starts.{Alike, Told, within, summed}
+use Rattle.forecast.specs.Private.Starts.{Alike, Told, within, summed}
 use Rattle.forecast.proofs.StartLaws.{alike-fewer}
 
 -- ---- restrictions

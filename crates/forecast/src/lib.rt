@@ -13,7 +13,7 @@ ghost use Rattle.expansion.specs.Side.{flags};
 ghost use Rattle.expansion.specs.OtherSide.{side-of, other};
 ghost use Rattle.forecast.specs.Outcome.{given, table-cause, copies-over};
 ghost use Rattle.forecast.specs.Forecast.{Foretold};
-ghost use Rattle.forecast.specs.Starts.{AlikeBits, Shared, Tells, Told, within, summed};
+ghost use Rattle.forecast.specs.Private.Starts.{AlikeBits, Shared, Tells, Told, within, summed};
 
 // The copies over A and over S as they stand, and whether the free existential rows number at least the count of A. A refusal has the number
 // of its cause.

@@ -1,4 +1,4 @@
--- What holds of an accepted formula, and that it is just this that is asked.
+-- A formula is accepted exactly if `Accepted` (specs/Private/Accepted.antt) holds of it.
 -- Assumes nothing.
 use Prim.Native.Nat.{ℕ, zero, suc, _-_, _≤_}
 use native.Mathlib.Omega.{arith}
@@ -12,22 +12,13 @@ use lib.ListN.{length, getD}
 use Rattle.formula.specs.declared.Check.{Check}
 use Rattle.formula.specs.declared.Check.the-variants.{Accepted as Passed}
 use Rattle.formula.specs.declared.Formula.{Formula}
-use Rattle.formula.specs.Formula.{max-unknowns, max-clauses, max-entries, clauses}
+use Rattle.formula.specs.Formula.{max-unknowns, max-clauses, max-entries}
 use Rattle.formula.specs.Causes.{any, other-kind, cause-1, zeros, is-zero, ended, cause-2, beyond, cause-3, sizes, refused-if, checked}
+pub use Rattle.formula.specs.Private.Accepted.{Accepted}
 use Rattle.formula.proofs.Any.{or-none, any-none, none-any}
 use Rattle.formula.proofs.Quantifiers.{kind-below}
 use Rattle.formula.proofs.Clauses.{length-clauses}
 use Rattle.formula.proofs.Order.{no-cause-1, no-cause-2, none-refused}
-
--- 'A formula to which none of the causes 1 to 3 applies', by its places; past the end of either list stands 0.
-pub record Accepted (kinds : List ℕ) (literals : List ℤ) : Type 0 where
-  pub few-unknowns : length kinds ≤ max-unknowns
-  pub kinds-known : (k : ℕ) → getD kinds k 0 ≤ 1
-  pub few-entries : length literals ≤ max-entries
-  pub few-clauses : zeros literals ≤ max-clauses
-  pub clauses-are-zeros : length (clauses literals) ≡ zeros literals
-  pub last-is-zero : getD literals (length literals - 1) (pos 0) ≡ pos 0
-  pub within : (i : ℕ) → natAbs (getD literals i (pos 0)) ≤ length kinds
 
 kind-known : (k : ℕ) → other-kind k ≡ false → k ≤ 1
 kind-known zero e = omega arith

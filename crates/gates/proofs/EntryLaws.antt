@@ -14,7 +14,7 @@ use mir.Val.{SFits, ofZ, toZ}
 use Rattle.formula.specs.Causes.{any, beyond}
 use Rattle.formula.proofs.Any.{any-none}
 use Rattle.formula.proofs.Opposite.{bits-opposite, opposite-fits}
-use Rattle.gates.specs.Steps.{turn, pair-entries, long-entries, gathered-entries, triple-entries, parity-entries}
+use Rattle.gates.specs.Private.Steps.{turn, pair-entries, long-entries, gathered-entries, triple-entries, parity-entries}
 use Rattle.gates.proofs.SetLaws.{sets-append}
 
 -- Every literal but the lowest has an opposite.

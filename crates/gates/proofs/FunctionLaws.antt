@@ -14,7 +14,7 @@ use Rattle.gates.specs.declared.Function.{Function}
 use Rattle.gates.specs.declared.Function.the-variants.{And, Or, Xor}
 use Rattle.gates.specs.Clauses.{with-each, negated, gate-clauses, flat}
 use Rattle.gates.specs.Put.{entries-of}
-use Rattle.gates.specs.Steps.{turn, pair-entries, long-entries, gathered-entries, parity-entries}
+use Rattle.gates.specs.Private.Steps.{turn, pair-entries, long-entries, gathered-entries, parity-entries}
 use Rattle.gates.proofs.EntryLaws.{word, opposite-word, opposite-is, small-fits}
 
 -- Clauses one list behind the other.

@@ -1,4 +1,4 @@
--- The clauses of a gate, and the table after they were put into it. Steps has only what private functions promise.
+-- The clauses of a gate, and the table after they were put into it. Private has only what private functions promise.
 pub mod Clauses
 pub mod Put
-pub mod Steps
+pub mod Private

@@ -10,7 +10,7 @@ ghost use lib.ListN.{length};
 ghost use lib.Seq.{sets};
 ghost use Rattle.formula.specs.Causes.{any, beyond};
 ghost use Rattle.gates.specs.Put.{entries-of, place-behind, laid};
-ghost use Rattle.gates.specs.Steps.{turn, pair-entries, long-entries, gathered-entries, triple-entries, parity-entries};
+ghost use Rattle.gates.specs.Private.Steps.{turn, pair-entries, long-entries, gathered-entries, triple-entries, parity-entries};
 
 // What a gate computes: `&`, `|` and `^`.
 pub enum Function {

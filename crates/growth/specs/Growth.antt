@@ -1,9 +1,12 @@
 -- A row table's bytes while rows are added to it: which of the yielded rows are new, the table with them, and the first universal row.
 -- Assumes nothing.
 use Prim.Native.Nat.{ℕ, zero, suc, _+_}
+use mathlib.Core.Path.{_≡_}
 use mathlib.Core.Bool.{Bool, true, false, _&&_, cond}
 use mathlib.Core.List.{List}
+use mathlib.Core.Option.{Option, none, some}
 use lib.Dec.{leb, ltb}
+use Rattle.formula.specs.Formula.{Kind, existential, universal}
 use Rattle.rows.specs.Row.{weight}
 use Rattle.rows.specs.Table.{room}
 use Rattle.rows.specs.Access.{first-place, rows-written, marks-written, bit-set}
@@ -65,6 +68,29 @@ grown table marks n yielded number mark =
 abbrev pub growth : List ℕ → List ℕ → ℕ → List ℕ → ℕ → ℕ → Answer
 growth table marks n yielded number mark =
     cond (all-fit table n yielded number) (Grown (with-new-rows yielded mark number (bytes table marks n) .number)) NoRoom
+
+-- The values of each case: whether the new rows were added, and the table's count afterwards.
+abbrev pub added : Answer → Bool
+added (Grown end) = true
+added NoRoom = false
+
+abbrev pub count-after : ℕ → Answer → ℕ
+count-after n (Grown end) = end
+count-after n NoRoom = n
+
+-- 01's number of each case, by the kind of the table's rows: '3 no room universal, 4 no room existential'. A table that has grown ends no run.
+abbrev pub answer-number : Kind → Answer → Option ℕ
+answer-number universal (Grown end) = none
+answer-number existential (Grown end) = none
+answer-number universal NoRoom = some 3
+answer-number existential NoRoom = some 4
+
+-- 'If they don't all fit, none is added': then, and only then, it is no room, and the count stays.
+pub record Numbered (table marks : List ℕ) (n : ℕ) (yielded : List ℕ) (number mark : ℕ) (r : Answer) : Type 0 where
+  pub all-or-none : added r ≡ all-fit table n yielded number
+  pub counted : count-after n r ≡ grown table marks n yielded number mark .number
+  pub universal-number : answer-number universal r ≡ cond (all-fit table n yielded number) none (some 3)
+  pub existential-number : answer-number existential r ≡ cond (all-fit table n yielded number) none (some 4)
 
 -- Sixteen bytes with the bits below k set that are preferred.
 abbrev pub with-preferred : (ℕ → Bool) → ℕ → List ℕ → List ℕ

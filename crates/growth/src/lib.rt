@@ -7,7 +7,7 @@ ghost use mathlib.Core.Path.{_≡_};
 ghost use lib.ListN.{replicate};
 ghost use Rattle.preference.specs.Preference.{prefer};
 ghost use Rattle.rows.specs.Access.{first-place, rows-written, marks-written};
-ghost use Rattle.growth.specs.Growth.{is-absent, is-new, is-added, count-below, all-fit, bytes, with-new-row, with-new-rows, grown, growth, with-preferred};
+ghost use Rattle.growth.specs.Growth.{is-absent, is-new, is-added, count-below, all-fit, bytes, with-new-row, with-new-rows, grown, growth, Numbered, with-preferred};
 
 const ROW: usize = 16;
 
@@ -29,6 +29,7 @@ pub fn grow(
     ensures { λ r. ⌜ r ≡ growth (now (rows .entry)) (now (marks .entry)) count (now (yielded .entry)) number mark ⌝ }
     ensures { λ _. ⌜ now (rows .exit) ≡ grown (now (rows .entry)) (now (marks .entry)) count (now (yielded .entry)) number mark .row-part ⌝ }
     ensures { λ _. ⌜ now (marks .exit) ≡ grown (now (rows .entry)) (now (marks .entry)) count (now (yielded .entry)) number mark .mark-part ⌝ }
+    ensures numbered { λ r. ⌜ Numbered (now (rows .entry)) (now (marks .entry)) count (now (yielded .entry)) number mark r ⌝ }
 {
     if all_fit(rows, count, yielded, number) {} else {
         return Growth::NoRoom;

@@ -14,7 +14,7 @@ use borrow.Rule.Slice.PartMut.{midOf, putMid, post-is}
 use borrow.Author.Tests.{eqb-true, eqb-false, eq-eqb, ne-eqb, lt-ltb, le-ltb, ltb-true, leb-true, le-leb, lt-leb}
 use Rattle.formula.proofs.Any.{or-none}
 use Rattle.index.specs.Index.{code-count, first-room, index-size, begin-of, end-of, list-of, in-rooms, has-list, with-list, without, removed, cleared}
-use Rattle.index.specs.Passes.{blanked, before, Absent, closed-up}
+use Rattle.index.specs.Private.Passes.{blanked, before, Absent, closed-up}
 use Rattle.index.proofs.LayoutLaws.{end-is}
 
 -- ---- a name is looked for

@@ -16,7 +16,7 @@ use Rattle.formula.specs.Formula.{max-entries}
 use Rattle.trimming_marks.specs.Marks.{is-left, ends, marked}
 use Rattle.index.specs.Occurrences.{whole-clause, listed-under, has-left, listed-from, listed, In}
 use Rattle.index.specs.Index.{code-count, index-size, tally, index-of, list-of, has-list, with-list, without, removed, cleared}
-use Rattle.index.specs.Passes.{LaidOut}
+use Rattle.index.specs.Private.Passes.{LaidOut}
 use Rattle.index.proofs.OccurrenceLaws.{listed-exact, listed-low}
 use Rattle.index.proofs.LayoutLaws.{Fitting, laid-has, laid-list, laid-with}
 use Rattle.index.proofs.TallyLaws.{listed-fits}

@@ -15,7 +15,7 @@ use Rattle.formula.specs.Causes.{any, ended}
 use Rattle.formula.proofs.Any.{or-none}
 use Rattle.codes.specs.Codes.{code-of, opposite, has, with-code, Reading, so-far, read-code, closed, encoding-from, encoding}
 use Rattle.codes.specs.Codes as Codes
-use Rattle.codes.specs.Clauses.{code-clauses}
+use Rattle.codes.specs.Private.Clauses.{code-clauses}
 use Rattle.codes.proofs.EncodeLaws.{even-or-odd, with-code-cases, or-swap, ended-later, clauses-behind, clauses-closed}
 use Rattle.codes.proofs.ReadLaws.{has-behind, has-with-code}
 use Rattle.index.specs.Searched.{always-true, looked-up, Once, Stand}

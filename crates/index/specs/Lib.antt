@@ -1,7 +1,7 @@
--- Which clauses a code has (Occurrences), the index of a table of entries (Index), what holds of it (Proved), what the passes that make it leave
--- (Passes), and which clauses the search has to look up (Searched).
+-- Which clauses a code has (Occurrences), the index of a table of entries (Index), what holds of it (Proved), which clauses the search
+-- has to look up (Searched). Private has what the passes that make an index leave.
 pub mod Occurrences
 pub mod Index
 pub mod Proved
-pub mod Passes
 pub mod Searched
+pub mod Private

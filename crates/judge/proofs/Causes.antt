@@ -13,7 +13,7 @@ use Rattle.formula.specs.Formula.{work-size}
 use Rattle.formula.specs.Causes as Causes
 use Rattle.rows.specs.Table.{room, table-fits}
 use Rattle.rows.specs.Stray.{stray-rows}
-use Rattle.search.specs.Search as search
+use Rattle.engine.specs.Search as search
 use Rattle.judge.specs.Judge.{other-claim, width, cause}
 
 -- The count that the search is handed: for a claim that is neither 0 nor 1 the number of bytes, which is over the rows lent.

@@ -10,8 +10,8 @@ use lib.ListN.{length, replicate}
 use Rattle.formula.specs.Formula.{prefix, clauses}
 use Rattle.formula.specs.Meaning.{matrix}
 use Rattle.expansion.proofs.Right.{judge-right}
-use Rattle.search.specs.Search as search
-use Rattle.search.specs.declared.Search.{Search}
+use Rattle.engine.specs.Search as search
+use Rattle.engine.specs.declared.search.Search.{Search}
 use Rattle.judge.specs.declared.Judgement.{Judgement}
 use Rattle.judge.specs.Judge.{claims-true, lent-rows, outcome, work-after, number, Judged}
 use Rattle.judge.proofs.Causes.{counted}

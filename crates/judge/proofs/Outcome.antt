@@ -14,9 +14,9 @@ use Rattle.formula.specs.Meaning.{matrix, bit}
 use Rattle.preference.specs.Preference.{prefer}
 use Rattle.expansion.specs.Play.{Row}
 use Rattle.expansion.specs.Judge.{is-none, accepted}
-use Rattle.search.specs.Search as search
-use Rattle.search.specs.declared.Search.{Search}
-use Rattle.search.specs.declared.Search.the-variants as Search
+use Rattle.engine.specs.Search as search
+use Rattle.engine.specs.declared.search.Search.{Search}
+use Rattle.engine.specs.declared.search.Search.the-variants as Search
 use Rattle.judge.specs.declared.Judgement.{Judgement}
 use Rattle.judge.specs.declared.Judgement.the-variants.{NotBorneOut, Accepted, Refused}
 use Rattle.judge.specs.Judge.{other-claim, width, cause, borne-out, answer, outcome, work-after, number, outcome-number}

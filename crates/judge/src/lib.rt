@@ -6,7 +6,7 @@ ghost use mathlib.Core.Path.{_≡_};
 ghost use mathlib.Core.Bool.{cond};
 ghost use lib.ListN.{length};
 ghost use Rattle.judge.specs.Judge.{other-claim, Judged};
-use search::Search;
+use engine::search::Search;
 
 // A refusal has the number of its cause.
 pub enum Judgement {
@@ -27,7 +27,7 @@ pub fn judge(
     ensures { λ r. ⌜ Judged (now (kinds .entry)) (now (literals .entry)) claim (now (rows .entry)) count (now (work .entry)) r (now (work .exit)) ⌝ }
 {
     let lent = counted(rows, claim, count);
-    match search::first_model(kinds, literals, b"", rows, lent, claim == 1, work) {
+    match engine::search::first_model(kinds, literals, b"", rows, lent, claim == 1, work) {
         Search::Found => {
             rows::clear(work);
             Judgement::NotBorneOut

@@ -32,6 +32,7 @@ use Rattle.report.proofs.Lengths.{refusal-most}
 use Rattle.judgement.specs.declared.Finding.{Finding}
 use Rattle.judgement.specs.declared.Finding.the-variants.{NotBorneOut, Accepted, OtherFormula, Refused}
 use Rattle.judgement.specs.Finding.{unjudged, judged, claimed-rows, on-claim, of-another, on-record, on-formula, on-text, finding-of, accepted-line, line-of, printed-of}
+use Rattle.judgement.proofs.NumberLaws.{numbers-so}
 use Rattle.judgement.specs.JudgementRight.{Has, IsVerdict, FoundRight, FindingRight, Prints, Differs, Other, Refusal, LineRight, JudgementRight, GatesJudgementRight}
 
 -- The numbers of causes.
@@ -178,6 +179,7 @@ module _ (reading : Result) (f : List ℕ) (most : ℕ) (some : 18 ≤ most) (ba
     found-right : FoundRight most reading f work
     found-right =
         record {
+          numbers-so = numbers-so reading f work;
           its-own = λ claim e. accepted-told reading claim (told-of (Accepted claim) e) .0;
           only-verdict = λ claim e. accepted-told reading claim (told-of (Accepted claim) e) .1;
           few = λ n line e. refused-few reading refl n line (told-of (Refused n line) e);

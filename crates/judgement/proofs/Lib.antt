@@ -1,3 +1,4 @@
 -- The laws behind the contracts, and what the printed line says.
 pub mod FindingLaws
+pub mod NumberLaws
 pub mod JudgementRight

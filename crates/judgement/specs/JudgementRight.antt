@@ -13,6 +13,7 @@ use Rattle.witness.specs.File.{stands, file-cause, record-of}
 use Rattle.report.specs.Report.{ascii, refusal-line}
 use Rattle.judgement.specs.declared.Finding.the-variants.{Accepted, Refused}
 use Rattle.judgement.specs.Finding.{finding-of, printed-of}
+use Rattle.judgement.specs.Numbers.{numbers, found-numbers}
 
 -- The text is taken, and its formula has this value.
 abbrev pub Has : Bool → Result → Type 0
@@ -24,8 +25,9 @@ abbrev pub IsVerdict : ℕ → Result → Type 0
 IsVerdict claim (taken s) = bit (verdict (s .kinds) (s .literals)) ≡ claim
 IsVerdict claim (refused number line) = ⊥
 
--- What a finding says, with any work area: an accepted claim is the file's and the verdict; a cause has a number up to `most`.
+-- What a finding says, with any work area: its numbers; an accepted claim is the file's and the verdict; a cause has a number up to `most`.
 pub record FoundRight (most : ℕ) (reading : Result) (f work : List ℕ) : Type 0 where
+  pub numbers-so : numbers (finding-of reading f work) ≡ found-numbers reading f work
   pub its-own : (claim : ℕ) → finding-of reading f work ≡ Accepted claim → claim ≡ record-of f .claim
   pub only-verdict : (claim : ℕ) → finding-of reading f work ≡ Accepted claim → IsVerdict claim reading
   pub few : (number line : ℕ) → finding-of reading f work ≡ Refused number line → number ≤ most

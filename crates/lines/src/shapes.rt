@@ -7,7 +7,7 @@ ghost use lib.ListN.{length, drop};
 ghost use Rattle.lines.specs.Lines.{words, same};
 ghost use Rattle.lines.specs.Numbers.{no-number};
 ghost use Rattle.lines.specs.Shapes.{a-word, e-word, and-word, or-word, xor-word, form-word, ends-problem, Problem-words, is-trimmed as trimmed-shape, leads, is-led as led-shape, is-prefix as prefix-shape, is-gate as gate-shape, is-clause as clause-shape, has-three as three, closed-by-zero, good-word};
-ghost use Rattle.lines.specs.Steps.{Opening-read};
+ghost use Rattle.lines.specs.Private.Steps.{Opening-read};
 use crate::next;
 use crate::numbers;
 

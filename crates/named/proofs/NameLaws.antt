@@ -8,7 +8,7 @@ use mathlib.Core.List.{List, [], _∷_, _++_}
 use mathlib.Core.Logic.{_⊎_, inl, inr}
 use borrow.Author.Tests.{eqb-true, eqb-false}
 use lib.Dec.{eqb}
-use lib.IntN.{ℤ, pos, negsuc, natAbs}
+use lib.IntN.{ℤ, pos, negsuc}
 use lib.ListN.{length, getD}
 use Rattle.named.specs.Named.{among, signed}
 use Rattle.named.specs.Names.{In, Distinct, Above, Rising, UpTo, Known}
@@ -106,16 +106,6 @@ known-more xs ys more [] k = tt
 known-more xs ys more (pos zero ∷ zs) k = known-more xs ys more zs k
 known-more xs ys more (pos (suc v) ∷ zs) k = (more (suc v) (k .0), known-more xs ys more zs (k .1))
 known-more xs ys more (negsuc v ∷ zs) k = (more (suc v) (k .0), known-more xs ys more zs (k .1))
-
--- The names of known entries are as small as the names.
-pub known-at : (m : ℕ) (xs : List ℕ) → UpTo m xs → (zs : List ℤ) → Known xs zs → (i : ℕ) → natAbs (getD zs i (pos 0)) ≤ m
-known-at m xs u [] k i = omega arith
-known-at m xs u (pos zero ∷ zs) k zero = omega arith
-known-at m xs u (pos zero ∷ zs) k (suc i) = known-at m xs u zs k i
-known-at m xs u (pos (suc v) ∷ zs) k zero = up-to-in m xs (suc v) u (k .0)
-known-at m xs u (pos (suc v) ∷ zs) k (suc i) = known-at m xs u zs (k .1) i
-known-at m xs u (negsuc v ∷ zs) k zero = up-to-in m xs (suc v) u (k .0)
-known-at m xs u (negsuc v ∷ zs) k (suc i) = known-at m xs u zs (k .1) i
 
 pub known-append : (xs : List ℕ) (zs ws : List ℤ) → Known xs zs → Known xs ws → Known xs (zs ++ ws)
 known-append xs [] ws k l = l

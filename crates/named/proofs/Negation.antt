@@ -1,6 +1,6 @@
 -- A name or a position, negated, as 32-bit signed numbers have it. Assumes nothing.
-use Prim.Native.Nat.{ℕ, zero, suc, _≤_}
-use mathlib.Core.Path.{_≡_, refl, ap₂, _∙_}
+use Prim.Native.Nat.{ℕ, zero, suc, _^_, _≤_, _<_}
+use mathlib.Core.Path.{_≡_, refl, sym, ap₂, subst, _∙_}
 use mathlib.Core.Bool.{Bool, true, false}
 use mathlib.Core.List.{List}
 use native.Mathlib.Omega.{arith}
@@ -8,9 +8,11 @@ use lib.IntN.{ℤ, pos, negsuc, negℤ, natAbs, _-ℤ_, +ℤ-idl}
 use lib.Signed.{ltZ}
 use Rattle.formula.specs.Literal.{negative}
 use Rattle.formula.proofs.Opposite.{below-zero-negative}
+use Rattle.gates.proofs.EntryLaws.{small-fits}
 use Rattle.named.specs.Named.{position, signed, placed}
 use mir.Syntax.{w32}
-use mir.Val.{toZ, SFits}
+use mir.Facts.{toZ-ofZ}
+use mir.Val.{ofZ, toZ, SFits}
 use mir.ValLaws.{toZ-pos}
 
 pub as-positive : (p : ℕ) → p ≤ 65535 → toZ w32 p ≡ pos p
@@ -27,6 +29,10 @@ pub signed-size : (b : Bool) (p : ℕ) → natAbs (signed b p) ≡ p
 signed-size true zero = refl
 signed-size true (suc p) = refl
 signed-size false p = refl
+
+-- A literal as its bits give it.
+pub signed-bits : (b : Bool) (v : ℕ) (y : ℤ) → v ≤ 65535 → y ≡ signed b v → toZ w32 (ofZ w32 y) ≡ signed b v
+signed-bits b v y small same = toZ-ofZ (small-fits y (subst (λ (x : ℤ). natAbs x < 2 ^ 31) (sym same) (omega (arith, signed-size b v)))) ∙ same
 
 -- An entry other than 0 keeps its sign and gets its name's position.
 pub placed-zero : (names : List ℕ) (z : ℤ) → natAbs z ≡ 0 → pos 0 ≡ placed names z

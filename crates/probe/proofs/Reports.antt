@@ -2,8 +2,8 @@
 -- Assumes nothing.
 use Prim.Native.Nat.{ℕ}
 use mathlib.Core.Path.{_≡_, ap, _∙_}
-use Rattle.run.specs.declared.Outcome.{Outcome}
-use Rattle.run.specs.Numbers.{one-number}
+use Rattle.engine.specs.declared.run.Outcome.{Outcome}
+use Rattle.engine.specs.Numbers.{one-number}
 use Rattle.probe.specs.Numbers.{Reported}
 
 pub reported : {o p : Outcome} {r : ℕ} → r ≡ one-number (o .answer) → o ≡ p → Reported p r (o .round) (o .universal) (o .existential) (o .opening) (o .block)

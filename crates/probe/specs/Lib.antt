@@ -3,3 +3,4 @@ pub mod Numbers
 pub mod TextReader
 pub mod WitnessFile
 pub mod Outlook
+pub mod Restrictions

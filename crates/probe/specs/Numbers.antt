@@ -5,12 +5,12 @@ use mathlib.Core.Path.{_≡_}
 use mathlib.Core.Bool.{Bool, true, false, cond}
 use mathlib.Core.List.{List}
 use lib.Dec.{eqb}
-use Rattle.search.specs.declared.Search.{Search}
-use Rattle.search.specs.declared.Search.the-variants.{Found, NoModel, Refused}
+use Rattle.engine.specs.declared.search.Search.{Search}
+use Rattle.engine.specs.declared.search.Search.the-variants.{Found, NoModel, Refused}
 use Rattle.judge.specs.declared.Judgement.{Judgement}
 use Rattle.judge.specs.declared.Judgement.the-variants.{NotBorneOut, Accepted, Refused as JudgeRefused}
-use Rattle.run.specs.declared.Outcome.{Outcome}
-use Rattle.run.specs.Numbers.{one-number}
+use Rattle.engine.specs.declared.run.Outcome.{Outcome}
+use Rattle.engine.specs.Numbers.{one-number}
 use Rattle.fee.specs.declared.Charge.{Charge}
 use Rattle.fee.specs.declared.Charge.the-variants.{Cents, Refused as ChargeRefused}
 use Rattle.season.specs.declared.Sheet.{Sheet}

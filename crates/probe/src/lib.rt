@@ -2,14 +2,15 @@
 // and content. Each promises what the function that it calls promises. Of a row that is handed back the length and each byte are told, since
 // an exported function returns no reference.
 pub mod outlook;
+pub mod restrictions;
 pub mod study_runs;
 pub mod text_reader;
 pub mod witness_file;
 
+use engine::search::Search;
 use fee::Charge;
 use judge::Judgement;
 use rows::Row;
-use search::Search;
 use season::Study;
 use season::Summary;
 use trimming::Trimmed;
@@ -18,9 +19,9 @@ ghost use Prim.Native.Nat.{_+_};
 ghost use lib.ListN.{length, getD};
 ghost use Rattle.preference.specs.Preference.{prefer};
 ghost use Rattle.rows.specs.Access.{handed-back};
-ghost use Rattle.search.specs.Search.{outcome, work-after};
+ghost use Rattle.engine.specs.Search.{outcome, work-after};
 ghost use Rattle.judge.specs.Judge.{outcome as judge-outcome, work-after as judge-work-after};
-ghost use Rattle.run.specs.Outcome.{areas, given, returned, left as run-left};
+ghost use Rattle.engine.specs.Outcome.{areas, given, returned, left as run-left};
 ghost use Rattle.fee.specs.Fee.{charged, cents as cents-of};
 ghost use Rattle.fee.specs.Bands.{charged-with};
 ghost use Rattle.probe.specs.Numbers.{search-number, judge-number, charge-number, season-number, value-number, Reported, trim-number};
@@ -43,7 +44,15 @@ pub extern "C" fn probe_first_model(
     ensures { λ r. ⌜ r ≡ search-number (outcome (now (kinds .entry)) (now (literals .entry)) (now (preferences .entry)) (now (rows .entry)) count universal (now (work .entry))) ⌝ }
     ensures { λ _. ⌜ now (work .exit) ≡ work-after (now (kinds .entry)) (now (literals .entry)) (now (preferences .entry)) (now (rows .entry)) count universal (now (work .entry)) ⌝ }
 {
-    search_number(search::first_model(kinds, literals, preferences, rows, count, universal, work))
+    search_number(engine::search::first_model(
+        kinds,
+        literals,
+        preferences,
+        rows,
+        count,
+        universal,
+        work,
+    ))
 }
 
 fn search_number(answer: Search) -> u64
@@ -112,7 +121,7 @@ pub extern "C" fn probe_run(
     ensures reported { λ r. ⌜ Reported (returned (given (now (kinds .entry)) (now (literals .entry)) (now (preferences .entry)) (areas (now («universal_rows» .entry)) (now («universal_marks» .entry)) (now («universal_counts» .entry)) (now («existential_rows» .entry)) (now («existential_marks» .entry)) (now («existential_counts» .entry)) (now (work .entry))) limit «clear_every»)) r (now (round .exit)) (now (universal .exit)) (now (existential .exit)) (now (opening .exit)) (now (block .exit)) ⌝ }
     ensures left { λ _. ⌜ areas (now («universal_rows» .exit)) (now («universal_marks» .exit)) (now («universal_counts» .exit)) (now («existential_rows» .exit)) (now («existential_marks» .exit)) (now («existential_counts» .exit)) (now (work .exit)) ≡ run-left (given (now (kinds .entry)) (now (literals .entry)) (now (preferences .entry)) (areas (now («universal_rows» .entry)) (now («universal_marks» .entry)) (now («universal_counts» .entry)) (now («existential_rows» .entry)) (now («existential_marks» .entry)) (now («existential_counts» .entry)) (now (work .entry))) limit «clear_every») ⌝ }
 {
-    let end = run::run(
+    let end = engine::run::run(
         kinds,
         literals,
         preferences,
@@ -133,7 +142,7 @@ pub extern "C" fn probe_run(
     *opening = row;
     *block = end.block;
     let answer = end.answer;
-    run::one_number(answer)
+    engine::run::one_number(answer)
 }
 
 // The fee for so many rounds; its cents, 0 on a refusal, are written behind the last reference.

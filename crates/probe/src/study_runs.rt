@@ -1,7 +1,7 @@
 // A study over lent tables, exported with a number for the answer; the rest of what it returns is written behind the last references.
 use rows::Row;
 ghost use mathlib.Core.Path.{_≡_};
-ghost use Rattle.run.specs.Outcome.{areas};
+ghost use Rattle.engine.specs.Outcome.{areas};
 ghost use Rattle.study.specs.Study.{studied};
 ghost use Rattle.probe.specs.Numbers.{Reported};
 
@@ -49,5 +49,5 @@ pub extern "C" fn probe_study(
     *opening = row;
     *block = outcome.block;
     let answer = outcome.answer;
-    run::one_number(answer)
+    engine::run::one_number(answer)
 }

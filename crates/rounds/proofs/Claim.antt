@@ -10,7 +10,7 @@ use Rattle.formula.specs.Causes.{count}
 use Rattle.formula.specs.Meaning.{meaning}
 use Rattle.rounds.specs.Run.{Entry, clears, Answer, is-false, is-true, spent, no-room-universal, no-room-existential, Outcome, Lent, round-of, run}
 use Rattle.rounds.specs.Claim.{table, no-room, Stands, Finished, NewRow, most-with, most-rounds, Uncleared, answer-of, Claim}
-use Rattle.rounds.proofs.TableLaws.{all-different}
+use Rattle.rounds.proofs.TableLaws.{all-different, stands-extends}
 use Rattle.rounds.proofs.RoundLaws.{Right, Made, never-clears}
 use Rattle.rounds.proofs.Bounds.{count-most}
 use Rattle.rounds.proofs.RunLaws.{run-marks, run-goes-on, run-reached, run-made, finished-if-spent, run-extends, spent-before, Last, last-round}
@@ -130,6 +130,7 @@ module _ (l : Lent) (limit : ℕ) (from-one : 1 ≤ limit) where
         none-later = none-later;
         spent-at-limit = run-reached l limit .at-limit;
         new-rows = new-row l limit;
+        keeps = λ side r q h u i x. stands-extends (table side (run l r)) (table side (run l q)) i x (run-extends l r q h side u);
         to-the-end = λ side r never f. new-row l limit side r limit f (f .to-limit) (omega arith) (uncleared-if-never side l r limit never);
         cleared = all-cleared l limit;
         different-after = λ side r f. all-different (table side (run l r)) (run-reached l r .held side .distinct);

@@ -15,7 +15,7 @@ use Rattle.expansion.specs.OtherSide.{other}
 use Rattle.expansion.specs.Play.{Row, Strategy, part, later-values}
 use Rattle.expansion.specs.Copies.{fresh}
 use Rattle.expansion.specs.Model.{search}
-use Rattle.expansion.specs.Memory.{LeadsModels}
+use Rattle.expansion.specs.Private.Memory.{LeadsModels}
 use Rattle.expansion.proofs.Booleans.{never-both}
 use Rattle.expansion.proofs.Membership.{In, Distinct, in-append-cases, in-append-left, in-append-right, in-map-cases, in-or-not, in-fresh, fresh-in}
 use Rattle.expansion.proofs.Progress.{Answers, search-answers, yields-fresh}
@@ -24,13 +24,9 @@ use Rattle.expansion.proofs.Memory.{found-leads}
 use Rattle.rounds.specs.Run.{Entry, Table, rows, under-mark, grown, if-fits, Lent}
 use Rattle.rounds.specs.Claim.{Stands, NewRow}
 use Rattle.rounds.specs.Opening.{block, last-row, first-values}
+use Rattle.rounds.specs.GivenUp.{room}
 use Rattle.rounds.proofs.Blocks.{begins, begins-take, same-start, last-behind}
 use Rattle.rounds.proofs.TableLaws.{distinct-grown, rows-grown, marks-grown, Extends, extends-grown, grown-new, adds-to-part, length-grown}
-
--- The rows that a side's table has room for.
-abbrev pub room : Kind → Lent → ℕ
-room universal l = l .room-A
-room existential l = l .room-S
 
 -- A side's table is in order: no row twice, in each row a value for each unknown of the side, and no more rows than there is room for.
 pub record Held (l : Lent) (side : Kind) (t : Table) : Type 0 where

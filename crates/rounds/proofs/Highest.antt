@@ -8,20 +8,11 @@ use Rattle.formula.specs.Formula.{universal}
 use Rattle.rounds.specs.Run.{Outcome, Lent, run, highest}
 use Rattle.rounds.proofs.RoundLaws.{Over, never-clears}
 use Rattle.rounds.proofs.RunLaws.{run-extends, run-stays}
-use Rattle.rounds.proofs.Bounds.{count-in-room}
 
 pub count-at-most-highest : (l : Lent) (r : ℕ) → length (run l r .A) ≤ highest l r
 unfolding run highest
 count-at-most-highest l zero = omega arith
 count-at-most-highest l (suc r) = omega arith
-
-pub highest-in-room : (l : Lent) (r : ℕ) → 1 ≤ l .room-A → highest l r ≤ l .room-A
-unfolding highest
-highest-in-room l zero some-room = some-room
-highest-in-room l (suc r) some-room =
-    let before = highest-in-room l r some-room in
-    let now-so = count-in-room l (suc r) universal some-room in
-    omega arith
 
 -- With k = 0 no place is given up.
 pub highest-if-never : (l : Lent) (r : ℕ) → l .clear-every ≡ 0 → highest l r ≡ length (run l r .A)

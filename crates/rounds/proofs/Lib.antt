@@ -11,6 +11,7 @@ pub mod RoundLaws
 pub mod RunLaws
 pub mod Bounds
 pub mod Highest
+pub mod GivenUp
 pub mod CountsLaws
 pub mod Verdict
 pub mod Opening

@@ -14,7 +14,7 @@ use Rattle.rows.proofs.ValueLaws.{length-values, getD-values}
 use Rattle.expansion.specs.Side.{flags, goal}
 use Rattle.expansion.specs.Play.{Row, Strategy, play}
 use Rattle.expansion.specs.Model.{search}
-use Rattle.expansion.specs.Memory.{LeadsModels}
+use Rattle.expansion.specs.Private.Memory.{LeadsModels}
 use Rattle.expansion.proofs.Booleans.{never-both}
 use Rattle.expansion.proofs.Membership.{In}
 use Rattle.expansion.proofs.Verdict.{none-is-verdict}

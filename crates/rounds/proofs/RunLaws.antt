@@ -9,7 +9,7 @@ use mathlib.Core.Option.{Option·none-ne-some}
 use lib.ListN.{length}
 use Rattle.formula.specs.Formula.{Kind, existential, universal}
 use Rattle.expansion.specs.Side.{flags, goal}
-use Rattle.expansion.specs.Memory.{LeadsModels}
+use Rattle.expansion.specs.Private.Memory.{LeadsModels}
 use Rattle.expansion.proofs.Memory.{more-led}
 use Rattle.rounds.specs.Run.{Entry, clears, Table, rows, start, Answer, is-false, is-true, spent, no-room-universal, no-room-existential, Outcome, Lent, round-of, next, run}
 use Rattle.rounds.specs.Claim.{table, Stands, Finished, Uncleared}

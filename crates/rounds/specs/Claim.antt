@@ -78,9 +78,13 @@ pub record Claim (l : Lent) (limit : ℕ) : Type 0 where
   -- '5. If r is the round limit: spent', and at no other round.
   pub spent-at-limit : run l limit .answer ≡ spent → run l limit .round ≡ limit
   -- 'The existential table still gains in every finished round, the universal one in every finished round that isn't a clearing one' (in a clearing
-  -- one too), 'and it keeps what it gained until the next clearing': the row stands in the table after each round q before that.
+  -- one too); the row stands in the table after each round q before the next clearing.
   pub new-rows : (side : Kind) (r q : ℕ) → Finished l limit r → r ≤ q → q ≤ limit → Uncleared side l r q
       → NewRow r (table side (run l (r - 1))) (table side (run l r)) (table side (run l q))
+  -- 'And it keeps what it gained until the next clearing': every row that stands after round r stands, with its mark and at its place, after each
+  -- round q before that.
+  pub keeps : (side : Kind) (r q : ℕ) → r ≤ q → Uncleared side l r q → (i : ℕ) (x : Entry) → Stands (table side (run l r)) i x
+      → Stands (table side (run l q)) i x
   -- 'And this row and its mark still stand .. when the run ends': in the existential table always, in the universal one if it is never cleared.
   pub to-the-end : (side : Kind) (r : ℕ) → (side ≡ universal → l .clear-every ≡ 0) → Finished l limit r
       → NewRow r (table side (run l (r - 1))) (table side (run l r)) (table side (run l limit))

@@ -4,6 +4,7 @@ pub mod Opening
 pub mod Verdict
 pub mod Claim
 pub mod Counts
+pub mod GivenUp
 pub mod Worked
 pub mod Cleared
 pub mod Counted

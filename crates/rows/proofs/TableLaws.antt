@@ -3,19 +3,19 @@
 use mathlib.Core.Path.{_≡_, refl, sym, ap, _∙_}
 use mathlib.Core.Bool.{Bool, true, false}
 use mathlib.Core.List.{List, [], _∷_, _++_}
-use Prim.Native.Nat.{ℕ, zero, suc, _+_, _*_, _/_, _%_, _^_, _≤_, _<_, min, zero-le, suc-le-suc}
+use Prim.Native.Nat.{ℕ, zero, suc, _+_, _*_, _/_, _%_, _^_, _≤_, _<_, min, zero-le}
 use native.Mathlib.Nat.{le-of-suc-le-suc, not-suc-le-zero}
 use native.Mathlib.Decide.{decLt}
 use native.Mathlib.Omega.{arith}
-use lib.ListN.{length, getD, take, drop, length-drop}
-use lib.Seq.{getD-take, getD-drop, drop-drop, take-at, drop-at, length-take-le}
+use lib.ListN.{length, getD, take, drop, length-drop, length-append}
+use lib.Seq.{getD-take, getD-drop, drop-drop, length-take-le}
 use borrow.Author.Tests.{le-leb, lt-leb}
 use Rattle.preference.specs.Preference.{odd}
 use Rattle.rows.specs.Row.{bit-of, values, row-of, bytes-of}
 use Rattle.rows.specs.Stray.{stray, stray-rows, row-bits}
 use Rattle.rows.specs.Table.{inside, row-at, room, rows-of, table-of}
 use Rattle.rows.proofs.ValueLaws.{values-false, getD-values, none-any, found-any}
-use Rattle.rows.proofs.RowLaws.{no-bit-past-end, none-stray, length-bytes-of, row-of-bytes-of}
+use Rattle.rows.proofs.RowLaws.{no-bit-past-end, none-stray, length-bytes-of}
 
 -- ---- a row of a table
 
@@ -83,17 +83,13 @@ rows-of-next m n t h = go n t ∙ ap (λ (b : List ℕ). rows-of m n t ++ (row-o
         ap (λ (l : List (List Bool)). row-of m (take 16 t) ∷ l)
         (go n (drop 16 t) ∙ ap (λ (l : List ℕ). rows-of m n (drop 16 t) ++ (row-of m (take 16 l) ∷ [])) (drop-row t n))
 
--- The table that holds just some rows holds those rows.
-pub rows-of-table-of : (m : ℕ) (rows : List (List Bool)) → m ≤ row-bits → ((i : ℕ) → i < length rows → length (getD rows i []) ≡ m)
-    → rows-of m (length rows) (table-of rows) ≡ rows
-rows-of-table-of m [] h wide = refl
-rows-of-table-of m (r ∷ rows) h wide =
-    let first : row-of m (take 16 (bytes-of r ++ table-of rows)) ≡ r =
-    ap (row-of m) (take-at (bytes-of r) (table-of rows) 16 (length-bytes-of r)) ∙ row-of-bytes-of m r (wide zero (suc-le-suc zero-le)) h in
-    let later : rows-of m (length rows) (drop 16 (bytes-of r ++ table-of rows)) ≡ rows =
-    ap (rows-of m (length rows)) (drop-at (bytes-of r) (table-of rows) 16 (length-bytes-of r))
-    ∙ rows-of-table-of m rows h (λ i below. wide (suc i) (suc-le-suc below)) in
-    λ d. first d ∷ later d
+-- The table that holds just some rows is sixteen bytes a row.
+pub length-table-of : (rows : List (List Bool)) → length (table-of rows) ≡ 16 * length rows
+length-table-of [] = refl
+length-table-of (r ∷ rows) =
+    let later = length-table-of rows in
+    let first = length-bytes-of r in
+    omega (arith, length-append (bytes-of r) (table-of rows))
 
 -- What holds of the rows inside the table that were passed, and of every place outside it, holds below the count.
 pub below-count : (P : ℕ → Type 0) (t : List ℕ) (n i : ℕ) → min n (room t) ≤ i → ((q : ℕ) → q < i → P q) → ((q : ℕ) → room t ≤ q → P q)

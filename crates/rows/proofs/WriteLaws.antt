@@ -9,7 +9,7 @@ use native.Mathlib.Omega.{arith}
 use lib.Bits.{bitOr}
 use lib.Dec.{eqb}
 use lib.ListN.{length, getD, take, drop, set, length-append, length-drop, length-set, List·getD-append}
-use lib.Seq.{ext-getD, getD-drop, getD-append-add, getD-set-same, getD-set-other, length-take-le}
+use lib.Seq.{ext-getD, getD-append-add, getD-set-same, getD-set-other, length-take-le}
 use borrow.Author.Tests.{lt-ltb, eq-eqb, ne-eqb}
 use Rattle.preference.specs.Preference.{odd}
 use Rattle.rows.specs.Stray.{row-bits}
@@ -83,15 +83,6 @@ module _ (t : List ℕ) (i : ℕ) (row : List ℕ) (h : i < room t) (width : len
       List·getD-append (take (16 * i) t ++ row) (drop (16 * i + 16) t) 0 (16 * i + q) (omega (arith, length-front))
       ∙ ap (λ (n : ℕ). getD (take (16 * i) t ++ row) (n + q) 0) start
       ∙ getD-append-add (take (16 * i) t) row q 0
-
-  getD-behind : (q : ℕ) → 16 * i + 16 ≤ q → getD (placed t i row) q 0 ≡ getD t q 0
-  getD-behind q hq =
-      let place : q ≡ length (take (16 * i) t ++ row) + (q - (16 * i + 16)) = omega (arith, length-front) in
-      let same : 16 * i + 16 + (q - (16 * i + 16)) ≡ q = omega arith in
-      ap (λ (n : ℕ). getD (placed t i row) n 0) place
-      ∙ getD-append-add (take (16 * i) t ++ row) (drop (16 * i + 16) t) (q - (16 * i + 16)) 0
-      ∙ getD-drop (16 * i + 16) t (q - (16 * i + 16)) 0
-      ∙ ap (λ (n : ℕ). getD t n 0) same
 
   pub row-at-placed : row-at (placed t i row) i ≡ row
   row-at-placed =

@@ -11,7 +11,7 @@ ghost use lib.Seq.{paste};
 ghost use Rattle.rows.specs.Row.{bit-of};
 ghost use Rattle.rows.specs.Stray.{stray, stray-rows};
 ghost use Rattle.rows.specs.Table.{row-at, room, table-fits, one-a-row};
-ghost use Rattle.rows.specs.Access.{zeroed-from, handed-back, handed-start, bit-set, same-bytes, equal-rows, first-place, rows-written, marks-written, places-below, rows-given-up, marks-given-up};
+ghost use Rattle.rows.specs.Access.{zeroed-from, handed-back, handed-start, bit-set, same-bytes, first-place, rows-written, marks-written, places-below, rows-given-up, marks-given-up};
 
 // A row's bytes, and its bits.
 const BYTES: usize = 16;
@@ -93,19 +93,6 @@ pub fn set_bit(rows: &mut [u8], i: usize, k: usize)
     let shift = (k % 8) as u8;
     let byte = rows[place];
     rows[place] = byte | 1 << shift;
-}
-
-// Row i of a and row j of b are equal.
-pub fn equal(a: &[u8], i: usize, b: &[u8], j: usize) -> bool
-    ensures { λ r. ⌜ r ≡ equal-rows (now (a .entry)) i (now (b .entry)) j ⌝ }
-{
-    if a.len() / BYTES <= i {
-        return false;
-    }
-    if b.len() / BYTES <= j {
-        return false;
-    }
-    same_row(a, BYTES * i, b, BYTES * j)
 }
 
 // The first place below the count whose row equals row j of the other table.

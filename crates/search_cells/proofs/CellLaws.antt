@@ -14,7 +14,7 @@ use Rattle.formula.specs.Formula.{work-size, max-rows, max-unknowns}
 use Rattle.preference.specs.Preference.{odd}
 use Rattle.rows.specs.Row.{weight}
 use Rattle.search_cells.specs.Cells.{flags as flags-from, spot, cells, wants}
-use Rattle.search_cells.specs.Changes.{SameWants, CellsSet, WantSet}
+use Rattle.search_cells.specs.Private.Changes.{SameWants, CellsSet, WantSet}
 
 -- The byte of a cell's value and wanted value.
 abbrev pub flags : List ℕ → ℕ → ℕ → ℕ

@@ -13,7 +13,7 @@ use lib.Seq.{getD-set-same, getD-set-other}
 use Rattle.formula.specs.Formula.{work-size, max-rows, max-unknowns}
 use Rattle.search_cells.specs.Cells.{cells, owned}
 use Rattle.search_cells.specs.Steps.{steps, first-from, differ, first-difference, with-split, rows-compared}
-use Rattle.search_cells.specs.Changes.{FirstDifference}
+use Rattle.search_cells.specs.Private.Changes.{FirstDifference}
 use Rattle.search_cells.proofs.OwnedLaws.{owned-at}
 use Rattle.search_cells.proofs.StepLaws.{both, sizes-fit, steps-all, steps-reach}
 

@@ -13,7 +13,7 @@ use Rattle.rows.specs.Table.{row-at}
 use Rattle.expansion.specs.Cells.{others-before}
 use Rattle.search_cells.specs.Cells.{cells, owned}
 use Rattle.search_cells.specs.Steps.{steps, with-cell, with-given, with-given-row, rows-filled}
-use Rattle.search_cells.specs.Changes.{CellsSet, RowFilled, Filled}
+use Rattle.search_cells.specs.Private.Changes.{CellsSet, RowFilled, Filled}
 use Rattle.search_cells.proofs.OwnedLaws.{owned-at, length-owned, others-before-own, others-before-other}
 use Rattle.search_cells.proofs.StepLaws.{sizes-fit, steps-all, steps-next, steps-reach}
 use Rattle.search_cells.proofs.SetLaws.{length-with-cell, cells-set-one}

@@ -12,7 +12,7 @@ use borrow.Author.Tests.{le-leb, lt-leb}
 use Rattle.formula.specs.Formula.{work-size, max-rows, max-unknowns}
 use Rattle.search_cells.specs.Cells.{flags as flags-from, spot, cells}
 use Rattle.search_cells.specs.Steps.{steps, bounded, with-bounded, rows-opened}
-use Rattle.search_cells.specs.Changes.{CellsOpened}
+use Rattle.search_cells.specs.Private.Changes.{CellsOpened}
 use Rattle.search_cells.proofs.CellLaws.{flags, spot-cases, value-same, wants-same}
 use Rattle.search_cells.proofs.StepLaws.{sizes-fit, steps-reach}
 

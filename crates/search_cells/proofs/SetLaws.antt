@@ -10,7 +10,7 @@ use Rattle.search_cells.specs.Cells.{flags as flags-from}
 use Rattle.formula.specs.Formula.{work-size, max-rows, max-unknowns}
 use Rattle.rows.specs.Row.{weight}
 use Rattle.search_cells.specs.Steps.{steps, with-cell, rows-set}
-use Rattle.search_cells.specs.Changes.{CellsSet}
+use Rattle.search_cells.specs.Private.Changes.{CellsSet}
 use Rattle.search_cells.proofs.CellLaws.{spot-in, level-stored, value-stored, cell-set, cells-set-none, cells-set-more}
 use Rattle.search_cells.proofs.StepLaws.{sizes-fit, steps-reach}
 

@@ -1,4 +1,4 @@
--- The table of cells in the work area (Cells), what the functions make of it (Steps), and how such tables differ (Changes).
+-- The table of cells in the work area (Cells), what the functions make of it (Steps). Private has how such tables differ.
 pub mod Cells
 pub mod Steps
-pub mod Changes
+pub mod Private

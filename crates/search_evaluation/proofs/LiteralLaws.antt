@@ -9,11 +9,11 @@ use lib.Dec.{ltb, eqb}
 use lib.ListN.{length}
 use Rattle.formula.specs.Formula.{max-unknowns, work-size, max-rows}
 use Rattle.search_cells.specs.Cells.{cells}
-use Rattle.codes.specs.Clauses.{position, code-true}
+use Rattle.codes.specs.Private.Clauses.{position, code-true}
 use Rattle.codes.specs.Codes.{row-position}
 use Rattle.codes.proofs.CodeLaws.{row-position-is}
 use Rattle.search_evaluation.specs.Evaluation.{has-row, is-set, is-true, is-satisfied, satisfied-at}
-use Rattle.search_evaluation.specs.Looked.{IsAt}
+use Rattle.search_evaluation.specs.Private.Looked.{IsAt}
 
 -- Each code of a literal: none but these stand in codes that are `Coded max-unknowns`.
 abbrev pub IsLiteral : ℕ → Type 0

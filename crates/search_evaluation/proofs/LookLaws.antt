@@ -9,10 +9,10 @@ use lib.ListN.{length, drop}
 use Rattle.formula.specs.Formula.{max-unknowns, work-size, max-rows}
 use Rattle.expansion.proofs.ClauseCuts.{Every, Some}
 use Rattle.search_cells.specs.Cells.{cells}
-use Rattle.codes.specs.Clauses.{position, clause-of, HasEnd, Coded}
+use Rattle.codes.specs.Private.Clauses.{position, clause-of, HasEnd, Coded}
 use Rattle.codes.proofs.CodeLaws.{clause-coded}
 use Rattle.search_evaluation.specs.Evaluation.{is-set, is-true, shown-with, look-on, look-at}
-use Rattle.search_evaluation.specs.Looked.{IsAt, Looked}
+use Rattle.search_evaluation.specs.Private.Looked.{IsAt, Looked}
 use Rattle.search_evaluation.proofs.ReadingLaws.{look-one}
 use Rattle.search_evaluation.proofs.LiteralLaws.{IsLiteral, has-this-row, is-at, is-open}
 

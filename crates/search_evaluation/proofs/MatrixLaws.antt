@@ -9,7 +9,7 @@ use lib.ListN.{length}
 use Rattle.formula.specs.Formula.{max-unknowns, work-size, max-rows}
 use Rattle.expansion.proofs.ClauseCuts.{clause-at, matrix-at}
 use Rattle.search_cells.specs.Cells.{cells}
-use Rattle.codes.specs.Clauses.{code-true, code-onto, code-clauses, Ended, Coded}
+use Rattle.codes.specs.Private.Clauses.{code-true, code-onto, code-clauses, Ended, Coded}
 use Rattle.codes.proofs.CodeLaws.{clauses-some}
 use Rattle.search_evaluation.specs.Evaluation.{is-true, matrix-on, matrix-in}
 use Rattle.search_evaluation.proofs.LiteralLaws.{has-this-row, true-is}

@@ -1,3 +1,3 @@
--- What clauses are worth in one row (Evaluation), and what a look at a clause means (Looked).
+-- What clauses are worth in one row (Evaluation). Private has what a look at a clause means.
 pub mod Evaluation
-pub mod Looked
+pub mod Private

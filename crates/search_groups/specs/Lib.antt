@@ -1,3 +1,3 @@
--- Groups of sorted rows and what is read from them (Groups), and the same as relations (Parts).
+-- Groups of sorted rows and what is read from them (Groups). Private has the same as relations.
 pub mod Groups
-pub mod Parts
+pub mod Private

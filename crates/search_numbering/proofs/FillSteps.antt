@@ -18,7 +18,7 @@ use Rattle.preference.specs.Preference.{prefer}
 use Rattle.rows.specs.Row.{weight}
 use Rattle.expansion.proofs.Booleans.{true-or-false, never-both, false-if-not-true}
 use Rattle.search_numbering.specs.Numbering.{first-place, first-among, member, new-ones, copies-at, index-of, preferred, written, filled-at, filled-from, sized, filled}
-use Rattle.search_numbering.specs.Wants.{Grouped, firsts, note, note-at, Numbered}
+use Rattle.search_numbering.specs.Private.Wants.{Grouped, firsts, note, note-at, Numbered}
 use Rattle.search_numbering.proofs.NewOnes.{length-new-ones, member-new-ones, new-ones-met, new-ones-unmet}
 use Rattle.search_numbering.proofs.NewOnes.{index-of-end, member-end, index-of-append, member-append-other}
 

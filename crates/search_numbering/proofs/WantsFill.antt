@@ -16,11 +16,11 @@ use Rattle.preference.specs.Preference.{prefer}
 use Rattle.rows.specs.Row.{weight}
 use Rattle.expansion.proofs.Booleans.{true-or-false, never-both}
 use Rattle.search_cells.specs.Cells.{flags as flags-from, cells, wants, owned}
-use Rattle.search_cells.specs.Changes.{WantSet}
+use Rattle.search_cells.specs.Private.Changes.{WantSet}
 use Rattle.search_cells.proofs.CellLaws.{want-set}
 use Rattle.search_cells.proofs.OwnedLaws.{owned-at}
 use Rattle.search_numbering.specs.Numbering.{first-place, first-among, member, copies-at, index-of, preferred, written, filled-at, filled-from, filled}
-use Rattle.search_numbering.specs.Wants.{copies-before, copy-number, WantsFilled}
+use Rattle.search_numbering.specs.Private.Wants.{copies-before, copy-number, WantsFilled}
 use Rattle.search_numbering.proofs.NewOnes.{member-map, member-new-ones}
 use Rattle.search_numbering.proofs.FillSteps.{first-among-in}
 

@@ -21,7 +21,7 @@ use Rattle.expansion.proofs.CopyLaws.{Own}
 use Rattle.expansion.proofs.Leading.{number, wanted}
 use Rattle.search_cells.specs.Cells.{wants, owned}
 use Rattle.search_numbering.specs.Numbering.{first-place, first-among, member, new-ones, index-of, copies-at}
-use Rattle.search_numbering.specs.Wants.{copies-before, copy-number, WantsFilled}
+use Rattle.search_numbering.specs.Private.Wants.{copies-before, copy-number, WantsFilled}
 use Rattle.search_numbering.proofs.FillSteps.{first-among-in}
 use Rattle.search_numbering.proofs.WantsFill.{first-place-met}
 

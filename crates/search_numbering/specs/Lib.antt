@@ -1,3 +1,3 @@
--- What `fill` makes of the table of cells (Numbering), and the numbers of the copies and the steps to them as relations (Wants).
+-- What `fill` makes of the table of cells (Numbering). Private has the numbers of the copies and the steps to them as relations.
 pub mod Numbering
-pub mod Wants
+pub mod Private

@@ -11,7 +11,7 @@ ghost use Rattle.preference.specs.Preference.{prefer};
 ghost use Rattle.rows.specs.Row.{weight};
 ghost use Rattle.search_cells.specs.Cells.{flags};
 ghost use Rattle.search_numbering.specs.Numbering.{copies-at, written, filled-at, filled-from, sized, filled};
-ghost use Rattle.search_numbering.specs.Wants.{Grouped, firsts, note, Numbered};
+ghost use Rattle.search_numbering.specs.Private.Wants.{Grouped, firsts, note, Numbered};
 use formula::Formula;
 use preference::preference;
 use search_cells::FLAGS;

@@ -1,3 +1,3 @@
--- The sorted places of lent rows, and the order as a relation.
+-- The sorted places of lent rows. Private has the order as a relation.
 pub mod Order
-pub mod Sorted
+pub mod Private

@@ -7,7 +7,7 @@ use mathlib.Core.List.{List}
 use native.Mathlib.Omega.{arith}
 use borrow.Author.Tests.{eq-eqb, ne-eqb}
 use lib.ListN.{length, getD, drop, drop-of-length-le}
-use Rattle.codes.specs.Clauses.{clause-of}
+use Rattle.codes.specs.Private.Clauses.{clause-of}
 use Rattle.codes.proofs.CodeLaws.{clause-step, clause-stop}
 use Rattle.codes.specs.Codes.{row-position}
 use Rattle.search_sets.specs.Sets.{set-joined, bit-at, each-from, followed, code-joined, codes-joined}

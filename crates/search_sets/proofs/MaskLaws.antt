@@ -16,7 +16,7 @@ use lib.Seq.{getD-set-same, getD-set-other}
 use borrow.Author.Tests.{ltb-true, ltb-false, lt-ltb, le-ltb, eqb-true, eq-eqb}
 use Rattle.formula.specs.Formula.{max-unknowns}
 use Rattle.preference.specs.Preference.{odd}
-use Rattle.search_sets.specs.Masks.{words, set-at, SetGrown, SetsKept, Put, WordsUnited, Trimmed}
+use Rattle.search_sets.specs.Private.Masks.{words, set-at, SetGrown, SetsKept, Put, WordsUnited, Trimmed}
 
 -- ---- bits of a word
 

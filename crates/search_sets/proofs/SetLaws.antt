@@ -11,11 +11,11 @@ use lib.ListN.{length, drop}
 use Rattle.formula.specs.Formula.{max-unknowns}
 use Rattle.expansion.proofs.Booleans.{never-both}
 use Rattle.expansion.proofs.ClauseCuts.{Every, every-map}
-use Rattle.codes.specs.Clauses.{position, clause-of, Coded}
+use Rattle.codes.specs.Private.Clauses.{position, clause-of, Coded}
 use Rattle.codes.proofs.CodeLaws.{clause-coded, row-position-is}
 use Rattle.codes.specs.Codes.{row-position}
 use Rattle.search_sets.specs.Sets.{set-places, sets-size, words-put, words-joined, words-met, set-joined, bit-added, bit-at, ones, each-from, cut-at, followed, code-joined, codes-joined, united, united-words, added, has, emptied, filled, trimmed, excused, blamed}
-use Rattle.search_sets.specs.Masks.{set-at, SetGrown, SetsKept, Put, United, WordsUnited, Trimmed, Excused, Blamed}
+use Rattle.search_sets.specs.Private.Masks.{set-at, SetGrown, SetsKept, Put, United, WordsUnited, Trimmed, Excused, Blamed}
 use Rattle.search_sets.proofs.TestLaws.{place-true, numbers-true}
 use Rattle.search_sets.proofs.LengthLaws.{length-met, length-followed, length-code-joined, length-each}
 use Rattle.search_sets.proofs.MaskLaws.{words-full, set-bit, store-put, kept-put, store-grown, store-added, put-united, set-grown-refl, set-grown-trans, set-grown-keeps, trimmed-refl, trimmed-more}

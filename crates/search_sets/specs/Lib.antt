@@ -1,3 +1,3 @@
--- What the functions of `search_sets` make of a table (Sets), and what users' proofs say of the sets (Masks), which no contract here cites.
+-- What the functions of `search_sets` make of a table (Sets). Private has what users' proofs say of the sets.
 pub mod Sets
-pub mod Masks
+pub mod Private

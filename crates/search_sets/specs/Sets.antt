@@ -8,8 +8,7 @@ use lib.Dec.{eqb, ltb}
 use lib.ListN.{length, getD, set, drop}
 use Rattle.formula.specs.Formula.{max-unknowns, max-rows}
 use Rattle.preference.specs.Preference.{odd}
-use Rattle.codes.specs.Codes.{row-position}
-use Rattle.codes.specs.Clauses.{clause-of}
+use Rattle.codes.specs.Codes.{row-position, clause-of}
 
 -- ---- sets at places that are there
 

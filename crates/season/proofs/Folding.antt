@@ -13,7 +13,7 @@ use Rattle.season.specs.declared.tally.Tally.{Tally}
 use Rattle.formula.specs.Causes.{any}
 use Rattle.formula.specs.Meaning.{bit}
 use Rattle.season.specs.Season.{sum, max-studies, max-answer, max-fee, most, first-with, summary}
-use Rattle.season.specs.Tally.{fresh, one-more, added, closed, leads, Room}
+use Rattle.season.specs.Private.Tally.{fresh, one-more, added, closed, leads, Room}
 use Rattle.season.proofs.Fits.{bit-small}
 
 abbrev pub with-study : Tally → Study → Tally

@@ -2,5 +2,7 @@
 pub mod Closing
 pub mod Fits
 pub mod Folding
+pub mod SummaryLaws
 pub mod RecordLaws
 pub mod Printing
+pub mod SeasonRight

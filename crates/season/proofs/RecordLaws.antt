@@ -19,7 +19,7 @@ use Rattle.lines.proofs.LineLaws.{lines-line, lines-rest, lines-none}
 use Rattle.season.specs.declared.Study.{Study}
 use Rattle.season.specs.Season.{max-studies}
 use Rattle.season.specs.Text.{number, three-numbers, study, is-record, record-of, records, other-line}
-use Rattle.season.specs.Steps.{Parted}
+use Rattle.season.specs.Private.Steps.{Parted}
 
 -- ---- the pieces of a line
 -- What is found from inside a list on is found within it.

@@ -1,5 +1,6 @@
 -- The page over a table of studies, and what is refused. Assumes nothing.
 use Prim.Native.Nat.{ℕ, suc, _+_, max}
+use mathlib.Core.Path.{_≡_}
 use mathlib.Core.Bool.{Bool, true, false, cond}
 use mathlib.Core.List.{List, [], _∷_}
 use lib.Dec.{eqb, ltb}
@@ -66,3 +67,25 @@ summary ss =
     (refused-if (any (λ s. ltb max-answer (s .answer)) ss) 24
     (refused-if (any (λ s. ltb max-fee (s .fee)) ss) 25
     (Page (sheet ss))))
+
+-- The number of each case, 0 for a page, else the cause's; and the page, that of no study where there is none.
+abbrev pub summary-number : Summary → ℕ
+summary-number (Page s) = 0
+summary-number (Refused cause) = cause
+
+abbrev pub summary-sheet : Summary → Sheet
+summary-sheet (Page s) = s
+summary-sheet (Refused cause) = sheet []
+
+-- The first cause that applies, or 0.
+unfoldable pub cause : List Study → ℕ
+cause ss =
+    cond (ltb max-studies (length ss)) 23
+    (cond (any (λ s. ltb max-answer (s .answer)) ss) 24
+    (cond (any (λ s. ltb max-fee (s .fee)) ss) 25 0))
+
+-- What comes back for a table, with its number and its page.
+pub record Summarized (ss : List Study) (r : Summary) : Type 0 where
+  pub value : r ≡ summary ss
+  pub numbered : summary-number r ≡ cause ss
+  pub valued : summary-sheet r ≡ cond (eqb (cause ss) 0) (sheet ss) (sheet [])

@@ -66,5 +66,9 @@ abbrev pub unless-other : ℕ → Bytes → Bytes
 unless-other zero page = page
 unless-other (suc k) page = refusal-line 10 (suc k)
 
+-- Room for whatever is printed.
+abbrev pub longest : ℕ
+longest = 256
+
 unfoldable pub printed : Bytes → Bytes
 printed text = cond (ltb max-bytes (length text)) (refusal-line 9 0) (unless-other (other-line 1 (lines text)) (summary-lines (summary (records (lines text)))))

@@ -6,8 +6,9 @@ ghost use mathlib.Core.Path.{_≡_};
 ghost use Prim.Native.Nat.{_≤_};
 ghost use lib.ListN.{take};
 ghost use Rattle.report.specs.Report.{put, put-count};
-ghost use Rattle.season.specs.Season.{max-studies, summary};
+ghost use Rattle.season.specs.Season.{max-studies, summary, Summarized};
 ghost use Rattle.season.specs.Text.{printed, summary-lines};
+ghost use Rattle.season.specs.SeasonRight.{SeasonRight};
 
 mod records;
 mod tally;
@@ -15,7 +16,10 @@ mod tally;
 // The most records of a table, and the most bytes of a text.
 pub(crate) const STUDIES: usize = 4_096;
 
-const BYTES: usize = 122_880;
+pub const BYTES: usize = 122_880;
+
+// Room for whatever is printed.
+pub const LONGEST: usize = 256;
 
 // A study: the answer's number, the rounds, the fee in cents.
 #[repr(C)]
@@ -47,7 +51,7 @@ pub enum Summary {
 
 // The page over a table of studies, or the number of the first cause that applies.
 pub fn summarize(studies: &[Study]) -> Summary
-    ensures { λ r. ⌜ r ≡ summary (now (studies .entry)) ⌝ }
+    ensures { λ r. ⌜ Summarized (now (studies .entry)) r ⌝ }
 {
     let mut t = tally::start();
     let mut i = 0; // the place of the next record
@@ -60,10 +64,11 @@ pub fn summarize(studies: &[Study]) -> Summary
 }
 
 // The lines that the program prints for a text, at the start of `out`: how many bytes they are. An `out` that is too short is left as
-// found, 0.
+// found, 0; one of `LONGEST` bytes never is.
 pub fn print(text: &[u8], out: &mut [u8]) -> usize
     ensures { λ r. ⌜ r ≡ put-count (printed (now (text .entry))) (now (out .entry)) ⌝ }
     ensures { λ _. ⌜ now (out .exit) ≡ put (printed (now (text .entry))) (now (out .entry)) ⌝ }
+    ensures proved { λ _. ⌜ SeasonRight (now (text .entry)) ⌝ }
 {
     if BYTES < text.len() {
         return report::refusal(out, 9, 0);

@@ -6,7 +6,7 @@ ghost use lib.ListN.{length, take};
 ghost use Rattle.lines.specs.Lines.{lines};
 ghost use Rattle.season.specs.Season.{max-studies};
 ghost use Rattle.season.specs.Text.{max-bytes, other-line, records};
-ghost use Rattle.season.specs.Steps.{Parted, Line-read, Checked-so};
+ghost use Rattle.season.specs.Private.Steps.{Parted, Line-read, Checked-so};
 use crate::Study;
 use lines::numbers;
 

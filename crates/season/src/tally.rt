@@ -3,7 +3,7 @@ ghost use mathlib.Core.Path.{_≡_};
 ghost use mathlib.Core.Bool.{cond, _||_};
 ghost use lib.Dec.{eqb, ltb};
 ghost use Rattle.formula.specs.Meaning.{bit};
-ghost use Rattle.season.specs.Tally.{fresh, added, closed, leads, Room};
+ghost use Rattle.season.specs.Private.Tally.{fresh, added, closed, leads, Room};
 use crate::Sheet;
 use crate::Summary;
 

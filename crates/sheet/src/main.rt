@@ -7,15 +7,15 @@ use libc::STDOUT_FILENO;
 
 fn main() {
     // one byte more than a text may have, so that a longer one is seen
-    let mut input = [0u8; 122_881];
+    let mut input = [0u8; season::BYTES + 1];
     let length = io::read_full(STDIN_FILENO, &mut input);
     print(&input[..length]);
 }
 
 fn print(text: &[u8]) {
-    let mut out = [0u8; 256];
+    let mut out = [0u8; season::LONGEST];
     let length = season::print(text, &mut out);
-    let n = lower(length, 256);
+    let n = lower(length, season::LONGEST);
     io::write_all(STDOUT_FILENO, &out[..n]);
 }
 

@@ -16,7 +16,7 @@ use Rattle.formula.specs.declared.Check.the-variants.{Accepted}
 use Rattle.formula.proofs.Accepted.{Accepted as AcceptedFormula, accepted}
 use Rattle.trimming_rules.specs.Proved.{Proved}
 use Rattle.trimming_rules.proofs.Carried.{proved}
-use Rattle.run.specs.Outcome.{Areas, Given, given, tables-fit, tables-counted, cause as run-cause}
+use Rattle.engine.specs.Outcome.{Areas, Given, given, tables-fit, tables-counted, cause as run-cause}
 use Rattle.study.specs.declared.Setting.{Setting}
 use Rattle.study.specs.Study.{settings-of, formula-of, given-of, unknown, no-round, cause-26, list-cause, cause}
 

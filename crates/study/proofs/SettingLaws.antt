@@ -10,7 +10,7 @@ use lib.Seq.{getD-drop, drop-drop}
 use Rattle.formula.specs.Causes.{any}
 use Rattle.study.specs.declared.Setting.{Setting}
 use Rattle.study.specs.Study.{setting-from, settings-of}
-use Rattle.study.specs.Turns.{setting-at}
+use Rattle.study.specs.Private.Turns.{setting-at}
 
 first-setting : (l : List ℕ) → 4 ≤ length l → settings-of l ≡ setting-from l ∷ settings-of (drop 4 l)
 unfolding settings-of

@@ -16,9 +16,9 @@ use Rattle.rounds.specs.Run.{Entry, run, highest}
 use Rattle.rounds.specs.Claim.{table}
 use Rattle.rounds.specs.Counts.{came, counts}
 use Rattle.rounds.proofs.Bounds.{count-in-room}
-use Rattle.run.specs.Outcome.{Areas, Given, given, lent, side-fits, tables-fit, tables-counted, cause as run-cause, accepted, reached, after, left}
-use Rattle.run.proofs.GrowingLaws.{length-row-bytes, length-mark-numbers}
-use Rattle.study.specs.Turns.{SameSizes}
+use Rattle.engine.specs.Outcome.{Areas, Given, given, lent, side-fits, tables-fit, tables-counted, cause as run-cause, accepted, reached, after, left}
+use Rattle.engine.proofs.run.GrowingLaws.{length-row-bytes, length-mark-numbers}
+use Rattle.study.specs.Private.Turns.{SameSizes}
 use Rattle.study.proofs.CauseLaws.{Fits, passes-if-none}
 
 -- ---- the cause, by the sizes

@@ -8,9 +8,9 @@ use mathlib.Core.List.{List, [], _∷_}
 use mathlib.Core.Option.{some, Option·none-ne-some}
 use lib.Dec.{eqb}
 use lib.IntN.{ℤ}
-use lib.ListN.{length, getElem?}
+use lib.ListN.{length, getElem?, replicate}
 use borrow.Author.Tests.{eq-eqb, ne-eqb, eqb-true}
-use Rattle.formula.specs.Formula.{existential, universal, prefix}
+use Rattle.formula.specs.Formula.{work-size, existential, universal, prefix}
 use Rattle.formula.specs.Causes.{count}
 use Rattle.formula.specs.Meaning.{meaning, verdict}
 use Rattle.rows.specs.Table.{room}
@@ -19,15 +19,16 @@ use Rattle.rounds.specs.Run.{is-false, is-true, spent, no-room-universal, no-ro
 use Rattle.rounds.specs.Claim.{answer-of as run-answer-of, most-with}
 use Rattle.rounds.proofs.Claim.{claim}
 use Rattle.rounds.proofs.Verdict.{verdict-right}
-use Rattle.run.specs.declared.Answer.{Answer}
-use Rattle.run.specs.declared.Answer.the-variants.{False, True, Spent, NoRoomUniversal, NoRoomExistential, Refused}
-use Rattle.run.specs.declared.Outcome.{Outcome}
-use Rattle.run.specs.Outcome.{Areas, Given, lent, cause as run-cause, accepted, reached, named, reported, refusal, returned, left}
+use Rattle.engine.specs.declared.run.Answer.{Answer}
+use Rattle.engine.specs.declared.run.Answer.the-variants.{False, True, Spent, NoRoomUniversal, NoRoomExistential, Refused}
+use Rattle.engine.specs.declared.run.Outcome.{Outcome}
+use Rattle.engine.specs.Outcome.{Areas, Given, lent, cause as run-cause, accepted, reached, named, reported, refusal, returned, after, left}
 use Rattle.study.specs.declared.Setting.{Setting}
 use Rattle.study.specs.Study.{settings-of, formula-of, preferences-of, given-of, cause, Ending, ending, is-verdict, in-turn, studied}
 use Rattle.study.specs.StudyRight.{answer-of, Promised, StudyRight}
-use Rattle.study.specs.Turns.{SameSizes}
-use Rattle.study.proofs.CauseLaws.{each-accepted, trimming-proved, limit-if-none}
+use Rattle.study.specs.Private.Turns.{SameSizes}
+use Rattle.study.proofs.SettingLaws.{length-settings}
+use Rattle.study.proofs.CauseLaws.{some-setting, each-accepted, trimming-proved, limit-if-none}
 use Rattle.study.proofs.SizeLaws.{same-cause, left-sizes}
 
 -- An answer is a verdict only if it is this one.
@@ -158,6 +159,40 @@ module _ (kinds : List ℕ) (literals : List ℤ) (trimming : Proved kinds liter
       (not-empty rest j s there)
       (turns-decided rest (suc i) (left g) (later-accepts t rest found accepts) j s there (still-promised s found (left g) (left-sizes g (accepts zero t refl)) p))
 
+-- ---- how the last run leaves a study
+
+-- An answer of a run, and a work area of zeros.
+record Over (e : Ending) : Type 0 where
+  answer : RunAnswer
+  answer-so : e .result .outcome .answer ≡ named answer
+  zero-work : e .areas-left .work ≡ replicate work-size 0
+
+choose-over : (b : Bool) {x y : Ending} → (b ≡ true → Over x) → (b ≡ false → Over y) → Over (cond b x y)
+choose-over true on-x on-y = on-x refl
+choose-over false on-x on-y = on-y refl
+
+-- Where a study goes on a setting is left.
+some-left : (v : Bool) (rest : List Setting) → (v || eqb (length rest) 0) ≡ false → 1 ≤ length rest
+some-left true rest e = absurd (true≢false e)
+some-left false [] e = absurd (true≢false e)
+some-left false (s ∷ rest) e = omega arith
+
+zero-after : (g : Given) → run-cause g ≡ 0 → left g .work ≡ replicate work-size 0
+unfolding left
+zero-after g none = ap (λ (b : Bool). cond b (after g (g .limit)) (g .found) .work) (eq-eqb (run-cause g) 0 none)
+
+module _ (kinds : List ℕ) (literals : List ℤ) (trimming : Proved kinds literals) where
+  turns-over : (ss : List Setting) (i : ℕ) (found : Areas) → Accepts kinds literals trimming ss found → 1 ≤ length ss → Over (in-turn kinds literals ss i found)
+  unfolding in-turn
+  turns-over [] i found accepts some-setting = absurd (omega (arith, some-setting))
+  turns-over (s ∷ rest) i found accepts some-setting =
+      let g = given-of kinds literals s found in
+      let none = accepts zero s refl in
+      choose-over (is-verdict (returned g .answer) || eqb (length rest) 0)
+      (λ _. record { answer = reached g .answer; answer-so = answered g none; zero-work = zero-after g none })
+      (λ more.
+      turns-over rest (suc i) (left g) (later-accepts kinds literals trimming s rest found accepts) (some-left (is-verdict (returned g .answer)) rest more))
+
 -- ---- the theorem
 
 module _ (kinds : List ℕ) (literals : List ℤ) (settings : List ℕ) (found : Areas) where
@@ -182,10 +217,19 @@ module _ (kinds : List ℕ) (literals : List ℤ) (settings : List ℕ) (found :
       ap (λ (b : Bool). is-verdict (cond b (in-turn kinds literals (settings-of settings) 0 found) (ending (refusal stops) 0 found) .result .outcome .answer)) (eq-eqb stops 0 none)
       ∙ turns-decided kinds literals (trimming-proved kinds literals settings found none) (settings-of settings) 0 found (each-accepted kinds literals settings found none) i s there p
 
+  over : stops ≡ 0 → Over (studied kinds literals settings found)
+  unfolding studied
+  over none =
+      subst (λ (b : Bool). Over (cond b (in-turn kinds literals (settings-of settings) 0 found) (ending (refusal stops) 0 found))) (sym (eq-eqb stops 0 none))
+      (turns-over kinds literals (trimming-proved kinds literals settings found none) (settings-of settings) 0 found (each-accepted kinds literals settings found none)
+      (subst (λ (n : ℕ). 1 ≤ n) (sym (length-settings settings)) (some-setting kinds literals settings found none)))
+
   pub study-right : StudyRight kinds literals settings found
   study-right =
       record {
         only-true = right .only-true;
         only-false = right .only-false;
         decided = λ none i s there p. as-verdict (verdict kinds literals) _ right (gives-verdict none i s there p);
+        answered = λ none. let o = over none in (o .answer, o .answer-so);
+        area = λ none. over none .zero-work;
       }

@@ -1,4 +1,4 @@
--- What a study returns and leaves (Study), what holds of it (StudyRight), and what its private functions promise each other (Turns).
+-- What a study returns and leaves (Study), what holds of it (StudyRight). Private has what its private functions promise each other.
 pub mod Study
 pub mod StudyRight
-pub mod Turns
+pub mod Private

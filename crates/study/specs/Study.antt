@@ -9,10 +9,10 @@ use lib.IntN.{ℤ}
 use lib.ListN.{length, getD}
 use Rattle.formula.specs.Causes.{any}
 use Rattle.trimming_rules.specs.Trimming.{trimmed}
-use Rattle.run.specs.declared.Answer.{Answer}
-use Rattle.run.specs.declared.Answer.the-variants.{False, True, Spent, NoRoomUniversal, NoRoomExistential, Refused}
-use Rattle.run.specs.declared.Outcome.{Outcome}
-use Rattle.run.specs.Outcome.{Areas, Given, given, cause as run-cause, refusal, returned, left}
+use Rattle.engine.specs.declared.run.Answer.{Answer}
+use Rattle.engine.specs.declared.run.Answer.the-variants.{False, True, Spent, NoRoomUniversal, NoRoomExistential, Refused}
+use Rattle.engine.specs.declared.run.Outcome.{Outcome}
+use Rattle.engine.specs.Outcome.{Areas, Given, given, cause as run-cause, refusal, returned, left}
 use Rattle.study.specs.declared.Setting.{Setting}
 use Rattle.study.specs.declared.Studied.{Studied}
 

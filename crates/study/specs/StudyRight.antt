@@ -7,16 +7,17 @@ use mathlib.Core.Bool.{Bool, true, false}
 use mathlib.Core.List.{List}
 use mathlib.Core.Option.{some}
 use lib.IntN.{ℤ}
-use lib.ListN.{getElem?}
-use Rattle.formula.specs.Formula.{existential, universal, prefix}
+use lib.ListN.{getElem?, replicate}
+use Rattle.formula.specs.Formula.{work-size, existential, universal, prefix}
 use Rattle.formula.specs.Causes.{count}
 use Rattle.formula.specs.Meaning.{verdict}
 use Rattle.rows.specs.Table.{room}
+use Rattle.rounds.specs.Run.{Answer as RunAnswer}
 use Rattle.rounds.specs.Claim.{most-rounds}
-use Rattle.run.specs.declared.Answer.{Answer}
-use Rattle.run.specs.declared.Answer.the-variants.{False, True}
-use Rattle.run.specs.Outcome.{Areas, lent, accepted}
-use Rattle.run.specs.Ended.{Ended}
+use Rattle.engine.specs.declared.run.Answer.{Answer}
+use Rattle.engine.specs.declared.run.Answer.the-variants.{False, True}
+use Rattle.engine.specs.Outcome.{Areas, lent, accepted, named}
+use Rattle.engine.specs.Ended.{Ended}
 use Rattle.study.specs.declared.Setting.{Setting}
 use Rattle.study.specs.declared.Studied.{Studied}
 use Rattle.study.specs.Study.{settings-of, given-of, cause, ending, studied}
@@ -39,6 +40,9 @@ pub record StudyRight (kinds : List ℕ) (literals : List ℤ) (settings : List 
   pub decided : cause kinds literals settings found ≡ 0
       → (i : ℕ) (s : Setting) → getElem? (settings-of settings) i ≡ some s → Promised kinds literals found s
       → studied kinds literals settings found .result .outcome .answer ≡ answer-of (verdict kinds literals)
+  -- A study that is not refused answers as a run does, and leaves the work area zero.
+  pub answered : cause kinds literals settings found ≡ 0 → (a : RunAnswer) × (studied kinds literals settings found .result .outcome .answer ≡ named a)
+  pub area : cause kinds literals settings found ≡ 0 → studied kinds literals settings found .areas-left .work ≡ replicate work-size 0
 
 -- The run that gave the outcome: that of the setting named, over its formula and the areas that it found. All that is promised of a run holds of it;
 -- rows, marks, counts and opening belong to its formula, which is the trimmed one if the setting trims.

@@ -3,9 +3,9 @@
 // `study` promises, for all that is lent, the outcome, the setting that gave it and every lent byte that the definition (specs/Study.antt) gives, that
 // its answer is the verdict whatever the settings, and all that is promised of the last run (specs/StudyRight.antt).
 // The run belongs to `run`, trimming to `trimming`. A study costs its runs, one trimming and one test of the formula more.
+use engine::run::Answer;
+use engine::run::Outcome;
 use formula::Formula;
-use run::Answer;
-use run::Outcome;
 use trimming::Trimmed;
 ghost use Prim.Native.Nat.{_+_, _*_, _/_, _≤_, _<_};
 ghost use mathlib.Core.Path.{_≡_};
@@ -15,11 +15,11 @@ ghost use lib.Dec.{eqb};
 ghost use lib.ListN.{length, take};
 ghost use Rattle.formula.specs.Causes.{any};
 ghost use Rattle.trimming.specs.Outcome.{outcome, output-after, used};
-ghost use Rattle.run.specs.Outcome.{areas, refusal};
-ghost use Rattle.run.specs.Ended.{Ended};
+ghost use Rattle.engine.specs.Outcome.{areas, refusal};
+ghost use Rattle.engine.specs.Ended.{Ended};
 ghost use Rattle.study.specs.Study.{settings-of, preferences-of, given-of, unknown, no-round, list-cause, is-verdict};
 ghost use Rattle.study.specs.StudyRight.{Studies};
-ghost use Rattle.study.specs.Turns.{setting-at, formula-from, Holds, Turned};
+ghost use Rattle.study.specs.Private.Turns.{setting-at, formula-from, Holds, Turned};
 
 // How a run of a study is made: over the trimmed formula (1) or the lent one (0), with a preference byte or `HOUSE`, the universal table cleared in
 // each round that `clearing` divides, and never if it is 0, within the limit of rounds.
@@ -71,7 +71,7 @@ pub fn study(
         (areas (now («universal_rows» .exit)) (now («universal_marks» .exit)) (now («universal_counts» .exit)) (now («existential_rows» .exit)) (now («existential_marks» .exit)) (now («existential_counts» .exit)) (now (work .exit))) ⌝ }
 {
     let none = [0u8; 0];
-    let tested = run::run(
+    let tested = engine::run::run(
         kinds,
         literals,
         &none,
@@ -86,7 +86,7 @@ pub fn study(
         0,
     );
     let answer = tested.answer;
-    let cause = first_cause(run::number(answer), settings);
+    let cause = first_cause(engine::run::number(answer), settings);
     if cause != 0 {
         return refused(cause);
     }
@@ -320,7 +320,7 @@ fn with_setting<'a>(
     let byte = [byte_of(preference); 1];
     let lent = lent_of(preference);
     let formula = chosen(setting.trim, literals, table, entries);
-    run::run(
+    engine::run::run(
         kinds,
         formula,
         &byte[0..lent],

@@ -9,7 +9,7 @@ use lib.ListN.{take, replicate}
 use Rattle.formula.specs.Formula.{max-clauses, work-size}
 use Rattle.formula.specs.Causes.{checked, sizes}
 use Rattle.formula.specs.declared.Check.the-variants.{Accepted}
-use Rattle.run.specs.Outcome.{number-of}
+use Rattle.engine.specs.Outcome.{number-of}
 use Rattle.named.specs.Named.{max-variables}
 use Rattle.text.specs.Reading.{refused, read-as}
 use Rattle.text.proofs.TextLaws.{Passes}

@@ -9,8 +9,8 @@ use lib.ListN.{length, replicate}
 use Rattle.formula.specs.Formula.{work-size}
 use Rattle.formula.specs.Meaning.{verdict}
 use Rattle.rounds.specs.Run.{Answer, is-false, is-true, spent, no-room-universal, no-room-existential, number}
-use Rattle.run.specs.Outcome.{named, number-of}
-use Rattle.run.proofs.OutcomeLaws.{number-named}
+use Rattle.engine.specs.Outcome.{named, number-of}
+use Rattle.engine.proofs.run.OutcomeLaws.{number-named}
 use Rattle.text.specs.Reading.{Read, taken, refused, read-gates, read-as}
 use Rattle.text.proofs.GatesRight.{gates-right}
 use Rattle.report.specs.Report.{refusal-line}

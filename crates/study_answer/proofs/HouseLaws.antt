@@ -15,8 +15,8 @@ use Rattle.formula.specs.declared.Check.the-variants.{Accepted}
 use Rattle.rows.specs.Table.{room, table-fits}
 use Rattle.rounds.specs.Run.{run}
 use Rattle.rounds.proofs.Bounds.{count-in-room}
-use Rattle.run.specs.declared.Outcome.{Outcome}
-use Rattle.run.specs.Outcome.{Areas, Given, lent, side-fits, tables-fit, accepted, cause as run-cause, reached, reported, returned}
+use Rattle.engine.specs.declared.run.Outcome.{Outcome}
+use Rattle.engine.specs.Outcome.{Areas, Given, lent, side-fits, tables-fit, accepted, cause as run-cause, reached, reported, returned}
 use Rattle.decision.proofs.DecisionLaws.{cause-so}
 use Rattle.study.specs.declared.Studied.{Studied}
 use Rattle.study.specs.Study.{Ending, settings-of, given-of, unknown, cause-26, list-cause, cause}

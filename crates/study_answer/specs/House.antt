@@ -7,7 +7,7 @@ use lib.IntN.{ℤ}
 use lib.ListN.{length}
 use Rattle.formula.specs.Formula.{max-rows}
 use Rattle.rounds.specs.Run.{Answer}
-use Rattle.run.specs.Outcome.{Areas, areas, named}
+use Rattle.engine.specs.Outcome.{Areas, areas, named}
 use Rattle.decision.specs.Decision.{own-rows, own-marks, own-counts}
 use Rattle.study.specs.declared.Studied.{Studied}
 use Rattle.study.specs.Study.{Ending, settings-of, cause, studied}

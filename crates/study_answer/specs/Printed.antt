@@ -6,7 +6,7 @@ use mathlib.Core.List.{List}
 use lib.IntN.{ℤ}
 use lib.ListN.{replicate}
 use Rattle.formula.specs.Formula.{work-size}
-use Rattle.run.specs.Outcome.{number-of}
+use Rattle.engine.specs.Outcome.{number-of}
 use Rattle.text.specs.Reading.{Result, taken, refused, read-as}
 use Rattle.report.specs.Report.{refusal-line}
 use Rattle.report.specs.Studied.{study-lines}

@@ -9,6 +9,7 @@ ghost use mathlib.Core.Path.{_≡_};
 ghost use mathlib.Core.Bool.{true, false};
 ghost use Rattle.formula.specs.Causes.{checked, sizes};
 ghost use Rattle.formula.specs.declared.Check.the-variants.{Accepted};
+ghost use Rattle.text.specs.Offered.{offered};
 ghost use Rattle.report.specs.Report.{put, put-count};
 ghost use Rattle.study_answer.specs.House.{Decided};
 ghost use Rattle.study_answer.specs.Printed.{result-of, printed};
@@ -38,32 +39,32 @@ const LIST: [u32; 16] = [
 ];
 
 // Puts the lines of a text's study at the start of `out`, if they fit: how many bytes they are. A buffer of `LONGEST` bytes is long enough for every text.
-pub fn answer(text: &[u8], out: &mut [u8]) -> usize
-    ensures counted { λ r. ⌜ r ≡ put-count (printed false (now (text .entry))) (now (out .entry)) ⌝ }
-    ensures written { λ _. ⌜ now (out .exit) ≡ put (printed false (now (text .entry))) (now (out .entry)) ⌝ }
-    ensures proved { λ _. ⌜ StudyAnswerRight false (now (text .entry)) ⌝ }
+pub fn answer(input: &[u8], length: usize, out: &mut [u8]) -> usize
+    ensures counted { λ r. ⌜ r ≡ put-count (printed false (offered (now (input .entry)) length)) (now (out .entry)) ⌝ }
+    ensures written { λ _. ⌜ now (out .exit) ≡ put (printed false (offered (now (input .entry)) length)) (now (out .entry)) ⌝ }
+    ensures proved { λ _. ⌜ StudyAnswerRight false (offered (now (input .entry)) length) ⌝ }
 {
-    answer_as(text, false, out)
+    answer_as(input, length, false, out)
 }
 
 // The same of a gate list.
-pub fn answer_gates(text: &[u8], out: &mut [u8]) -> usize
-    ensures counted { λ r. ⌜ r ≡ put-count (printed true (now (text .entry))) (now (out .entry)) ⌝ }
-    ensures written { λ _. ⌜ now (out .exit) ≡ put (printed true (now (text .entry))) (now (out .entry)) ⌝ }
-    ensures proved { λ _. ⌜ StudyAnswerRight true (now (text .entry)) ⌝ }
+pub fn answer_gates(input: &[u8], length: usize, out: &mut [u8]) -> usize
+    ensures counted { λ r. ⌜ r ≡ put-count (printed true (offered (now (input .entry)) length)) (now (out .entry)) ⌝ }
+    ensures written { λ _. ⌜ now (out .exit) ≡ put (printed true (offered (now (input .entry)) length)) (now (out .entry)) ⌝ }
+    ensures proved { λ _. ⌜ StudyAnswerRight true (offered (now (input .entry)) length) ⌝ }
 {
-    answer_as(text, true, out)
+    answer_as(input, length, true, out)
 }
 
-fn answer_as(text: &[u8], gates: bool, out: &mut [u8]) -> usize
-    ensures { λ r. ⌜ r ≡ put-count (printed gates (now (text .entry))) (now (out .entry)) ⌝ }
-    ensures { λ _. ⌜ now (out .exit) ≡ put (printed gates (now (text .entry))) (now (out .entry)) ⌝ }
-    ensures { λ _. ⌜ StudyAnswerRight gates (now (text .entry)) ⌝ }
+fn answer_as(input: &[u8], length: usize, gates: bool, out: &mut [u8]) -> usize
+    ensures { λ r. ⌜ r ≡ put-count (printed gates (offered (now (input .entry)) length)) (now (out .entry)) ⌝ }
+    ensures { λ _. ⌜ now (out .exit) ≡ put (printed gates (offered (now (input .entry)) length)) (now (out .entry)) ⌝ }
+    ensures { λ _. ⌜ StudyAnswerRight gates (offered (now (input .entry)) length) ⌝ }
 {
     let mut kinds = [0u8; Formula::UNKNOWNS];
     let mut literals = [0i32; Formula::ENTRIES];
     let mut names = [0u16; Formula::UNKNOWNS];
-    match text::read_as(text, gates, &mut kinds, &mut literals, &mut names) {
+    match text::read_offered(input, length, gates, &mut kinds, &mut literals, &mut names) {
         Reading::Refused { number, line } => report::refusal(out, number, line as u32),
         Reading::Taken {
             unknowns,
@@ -93,7 +94,7 @@ fn settled(kinds: &[u8], literals: &[i32], variables: u32, clauses: u32, out: &m
     let answer = outcome.answer;
     report::study_result(
         out,
-        run::number(answer),
+        engine::run::number(answer),
         variables,
         clauses,
         end.setting as u32 + 1,

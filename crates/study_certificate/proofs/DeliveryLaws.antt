@@ -13,8 +13,8 @@ use Rattle.formula.specs.Causes.{checked, sizes}
 use Rattle.formula.specs.declared.Check.the-variants.{Accepted}
 use Rattle.formula.proofs.Accepted.{accepted}
 use Rattle.rounds.specs.Run.{is-false, is-true, spent, no-room-universal, no-room-existential, number, Answer as RunAnswer}
-use Rattle.run.specs.declared.Answer.{Answer}
-use Rattle.run.specs.Outcome.{Areas, number-of, named, refusal}
+use Rattle.engine.specs.declared.run.Answer.{Answer}
+use Rattle.engine.specs.Outcome.{Areas, number-of, named, refusal}
 use Rattle.text.specs.Reading.{Read, Result, refused, read-as}
 use Rattle.text.proofs.ReadAsLaws.{reading-passes}
 use Rattle.text.proofs.FrontLaws.{Front}
@@ -34,7 +34,7 @@ use Rattle.study_answer.specs.Printed.{lines-of}
 use Rattle.study_certificate.specs.WitnessList.{witness-list, witness-study}
 use Rattle.study_certificate.specs.StudyCertificate.{true-record, false-record, by-answer, on-ending, on-formula, on-reading, work-by, output, left}
 use Rattle.study_certificate.specs.StudyCertificateRight.{StudyCertificateRight}
-use Rattle.study_certificate.specs.Steps.{Ready}
+use Rattle.study_certificate.specs.Private.Steps.{Ready}
 use Rattle.study_certificate.proofs.LentRun.{stopped, study-lent}
 
 abbrev counts : ℕ → ℕ → Counts
@@ -59,15 +59,6 @@ module _ (unknowns variables clauses : ℕ) {r : Studied} {U E : List ℕ} (read
 
   pub number-so : {n : ℕ} → n ≡ number-of (r .outcome .answer) → n ≡ number (ready .end .answer)
   number-so = any.number-so unknowns clauses (ready .ran)
-
-  pub small-universal : r .outcome .universal < 65536
-  small-universal = omega (arith, ready .ran .universal-so, ready .ran .few-universal)
-
-  pub small-existential : r .outcome .existential < 65536
-  small-existential = omega (arith, ready .ran .existential-so, ready .ran .few-existential)
-
-  pub small-round : r .outcome .round < 65536
-  small-round = omega (arith, ready .ran .round-so, ready .ran .few-rounds)
 
   module _ {R : Record} (out lines : List ℕ) {n : ℕ} {out-then : List ℕ} (counted : n ≡ put-count (file R U E) out) (written : out-then ≡ put (file R U E) out) where
     delivered : (x : Record) {a : RunAnswer} → R ≡ x → ready .end .answer ≡ a → only-file (file x U E) ≡ gives (named a)

@@ -14,9 +14,9 @@ use Rattle.formula.specs.declared.Check.the-variants.{Accepted}
 use Rattle.preference.specs.Preference.{prefer}
 use Rattle.rows.specs.Table.{room}
 use Rattle.rounds.specs.Run.{highest}
-use Rattle.run.specs.Outcome.{Areas, Given, lent, cause as run-cause, reached, returned, given-up, after, left}
+use Rattle.engine.specs.Outcome.{Areas, Given, lent, cause as run-cause, reached, returned, given-up, after, left}
 use Rattle.trimming_rules.specs.Proved.{Proved}
-use Rattle.certificate.specs.Steps.{Ran}
+use Rattle.certificate.specs.Private.Steps.{Ran}
 use Rattle.certificate.proofs.AnyRun.{Borne, borne-so, ran-so}
 use Rattle.study.specs.declared.Setting.{Setting}
 use Rattle.study.specs.Study.{max-settings, settings-of, formula-of, preferences-of, given-of, unknown, cause-26, list-cause, cause, Ending, is-verdict, in-turn, studied}
@@ -25,7 +25,7 @@ use Rattle.study.proofs.StudyRight.{Accepts, later-accepts}
 use Rattle.study_answer.specs.House.{own-areas}
 use Rattle.study_answer.proofs.HouseLaws.{cause-left, rows-lent, reported-so, fitting}
 use Rattle.study_certificate.specs.WitnessList.{witness-list, witness-study}
-use Rattle.study_certificate.specs.Steps.{Ready}
+use Rattle.study_certificate.specs.Private.Steps.{Ready}
 
 -- No setting of the list trims.
 abbrev Untrimmed : List Setting → Type 0

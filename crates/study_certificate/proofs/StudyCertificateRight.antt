@@ -11,7 +11,7 @@ use Rattle.formula.specs.Causes.{checked, sizes}
 use Rattle.formula.specs.declared.Check.the-variants as Check
 use Rattle.rows.specs.Table.{table-of}
 use Rattle.rounds.specs.Run.{rows, is-false, is-true, spent, no-room-universal, no-room-existential, number, Answer, Outcome}
-use Rattle.run.specs.Outcome.{named, number-of}
+use Rattle.engine.specs.Outcome.{named, number-of}
 use Rattle.text.specs.Reading.{Read, Result, taken, refused, read-as}
 use Rattle.text.proofs.ReadAsLaws.{reading-passes}
 use Rattle.report.specs.Report.{refusal-line}

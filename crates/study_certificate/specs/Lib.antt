@@ -2,4 +2,4 @@
 pub mod WitnessList
 pub mod StudyCertificate
 pub mod StudyCertificateRight
-pub mod Steps
+pub mod Private

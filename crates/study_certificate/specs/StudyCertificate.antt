@@ -7,9 +7,9 @@ use mathlib.Core.List.{List}
 use lib.IntN.{ℤ}
 use lib.ListN.{length, replicate}
 use Rattle.formula.specs.Formula.{work-size}
-use Rattle.run.specs.declared.Answer.{Answer}
-use Rattle.run.specs.declared.Answer.the-variants.{False, True, Spent, NoRoomUniversal, NoRoomExistential, Refused}
-use Rattle.run.specs.declared.Outcome.{Outcome}
+use Rattle.engine.specs.declared.run.Answer.{Answer}
+use Rattle.engine.specs.declared.run.Answer.the-variants.{False, True, Spent, NoRoomUniversal, NoRoomExistential, Refused}
+use Rattle.engine.specs.declared.run.Outcome.{Outcome}
 use Rattle.text.specs.Reading.{Result, taken, refused, read-as}
 use Rattle.report.specs.Report.{refusal-line}
 use Rattle.witness.specs.declared.Record.{Record}

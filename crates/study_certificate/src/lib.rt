@@ -16,13 +16,14 @@ ghost use lib.ListN.{length};
 ghost use Rattle.formula.specs.Formula.{max-unknowns, max-clauses, work-size};
 ghost use Rattle.formula.specs.Causes.{checked, sizes};
 ghost use Rattle.formula.specs.declared.Check.the-variants.{Accepted};
+ghost use Rattle.text.specs.Offered.{offered};
 ghost use Rattle.report.specs.Report.{put, put-count};
 ghost use Rattle.witness.specs.File.{made, file as file-of, size, write-cause};
 ghost use Rattle.certificate.specs.Certificate.{Delivered};
 ghost use Rattle.study_certificate.specs.WitnessList.{witness-study};
 ghost use Rattle.study_certificate.specs.StudyCertificate.{by-answer, on-formula, output, left};
 ghost use Rattle.study_certificate.specs.StudyCertificateRight.{StudyCertificateRight};
-ghost use Rattle.study_certificate.specs.Steps.{Ready};
+ghost use Rattle.study_certificate.specs.Private.Steps.{Ready};
 
 // Room for every file, and for the lines.
 pub const FILE: usize = 4_106;
@@ -50,38 +51,51 @@ const LIST: [u32; 16] = [
 ];
 
 // Puts the file of a text at the start of `file`, or the study's lines at the start of `lines`, if they fit. The work area is that of the study.
-pub fn certify(text: &[u8], file: &mut [u8], lines: &mut [u8], work: &mut [u8]) -> Counts
-    ensures delivered { λ r. ⌜ Delivered (output false (now (text .entry)) (now (work .entry))) (now (file .entry)) (now (lines .entry)) r (now (file .exit)) (now (lines .exit)) ⌝ }
-    ensures left { λ _. ⌜ now (work .exit) ≡ left false (now (text .entry)) (now (work .entry)) ⌝ }
-    ensures proved { λ _. ⌜ StudyCertificateRight false (now (text .entry)) ⌝ }
+pub fn certify(
+    input: &[u8],
+    length: usize,
+    file: &mut [u8],
+    lines: &mut [u8],
+    work: &mut [u8],
+) -> Counts
+    ensures delivered { λ r. ⌜ Delivered (output false (offered (now (input .entry)) length) (now (work .entry))) (now (file .entry)) (now (lines .entry)) r (now (file .exit)) (now (lines .exit)) ⌝ }
+    ensures left { λ _. ⌜ now (work .exit) ≡ left false (offered (now (input .entry)) length) (now (work .entry)) ⌝ }
+    ensures proved { λ _. ⌜ StudyCertificateRight false (offered (now (input .entry)) length) ⌝ }
 {
-    certify_as(text, false, file, lines, work)
+    certify_as(input, length, false, file, lines, work)
 }
 
 // The same of a gate list.
-pub fn certify_gates(text: &[u8], file: &mut [u8], lines: &mut [u8], work: &mut [u8]) -> Counts
-    ensures delivered { λ r. ⌜ Delivered (output true (now (text .entry)) (now (work .entry))) (now (file .entry)) (now (lines .entry)) r (now (file .exit)) (now (lines .exit)) ⌝ }
-    ensures left { λ _. ⌜ now (work .exit) ≡ left true (now (text .entry)) (now (work .entry)) ⌝ }
-    ensures proved { λ _. ⌜ StudyCertificateRight true (now (text .entry)) ⌝ }
+pub fn certify_gates(
+    input: &[u8],
+    length: usize,
+    file: &mut [u8],
+    lines: &mut [u8],
+    work: &mut [u8],
+) -> Counts
+    ensures delivered { λ r. ⌜ Delivered (output true (offered (now (input .entry)) length) (now (work .entry))) (now (file .entry)) (now (lines .entry)) r (now (file .exit)) (now (lines .exit)) ⌝ }
+    ensures left { λ _. ⌜ now (work .exit) ≡ left true (offered (now (input .entry)) length) (now (work .entry)) ⌝ }
+    ensures proved { λ _. ⌜ StudyCertificateRight true (offered (now (input .entry)) length) ⌝ }
 {
-    certify_as(text, true, file, lines, work)
+    certify_as(input, length, true, file, lines, work)
 }
 
 fn certify_as(
-    text: &[u8],
+    input: &[u8],
+    length: usize,
     gates: bool,
     file: &mut [u8],
     lines: &mut [u8],
     work: &mut [u8],
 ) -> Counts
-    ensures { λ r. ⌜ Delivered (output gates (now (text .entry)) (now (work .entry))) (now (file .entry)) (now (lines .entry)) r (now (file .exit)) (now (lines .exit)) ⌝ }
-    ensures { λ _. ⌜ now (work .exit) ≡ left gates (now (text .entry)) (now (work .entry)) ⌝ }
-    ensures { λ _. ⌜ StudyCertificateRight gates (now (text .entry)) ⌝ }
+    ensures { λ r. ⌜ Delivered (output gates (offered (now (input .entry)) length) (now (work .entry))) (now (file .entry)) (now (lines .entry)) r (now (file .exit)) (now (lines .exit)) ⌝ }
+    ensures { λ _. ⌜ now (work .exit) ≡ left gates (offered (now (input .entry)) length) (now (work .entry)) ⌝ }
+    ensures { λ _. ⌜ StudyCertificateRight gates (offered (now (input .entry)) length) ⌝ }
 {
     let mut kinds = [0u8; Formula::UNKNOWNS];
     let mut literals = [0i32; Formula::ENTRIES];
     let mut names = [0u16; Formula::UNKNOWNS];
-    match text::read_as(text, gates, &mut kinds, &mut literals, &mut names) {
+    match text::read_offered(input, length, gates, &mut kinds, &mut literals, &mut names) {
         Reading::Refused { number, line } => {
             certificate::refuse(number, line as u32, file, lines)
         }
@@ -168,7 +182,7 @@ fn deliver(
 {
     let outcome = end.outcome;
     let answer = outcome.answer;
-    let number = run::number(answer);
+    let number = engine::run::number(answer);
     if number == 1 {
         let record = record_of(
             27,

@@ -12,7 +12,7 @@ use Rattle.text.specs.declared.body.Counts.{Counts}
 use Rattle.lines.specs.Lines.{Bytes, words}
 use Rattle.lines.specs.Shapes.{is-prefix, is-gate}
 use Rattle.text.specs.Reading.{State, went, fault, unless, prefix-line, clause-read, clause-line, gate-line, is-item, item-line, body-line, is-gates, Scan, go-on}
-use Rattle.text.specs.Steps.{Marked, placed-in, Sized, settled, Line-read, form-at}
+use Rattle.text.specs.Private.Steps.{Marked, placed-in, Sized, settled, Line-read, form-at}
 
 -- The sizes do not hang on the cause, the line and C.
 pub resized : {c d : Counts} {K N : List ℕ} {L : List ℤ}

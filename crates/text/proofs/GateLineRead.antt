@@ -17,7 +17,7 @@ use Rattle.text_gates.specs.GateLine.{marked, room-limit, output-cause as put-c
 use Rattle.text_gates.proofs.GateLineLaws.{limit-zero, kept-all, put-so}
 use Rattle.text.specs.declared.body.Counts.{Counts}
 use Rattle.text.specs.Reading.{State, went, unless, gate-cause, first-cause, inputs-cause, gate-of, clauses-of-gate, entries-of-gate, limit-cause, with-gate, gate-line, max-variables, output-cause, with-output, whole, stopped, go-on}
-use Rattle.text.specs.Steps.{Marked, free-in, placed-in, Sized, held, Line-read, Gate-named, Clauses-put, Name-bound, Output-added, outcome, settled}
+use Rattle.text.specs.Private.Steps.{Marked, free-in, placed-in, Sized, held, Line-read, Gate-named, Clauses-put, Name-bound, Output-added, outcome, settled}
 use Rattle.text.proofs.NameLaws.{refused-alike}
 use Rattle.text.proofs.BodyLaws.{resized, marked-bound}
 use Rattle.text.proofs.GateStateLaws.{marked-among, gate-line-so}

@@ -17,7 +17,7 @@ use Rattle.named.specs.Named.{max-places, among}
 use Rattle.text_gates.specs.GateLine.{marked, known-cause, known-causes, room-limit, line-cause, line-entries, line-clauses, Put-so}
 use Rattle.text_gates.proofs.GateLineLaws.{limit-zero, kept-all, put-so}
 use Rattle.text.specs.Reading.{max-variables, State, Step, went, unless, gate-cause, first-cause, input-cause, inputs-cause, gate-of, clauses-of-gate, entries-of-gate, limit-cause, with-gate, gate-line}
-use Rattle.text.specs.Steps.{Marked, Clauses-put}
+use Rattle.text.specs.Private.Steps.{Marked, Clauses-put}
 
 -- The causes of a gate line, one after the other.
 unless-first : (a b : ℕ) (t : Step) → unless a (unless b t) ≡ unless (first-cause a b) t

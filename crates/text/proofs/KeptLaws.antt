@@ -21,7 +21,7 @@ use Rattle.named.specs.Closing.{insert, closed-names}
 use Rattle.named.proofs.NameLaws.{and-both, among-in, not-among, in-append, in-front, distinct-behind, up-to-append, known-more, known-append, known-signed, length-insert, insert-has, insert-holds, distinct-insert, rising-insert, up-to-inserted}
 use Rattle.named.proofs.Negation.{signed-size}
 use Rattle.text.specs.Reading.{max-variables, State, bind, room-cause, has-place, literal-cause, entry, free-with, add-entry}
-use Rattle.text.specs.Steps.{Placeable}
+use Rattle.text.specs.Private.Steps.{Placeable}
 use Rattle.text.proofs.NameLaws.{room-cause-zero}
 
 -- A state with z clauses closed.

@@ -16,6 +16,8 @@ pub mod ClosedRight
 pub mod DrawnLaws
 pub mod GatesRight
 pub mod GatesPass
+pub mod CausesRight
 pub mod ReadAsLaws
 pub mod ReadingLaws
 pub mod FrontLaws
+pub mod OfferedLaws

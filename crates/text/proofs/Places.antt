@@ -13,7 +13,7 @@ use Rattle.formula.specs.Meaning.{bit}
 use Rattle.named.specs.Named.{max-places, among}
 use Rattle.named.proofs.NameLaws.{among-behind}
 use Rattle.text.specs.Reading.{max-variables}
-use Rattle.text.specs.Steps.{Marked}
+use Rattle.text.specs.Private.Steps.{Marked}
 
 -- Nothing is placed.
 pub marked-none : (n : ℕ) → n ≡ max-places → Marked [] (replicate n 0)

@@ -15,7 +15,7 @@ use Rattle.lines.specs.Numbers.{number, unsigned, negative}
 use Rattle.lines.specs.Places.{before}
 use Rattle.lines.proofs.LineLaws.{lines-line, lines-rest, lines-none}
 use Rattle.text.specs.Reading.{max-bytes, max-variables, State, went, unless, Scan, stopped, go-on, max-items, output-range, form-of, body, opened, problem, after-comments, lent-well, scan}
-use Rattle.text.specs.Steps.{range-cause, form-at, Problem-read}
+use Rattle.text.specs.Private.Steps.{range-cause, form-at, Problem-read}
 
 -- What is lent with the lengths that it may have.
 module _ (text : Bytes) (kinds literals names : ℕ) (well : lent-well text kinds literals names ≡ true) where

@@ -15,7 +15,7 @@ use Rattle.named.proofs.CauseLaws.{length-map, as-many-closed}
 use Rattle.text.specs.declared.body.Counts.{Counts}
 use Rattle.text.specs.declared.Reading.the-variants.{Taken, Refused}
 use Rattle.text.specs.Reading.{Scan, whole, stopped, closed, taken, result-of, scan, Read-so}
-use Rattle.text.specs.Steps.{free-in, placed-in, outcome, settled, held, Sized, Placeable}
+use Rattle.text.specs.Private.Steps.{free-in, placed-in, outcome, settled, held, Sized, Placeable}
 use Rattle.text_closing.specs.Written.{Written}
 use Rattle.text_closing.proofs.ClosingLaws.{closed-so}
 use Rattle.text.proofs.InsertLaws.{length-placed}

@@ -15,7 +15,7 @@ use Rattle.lines.specs.Numbers.{number, unsigned, negative, is-zero}
 use Rattle.named.specs.Named.{among, signed}
 use Rattle.named.specs.Closing.{insert, closed-names}
 use Rattle.text.specs.Reading.{max-variables, room-cause, literal-cause, entry, free-with}
-use Rattle.text.specs.Steps.{Marked, Word-read}
+use Rattle.text.specs.Private.Steps.{Marked, Word-read}
 use Rattle.text.proofs.NameLaws.{room-cause-zero}
 
 -- A name without a mark is not placed.

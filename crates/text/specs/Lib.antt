@@ -1,6 +1,9 @@
--- The definitions of 01's 'Text' and of causes 9 to 14: the reading, over the lines, words and numbers of the crate `lines` and the names of the crate
--- `named`; what holds of the names bound nowhere. Steps has only what private functions promise.
+-- The definitions of 01's 'Text' and of causes 9 to 14: the reading, over the lines, words and numbers of the crate `lines` and the names of the
+-- crate `named`; a text in a program's buffer; the numbers with which a text is refused; what holds of the names bound nowhere, and of gate lists.
+-- Private has only what private functions promise.
 pub mod Reading
+pub mod Offered
+pub mod CausesRight
 pub mod ClosedRight
 pub mod GatesRight
-pub mod Steps
+pub mod Private

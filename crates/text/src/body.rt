@@ -10,7 +10,7 @@ ghost use Rattle.formula.specs.Formula.{max-unknowns, max-entries};
 ghost use Rattle.lines.specs.Lines.{lines, words};
 ghost use Rattle.lines.specs.Shapes.{is-prefix};
 ghost use Rattle.text.specs.Reading.{max-variables, body as body-read, body-line as body-line-read, prefix-line as prefix-line-read, clause-line as clause-line-read, is-item as item-shape, kind-of-word};
-ghost use Rattle.text.specs.Steps.{Marked, placed-in, Sized, form-at, fresh, held, Line-read, All-read};
+ghost use Rattle.text.specs.Private.Steps.{Marked, placed-in, Sized, form-at, fresh, held, Line-read, All-read};
 use crate::gate;
 use crate::names;
 use crate::opening::Opened;

@@ -8,7 +8,7 @@ ghost use Rattle.lines.specs.Lines.{words};
 ghost use Rattle.lines.specs.Shapes.{is-gate};
 ghost use Rattle.named.specs.Named.{signed as with-sign};
 ghost use Rattle.text.specs.Reading.{max-variables, gate-line as gate-line-read};
-ghost use Rattle.text.specs.Steps.{Marked, placed-in, Sized, held, Line-read, Gate-named, Name-bound, Output-added};
+ghost use Rattle.text.specs.Private.Steps.{Marked, placed-in, Sized, held, Line-read, Gate-named, Name-bound, Output-added};
 use crate::body::Counts;
 use formula::Formula;
 use lines::numbers;

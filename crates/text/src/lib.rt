@@ -1,9 +1,11 @@
 // The readers of texts after QDIMACS 1.1, narrowed as in 'Text', and of gate lists: from a text's bytes to kinds, literals and names, with causes 9 to
 // 12, 14, 19 and 20. `read` and `read_gates` promise, for every input, the outcome and every entry of the three lent tables; `read` that names bound
 // nowhere are existential in front of everything, `read_gates` that the verdict of what it writes is the circuit's value under the prefix.
-// They are one reader, `read_as`, which is told the form of the text. What a formula means is left to others.
+// They are one reader, `read_as`, which is told the form of the text; `read_offered` is it over the front of a buffer. What a formula means is left to others.
 ghost use lib.ListN.{length};
-ghost use Rattle.text.specs.Reading.{read as definition, read-gates as gates-definition, scan, result-of, Read-so};
+ghost use Rattle.text.specs.Reading.{read as definition, read-gates as gates-definition, scan, result-of, Read-so, text-causes, gates-causes};
+ghost use Rattle.text.specs.Offered.{offered};
+ghost use Rattle.text.specs.CausesRight.{CausesRight};
 ghost use Rattle.text.specs.ClosedRight.{ClosedRight};
 ghost use Rattle.text.specs.GatesRight.{GatesRight};
 use formula::Formula;
@@ -15,6 +17,9 @@ mod body;
 mod gate;
 mod names;
 mod opening;
+
+// 01's number for a text over 65,536 bytes.
+const TOO_LONG: u32 = 9;
 
 // What a text gives: the unknowns, the entries of the literals, V and C; or the cause's number and its line.
 pub enum Reading {
@@ -34,6 +39,7 @@ pub enum Reading {
 pub fn read(text: &[u8], kinds: &mut [u8], literals: &mut [i32], names: &mut [u16]) -> Reading
     ensures written { λ r. ⌜ Read-so (definition (now (text .entry)) (length (now (kinds .entry))) (length (now (literals .entry))) (length (now (names .entry)))) r (now (kinds .entry)) (now (literals .entry)) (now (names .entry)) (now (kinds .exit)) (now (literals .exit)) (now (names .exit)) ⌝ }
     ensures proved { λ _. ⌜ ClosedRight (now (text .entry)) ⌝ }
+    ensures causes { λ r. ⌜ CausesRight text-causes r ⌝ }
 {
     read_as(text, false, kinds, literals, names)
 }
@@ -42,8 +48,29 @@ pub fn read(text: &[u8], kinds: &mut [u8], literals: &mut [i32], names: &mut [u1
 pub fn read_gates(text: &[u8], kinds: &mut [u8], literals: &mut [i32], names: &mut [u16]) -> Reading
     ensures written { λ r. ⌜ Read-so (gates-definition (now (text .entry)) (length (now (kinds .entry))) (length (now (literals .entry))) (length (now (names .entry)))) r (now (kinds .entry)) (now (literals .entry)) (now (names .entry)) (now (kinds .exit)) (now (literals .exit)) (now (names .exit)) ⌝ }
     ensures proved { λ _. ⌜ GatesRight (now (text .entry)) ⌝ }
+    ensures causes { λ r. ⌜ CausesRight gates-causes r ⌝ }
 {
     read_as(text, true, kinds, literals, names)
+}
+
+// Reads a text of clauses, or of gates if so told, of `count` bytes at the front of the buffer. One that is longer than the buffer is refused, and not cut.
+pub fn read_offered(
+    buffer: &[u8],
+    count: usize,
+    gates: bool,
+    kinds: &mut [u8],
+    literals: &mut [i32],
+    names: &mut [u16],
+) -> Reading
+    ensures written { λ r. ⌜ Read-so (result-of (scan gates (offered (now (buffer .entry)) count) (length (now (kinds .entry))) (length (now (literals .entry))) (length (now (names .entry))))) r (now (kinds .entry)) (now (literals .entry)) (now (names .entry)) (now (kinds .exit)) (now (literals .exit)) (now (names .exit)) ⌝ }
+{
+    if buffer.len() < count {
+        return Reading::Refused {
+            number: TOO_LONG,
+            line: 0,
+        };
+    }
+    read_as(&buffer[..count], gates, kinds, literals, names)
 }
 
 // Reads a text of clauses, or of gates if so told.

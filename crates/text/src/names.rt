@@ -6,7 +6,7 @@ ghost use lib.Dec.{ltb};
 ghost use lib.ListN.{length, take};
 ghost use Rattle.formula.specs.Formula.{max-unknowns, max-entries};
 ghost use Rattle.text.specs.Reading.{max-variables, room-cause as cause-of-room};
-ghost use Rattle.text.specs.Steps.{Marked, placed-in, Named, Bound-all, Word-read, Name-placed, Added-all};
+ghost use Rattle.text.specs.Private.Steps.{Marked, placed-in, Named, Bound-all, Word-read, Name-placed, Added-all};
 use formula::Formula;
 use lines::numbers;
 

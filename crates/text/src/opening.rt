@@ -4,7 +4,7 @@ ghost use mathlib.Core.Bool.{_&&_};
 ghost use lib.Dec.{leb, eqb};
 ghost use Rattle.formula.specs.Formula.{max-unknowns, max-entries};
 ghost use Rattle.text.specs.Reading.{max-bytes, max-items};
-ghost use Rattle.text.specs.Steps.{Opened-read, Comments-read, Problem-read, range-cause as range};
+ghost use Rattle.text.specs.Private.Steps.{Opened-read, Comments-read, Problem-read, range-cause as range};
 use super::BYTES;
 use formula::Formula;
 use lines::shapes;
@@ -160,8 +160,7 @@ fn items(gates: bool) -> usize
     ensures { λ r. ⌜ r ≡ max-items gates ⌝ }
 {
     if gates {
-        Formula::UNKNOWNS
-    } else {
-        Formula::CLAUSES
+        return Formula::UNKNOWNS;
     }
+    Formula::CLAUSES
 }

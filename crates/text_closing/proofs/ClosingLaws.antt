@@ -18,7 +18,7 @@ use Rattle.named.specs.Closing.{closed-kinds}
 use Rattle.named.proofs.CauseLaws.{length-map}
 use Rattle.named.proofs.NameLaws.{and-both, up-to-append, up-to-at}
 use Rattle.text_closing.specs.Written.{free-in, placed-in, are-small, are-tables, tables-fit, all-fit, over, Written}
-use Rattle.text_closing.specs.Steps.{Closed-over}
+use Rattle.text_closing.specs.Private.Steps.{Closed-over}
 
 -- The test of small names.
 pub small-up-to : (names : List ℕ) → are-small names ≡ true → UpTo max-variables names

@@ -1,3 +1,3 @@
--- What is written of what was read (Written); Steps has only what private functions promise.
+-- What is written of what was read (Written); Private has only what private functions promise.
 pub mod Written
-pub mod Steps
+pub mod Private

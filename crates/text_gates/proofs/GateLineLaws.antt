@@ -26,9 +26,9 @@ use Rattle.lines.specs.Numbers.{number, unsigned, negative, is-zero}
 use Rattle.lines.specs.Shapes.{is-gate}
 use Rattle.named.specs.Named.{max-variables, max-places, signed}
 use Rattle.named.specs.CircuitRight.{Fits}
-use Rattle.named.proofs.Negation.{signed-size}
+use Rattle.named.proofs.Negation.{signed-size, signed-bits}
 use Rattle.text_gates.specs.GateLine.{marked, literal-of, known-cause, first-cause, known-causes, inputs-of, function-of, room-limit, line-cause, line-entries, line-clauses, output-cause, Put-so}
-use Rattle.text_gates.specs.Steps.{Input-read, Inputs-read, clause-count, Gate-put}
+use Rattle.text_gates.specs.Private.Steps.{Input-read, Inputs-read, clause-count, Gate-put}
 use Rattle.text_gates.proofs.GateShape.{gate-shaped}
 
 -- The clauses of a gate, and their entries.
@@ -68,10 +68,6 @@ pub entries-all : (f : Function) (v : ℕ) (is : List ℤ) → v ≤ 65535 → (
     → entries-of f (pos v) is ≡ flat (gate-clauses f (pos v) is)
 unfolding entries-of
 entries-all f v is small each = rw (small-none (pos v) small, none-any (beyond 2147483647) (pos 0) is (λ j. small-none (getD is j (pos 0)) (omega (arith, each j)))) refl
-
--- A literal as its bits give it.
-pub signed-bits : (b : Bool) (v : ℕ) (y : ℤ) → v ≤ 65535 → y ≡ signed b v → toZ w32 (ofZ w32 y) ≡ signed b v
-signed-bits b v y small same = toZ-ofZ (small-fits y (subst (λ (x : ℤ). natAbs x < 2 ^ 31) (sym same) (omega (arith, signed-size b v)))) ∙ same
 
 -- What a mark says.
 pub mark-is : (P : List ℕ) (v : ℕ) → v < max-places → {b : Bool} → b ≡ not (eqb (getD P v 0) 0) → b ≡ marked P v

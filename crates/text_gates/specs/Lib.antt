@@ -1,3 +1,3 @@
--- What a gate line's words say, and what is put of them (GateLine); Steps has only what private functions promise.
+-- What a gate line's words say, and what is put of them (GateLine); Private has only what private functions promise.
 pub mod GateLine
-pub mod Steps
+pub mod Private

@@ -12,7 +12,7 @@ ghost use Rattle.formula.specs.Formula.{max-clauses};
 ghost use Rattle.lines.specs.Shapes.{is-gate};
 ghost use Rattle.named.specs.Named.{max-variables, signed as with-sign};
 ghost use Rattle.text_gates.specs.GateLine.{marked as has-mark, function-of as function-word, line-cause, line-entries, line-clauses, output-cause, Put-so};
-ghost use Rattle.text_gates.specs.Steps.{Input-read, Inputs-read, clause-count as count-of, Gate-put};
+ghost use Rattle.text_gates.specs.Private.Steps.{Input-read, Inputs-read, clause-count as count-of, Gate-put};
 use formula::Formula;
 use gates::Function;
 use lines::numbers;

@@ -10,6 +10,7 @@ ghost use mathlib.Core.Path.{_≡_};
 ghost use lib.ListN.{length, take};
 ghost use Rattle.formula.specs.Causes.{checked, number};
 ghost use Rattle.report.specs.Report.{put, put-count};
+ghost use Rattle.text.specs.Offered.{offered};
 ghost use Rattle.trimming_rules.specs.Trimming.{trimmed};
 ghost use Rattle.writing.specs.Writing.{written};
 ghost use Rattle.writing.specs.WritingRight.{Writable};
@@ -28,14 +29,14 @@ pub const TEXT: usize = writer::LONGEST;
 pub const LINES: usize = 32;
 
 // Puts the trimmed text at the start of `out`, or 01's line at the start of `lines` if the text is refused, if they fit.
-pub fn trim_text(text: &[u8], out: &mut [u8], lines: &mut [u8]) -> Counts
-    ensures delivered { λ r. ⌜ Delivered (now (text .entry)) (now (out .entry)) (now (lines .entry)) r (now (out .exit)) (now (lines .exit)) ⌝ }
-    ensures proved { λ _. ⌜ TrimmedTextRight (now (text .entry)) ⌝ }
+pub fn trim_text(input: &[u8], length: usize, out: &mut [u8], lines: &mut [u8]) -> Counts
+    ensures delivered { λ r. ⌜ Delivered (offered (now (input .entry)) length) (now (out .entry)) (now (lines .entry)) r (now (out .exit)) (now (lines .exit)) ⌝ }
+    ensures proved { λ _. ⌜ TrimmedTextRight (offered (now (input .entry)) length) ⌝ }
 {
     let mut kinds = [0u8; Formula::UNKNOWNS];
     let mut literals = [0i32; Formula::ENTRIES];
     let mut names = [0u16; Formula::UNKNOWNS];
-    match text::read(text, &mut kinds, &mut literals, &mut names) {
+    match text::read_offered(input, length, false, &mut kinds, &mut literals, &mut names) {
         Reading::Refused { number, line } => {
             let count = report::refusal(lines, number, line as u32);
             Counts {

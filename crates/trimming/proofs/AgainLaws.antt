@@ -15,11 +15,11 @@ use Rattle.formula.specs.Formula.{Kind, prefix, Clause}
 use Rattle.formula.specs.Causes.{any}
 use Rattle.trimming_rules.specs.Trimming as Trimming
 use Rattle.trimming_rules.specs.Trimming.{keep, kind-at, follows, reducible}
-use Rattle.trimming_rules.specs.Rounds.{reduced-clause, reduced}
+use Rattle.trimming_rules.specs.Private.Rounds.{reduced-clause, reduced}
 use Rattle.trimming_rules.proofs.ClauseLaws.{Every, In, in-any, any-in, keep-in, keep-all}
 use Rattle.trimming_marks.specs.Marks.{is-left, marked, first-clause, reducible-from}
 use Rattle.index.specs.Occurrences.{listed}
-use Rattle.trimming.specs.Table.{literal-of, clauses-left, Block, standing, inner, whole, Fine, laid, shown, all-shown, Passed, marked-at, left-from, Indexed, Here, AllBut, Except, Irreducible, UnitKnown, Units, Pending, Toward}
+use Rattle.trimming.specs.Private.Table.{literal-of, clauses-left, Block, standing, inner, whole, Fine, laid, shown, all-shown, Passed, marked-at, left-from, Indexed, Here, AllBut, Except, Irreducible, UnitKnown, Units, Pending, Toward}
 use Rattle.trimming.proofs.BlockLaws.{map-append, block-clause, laid-clauses}
 use Rattle.trimming.proofs.ChangeLaws.{around}
 use Rattle.trimming.proofs.MarkLaws.{marked-stays, marked-entries}

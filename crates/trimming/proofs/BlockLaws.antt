@@ -15,7 +15,7 @@ use Rattle.trimming_rules.proofs.ClauseLaws.{Every, Named}
 use Rattle.trimming_rules.proofs.RuleLaws.{Within}
 use Rattle.trimming_rules.proofs.Trimmed.{clauses-entries}
 use Rattle.trimming_marks.specs.Marks.{is-left, ends, first-clause, first-length, marked, mark-clause}
-use Rattle.trimming.specs.Table.{literal-of, left, clauses-left, Entry, Block, standing, gone, inner, whole, Fine, laid, shown, all-shown}
+use Rattle.trimming.specs.Private.Table.{literal-of, left, clauses-left, Entry, Block, standing, gone, inner, whole, Fine, laid, shown, all-shown}
 use Rattle.trimming.proofs.CodeLaws.{named-code}
 
 -- ---- lists

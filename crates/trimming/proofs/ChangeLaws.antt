@@ -12,7 +12,7 @@ use Rattle.formula.specs.Formula.{max-entries}
 use Rattle.trimming_rules.proofs.ClauseLaws.{Every}
 use Rattle.index.specs.Occurrences.{listed-under, has-left, listed}
 use Rattle.index.specs.Index.{code-count, index-of, without, removed}
-use Rattle.trimming.specs.Table.{codes, Entry, Block, standing, whole, Fine, laid, times}
+use Rattle.trimming.specs.Private.Table.{codes, Entry, Block, standing, whole, Fine, laid, times}
 use Rattle.trimming.proofs.BlockLaws.{map-append, every-append, laid-append}
 use Rattle.trimming.proofs.IndexLaws.{index-same, index-removed}
 use Rattle.trimming.proofs.ListedLaws.{block-has, listed-laid, names-same, names-fewer}

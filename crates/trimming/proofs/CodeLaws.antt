@@ -14,7 +14,7 @@ use Rattle.codes.specs.Codes.{last-code, code-of, opposite}
 use Rattle.trimming_rules.specs.Trimming as Trimming
 use Rattle.trimming_rules.proofs.ClauseLaws.{Named}
 use Rattle.trimming_marks.specs.Marks.{is-universal}
-use Rattle.trimming.specs.Table.{literal-of}
+use Rattle.trimming.specs.Private.Table.{literal-of}
 
 -- ---- there and back
 

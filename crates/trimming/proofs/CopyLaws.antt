@@ -15,7 +15,7 @@ use Rattle.codes.specs.Codes.{code-of}
 use Rattle.trimming_rules.specs.Trimming.{keep}
 use Rattle.trimming_rules.proofs.StepLaws.{keep-fewer}
 use Rattle.trimming_marks.specs.Marks.{is-left}
-use Rattle.trimming.specs.Table.{literal-of, left, codes}
+use Rattle.trimming.specs.Private.Table.{literal-of, left, codes}
 use Rattle.trimming.proofs.CodeLaws.{literal-code}
 use Rattle.trimming.proofs.BlockLaws.{left-append}
 

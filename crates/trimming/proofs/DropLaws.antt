@@ -14,7 +14,7 @@ use Rattle.trimming_rules.proofs.ClauseLaws.{Every}
 use Rattle.trimming_marks.specs.Marks.{ends, marked, mark-clause, first-clause, first-length}
 use Rattle.trimming_marks.proofs.Walks.{clause-more}
 use Rattle.index.specs.Index.{code-count, index-of, removed}
-use Rattle.trimming.specs.Table.{Entry, Block, standing, whole, Fine, laid, marked-at, times, Dropping}
+use Rattle.trimming.specs.Private.Table.{Entry, Block, standing, whole, Fine, laid, marked-at, times, Dropping}
 use Rattle.trimming.proofs.BlockLaws.{map-append, every-append, entry-goes-on, block-marked, block-length}
 use Rattle.trimming.proofs.MarkLaws.{marked-stays, marked-goes}
 use Rattle.trimming.proofs.ListedLaws.{block-has}

@@ -15,7 +15,7 @@ use Rattle.trimming_rules.proofs.ClauseLaws.{Every}
 use Rattle.trimming_marks.specs.Marks.{marked, first-clause, first-length}
 use Rattle.index.specs.Occurrences.{whole-clause, has-left, begins}
 use Rattle.index.specs.Index.{index-of, removed}
-use Rattle.trimming.specs.Table.{codes, Entry, Block, standing, gone, whole, Fine, laid, Laid, marked-at, times, Indexed, Here, Dropping}
+use Rattle.trimming.specs.Private.Table.{codes, Entry, Block, standing, gone, whole, Fine, laid, Laid, marked-at, times, Indexed, Here, Dropping}
 use Rattle.trimming.proofs.BlockLaws.{map-append, every-map, entries-of, block-clause, block-length}
 use Rattle.trimming.proofs.MarkLaws.{marked-stays, marked-goes, all-marked}
 use Rattle.trimming.proofs.ListedLaws.{block-has, whole-front, Split, splits}

@@ -20,7 +20,7 @@ use Rattle.trimming_rules.specs.Trimming.{keep, lower, lowest-unit}
 use Rattle.trimming_rules.proofs.ClauseLaws.{Every, In}
 use Rattle.trimming_marks.specs.Marks.{is-left, first-clause, unit}
 use Rattle.index.specs.Occurrences.{listed, begins, Names}
-use Rattle.trimming.specs.Table.{literal-of, clauses-left, Entry, Block, standing, gone, inner, whole, Fine, laid, shown, all-shown, Laid, literal-or-none, Picked, AllBut, SomeAt, UnitKnown, FirstUnit, noted-unit, Units}
+use Rattle.trimming.specs.Private.Table.{literal-of, clauses-left, Entry, Block, standing, gone, inner, whole, Fine, laid, shown, all-shown, Laid, literal-or-none, Picked, AllBut, SomeAt, UnitKnown, FirstUnit, noted-unit, Units}
 use Rattle.trimming.proofs.CodeLaws.{Form, even, odd, form, opposite-even, opposite-odd, position-code}
 use Rattle.trimming.proofs.BlockLaws.{entries-of, block-clause, laid-append, laid-clauses, shown-append}
 use Rattle.trimming.proofs.ListedLaws.{block-has, names-from, whole-some, Split, splits}

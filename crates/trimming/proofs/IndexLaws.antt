@@ -8,7 +8,7 @@ use Rattle.formula.specs.Formula.{max-entries}
 use Rattle.index.specs.Occurrences.{listed}
 use Rattle.index.specs.Index.{code-count, index-of, begin-of, end-of, without, removed, cleared}
 use Rattle.index.proofs.IndexLaws as index
-use Rattle.trimming.specs.Table.{codes}
+use Rattle.trimming.specs.Private.Table.{codes}
 
 pub as-many : (before after : List ℕ) → codes after ≡ codes before → length after ≡ length before
 as-many before after same = sym (length-map after (λ x. x % 512)) ∙ ap length same ∙ length-map before (λ x. x % 512)

@@ -25,3 +25,4 @@ pub mod CopyLaws
 pub mod TrimLaws
 pub mod CauseCases
 pub mod OutcomeLaws
+pub mod PartLaws

@@ -12,7 +12,7 @@ use Rattle.trimming_rules.proofs.ClauseLaws.{Every}
 use Rattle.trimming_marks.specs.Marks.{ends}
 use Rattle.index.specs.Occurrences.{whole-clause, has-left, listed-from, listed, begins}
 use Rattle.index.specs.Index.{without}
-use Rattle.trimming.specs.Table.{Entry, Block, standing, gone, whole, Fine, laid}
+use Rattle.trimming.specs.Private.Table.{Entry, Block, standing, gone, whole, Fine, laid}
 use Rattle.trimming.proofs.BlockLaws.{entry-goes-on, entries-of}
 
 abbrev pub block-has : ℕ → Block → Bool

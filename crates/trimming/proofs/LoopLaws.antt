@@ -20,7 +20,7 @@ use Rattle.index.specs.Index.{index-size, code-count, index-of, begin-of, end-o
 use Rattle.index.proofs.IndexLaws as indexes
 use Rattle.index.proofs.EditLaws.{Listed, has-is}
 use Rattle.trimming_rules.specs.Trimming.{without-literal}
-use Rattle.trimming.specs.Table.{literal-of, Entry, Block, standing, gone, inner, whole, Fine, laid, Laid, At, marked-at, Indexed, Here, AllBut, Except, Irreducible, Pending, Cleared, Dropped, true-from}
+use Rattle.trimming.specs.Private.Table.{literal-of, Entry, Block, standing, gone, inner, whole, Fine, laid, Laid, At, marked-at, Indexed, Here, AllBut, Except, Irreducible, Pending, Cleared, Dropped, true-from}
 use Rattle.trimming.proofs.BlockLaws.{every-append, laid-append, entries-of}
 use Rattle.trimming.proofs.ListedLaws.{block-has, names-from}
 use Rattle.trimming.proofs.IndexLaws.{Read, reads}

@@ -13,7 +13,7 @@ use Rattle.trimming_rules.specs.Trimming as Trimming
 use Rattle.trimming_rules.specs.Trimming.{keep}
 use Rattle.trimming_rules.proofs.ClauseLaws.{Every}
 use Rattle.trimming_marks.specs.Marks.{is-left, marked}
-use Rattle.trimming.specs.Table.{literal-of, Entry}
+use Rattle.trimming.specs.Private.Table.{literal-of, Entry}
 use Rattle.trimming.proofs.CodeLaws.{same-code}
 use Rattle.trimming.proofs.BlockLaws.{left-code}
 use Rattle.trimming.proofs.PassLaws.{marked-code}
@@ -52,10 +52,6 @@ module _ {A : Type 0} where
   pub every-all : (P : A → Type 0) → ((x : A) → P x) → (xs : List A) → Every P xs
   every-all P f [] = tt
   every-all P f (x ∷ xs) = (f x, every-all P f xs)
-
-  pub every-both : (P Q R : A → Type 0) → ((x : A) → P x → Q x → R x) → (xs : List A) → Every P xs → Every Q xs → Every R xs
-  every-both P Q R f [] p q = tt
-  every-both P Q R f (x ∷ xs) p q = (f x (p .0) (q .0), every-both P Q R f xs (p .1) (q .1))
 
 -- ---- an entry that is marked
 
@@ -126,9 +122,6 @@ keep-marked low high (x ∷ c) = rw (left-marked low high x) (go (is-left x) (am
     go false b e later = later
 
 -- ---- a clause
-
-abbrev pub stays : ℕ → ℕ → List ℕ → Type 0
-stays low high c = map (marked low high) c ≡ c
 
 pub none-marked : (low high : ℕ) → high < low → (c : List ℕ) → map (marked low high) c ≡ c
 none-marked low high above [] = refl

@@ -17,7 +17,7 @@ use Rattle.trimming_rules.proofs.ClauseLaws.{Every, In}
 use Rattle.trimming_marks.specs.Marks.{ends}
 use Rattle.index.specs.Occurrences.{whole-clause, has-left, listed, begins, Names}
 use Rattle.index.specs.Index.{code-count, begin-of, end-of}
-use Rattle.trimming.specs.Table.{literal-of, clauses-left, Entry, Block, standing, gone, inner, whole, Fine, laid, shown, all-shown, Laid, Indexed, Here}
+use Rattle.trimming.specs.Private.Table.{literal-of, clauses-left, Entry, Block, standing, gone, inner, whole, Fine, laid, shown, all-shown, Laid, Indexed, Here}
 use Rattle.trimming.proofs.BlockLaws.{entries-of, laid-clauses}
 use Rattle.trimming.proofs.IndexLaws.{Read, reads}
 use Rattle.trimming.proofs.ListedLaws.{block-has, names-from, listed-laid, whole-front, whole-some, begins-at}

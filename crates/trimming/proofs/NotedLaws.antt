@@ -15,7 +15,7 @@ use Rattle.trimming_rules.specs.Trimming.{keep}
 use Rattle.trimming_rules.proofs.ClauseLaws.{Every, In}
 use Rattle.trimming_marks.specs.Marks.{is-left, is-universal, marked, only, unit}
 use Rattle.index.specs.Occurrences.{listed, begins}
-use Rattle.trimming.specs.Table.{Entry, Block, gone, inner, whole, Fine, laid, Laid, marked-at, AllBut, SomeAt, UnitKnown, FirstUnit, Units}
+use Rattle.trimming.specs.Private.Table.{Entry, Block, gone, inner, whole, Fine, laid, Laid, marked-at, AllBut, SomeAt, UnitKnown, FirstUnit, Units}
 use Rattle.trimming.proofs.BlockLaws.{every-append, entries-of, gone-none}
 use Rattle.trimming.proofs.ListedLaws.{block-has, names-from, names-append, names-above, names-below, whole-some, Split, splits}
 use Rattle.trimming.proofs.ChangeLaws.{around, laid-around}

@@ -12,7 +12,7 @@ use Rattle.trimming_rules.proofs.ClauseLaws.{Every, In}
 use Rattle.trimming_marks.specs.Marks.{marked}
 use Rattle.index.specs.Occurrences.{listed, begins}
 use Rattle.index.specs.Index.{without}
-use Rattle.trimming.specs.Table.{codes, clauses-left, Block, whole, Fine, laid, shown, all-shown, Laid, Passed, marked-at, AllBut, Except, Toward}
+use Rattle.trimming.specs.Private.Table.{codes, clauses-left, Block, whole, Fine, laid, shown, all-shown, Laid, Passed, marked-at, AllBut, Except, Toward}
 use Rattle.trimming.proofs.BlockLaws.{every-append, shown-append, laid-clauses}
 use Rattle.trimming.proofs.ListedLaws.{block-has, whole-some, Split, splits}
 use Rattle.trimming.proofs.ChangeLaws.{around, laid-around, around-codes, list-same, list-fewer}

@@ -11,7 +11,7 @@ use lib.Seq.{take-at, drop-at}
 use Rattle.formula.specs.Formula.{Clause}
 use Rattle.trimming_rules.proofs.ClauseLaws.{Every}
 use Rattle.trimming_marks.specs.Marks.{is-left, first-clause, first-length, marked, mark-clause}
-use Rattle.trimming.specs.Table.{clauses-left, codes, Block, standing, gone, inner, whole, Fine, laid, shown, all-shown, Laid, At, Passed}
+use Rattle.trimming.specs.Private.Table.{clauses-left, codes, Block, standing, gone, inner, whole, Fine, laid, shown, all-shown, Laid, At, Passed}
 use Rattle.trimming.proofs.BlockLaws.{map-append, every-append, block-clause, block-length, block-marked, laid-append, shown-append, laid-clauses}
 
 pub record Front (todo : List Block) : Type 0 where

@@ -17,7 +17,7 @@ use Rattle.trimming_rules.specs.Trimming.{keep, first-of, if-some, lowest-unit,
 use Rattle.trimming_rules.proofs.ClauseLaws.{Named, without-literal-none, without-clauses-none}
 use Rattle.trimming_rules.proofs.RuleLaws.{pure-stands}
 use Rattle.trimming_marks.specs.Marks.{is-left, is-universal}
-use Rattle.trimming.specs.Table.{literal-of, Block, standing, gone, inner, Fine, shown, literal-or-none, Chosen, Picked, lists-some, pure-code, one-code, made-true, Next, Found}
+use Rattle.trimming.specs.Private.Table.{literal-of, Block, standing, gone, inner, Fine, shown, literal-or-none, Chosen, Picked, lists-some, pure-code, one-code, made-true, Next, Found}
 use Rattle.trimming.proofs.CodeLaws.{literal-even, literal-odd, opposite-literal, opposite-bounds, named-code, universal-code}
 use Rattle.trimming.proofs.BlockLaws.{gone-none, entries-of}
 use Rattle.trimming.proofs.MarkLaws.{has-literal}

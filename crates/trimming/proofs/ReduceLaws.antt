@@ -12,10 +12,10 @@ use Rattle.formula.specs.Formula.{prefix, Clause}
 use Rattle.formula.specs.Causes.{any}
 use Rattle.trimming_rules.specs.Trimming as Trimming
 use Rattle.trimming_rules.specs.Trimming.{keep, follows, reducible}
-use Rattle.trimming_rules.specs.Rounds.{reduced-clause, reduced}
+use Rattle.trimming_rules.specs.Private.Rounds.{reduced-clause, reduced}
 use Rattle.trimming_rules.proofs.ClauseLaws.{Every, In, every-in, every-from, in-any, keep-in}
 use Rattle.trimming_marks.specs.Marks.{is-left, is-universal, marked, raised, reducible-from}
-use Rattle.trimming.specs.Table.{literal-of, Entry, Block, standing, gone, inner, Fine}
+use Rattle.trimming.specs.Private.Table.{literal-of, Entry, Block, standing, gone, inner, Fine}
 use Rattle.trimming.proofs.CodeLaws.{position-code, universal-code}
 use Rattle.trimming.proofs.BlockLaws.{map-append, left-code}
 use Rattle.trimming.proofs.PassLaws.{Change, Local}

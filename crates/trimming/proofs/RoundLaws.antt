@@ -9,8 +9,8 @@ use lib.ListN.{length}
 use Rattle.formula.specs.Formula.{Kind, Clause}
 use Rattle.codes.specs.Codes.{last-code}
 use Rattle.trimming_rules.specs.Trimming.{from-step, set-true}
-use Rattle.trimming_rules.specs.Rounds.{reduced, set-one, rounds}
-use Rattle.trimming.specs.Table.{literal-of, codes, clauses-left, Laid, Passed, made-true, Next}
+use Rattle.trimming_rules.specs.Private.Rounds.{reduced, set-one, rounds}
+use Rattle.trimming.specs.Private.Table.{literal-of, codes, clauses-left, Laid, Passed, made-true, Next}
 
 -- What is left to do gives what all rounds give.
 pub record Settling (ks : List Kind) (all : ℕ) (table₀ table : List ℕ) (left : ℕ) : Type 0 where

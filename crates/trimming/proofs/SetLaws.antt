@@ -14,7 +14,7 @@ use Rattle.trimming_rules.proofs.ClauseLaws.{Every}
 use Rattle.trimming_marks.specs.Marks.{is-left, marked}
 use Rattle.index.specs.Occurrences.{listed-under, has-left}
 use Rattle.index.specs.Index.{code-count}
-use Rattle.trimming.specs.Table.{literal-of, Entry}
+use Rattle.trimming.specs.Private.Table.{literal-of, Entry}
 use Rattle.trimming.proofs.CodeLaws.{same-code}
 use Rattle.trimming.proofs.BlockLaws.{left-code}
 use Rattle.trimming.proofs.ChangeLaws.{under-itself}

@@ -18,7 +18,7 @@ use Rattle.trimming_rules.proofs.ClauseLaws.{Every, In, every-from, without-cla
 use Rattle.trimming_marks.specs.Marks.{is-left, marked}
 use Rattle.index.specs.Occurrences.{listed, begins}
 use Rattle.index.specs.Index.{code-count, begin-of, end-of, without, cleared}
-use Rattle.trimming.specs.Table.{literal-of, clauses-left, Entry, Block, standing, gone, whole, Fine, laid, Laid, marked-at, Indexed, Here, AllBut, Except, Irreducible, UnitKnown, Units, Toward, Cleared, Dropped}
+use Rattle.trimming.specs.Private.Table.{literal-of, clauses-left, Entry, Block, standing, gone, whole, Fine, laid, Laid, marked-at, Indexed, Here, AllBut, Except, Irreducible, UnitKnown, Units, Toward, Cleared, Dropped}
 use Rattle.trimming.proofs.NotedLaws.{gone-unit, units-changed, no-unit, units-named}
 use Rattle.trimming.proofs.CodeLaws.{opposite-literal, opposite-half}
 use Rattle.trimming.proofs.BlockLaws.{map-append, keep-append, every-append}

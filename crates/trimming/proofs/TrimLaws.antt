@@ -14,12 +14,12 @@ use Rattle.formula.proofs.Accepted.{Accepted}
 use Rattle.codes.specs.Codes.{code-of, entry-by-entry}
 use Rattle.codes.proofs.EncodeLaws.{accepted}
 use Rattle.trimming_rules.specs.Trimming.{entries, steps, trimmed}
-use Rattle.trimming_rules.specs.Rounds.{untrue, rounds}
+use Rattle.trimming_rules.specs.Private.Rounds.{untrue, rounds}
 use Rattle.trimming_rules.proofs.ClauseLaws.{Every, Named}
 use Rattle.trimming_rules.proofs.RuleLaws.{Within}
 use Rattle.trimming_rules.proofs.Trimmed.{size-clauses, entries-clauses, within-clauses}
 use Rattle.trimming_rules.proofs.InRounds.{in-rounds}
-use Rattle.trimming.specs.Table.{left, codes, clauses-left, Entry, Block, standing, Fine, laid, Laid, Passed}
+use Rattle.trimming.specs.Private.Table.{left, codes, clauses-left, Entry, Block, standing, Fine, laid, Laid, Passed}
 use Rattle.trimming.proofs.CodeLaws.{literal-code}
 use Rattle.trimming.proofs.BlockLaws.{map-append, left-entries, laid-clauses}
 

@@ -11,10 +11,10 @@ use Rattle.formula.specs.Causes.{any}
 use Rattle.codes.specs.Codes.{last-code, opposite, has}
 use Rattle.trimming_rules.specs.Trimming as Trimming
 use Rattle.trimming_rules.specs.Trimming.{keep}
-use Rattle.trimming_rules.specs.Rounds.{untrue}
+use Rattle.trimming_rules.specs.Private.Rounds.{untrue}
 use Rattle.trimming_rules.proofs.ClauseLaws.{Every}
 use Rattle.trimming_marks.specs.Marks.{is-left, marked, clashes, always-true}
-use Rattle.trimming.specs.Table.{literal-of, Entry, Block, standing, gone, inner, Fine, true-from}
+use Rattle.trimming.specs.Private.Table.{literal-of, Entry, Block, standing, gone, inner, Fine, true-from}
 use Rattle.trimming.proofs.CodeLaws.{opposite-literal, opposite-bounds}
 use Rattle.trimming.proofs.BlockLaws.{map-append, keep-append, left-code}
 use Rattle.trimming.proofs.PassLaws.{Change, Local}

@@ -16,7 +16,7 @@ use Rattle.trimming_rules.specs.Trimming as Trimming
 use Rattle.trimming_rules.specs.Trimming.{keep, lower, lowest-unit}
 use Rattle.trimming_rules.proofs.ClauseLaws.{Every}
 use Rattle.trimming_marks.specs.Marks.{is-left, is-universal, only, unit}
-use Rattle.trimming.specs.Table.{literal-of, Entry, Block, standing, gone, inner, Fine, shown, literal-or-none, Chosen, Picked}
+use Rattle.trimming.specs.Private.Table.{literal-of, Entry, Block, standing, gone, inner, Fine, shown, literal-or-none, Chosen, Picked}
 use Rattle.trimming.proofs.CodeLaws.{universal-code}
 use Rattle.trimming.proofs.BlockLaws.{left-code, gone-none, entries-of}
 

@@ -1,3 +1,3 @@
--- What `trim` returns and leaves (Outcome), and the table that it works in, for contracts of private functions alone (Table).
+-- What `trim` returns and leaves (Outcome). Private has the table that it works in, for contracts of private functions alone.
 pub mod Outcome
-pub mod Table
+pub mod Private

@@ -11,7 +11,7 @@ ghost use Prim.Native.Nat.{ℕ, zero, _+_, _≤_, _<_};
 ghost use mathlib.Core.List.{List, [], _∷_, _++_, map};
 ghost use lib.ListN.{length, take, drop, replicate};
 ghost use Rattle.formula.specs.Formula.{max-unknowns, max-entries, prefix, Clause};
-ghost use Rattle.formula.proofs.Accepted.{Accepted as AcceptedFormula};
+ghost use Rattle.formula.specs.Private.Accepted.{Accepted as AcceptedFormula};
 ghost use Rattle.codes.specs.Codes.{last-code, code-of, opposite as code-opposite};
 ghost use mathlib.Core.Bool.{true, false, not, cond};
 ghost use lib.Dec.{eqb, ltb};
@@ -22,11 +22,11 @@ ghost use Rattle.trimming_marks.specs.Marks.{ends, first-clause, first-length, 
 ghost use Rattle.index.specs.Occurrences.{listed};
 ghost use Rattle.index.specs.Index.{code-count, index-size, begin-of, end-of, removed};
 ghost use Rattle.trimming_rules.specs.Trimming.{without-clauses, without-literal, set-true, lowest-unit, lowest-pure, trimmed};
-ghost use Rattle.trimming_rules.specs.Rounds.{untrue, reduced, rounds};
+ghost use Rattle.trimming_rules.specs.Private.Rounds.{untrue, reduced, rounds};
 ghost use Rattle.trimming_rules.specs.Proved.{Proved};
-ghost use Rattle.trimming_rules.proofs.ClauseLaws.{Every, In};
+ghost use Rattle.formula.specs.Lists.{Every, In};
 ghost use Rattle.trimming.specs.Outcome.{formula-cause, cause as cause-of, outcome, output-after, number};
-ghost use Rattle.trimming.specs.Table.{literal-of, left, codes as codes-of, clauses-left, Laid, Passed, Chosen, Picked, Found, pure-code, Next, true-from, Indexed, Here, marked-at, times, Dropping, At, left-from, Irreducible, Except, Units, noted-unit, Pending, Dropped, Cleared};
+ghost use Rattle.trimming.specs.Private.Table.{literal-of, left, codes as codes-of, clauses-left, Laid, Passed, Chosen, Picked, Found, pure-code, Next, true-from, Indexed, Here, marked-at, times, Dropping, At, left-from, Irreducible, Except, Units, noted-unit, Pending, Dropped, Cleared};
 
 // The entries used, zeros included; a refusal has the number of its cause.
 pub enum Trimmed {
@@ -55,10 +55,32 @@ pub fn trim(kinds: &[u8], literals: &[i32], output: &mut [i32]) -> Trimmed
             if output.len() < literals.len() {
                 return Trimmed::Refused(15);
             }
-            let mut table = [0u16; Formula::ENTRIES];
-            Trimmed::Entries(over_table(kinds, literals, output, &mut table))
+            Trimmed::Entries(over_output(kinds, literals, output))
         }
     }
+}
+
+// Over as much of the output as there are literals. For that it calls itself, because the compiler then leaves it, and the tables below, out of its
+// caller: 50,000 bytes are on the stack only while it trims. As part of `study` they would stand there through every run.
+fn over_output(kinds: &[u8], literals: &[i32], output: &mut [i32]) -> usize
+    requires { ⌜ AcceptedFormula (now kinds) (now literals) × (length (now literals) ≤ length (now output)) ⌝ }
+    ensures { λ r. ⌜ r ≡ length (trimmed (now (kinds .entry)) (now (literals .entry))) ⌝ }
+    ensures { λ r. ⌜ now (output .exit) ≡ trimmed (now (kinds .entry)) (now (literals .entry)) ++ drop r (now (output .entry)) ⌝ }
+{
+    let entries = literals.len();
+    if entries < output.len() {
+        return over_output(kinds, literals, &mut output[..entries]);
+    }
+    with_table(kinds, literals, output)
+}
+
+fn with_table(kinds: &[u8], literals: &[i32], output: &mut [i32]) -> usize
+    requires { ⌜ AcceptedFormula (now kinds) (now literals) × (length (now literals) ≤ length (now output)) ⌝ }
+    ensures { λ r. ⌜ r ≡ length (trimmed (now (kinds .entry)) (now (literals .entry))) ⌝ }
+    ensures { λ r. ⌜ now (output .exit) ≡ trimmed (now (kinds .entry)) (now (literals .entry)) ++ drop r (now (output .entry)) ⌝ }
+{
+    let mut table = [0u16; Formula::ENTRIES];
+    over_table(kinds, literals, output, &mut table)
 }
 
 // As much of the table as there are literals.

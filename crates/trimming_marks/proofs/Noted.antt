@@ -36,10 +36,6 @@ length-noted-one seen x = go (ltb x (last-code + 1))
     go true = length-set seen x 1
     go false = refl
 
-pub length-noted : (seen clause : List ℕ) → length (noted seen clause) ≡ length seen
-length-noted seen [] = refl
-length-noted seen (x ∷ xs) = length-noted (noted-one seen x) xs ∙ length-noted-one seen x
-
 or-swap : (a b c : Bool) → (a || (b || c)) ≡ ((b || a) || c)
 or-swap true true c = refl
 or-swap true false c = refl

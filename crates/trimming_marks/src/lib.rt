@@ -7,7 +7,7 @@ ghost use Prim.Native.Nat.{_+_, _<_};
 ghost use mathlib.Core.List.{_++_};
 ghost use lib.ListN.{length, take, drop};
 ghost use Rattle.formula.specs.Causes.{any};
-ghost use Rattle.codes.specs.Codes.{last-code, opposite as code-opposite, has as has-code};
+ghost use Rattle.codes.specs.Codes.{last-code, opposite as code-opposite};
 ghost use Rattle.trimming_marks.specs.Marks.{ends, first-clause, first-length, is-universal as universal-code, marked as marked-entry, mark-clause, always-true, reducible-from, raised as raised-by, only as only-left, unit as unit-code, noted-one, noted, noted-clash};
 
 // How many codes there are, with 0 and 1.
@@ -49,24 +49,6 @@ pub fn mark(table: &mut [u16], start: usize, low: u16, high: u16) -> usize
     i
 }
 
-// Whether a clause has a code that is not dropped.
-pub fn has(table: &[u16], start: usize, code: u16) -> bool
-    ensures { λ r. ⌜ r ≡ has-code code (first-clause (drop start (now (table .entry)))) ⌝ }
-{
-    let mut i = start;
-    while i < table.len() {
-        let x = table[i];
-        if is_end(x) {
-            return false;
-        }
-        if x == code {
-            return true;
-        }
-        i += 1;
-    }
-    false
-}
-
 // Whether a clause has v and -v. Two walks, so that a long clause costs no more an entry than a short one.
 pub fn is_always_true(table: &[u16], start: usize) -> bool
     ensures { λ r. ⌜ r ≡ always-true (first-clause (drop start (now (table .entry)))) ⌝ }
@@ -77,7 +59,7 @@ pub fn is_always_true(table: &[u16], start: usize) -> bool
 }
 
 // Puts a 1 at each code of the clause that is not dropped.
-pub fn note(table: &[u16], start: usize, seen: &mut Seen)
+fn note(table: &[u16], start: usize, seen: &mut Seen)
     ensures { λ _. ⌜ now (seen .exit) ≡ noted (now (seen .entry)) (first-clause (drop start (now (table .entry)))) ⌝ }
 {
     let mut i = start;

@@ -11,6 +11,7 @@ use lib.Dec.{T, eqb, eqb→eq, eqb-refl}
 use lib.IntN.{ℤ, pos, negsuc, negℤ, natAbs}
 use lib.ListN.{getD}
 use Rattle.formula.specs.Formula.{Clause}
+pub use Rattle.formula.specs.Lists.{Every, In}
 use Rattle.formula.specs.Causes.{any}
 use Rattle.formula.specs.Meaning.{literal, clause, matrix}
 use Rattle.trimming_rules.specs.Trimming.{same, has, position, keep, behind, without-first, always-true, without-clauses, without-literal, set-true, found}
@@ -116,14 +117,6 @@ literal-ignores v (negsuc w) other vs ws a = ap not (a w other)
 -- ---- lists
 
 module _ {A : Type 0} where
-  abbrev pub Every : (A → Type 0) → List A → Type 0
-  Every Q [] = Unit {0}
-  Every Q (x ∷ xs) = Q x × Every Q xs
-
-  abbrev pub In : A → List A → Type 0
-  In a [] = ⊥
-  In a (x ∷ xs) = (a ≡ x) ⊎ In a xs
-
   pub every-in : (Q : A → Type 0) (xs : List A) (a : A) → Every Q xs → In a xs → Q a
   every-in Q (x ∷ xs) a e (inl p) = subst Q (sym p) (e .0)
   every-in Q (x ∷ xs) a e (inr i) = every-in Q xs a (e .1) i
@@ -229,10 +222,6 @@ matrix-in vs (d ∷ cs) c e (inr i) = matrix-in vs cs c (later (clause vs d) e) 
 pub in-matrix : (vs : List Bool) (cs : List Clause) → ((c : Clause) → In c cs → clause vs c ≡ true) → matrix cs vs ≡ true
 in-matrix vs [] f = refl
 in-matrix vs (c ∷ cs) f = rw (f c (inl refl), in-matrix vs cs (λ d i. f d (inr i)))
-
-not-true : (b : Bool) → b ≡ false → not b ≡ true
-not-true true e = absurd (true≢false e)
-not-true false e = refl
 
 not-is-true : (b : Bool) → not b ≡ true → b ≡ false
 not-is-true true e = absurd (false≢true e)

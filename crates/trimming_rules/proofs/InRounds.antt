@@ -11,7 +11,7 @@ use lib.IntN.{ℤ, negℤ}
 use Rattle.formula.specs.Formula.{Kind, existential, universal, Clause}
 use Rattle.formula.specs.Causes.{any}
 use Rattle.trimming_rules.specs.Trimming.{has, is-universal, kind-at, keep, behind, first-of, without-first, always-true, rule-1, follows, reducible, rule-2, lowest-unit, without-clauses, without-literal, set-true, if-some, rule-3, lowest-pure, dropped, rule-4, step, from-step, steps}
-use Rattle.trimming_rules.specs.Rounds.{untrue, reduced-clause, reduced, rounds}
+use Rattle.trimming_rules.specs.Private.Rounds.{untrue, reduced-clause, reduced, rounds}
 use Rattle.trimming_rules.proofs.ClauseLaws.{Every, In, every-in, every-from, in-any, any-in, has-in, in-has, keep-in, true-or-false, never-both}
 use Rattle.trimming_rules.proofs.RuleLaws.{none-not-some, some-is}
 use Rattle.trimming_rules.proofs.StepLaws.{size, step-less, steps-still, keep-fewer}

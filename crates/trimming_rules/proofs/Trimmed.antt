@@ -35,7 +35,7 @@ clauses-entries n [] within = refl
 clauses-entries n (c ∷ cs) within = clauses-clause n c (entries cs) (within .0) ∙ ap (λ x. c ∷ x) (clauses-entries n cs (within .1))
 
 -- A clause that is not the last has its end, so a literal goes in front of one.
-abbrev Started : List Clause → Type 0
+abbrev pub Started : List Clause → Type 0
 Started cs = 0 < length cs
 
 size-onto : (z : ℤ) (cs : List Clause) → Started cs → size (onto z cs) ≡ suc (size cs)
@@ -50,10 +50,10 @@ started-onto : (z : ℤ) (cs : List Clause) → Started (onto z cs)
 started-onto z [] = omega arith
 started-onto z (c ∷ cs) = omega arith
 
-ended-behind : (z y : ℤ) (zs : List ℤ) → ended (z ∷ y ∷ zs) ≡ ended (y ∷ zs)
+pub ended-behind : (z y : ℤ) (zs : List ℤ) → ended (z ∷ y ∷ zs) ≡ ended (y ∷ zs)
 ended-behind z y zs = simp sub-one
 
-started : (z : ℤ) (zs : List ℤ) → Started (clauses (z ∷ zs))
+pub started : (z : ℤ) (zs : List ℤ) → Started (clauses (z ∷ zs))
 started (pos zero) zs = omega arith
 started (pos (suc v)) zs = started-onto (pos (suc v)) (clauses zs)
 started (negsuc v) zs = started-onto (negsuc v) (clauses zs)
@@ -89,6 +89,50 @@ within-clauses n [] h = tt
 within-clauses n (pos zero ∷ zs) h = (tt, within-clauses n zs (λ i. h (suc i)))
 within-clauses n (pos (suc v) ∷ zs) h = within-onto n (pos (suc v)) (clauses zs) (record { from-one = omega arith; to-last = h zero }) (within-clauses n zs (λ i. h (suc i)))
 within-clauses n (negsuc v ∷ zs) h = within-onto n (negsuc v) (clauses zs) (record { from-one = omega arith; to-last = h zero }) (within-clauses n zs (λ i. h (suc i)))
+
+-- ---- entries of clauses: as many zeros as clauses, the last entry is 0, and none is beyond the names
+
+zeros-named : (z : ℤ) (zs : List ℤ) → 1 ≤ natAbs z → zeros (z ∷ zs) ≡ zeros zs
+zeros-named (pos zero) zs h = absurd (omega arith)
+zeros-named (pos (suc v)) zs h = refl
+zeros-named (negsuc v) zs h = refl
+
+zeros-clause : (n : ℕ) (c : Clause) (zs : List ℤ) → Every (Named n) c → zeros (c ++ (pos 0 ∷ zs)) ≡ suc (zeros zs)
+zeros-clause n [] zs named = refl
+zeros-clause n (z ∷ c) zs named = zeros-named z (c ++ (pos 0 ∷ zs)) (named .0 .from-one) ∙ zeros-clause n c zs (named .1)
+
+zeros-entries : (n : ℕ) (cs : List Clause) → Within n cs → zeros (entries cs) ≡ length cs
+zeros-entries n [] w = refl
+zeros-entries n (c ∷ cs) w = zeros-clause n c (entries cs) (w .0) ∙ ap suc (zeros-entries n cs (w .1))
+
+ended-clause : (c : Clause) (zs : List ℤ) → ended (pos 0 ∷ zs) ≡ true → ended (c ++ (pos 0 ∷ zs)) ≡ true
+ended-clause [] zs e = e
+ended-clause (z ∷ []) zs e = ended-behind z (pos 0) zs ∙ e
+ended-clause (z ∷ y ∷ c) zs e = ended-behind z y (c ++ (pos 0 ∷ zs)) ∙ ended-clause (y ∷ c) zs e
+
+ended-zero : (zs : List ℤ) → ended zs ≡ true → ended (pos 0 ∷ zs) ≡ true
+ended-zero [] e = refl
+ended-zero (y ∷ zs) e = ended-behind (pos 0) y zs ∙ e
+
+pub ended-entries : (cs : List Clause) → ended (entries cs) ≡ true
+ended-entries [] = refl
+ended-entries (c ∷ cs) = ended-clause c (entries cs) (ended-zero (entries cs) (ended-entries cs))
+
+pub zero-known : (z : ℤ) → is-zero z ≡ true → z ≡ pos 0
+zero-known (pos zero) e = refl
+zero-known (pos (suc v)) e = absurd (false≢true e)
+zero-known (negsuc v) e = absurd (false≢true e)
+
+names-clause : (n : ℕ) (c : Clause) (zs : List ℤ) → Every (Named n) c → ((i : ℕ) → natAbs (getD zs i (pos 0)) ≤ n)
+    → (i : ℕ) → natAbs (getD (c ++ (pos 0 ∷ zs)) i (pos 0)) ≤ n
+names-clause n [] zs named h zero = omega arith
+names-clause n [] zs named h (suc i) = h i
+names-clause n (z ∷ c) zs named h zero = named .0 .to-last
+names-clause n (z ∷ c) zs named h (suc i) = names-clause n c zs (named .1) h i
+
+pub names-entries : (n : ℕ) (cs : List Clause) → Within n cs → (i : ℕ) → natAbs (getD (entries cs) i (pos 0)) ≤ n
+names-entries n [] w i = omega arith
+names-entries n (c ∷ cs) w i = names-clause n c (entries cs) (w .0) (names-entries n cs (w .1)) i
 
 -- ---- the theorems
 
@@ -132,49 +176,6 @@ module _ (kinds : List ℕ) (literals : List ℤ) (a : Accepted kinds literals) 
   trimmed-twice =
       ap entries (steps-still (length (entries result)) (prefix kinds) (clauses (entries result)) (ap (step (prefix kinds)) back ∙ steps-end (length literals) (prefix kinds) (clauses literals) few))
       ∙ ap entries back
-
-  -- ---- what is left is accepted
-
-  zeros-named : (z : ℤ) (zs : List ℤ) → 1 ≤ natAbs z → zeros (z ∷ zs) ≡ zeros zs
-  zeros-named (pos zero) zs h = absurd (omega arith)
-  zeros-named (pos (suc v)) zs h = refl
-  zeros-named (negsuc v) zs h = refl
-
-  zeros-clause : (n : ℕ) (c : Clause) (zs : List ℤ) → Every (Named n) c → zeros (c ++ (pos 0 ∷ zs)) ≡ suc (zeros zs)
-  zeros-clause n [] zs named = refl
-  zeros-clause n (z ∷ c) zs named = zeros-named z (c ++ (pos 0 ∷ zs)) (named .0 .from-one) ∙ zeros-clause n c zs (named .1)
-
-  zeros-entries : (n : ℕ) (cs : List Clause) → Within n cs → zeros (entries cs) ≡ length cs
-  zeros-entries n [] w = refl
-  zeros-entries n (c ∷ cs) w = zeros-clause n c (entries cs) (w .0) ∙ ap suc (zeros-entries n cs (w .1))
-
-  ended-clause : (c : Clause) (zs : List ℤ) → ended (pos 0 ∷ zs) ≡ true → ended (c ++ (pos 0 ∷ zs)) ≡ true
-  ended-clause [] zs e = e
-  ended-clause (z ∷ []) zs e = ended-behind z (pos 0) zs ∙ e
-  ended-clause (z ∷ y ∷ c) zs e = ended-behind z y (c ++ (pos 0 ∷ zs)) ∙ ended-clause (y ∷ c) zs e
-
-  ended-zero : (zs : List ℤ) → ended zs ≡ true → ended (pos 0 ∷ zs) ≡ true
-  ended-zero [] e = refl
-  ended-zero (y ∷ zs) e = ended-behind (pos 0) y zs ∙ e
-
-  ended-entries : (cs : List Clause) → ended (entries cs) ≡ true
-  ended-entries [] = refl
-  ended-entries (c ∷ cs) = ended-clause c (entries cs) (ended-zero (entries cs) (ended-entries cs))
-
-  zero-known : (z : ℤ) → is-zero z ≡ true → z ≡ pos 0
-  zero-known (pos zero) e = refl
-  zero-known (pos (suc v)) e = absurd (false≢true e)
-  zero-known (negsuc v) e = absurd (false≢true e)
-
-  names-clause : (n : ℕ) (c : Clause) (zs : List ℤ) → Every (Named n) c → ((i : ℕ) → natAbs (getD zs i (pos 0)) ≤ n) → (i : ℕ) → natAbs (getD (c ++ (pos 0 ∷ zs)) i (pos 0)) ≤ n
-  names-clause n [] zs named h zero = omega arith
-  names-clause n [] zs named h (suc i) = h i
-  names-clause n (z ∷ c) zs named h zero = named .0 .to-last
-  names-clause n (z ∷ c) zs named h (suc i) = names-clause n c zs (named .1) h i
-
-  names-entries : (n : ℕ) (cs : List Clause) → Within n cs → (i : ℕ) → natAbs (getD (entries cs) i (pos 0)) ≤ n
-  names-entries n [] w i = omega arith
-  names-entries n (c ∷ cs) w i = names-clause n c (entries cs) (w .0) (names-entries n cs (w .1)) i
 
   -- 'A formula to which none of the causes 1 to 3 applies.'
   pub trimmed-accepted : Accepted kinds (trimmed kinds literals)

@@ -4,20 +4,33 @@ use formula::Formula;
 use libc::STDERR_FILENO;
 use libc::STDIN_FILENO;
 use libc::STDOUT_FILENO;
+ghost use Prim.Native.Nat.{_≤_};
 
 fn main() {
-    // One byte more than a text may have: a longer one is then refused, and not cut.
-    let mut input = [0u8; text::BYTES + 1];
+    let mut input = [0u8; Formula::WORK];
     let length = io::read_full(STDIN_FILENO, &mut input);
+    let more = read_on(length);
     let mut file = [0u8; study_certificate::FILE];
     let mut lines = [0u8; study_certificate::LINES];
     let mut work = [0u8; Formula::WORK];
     let counts = study_certificate::certify_gates(
-        &input[..length],
+        &input,
+        length + more,
         &mut file,
         &mut lines,
         &mut work,
     );
     io::write_all(STDOUT_FILENO, &file[..counts.file]);
     io::write_all(STDERR_FILENO, &lines[..counts.lines]);
+}
+
+// Whether a text that fills the buffer goes on: 1 if a byte follows.
+fn read_on(length: usize) -> usize
+    ensures { λ r. ⌜ r ≤ 1 ⌝ }
+{
+    if length < Formula::WORK {
+        return 0;
+    }
+    let mut byte = [0u8; 1];
+    io::read_full(STDIN_FILENO, &mut byte)
 }

@@ -12,7 +12,7 @@ use Rattle.buffer.specs.Buffer.{appended, place-behind}
 use Rattle.buffer.proofs.Laws.{appended-fits, behind-fits}
 use Rattle.witness.specs.declared.Record.{Record}
 use Rattle.witness.specs.File.{stands, part, if-stands, two-bytes, rows-field, file, size}
-use Rattle.witness.specs.Steps.{Put, Fitting, head, all-fields}
+use Rattle.witness.specs.Private.Steps.{Put, Fitting, head, all-fields}
 
 pub length-part : (there : Bool) (bytes : List ℕ) → length (part there bytes) ≡ if-stands there (length bytes)
 length-part true bytes = refl

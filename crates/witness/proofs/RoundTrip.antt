@@ -10,9 +10,10 @@ use lib.ListN.{length, getD, take, drop, length-append, take-append-drop, length
 use borrow.Author.Tests.{eq-eqb, ne-eqb, le-ltb}
 use lib.Seq.{length-take-le, take-at, drop-at, drop-drop, drop-cons, getD-drop, take-take}
 use Rattle.witness.specs.declared.Record.{Record}
+use Rattle.witness.specs.declared.Written.the-variants.{Length}
 use Rattle.witness.specs.File.{stands, part, if-stands, two-bytes, word, rows-field, file, has, sizes-at, universal-at, universal-count, existential-at, existential-count, rounds-at, end-of, record-of, side-rows, bad-claim, bad-count, bad-counts, content-cause, file-cause, over-lent, write-cause, rows-back, out-after, kept}
 use Rattle.witness.specs.RoundTrip.{WrittenAgain, ReadAgain, RoundTrip}
-use Rattle.witness.specs.Steps.{Fitting}
+use Rattle.witness.specs.Private.Steps.{Fitting}
 use Rattle.witness.proofs.TestLaws.{stop, pass, passed, accepted, write-taken}
 use Rattle.witness.proofs.PutLaws.{fields-file, length-fields}
 
@@ -247,7 +248,7 @@ content-passed r e =
     let claim = passed (bad-claim r) 6 (cond (bad-counts r) 4 0) e in
     (claim .0, passed (bad-counts r) 3 0 (claim .1) .0)
 
-written-again : (f out : List ℕ) → Bytes f → file-cause f ≡ 0 → length out ≡ length f → WrittenAgain f out
+written-again : (f out : List ℕ) → Bytes f → file-cause f ≡ 0 → length f ≤ length out → WrittenAgain f out
 unfolding write-cause out-after record-of
 written-again f out bytes e room =
     let a = accepted f e in
@@ -265,12 +266,10 @@ written-again f out bytes e room =
     ∙ pass 4 (content .1)
     ∙ pass 4 lent in
     let again = ap₂ (λ (k l : List ℕ). file (record-of f) k l) u x ∙ read-written f bytes (a .some) (a .whole) in
+    let taken = eq-eqb (write-cause (record-of f) (rows-back f true) (rows-back f false) (length out)) 0 none in
     record {
-      taken = none;
-      same =
-          stop out (eq-eqb _ 0 none)
-          ∙ ap₂ _++_ again (drop-of-length-le out {i = end-of f} (omega (arith, room, a .whole)))
-          ∙ append-nil f;
+      returned = stop _ taken ∙ ap Length (sym (a .whole));
+      same = stop out taken ∙ ap₂ (λ (l : List ℕ) (k : ℕ). l ++ drop k out) again (sym (a .whole));
     }
 
 map-first : (r : Record) (U E : List ℕ) → r .map ≤ 31 → getD (file r U E) 0 0 ≤ 31

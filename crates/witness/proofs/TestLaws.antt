@@ -10,7 +10,7 @@ use lib.ListN.{length, getD}
 use borrow.Author.Tests.{ltb-false, eqb-true, eqb-false}
 use Rattle.witness.specs.declared.Record.{Record}
 use Rattle.witness.specs.File.{stands, end-of, record-of, bad-claim, bad-counts, content-cause, file-cause, size, over-lent, write-cause}
-use Rattle.witness.specs.Steps.{Fitting}
+use Rattle.witness.specs.Private.Steps.{Fitting}
 
 -- A choice whose test is known.
 pub stop : {A : Type 0} {t : Bool} {x : A} (y : A) → t ≡ true → cond t x y ≡ x

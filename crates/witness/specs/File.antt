@@ -150,9 +150,29 @@ write-cause r universal existential room =
 abbrev pub reading : List ℕ → Reading
 reading f = cond (eqb (file-cause f) 0) (Taken (record-of f)) (Refused (file-cause f))
 
+-- The number of each case, 0 for a record that is read, else the cause's; and the record, zeros where none is read.
+abbrev pub reading-number : Reading → ℕ
+reading-number (Taken r) = 0
+reading-number (Refused cause) = cause
+
+abbrev pub record-read : Reading → Record
+record-read (Taken r) = r
+record-read (Refused cause) = made 0 0 0 0 0 0 0
+
+abbrev pub read-record : List ℕ → Record
+read-record f = cond (eqb (file-cause f) 0) (record-of f) (made 0 0 0 0 0 0 0)
+
 -- 'On request a side's rows come back as a part of the file, empty if not there or the file is refused.'
 unfoldable pub rows-back : List ℕ → Bool → List ℕ
 rows-back f universal = cond (eqb (file-cause f) 0) (side-rows universal f) []
+
+-- 'As a part of the file': where that part begins in the file, counted in bytes; an empty part begins where the file does.
+abbrev pub side-start : Bool → List ℕ → ℕ
+side-start true f = if-stands (has 2 f) (universal-at f + 2)
+side-start false f = if-stands (has 3 f) (existential-at f + 2)
+
+unfoldable pub rows-start : List ℕ → Bool → ℕ
+rows-start f universal = cond (eqb (file-cause f) 0) (side-start universal f) 0
 
 -- 'A write returns the file's length and leaves what lies past it'; a refusal leaves every byte.
 abbrev pub writing : Record → List ℕ → List ℕ → List ℕ → Written
@@ -160,6 +180,19 @@ writing r universal existential out =
     let cause = write-cause r universal existential (length out) in
     cond (eqb cause 0) (Length (size r)) (Not-written cause)
 
+-- The number of each case, 0 for a file that is written, else the cause's; and the file's length, 0 where none is written.
+abbrev pub writing-number : Written → ℕ
+writing-number (Length n) = 0
+writing-number (Not-written cause) = cause
+
+abbrev pub length-written : Written → ℕ
+length-written (Length n) = n
+length-written (Not-written cause) = 0
+
+abbrev pub written-length : Record → List ℕ → List ℕ → List ℕ → ℕ
+written-length r universal existential out = cond (eqb (write-cause r universal existential (length out)) 0) (size r) 0
+
+-- The output at exit.
 unfoldable pub out-after : Record → List ℕ → List ℕ → List ℕ → List ℕ
 out-after r universal existential out =
     cond (eqb (write-cause r universal existential (length out)) 0) (file r universal existential ++ drop (size r) out) out

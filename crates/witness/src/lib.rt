@@ -9,9 +9,9 @@ ghost use mathlib.Core.List.{[], _∷_};
 ghost use Prim.Native.Nat.{_+_, _*_, _/_, _%_, _^_, _≤_, _<_};
 ghost use lib.Dec.{eqb};
 ghost use lib.ListN.{length, getD, take, drop};
-ghost use Rattle.witness.specs.File.{stands as bit-stands, part, if-stands, two-bytes, word, rows-field, end-of, record-of, bad-claim, bad-count, bad-counts, content-cause, file-cause, size, over-lent, write-cause, reading, rows-back, writing, out-after};
+ghost use Rattle.witness.specs.File.{stands as bit-stands, part, if-stands, two-bytes, word, rows-field, end-of, record-of, bad-claim, bad-count, bad-counts, content-cause, file-cause, size, over-lent, write-cause, reading, reading-number, record-read, read-record, rows-back, rows-start, writing, writing-number, length-written, written-length, out-after};
 ghost use Rattle.witness.specs.RoundTrip.{RoundTrip};
-ghost use Rattle.witness.specs.Steps.{Placed, Put, Fitting, head, all-fields};
+ghost use Rattle.witness.specs.Private.Steps.{Placed, Put, Fitting, head, all-fields};
 
 // A map and its fields, the counts of rows under their side's name.
 pub struct Record {
@@ -63,6 +63,8 @@ const BYTES: usize = 16;
 // The record of a file. A field whose bit does not stand is 0.
 pub fn read(file: &[u8]) -> Reading
     ensures { λ r. ⌜ r ≡ reading (now (file .entry)) ⌝ }
+    ensures numbered { λ r. ⌜ reading-number r ≡ file-cause (now (file .entry)) ⌝ }
+    ensures valued { λ r. ⌜ record-read r ≡ read-record (now (file .entry)) ⌝ }
     ensures round_trip { λ _. ⌜ RoundTrip ⌝ }
 {
     let at = layout_of(file);
@@ -78,6 +80,7 @@ pub fn read(file: &[u8]) -> Reading
 // A side's rows as a part of the file, empty at its start if the bit does not stand or the file is refused.
 pub fn rows(file: &[u8], universal: bool) -> &[u8]
     ensures { λ r. ⌜ now r ≡ rows-back (now (file .entry)) universal ⌝ }
+    ensures own { λ r. ⌜ (r .ptr .0 ≡ file .entry .ptr .0) × (r .ptr .1 ≡ file .entry .ptr .1 + rows-start (now (file .entry)) universal) ⌝ }
 {
     let at = layout_of(file);
     let end = at.end;
@@ -101,6 +104,8 @@ pub fn rows(file: &[u8], universal: bool) -> &[u8]
 pub fn write(record: Record, universal: &[u8], existential: &[u8], out: &mut [u8]) -> Written
     ensures { λ r. ⌜ r ≡ writing «record» (now (universal .entry)) (now (existential .entry)) (now (out .entry)) ⌝ }
     ensures { λ _. ⌜ now (out .exit) ≡ out-after «record» (now (universal .entry)) (now (existential .entry)) (now (out .entry)) ⌝ }
+    ensures numbered { λ r. ⌜ writing-number r ≡ write-cause «record» (now (universal .entry)) (now (existential .entry)) (length (now (out .entry))) ⌝ }
+    ensures valued { λ r. ⌜ length-written r ≡ written-length «record» (now (universal .entry)) (now (existential .entry)) (now (out .entry)) ⌝ }
     ensures round_trip { λ _. ⌜ RoundTrip ⌝ }
 {
     let cause = write_cause(record, universal, existential, out.len());
@@ -174,10 +179,10 @@ fn content_cause(record: Record) -> u32
     ensures { λ r. ⌜ r ≡ content-cause «record» ⌝ }
 {
     if wrong_claim(record) {
-        return 7;
+        return 7; // a claim above 1
     }
     if wrong_counts(record) {
-        return 4;
+        return 4; // a count of 0 or over 256
     }
     0
 }
@@ -352,6 +357,7 @@ fn put_byte(out: &mut [u8], at: usize, there: bool, value: u8) -> usize
 // A side's rows behind its count, or the empty part.
 fn rows_at(file: &[u8], there: bool, at: usize, count: u16) -> &[u8]
     requires { ⌜ at + if-stands there (2 + 16 * count) ≤ length (now file) ⌝ }
+    ensures own { λ r. ⌜ (r .ptr .0 ≡ file .entry .ptr .0) × (r .ptr .1 ≡ file .entry .ptr .1 + if-stands there (at + 2)) ⌝ }
     ensures { λ r. ⌜ now r ≡ part there (take (16 * count) (drop (at + 2) (now (file .entry)))) ⌝ }
 {
     if there {

@@ -1,12 +1,12 @@
 // 01's 'Runs worked by hand', K1 to K15, played through the public functions: what each returns, its rows and marks, and what it leaves.
 // Before each, every table that is lent to be written is filled with values of its own, so that a byte that changes past the counts, or on
 // a refusal, shows. A row is printed as a hexadecimal number, bit k of weight 2^k. The stored output is worked out from 01.
+use engine::run::Answer;
+use engine::run::Outcome;
 use formula::Check;
 use formula::Formula;
 use judge::Judgement;
 use libc::STDOUT_FILENO;
-use run::Answer;
-use run::Outcome;
 ghost use Prim.Native.Nat.{_≤_, _*_};
 ghost use lib.ListN.{length};
 ghost use Rattle.formula.specs.Formula.{max-rows};
@@ -166,7 +166,7 @@ fn lend(
     requires { ⌜ (16 * «universal_room» ≤ length (now «universal_rows»)) × («universal_room» ≤ length (now «universal_marks»)) × («universal_room» ≤ length (now «universal_counts»)) ⌝ }
     requires { ⌜ (16 * «existential_room» ≤ length (now «existential_rows»)) × («existential_room» ≤ length (now «existential_marks»)) × («existential_room» ≤ length (now «existential_counts»)) ⌝ }
 {
-    run::run(
+    engine::run::run(
         kinds,
         literals,
         preferences,

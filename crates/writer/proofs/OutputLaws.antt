@@ -23,7 +23,7 @@ use Rattle.writing.proofs.DigitLaws.{decimal-most}
 use Rattle.writing.proofs.Lengths.{Small, prefix-most, clauses-most}
 use Rattle.writing.proofs.WritingRight.{writing-right}
 use Rattle.writer.specs.Output.{output}
-use Rattle.writer.specs.Steps.{Put}
+use Rattle.writer.specs.Private.Steps.{Put}
 use Rattle.writer.proofs.PartLaws.{p-line-length}
 
 pub parts-fit : (kinds : List ℕ) (literals : List ℤ) (names : List ℕ) (variables clauses : ℕ) → Accepted kinds literals → clauses ≡ zeros literals → variables < 4294967296 → Small names

@@ -13,7 +13,7 @@ use Rattle.formula.proofs.Places.{drop-front}
 use Rattle.named.specs.Named.{signed}
 use Rattle.report.specs.Report.{ascii, decimal}
 use Rattle.writing.specs.Writing.{p-line, letter, unknown, blocks, prefix-lines, clause-lines}
-use Rattle.writer.specs.Steps.{entry}
+use Rattle.writer.specs.Private.Steps.{entry}
 
 -- ---- the p line
 

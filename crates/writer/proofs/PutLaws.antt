@@ -8,7 +8,7 @@ use lib.Seq.{take-at}
 use Rattle.buffer.specs.Buffer.{appended, place-behind}
 use Rattle.buffer.proofs.Laws.{appended-fits, behind-fits}
 use Rattle.lines.specs.Lines.{Bytes}
-use Rattle.writer.specs.Steps.{Put}
+use Rattle.writer.specs.Private.Steps.{Put}
 
 pub put-part : (before : Bytes) (place : ℕ) (part : Bytes) {end : ℕ} {after : Bytes} → place + length part ≤ length before
     → end ≡ place-behind before place part → after ≡ appended before place part → Put part place before end after

@@ -1,3 +1,3 @@
--- What is written of a formula; what private functions promise (Steps).
+-- What is written of a formula; Private has only what private functions promise.
 pub mod Output
-pub mod Steps
+pub mod Private

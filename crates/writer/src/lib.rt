@@ -8,13 +8,13 @@ ghost use mathlib.Core.Path.{_≡_};
 ghost use mathlib.Core.List.{_++_};
 ghost use lib.ListN.{length};
 ghost use Rattle.formula.specs.Causes.{zeros};
-ghost use Rattle.formula.proofs.Accepted.{Accepted as AcceptedFormula};
+ghost use Rattle.formula.specs.Private.Accepted.{Accepted as AcceptedFormula};
 ghost use Rattle.named.specs.Named.{signed};
 ghost use Rattle.report.specs.Report.{ascii, decimal, put, put-count};
 ghost use Rattle.writing.specs.Writing.{p-line, letter, unknown, blocks, prefix-lines, clause-lines, written};
 ghost use Rattle.writing.specs.WritingRight.{WritingRight};
 ghost use Rattle.writer.specs.Output.{output};
-ghost use Rattle.writer.specs.Steps.{Put, entry, Known};
+ghost use Rattle.writer.specs.Private.Steps.{Put, entry, Known};
 
 // Room for every text: a p line of at most 23 bytes, 10 for an unknown and 4 besides, 7 for an entry.
 pub const LONGEST: usize = 27 + 10 * Formula::UNKNOWNS + 7 * Formula::ENTRIES;

@@ -6,7 +6,7 @@ use mathlib.Core.List.{_++_}
 use lib.ListN.{length, take}
 use Rattle.rows.specs.Table.{rows-of}
 use Rattle.account.specs.Account.{row-lines}
-use Rattle.account.specs.Steps.{joined}
+use Rattle.account.specs.Private.Steps.{joined}
 use Rattle.account.proofs.LineLaws.{none-yet, side-next, side-all}
 use Rattle.account.proofs.side.Statement.{statement}
 use Rattle.account.proofs.side.Tie as tie

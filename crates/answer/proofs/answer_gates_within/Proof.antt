@@ -1,7 +1,7 @@
 -- The shared function, told the form of the text. Assumes nothing.
-use lib.ListN.{take}
 use borrow.Author.Needs.{needs}
 use Rattle.text.specs.Reading.{read-gates}
+use Rattle.text.specs.Offered.{offered}
 use Rattle.answer.specs.Printed.{gates-printed, printed-as}
 use Rattle.answer.proofs.GatesAnswerRight.{gates-answer-right}
 use Rattle.answer.proofs.answer_gates_within.Statement.{statement}
@@ -18,7 +18,9 @@ same-length-2 c = search needs
 
 returns : tie.Need-returns
 unfolding gates-printed printed-as read-gates
-returns c = (c .before .before .before .before .within-as .ensures, gates-answer-right (take (c .before .before .before .before .before .before .before .before .before .args .length) (c .before .before .before .before .before .before .before .before .before .args .area .now)))
+returns c =
+    let given = c .before .before .before .before .before .before .before .before .before .args in
+    (c .before .before .before .before .within-as .ensures, gates-answer-right (offered (given .area .now) (given .length)))
 
 pub answer-gates-within-spec : {M : Type 1} → statement M
 answer-gates-within-spec =

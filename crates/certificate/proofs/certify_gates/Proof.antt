@@ -1,5 +1,6 @@
 -- The shared function, told the form of the text. Assumes nothing.
 use borrow.Author.Needs.{needs}
+use Rattle.text.specs.Offered.{offered}
 use Rattle.text.specs.Reading.{read-gates}
 use Rattle.certificate.proofs.CertificateRight.{gates-certificate-right}
 use Rattle.certificate.proofs.certify_gates.Statement.{statement}
@@ -19,7 +20,7 @@ same-length-3 c = search needs
 
 returns : tie.Need-returns
 unfolding read-gates
-returns c = (c .before .before .before .before .before .before .certify-as .ensures .0, (c .before .before .before .before .before .before .certify-as .ensures .1, gates-certificate-right (c .before .before .before .before .before .before .before .before .before .before .before .before .before .before .args .text .now)))
+returns c = (c .before .before .before .before .before .before .certify-as .ensures .0, (c .before .before .before .before .before .before .certify-as .ensures .1, gates-certificate-right (offered (c .before .before .before .before .before .before .before .before .before .before .before .before .before .before .args .input .now) (c .before .before .before .before .before .before .before .before .before .before .before .before .before .before .args .length))))
 
 pub certify-gates-spec : {M : Type 1} → statement M
 certify-gates-spec = tie.close (tie.spec certify-as-requires same-length same-length-2 same-length-3 returns)

@@ -3,8 +3,8 @@ use native.Mathlib.Omega.{arith}
 use mathlib.Core.Path.{ap, _∙_}
 use mir.Syntax.{w32}
 use borrow.Author.Needs.{needs, fits-under}
-use Rattle.run.specs.declared.Outcome.{Outcome}
-use Rattle.run.specs.Numbers.{one-number}
+use Rattle.engine.specs.declared.run.Outcome.{Outcome}
+use Rattle.engine.specs.Numbers.{one-number}
 use Rattle.door.proofs.DoorLaws.{returned-small}
 use Rattle.door.proofs.decide.Statement.{statement}
 use Rattle.door.proofs.decide.Tie as tie

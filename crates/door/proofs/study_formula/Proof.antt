@@ -3,7 +3,7 @@ use native.Mathlib.Omega.{arith}
 use mathlib.Core.Path.{ap, _∙_}
 use mir.Syntax.{w32}
 use borrow.Author.Needs.{needs, fits-under}
-use Rattle.run.specs.Numbers.{one-number}
+use Rattle.engine.specs.Numbers.{one-number}
 use Rattle.study.specs.declared.Studied.{Studied}
 use Rattle.door.proofs.StudyLaws.{number-fits}
 use Rattle.door.proofs.study_formula.Statement.{statement}

@@ -3,6 +3,7 @@ use mathlib.Core.Path.{refl, _∙_}
 use Rattle.fee.proofs.LoadLaws.{summable}
 use Rattle.fee.proofs.BandsRight.{built-in-loads, built-in-sum}
 use Rattle.fee.proofs.AnswerLaws.{charged-so}
+use Rattle.fee.proofs.FeesRight.{fees-right}
 use borrow.Author.Needs.{needs}
 use Rattle.fee.proofs.fee.Statement.{statement}
 use Rattle.fee.proofs.fee.Tie as tie
@@ -21,8 +22,9 @@ fee-on-requires c κs = search needs
 
 returns : tie.Need-returns
 returns c =
-    let q = c .before .before .before .before .before .args in
-    charged-so (q .kinds .now) (q .rounds) (c .before .sum .result) (c .before .sum .ensures ∙ built-in-sum (q .rounds)) (c .fee-on .ensures)
+    let given = c .before .before .before .before .before .args in
+    let summed = c .before .sum .ensures ∙ built-in-sum (given .rounds) in
+    (charged-so (given .kinds .now) (given .rounds) (c .before .sum .result) summed (c .fee-on .ensures), fees-right)
 
 pub fee-spec : {M : Type 1} → statement M
 fee-spec =

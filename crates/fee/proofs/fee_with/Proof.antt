@@ -4,6 +4,7 @@ use mathlib.Core.Path.{refl, sym, _∙_}
 use Rattle.fee.proofs.LoadLaws.{falling, dear, loads, summable}
 use Rattle.fee.proofs.BandsRight.{bands-right, sum-small}
 use Rattle.fee.proofs.AnswerLaws.{refused-21, refused-22, charged-with-so}
+use Rattle.fee.proofs.FeesRight.{fees-right}
 use borrow.Author.Needs.{needs}
 use Rattle.fee.proofs.fee_with.Statement.{statement}
 use Rattle.fee.proofs.fee_with.Tie as tie
@@ -14,7 +15,8 @@ is-no-table-requires c κs = search needs
 returns : tie.Need-returns
 returns c =
     let q = c .before .before .before .before .before .args in
-    refused-21 (q .firsts .now) (q .prices .now) (q .kinds .now) (q .rounds) (sym (c .before .is-no-table .ensures) ∙ c .if1 .taken) refl
+    let none = sym (c .before .is-no-table .ensures) ∙ c .if1 .taken in
+    (refused-21 (q .firsts .now) (q .prices .now) (q .kinds .now) (q .rounds) none refl, fees-right)
 
 rises-requires : tie.Need-rises-requires
 rises-requires c κs = search needs
@@ -22,7 +24,9 @@ rises-requires c κs = search needs
 returns-2 : tie.Need-returns-2
 returns-2 c =
     let q = c .before .before .before .before .before .before .before .args in
-    refused-22 (q .firsts .now) (q .prices .now) (q .kinds .now) (q .rounds) (sym (c .before .before .before .is-no-table .ensures) ∙ c .before .before .if1 .left) (falling (q .firsts .now) (q .prices .now) (sym (c .before .rises .ensures) ∙ c .if2 .left)) refl
+    let table = sym (c .before .before .before .is-no-table .ensures) ∙ c .before .before .if1 .left in
+    let fall = falling (q .firsts .now) (q .prices .now) (sym (c .before .rises .ensures) ∙ c .if2 .left) in
+    (refused-22 (q .firsts .now) (q .prices .now) (q .kinds .now) (q .rounds) table fall refl, fees-right)
 
 has-dearer-requires : tie.Need-has-dearer-requires
 has-dearer-requires c κs = search needs
@@ -30,7 +34,9 @@ has-dearer-requires c κs = search needs
 returns-3 : tie.Need-returns-3
 returns-3 c =
     let q = c .before .before .before .before .before .before .before .before .before .args in
-    refused-22 (q .firsts .now) (q .prices .now) (q .kinds .now) (q .rounds) (sym (c .before .before .before .before .before .is-no-table .ensures) ∙ c .before .before .before .before .if1 .left) (dear (q .firsts .now) (q .prices .now) (sym (c .before .has-dearer .ensures) ∙ c .if3 .taken)) refl
+    let table = sym (c .before .before .before .before .before .is-no-table .ensures) ∙ c .before .before .before .before .if1 .left in
+    let dearer = dear (q .firsts .now) (q .prices .now) (sym (c .before .has-dearer .ensures) ∙ c .if3 .taken) in
+    (refused-22 (q .firsts .now) (q .prices .now) (q .kinds .now) (q .rounds) table dearer refl, fees-right)
 
 sum-requires : tie.Need-sum-requires
 sum-requires c κs =
@@ -44,9 +50,16 @@ fee-on-requires c κs =
 
 returns-4 : tie.Need-returns-4
 returns-4 c =
-    let q = c .before .before .before .before .before .before .before .before .before .before .before .args in
-    let l = loads (q .firsts .now) (q .prices .now) (c .before .before .before .before .before .before .before .is-no-table .ensures) (c .before .before .before .before .before .before .if1 .left) (c .before .before .before .before .before .rises .ensures) (c .before .before .before .before .if2 .taken) (c .before .before .before .has-dearer .ensures) (c .before .before .if3 .left) in
-    charged-with-so (q .firsts .now) (q .prices .now) (q .kinds .now) (q .rounds) (c .before .sum .result) l (c .before .sum .ensures ∙ bands-right (q .firsts .now) (q .prices .now) l .plain-sum (q .rounds)) (c .fee-on .ensures)
+    let tested = c .before .before in
+    let columned = tested .before .before .before .before in
+    let q = columned .before .before .before .before .before .args in
+    let firsts = q .firsts .now in
+    let prices = q .prices .now in
+    let table = columned .before .is-no-table .ensures in
+    let l = loads firsts prices table (columned .if1 .left) (tested .before .before .before .rises .ensures) (tested .before .before .if2 .taken)
+    (tested .before .has-dearer .ensures) (tested .if3 .left) in
+    let summed = c .before .sum .ensures ∙ bands-right firsts prices l .plain-sum (q .rounds) in
+    (charged-with-so firsts prices (q .kinds .now) (q .rounds) (c .before .sum .result) l summed (c .fee-on .ensures), fees-right)
 
 pub fee-with-spec : {M : Type 1} → statement M
 fee-with-spec =

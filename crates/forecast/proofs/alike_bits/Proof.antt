@@ -3,7 +3,7 @@ use Prim.Native.Nat.{ℕ, _-_, _/_, _%_, _^_, _≤_, _<_}
 use mathlib.Core.Path.{_≡_, sym, subst}
 use native.Mathlib.Omega.{arith}
 use borrow.Author.Count.{below-none, below-more}
-use Rattle.forecast.specs.Starts.{AlikeBits}
+use Rattle.forecast.specs.Private.Starts.{AlikeBits}
 use Rattle.forecast.proofs.alike_bits.Statement.{statement}
 use Rattle.forecast.proofs.alike_bits.Tie as tie
 

@@ -4,7 +4,7 @@ use native.Mathlib.Omega.{arith}
 use mathlib.Core.Path.{_≡_, refl, _∙_}
 use lib.ListN.{length, length-set}
 use borrow.Author.Count.{below-none}
-use Rattle.forecast.specs.Starts.{Told}
+use Rattle.forecast.specs.Private.Starts.{Told}
 use Rattle.forecast.proofs.StartLaws.{told-next}
 use Rattle.forecast.proofs.tell.Statement.{statement}
 use Rattle.forecast.proofs.tell.Tie as tie

@@ -2,7 +2,7 @@
 use Prim.Native.Nat.{ℕ, _-_, _≤_}
 use native.Mathlib.Omega.{arith}
 use mathlib.Core.Path.{_≡_, subst}
-use Rattle.forecast.specs.Starts.{Tells}
+use Rattle.forecast.specs.Private.Starts.{Tells}
 use Rattle.forecast.proofs.StartLaws.{tells-none, tells-next}
 use Rattle.forecast.proofs.telling.Statement.{statement}
 use Rattle.forecast.proofs.telling.Tie as tie

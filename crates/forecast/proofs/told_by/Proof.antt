@@ -3,7 +3,7 @@ use Prim.Native.Nat.{ℕ, _+_, _-_, _≤_}
 use native.Mathlib.Omega.{arith}
 use mathlib.Core.Path.{_≡_, refl, sym, ap, _∙_}
 use mathlib.Core.Logic.{⊎-elim}
-use Rattle.forecast.specs.Starts.{within}
+use Rattle.forecast.specs.Private.Starts.{within}
 use Rattle.forecast.proofs.ToldLaws.{within-more, within-same}
 use Rattle.forecast.proofs.told_by.Statement.{statement}
 use Rattle.forecast.proofs.told_by.Tie as tie

@@ -4,7 +4,7 @@ use mathlib.Core.Path.{_∙_}
 use lib.IntN.{pos}
 use lib.ListN.{getD}
 use borrow.Author.Needs.{needs}
-use Rattle.gates.specs.Steps.{parity-entries}
+use Rattle.gates.specs.Private.Steps.{parity-entries}
 use Rattle.gates.proofs.EntryLaws.{small-bits, small-at, length-four, none-of-four, four-inputs}
 use Rattle.gates.proofs.SetLaws.{put-whole, put-short, put-none}
 use Rattle.gates.proofs.differ.Statement.{statement}

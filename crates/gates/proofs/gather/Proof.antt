@@ -8,7 +8,7 @@ use lib.ListN.{length}
 use lib.Seq.{sets}
 use mir.Facts.{toZ-ofZ}
 use borrow.Author.Needs.{needs}
-use Rattle.gates.specs.Steps.{pair-entries, long-entries, gathered-entries}
+use Rattle.gates.specs.Private.Steps.{pair-entries, long-entries, gathered-entries}
 use Rattle.gates.proofs.EntryLaws.{length-gathered, gathered-put}
 use Rattle.gates.proofs.SetLaws.{put-whole, put-short}
 use Rattle.gates.proofs.gather.Statement.{statement}

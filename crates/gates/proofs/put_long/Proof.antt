@@ -10,7 +10,7 @@ use lib.Seq.{sets}
 use mir.Facts.{toZ-ofZ}
 use mir.Syntax.{w32}
 use mir.Val.{toZ, ofZ}
-use Rattle.gates.specs.Steps.{turn, long-entries}
+use Rattle.gates.specs.Private.Steps.{turn, long-entries}
 use Rattle.gates.proofs.EntryLaws.{small-at, small-bits, stored, long-first, long-more, long-done}
 use Rattle.gates.proofs.put_long.Statement.{statement}
 use Rattle.gates.proofs.put_long.Tie as tie

@@ -10,7 +10,7 @@ use mir.Facts.{toZ-ofZ}
 use mir.Syntax.{w32}
 use mir.Val.{toZ, ofZ}
 use Rattle.gates.proofs.EntryLaws.{small-at, small-bits, stored, pairs-more, pairs-done}
-use Rattle.gates.specs.Steps.{pair-entries}
+use Rattle.gates.specs.Private.Steps.{pair-entries}
 use Rattle.gates.proofs.put_pairs.Statement.{statement}
 use Rattle.gates.proofs.put_pairs.Tie as tie
 

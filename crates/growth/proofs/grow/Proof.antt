@@ -3,8 +3,9 @@ use Prim.Native.Nat.{ℕ}
 use mathlib.Core.Path.{_≡_, sym, ap, _∙_}
 use mathlib.Core.Bool.{Bool, true, false, cond}
 use mathlib.Core.List.{List}
+use mathlib.Core.Option.{none, some}
 use Rattle.growth.specs.declared.Growth.the-variants.{Grown, NoRoom}
-use Rattle.growth.specs.Growth.{all-fit, Bytes, bytes, with-new-rows, grown, growth}
+use Rattle.growth.specs.Growth.{all-fit, Bytes, bytes, with-new-rows, grown, growth, Numbered}
 use borrow.Author.Needs.{needs}
 use Rattle.growth.proofs.grow.Statement.{statement}
 use Rattle.growth.proofs.grow.Tie as tie
@@ -16,27 +17,50 @@ module _ (table marks : List ℕ) (n : ℕ) (yielded : List ℕ) (number mark : 
   abbrev after : Bytes
   after = with-new-rows yielded mark number before
 
+  no-room-numbered : all-fit table n yielded number ≡ false → Numbered table marks n yielded number mark NoRoom
+  no-room-numbered e =
+      record {
+        all-or-none = sym e;
+        counted = sym (ap (λ (v : Bool). cond v after before .number) e);
+        universal-number = sym (ap (λ (v : Bool). cond v none (some 3)) e);
+        existential-number = sym (ap (λ (v : Bool). cond v none (some 4)) e);
+      }
+
+  grown-numbered : all-fit table n yielded number ≡ true → (end : ℕ) → end ≡ after .number → Numbered table marks n yielded number mark (Grown end)
+  grown-numbered e end counted =
+      record {
+        all-or-none = sym e;
+        counted = counted ∙ sym (ap (λ (v : Bool). cond v after before .number) e);
+        universal-number = sym (ap (λ (v : Bool). cond v none (some 3)) e);
+        existential-number = sym (ap (λ (v : Bool). cond v none (some 4)) e);
+      }
+
   none-added : all-fit table n yielded number ≡ false
       → (NoRoom ≡ growth table marks n yielded number mark)
       × ((table ≡ grown table marks n yielded number mark .row-part)
-      × (marks ≡ grown table marks n yielded number mark .mark-part))
+      × ((marks ≡ grown table marks n yielded number mark .mark-part)
+      × Numbered table marks n yielded number mark NoRoom))
   none-added e = (
     sym (ap (λ (v : Bool). cond v (Grown (after .number)) NoRoom) e),
     (
       sym (ap (λ (v : Bool). cond v after before .row-part) e),
-      sym (ap (λ (v : Bool). cond v after before .mark-part) e),
+      (sym (ap (λ (v : Bool). cond v after before .mark-part) e), no-room-numbered e),
     ),
   )
 
   all-added : all-fit table n yielded number ≡ true → (R M : List ℕ) (end : ℕ) → bytes R M end ≡ after
       → (Grown end ≡ growth table marks n yielded number mark)
       × ((R ≡ grown table marks n yielded number mark .row-part)
-      × (M ≡ grown table marks n yielded number mark .mark-part))
+      × ((M ≡ grown table marks n yielded number mark .mark-part)
+      × Numbered table marks n yielded number mark (Grown end)))
   all-added e R M end made = (
     ap (λ (b : Bytes). Grown (b .number)) made ∙ sym (ap (λ (v : Bool). cond v (Grown (after .number)) NoRoom) e),
     (
       ap (λ (b : Bytes). b .row-part) made ∙ sym (ap (λ (v : Bool). cond v after before .row-part) e),
-      ap (λ (b : Bytes). b .mark-part) made ∙ sym (ap (λ (v : Bool). cond v after before .mark-part) e),
+      (
+        ap (λ (b : Bytes). b .mark-part) made ∙ sym (ap (λ (v : Bool). cond v after before .mark-part) e),
+        grown-numbered e end (ap (λ (b : Bytes). b .number) made),
+      ),
     ),
   )
 

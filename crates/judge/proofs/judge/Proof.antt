@@ -3,7 +3,7 @@ use Prim.Native.Nat.{ℕ}
 use mathlib.Core.Path.{_≡_, refl, ap, _∙_}
 use borrow.Author.Needs.{needs}
 use lib.ListN.{length, replicate}
-use Rattle.search.specs.declared.Search.the-variants as Search
+use Rattle.engine.specs.declared.search.Search.the-variants as Search
 use Rattle.judge.proofs.Contract.{promised-if-found, promised-unless-found}
 use Rattle.judge.proofs.judge.Statement.{statement}
 use Rattle.judge.proofs.judge.Tie as tie

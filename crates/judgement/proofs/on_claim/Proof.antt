@@ -24,19 +24,32 @@ same-length : tie.Need-same-length
 same-length c = search needs
 
 returns : tie.Need-returns
-returns c = claim-found (c .before .before .before .before .before .before .before .before .before .before .args .kinds .now) (c .before .before .before .before .before .before .before .before .before .before .args .literals .now) (c .before .before .before .before .before .before .before .before .before .before .args .file .now) (c .before .before .before .before .before .before .before .before .before .before .args .work .now) (c .before .before .before .before .before .before .before .before .before .before .args .claim) Judgement.NotBorneOut (c .before .before .before .before .before .before .rows .ensures) (c .enum-told .given .1) (c .before .before .before .before .judge .ensures)
+returns c =
+    let judged = c .before .before .before .before in
+    let given = judged .before .before .before .before .before .before .args in
+    claim-found (given .kinds .now) (given .literals .now) (given .file .now) (given .work .now) (given .claim) Judgement.NotBorneOut
+    (judged .before .before .rows .ensures .0) (c .enum-told .given .1) (judged .judge .ensures)
 
 same-length-2 : tie.Need-same-length-2
 same-length-2 c = search needs
 
 returns-2 : tie.Need-returns-2
-returns-2 c = claim-found (c .before .before .before .before .before .before .before .before .before .before .args .kinds .now) (c .before .before .before .before .before .before .before .before .before .before .args .literals .now) (c .before .before .before .before .before .before .before .before .before .before .args .file .now) (c .before .before .before .before .before .before .before .before .before .before .args .work .now) (c .before .before .before .before .before .before .before .before .before .before .args .claim) Judgement.Accepted (c .before .before .before .before .before .before .rows .ensures) (c .enum-told2 .given .1) (c .before .before .before .before .judge .ensures)
+returns-2 c =
+    let judged = c .before .before .before .before in
+    let given = judged .before .before .before .before .before .before .args in
+    claim-found (given .kinds .now) (given .literals .now) (given .file .now) (given .work .now) (given .claim) Judgement.Accepted
+    (judged .before .before .rows .ensures .0) (c .enum-told2 .given .1) (judged .judge .ensures)
 
 same-length-3 : tie.Need-same-length-3
 same-length-3 c = search needs
 
 returns-3 : tie.Need-returns-3
-returns-3 c = claim-found (c .before .before .before .before .before .before .before .before .before .before .before .args .kinds .now) (c .before .before .before .before .before .before .before .before .before .before .before .args .literals .now) (c .before .before .before .before .before .before .before .before .before .before .before .args .file .now) (c .before .before .before .before .before .before .before .before .before .before .before .args .work .now) (c .before .before .before .before .before .before .before .before .before .before .before .args .claim) (Judgement.Refused (c .before .cause .given .0 .0)) (c .before .before .before .before .before .before .before .rows .ensures) (c .before .cause .given .1) (c .before .before .before .before .before .judge .ensures)
+returns-3 c =
+    let judged = c .before .before .before .before .before in
+    let given = judged .before .before .before .before .before .before .args in
+    let refused = Judgement.Refused (c .before .cause .given .0 .0) in
+    claim-found (given .kinds .now) (given .literals .now) (given .file .now) (given .work .now) (given .claim) refused
+    (judged .before .before .rows .ensures .0) (c .before .cause .given .1) (judged .judge .ensures)
 
 pub on-claim-spec : {M : Type 1} → statement M
 on-claim-spec =

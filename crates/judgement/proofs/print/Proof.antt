@@ -1,5 +1,6 @@
 -- The shared function, told the form of the text. Assumes nothing.
 use borrow.Author.Needs.{needs}
+use Rattle.text.specs.Offered.{offered}
 use Rattle.text.specs.Reading.{read}
 use Rattle.judgement.proofs.JudgementRight.{judgement-right}
 use Rattle.judgement.proofs.print.Statement.{statement}
@@ -13,7 +14,7 @@ same-length c = search needs
 
 returns : tie.Need-returns
 unfolding read
-returns c = (c .before .before .print-as .ensures .0, (c .before .before .print-as .ensures .1, judgement-right (c .before .before .before .before .before .before .before .args .text .now) (c .before .before .before .before .before .before .before .args .file .now)))
+returns c = (c .before .before .print-as .ensures .0, (c .before .before .print-as .ensures .1, judgement-right (offered (c .before .before .before .before .before .before .before .args .input .now) (c .before .before .before .before .before .before .before .args .length)) (c .before .before .before .before .before .before .before .args .file .now)))
 
 pub print-spec : {M : Type 1} → statement M
 print-spec = tie.close (tie.spec print-as-requires same-length returns)

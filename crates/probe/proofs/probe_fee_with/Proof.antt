@@ -15,7 +15,9 @@ charge-number-requires : tie.Need-charge-number-requires
 charge-number-requires c κs = tt
 
 returns : tie.Need-returns
-returns c = (c .charge-number .ensures ∙ ap charge-number (c .before .before .fee-with .ensures .value), c .before .charge-cents .ensures ∙ ap cents (c .before .before .fee-with .ensures .value))
+returns c =
+    let told = c .before .before .fee-with .ensures .0 .value in
+    (c .charge-number .ensures ∙ ap charge-number told, c .before .charge-cents .ensures ∙ ap cents told)
 
 pub probe-fee-with-spec : {M : Type 1} → statement M
 probe-fee-with-spec =

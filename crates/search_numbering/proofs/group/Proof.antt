@@ -8,7 +8,7 @@ use borrow.Author.Needs.{needs}
 use lib.ListN.{length, length-set}
 use Rattle.formula.specs.Formula.{max-rows}
 use Rattle.search_numbering.specs.Numbering.{first-place}
-use Rattle.search_numbering.specs.Wants.{Grouped}
+use Rattle.search_numbering.specs.Private.Wants.{Grouped}
 use Rattle.search_numbering.proofs.FillSteps.{grouped-none, first-place-here, first-place-kept, grouped-more}
 use Rattle.search_numbering.proofs.group.Statement.{statement}
 use Rattle.search_numbering.proofs.group.Tie as tie

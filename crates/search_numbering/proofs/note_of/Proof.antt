@@ -1,7 +1,7 @@
 -- `search_numbering::note_of` meets its contract. Assumes nothing.
 use mathlib.Core.Path.{sym, ap, _∙_}
 use borrow.Author.Needs.{needs}
-use Rattle.search_numbering.specs.Wants.{note}
+use Rattle.search_numbering.specs.Private.Wants.{note}
 use Rattle.search_numbering.proofs.note_of.Statement.{statement}
 use Rattle.search_numbering.proofs.note_of.Tie as tie
 

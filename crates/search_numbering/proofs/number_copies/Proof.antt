@@ -7,7 +7,7 @@ use borrow.Author.Needs.{needs}
 use lib.ListN.{length, take, length-set}
 use lib.Seq.{take-all}
 use Rattle.formula.specs.Formula.{max-rows}
-use Rattle.search_numbering.specs.Wants.{firsts, Numbered}
+use Rattle.search_numbering.specs.Private.Wants.{firsts, Numbered}
 use Rattle.search_numbering.proofs.FillSteps.{numbered-none, numbered-old, numbered-new}
 use Rattle.search_numbering.proofs.number_copies.Statement.{statement}
 use Rattle.search_numbering.proofs.number_copies.Tie as tie

@@ -4,7 +4,7 @@ use Prim.Native.Nat.{_-_}
 use mathlib.Core.Path.{_≡_, refl, sym, _∙_}
 use native.Mathlib.Omega.{arith}
 use lib.ListN.{length, getD, drop}
-use Rattle.codes.specs.Clauses.{clause-of}
+use Rattle.codes.specs.Private.Clauses.{clause-of}
 use Rattle.search_sets.specs.Sets.{sets-size, codes-joined, blamed}
 use Rattle.search_sets.proofs.TestLaws.{place-there}
 use Rattle.search_sets.proofs.LoopLaws.{code-itself, code-other, codes-more, codes-stop, codes-end}

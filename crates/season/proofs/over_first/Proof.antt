@@ -50,7 +50,7 @@ use denote.Triple.Clauses.{ensured, lasts}
 use denote.Exit.{yes}
 use Rattle.season.specs.declared.Study.{Study}
 use Rattle.season.specs.declared.Summary.{Summary}
-use Rattle.season.specs.Season.{max-studies, summary}
+use Rattle.season.specs.Season.{max-studies, summary, Summarized}
 use Rattle.season.proofs.Study as S
 use Rattle.season.proofs.Study.Laws as S′
 use Rattle.season.proofs.Summary as U
@@ -159,9 +159,6 @@ module _ {M : Type 1} (𝓤 : URA M) (H : Heap 𝓤) (A : Atoms 𝓤) (W : Given
   abbrev x : ℕ → GName → RefT (List Study)
   x l γ = record { ptr = (l, 0); name = γ; now = take n xs }
 
-  abbrev lent : ℕ → Vals summarize.signature (0 ∷ [], tt)
-  lent l = (sliceVal (l, 0) (length (take n xs)) ∷ [], tt)
-
   abbrev to : ℕ → ℕ → GName → Summarize 𝓤 H A mem run .Ghost
   to α l γ = (((α ∷ [], tt), (fullShare, tt), tt, (x l γ, tt), (sliceVal (l, 0) (length (take n xs)) ∷ [], tt)), tt)
 
@@ -172,8 +169,8 @@ module _ {M : Type 1} (𝓤 : URA M) (H : Heap 𝓤) (A : Atoms 𝓤) (W : Given
   asked α l γ =
       qed W (‵ (Slice α l γ) ∷ ‵ (flft (α ∷ []) fullShare) ∷ []) ∵ nothing ! $ move ! (1 ∷ 0 ∷ []) $ fjoin ! $ nothing ! $ move ! (2 ∷ 0 ∷ []) $ join ! $ join ! $ nothing ! $ move ! (1 ∷ 0 ∷ []) $ done !
 
-  said : (α l : ℕ) (γ : GName) (r : Summary) → ent 𝓤 (ensured 𝓤 H A summarize.ended (summarize.clauses 𝓤 H A mem run) (α ∷ [], tt) (x l γ, tt) tt r) (fact 𝓤 (r ≡ summary (take n xs)))
-  said α l γ r = exE 𝓤 _ (λ ws. snd∗ 𝓤 (sem 𝓤 H A (lasts summarize.ended (α ∷ [], tt) (x l γ, tt) ws)) (fact 𝓤 (r ≡ summary (take n xs))))
+  said : (α l : ℕ) (γ : GName) (r : Summary) → ent 𝓤 (ensured 𝓤 H A summarize.ended (summarize.clauses 𝓤 H A mem run) (α ∷ [], tt) (x l γ, tt) tt r) (fact 𝓤 (Summarized (take n xs) r))
+  said α l γ r = exE 𝓤 _ (λ ws. snd∗ 𝓤 (sem 𝓤 H A (lasts summarize.ended (α ∷ [], tt) (x l γ, tt) ws)) (fact 𝓤 (Summarized (take n xs) r)))
 
   -- ---- the table in memory, as a cell and as its first n records and the rest
   abbrev Firsts : ℕ → Fml
@@ -225,7 +222,7 @@ module _ {M : Type 1} (𝓤 : URA M) (H : Heap 𝓤) (A : Atoms 𝓤) (W : Given
         move ! (0 ∷ 3 ∷ []) $ use2 W (raw (Summarize 𝓤 H A mem run .pre (to α l₃ γ))) (asked α l₃ γ) $
         calls-at ! fm (Summarize 𝓤 H A mem run) known (to α l₃ γ) (and-then ! (load ! (from ! (stop !)) (look ! 3 refl)) (no-more !)) (λ u.
         use1 W (later (some (λ (r : Summary). ((‵ (flft (α ∷ []) fullShare) ⊛ ‵ ftrue) ⊛ ‵ (U.the-row .own r (u ∷ []))) ⊛ raw (ensured 𝓤 H A summarize.ended (summarize.clauses 𝓤 H A mem run) (α ∷ [], tt) (x l₃ γ, tt) tt r)))) (id⊢ 𝓤 _) $ await ! tt $ pick ! (λ r.
-        split ! $ move ! (1 ∷ []) $ use1 W (raw (fact 𝓤 (r ≡ summary (take n xs)))) (said α l₃ γ r) $ heard ! (r ≡ summary (take n xs)) (λ e. split ! $ split ! $
+        split ! $ move ! (1 ∷ []) $ use1 W (raw (fact 𝓤 (Summarized (take n xs) r))) (said α l₃ γ r) $ heard ! (Summarized (take n xs) r) (λ e. split ! $ split ! $
         -- the lifetime ends, and the records are back
         lft-end ! tt $ move ! (0 ∷ 3 ∷ []) $ lent-back ! tt $ move ! (0 ∷ 3 ∷ []) $ use2 W (‵ (fat fullShare τr l₃ 0 v)) (together l₃ long) $ move ! (2 ∷ []) $
         -- [the result; _3; true; _5; …; _4; …; that _3 dies; _2; …; _1; …; room for _0; …]
@@ -233,7 +230,7 @@ module _ {M : Type 1} (𝓤 : URA M) (H : Heap 𝓤) (A : Atoms 𝓤) (W : Given
         land ! (from ! (stop !)) (init ! 12 refl (EL.lawful U.the-type U′.the-laws 𝓤 H A W tt .typed r _ is′ .0)) $
         returns ! (look ! 12 refl) $ forget ! 1 refl $ forget ! 3 refl $ forget ! 5 refl $ forget ! 8 refl $ forget ! 10 refl $ forget ! 12 refl $
         move ! (12 ∷ 13 ∷ []) $ free1 ! $ move ! (10 ∷ 11 ∷ []) $ free1 ! $ move ! (8 ∷ 9 ∷ []) $ free1 ! $ move ! (1 ∷ 7 ∷ []) $ free1 ! $ move ! (4 ∷ 5 ∷ []) $ free1 ! $ move ! (2 ∷ 3 ∷ []) $ free1 ! $ free0 ! $
-        keep ! (0 ∷ []) $ by ! (exits r u e is gn)))))))
+        keep ! (0 ∷ []) $ by ! (exits r u (e .value) is gn)))))))
       where
         room : SliceRoom S.the-row (length (take n xs))
         room = (omega (arith, count, small), omega (arith, count, small))

@@ -7,6 +7,7 @@ use Rattle.lines.specs.Lines.{lines}
 use Rattle.season.specs.Season.{max-studies, summary}
 use Rattle.season.specs.Text.{records}
 use Rattle.season.proofs.Printing.{printed-long, printed-other, printed-many, printed-page}
+use Rattle.season.proofs.SeasonRight.{season-right}
 use borrow.Author.Needs.{needs}
 use Rattle.season.proofs.print.Statement.{statement}
 use Rattle.season.proofs.print.Tie as tie
@@ -18,7 +19,10 @@ same-length : tie.Need-same-length
 same-length c = search needs
 
 returns : tie.Need-returns
-returns c = rw (printed-long (c .before .before .before .before .before .before .before .args .text .now) (c .before .before .before .before .if1 .taken)) (c .before .before .refusal .ensures)
+returns c =
+    let text = c .before .before .before .before .before .before .before .args .text .now in
+    let put = c .before .before .refusal .ensures in
+    rw (printed-long text (c .before .before .before .before .if1 .taken)) (put .0, (put .1, season-right text))
 
 check-requires : tie.Need-check-requires
 check-requires c κs = search needs
@@ -30,7 +34,13 @@ same-length-2 : tie.Need-same-length-2
 same-length-2 c = search needs
 
 returns-2 : tie.Need-returns-2
-returns-2 c = rw (printed-other (c .before .before .before .before .before .before .before .before .before .before .args .text .now) (c .before .before .before .before .before .before .before .if1 .left) (c .before .before .before .before .before .before .check .result .other) (c .before .before .before .before .before .before .check .ensures .right) (c .before .before .before .before .if2 .taken)) (c .before .before .refusal2 .ensures)
+returns-2 c =
+    let checked = c .before .before .before .before .before .before in
+    let text = checked .before .before .before .before .args .text .now in
+    let some = c .before .before .before .before .if2 .taken in
+    let other = printed-other text (checked .before .if1 .left) (checked .check .result .other) (checked .check .ensures .right) some in
+    let put = c .before .before .refusal2 .ensures in
+    rw other (put .0, (put .1, season-right text))
 
 refusal-requires-3 : tie.Need-refusal-requires-3
 refusal-requires-3 c κs = search needs
@@ -40,8 +50,13 @@ same-length-3 c = search needs
 
 returns-3 : tie.Need-returns-3
 returns-3 c =
-    let many : max-studies < length (lines (c .before .before .before .before .before .before .before .before .before .before .before .args .text .now)) = omega (arith, c .before .before .before .before .before .before .before .check .ensures .counted (c .before .before .before .before .before .if2 .left), c .before .before .before .before .if3 .taken) in
-    rw (printed-many (c .before .before .before .before .before .before .before .before .before .before .before .args .text .now) (c .before .before .before .before .before .before .before .before .if1 .left) (c .before .before .before .before .before .before .before .check .result .other) (c .before .before .before .before .before .before .before .check .ensures .right) (c .before .before .before .before .before .if2 .left) many) (c .before .before .refusal3 .ensures)
+    let checked = c .before .before .before .before .before .before .before in
+    let text = checked .before .before .before .before .args .text .now in
+    let none = c .before .before .before .before .before .if2 .left in
+    let many : max-studies < length (lines text) = omega (arith, checked .check .ensures .counted none, c .before .before .before .before .if3 .taken) in
+    let put = c .before .before .refusal3 .ensures in
+    rw (printed-many text (checked .before .if1 .left) (checked .check .result .other) (checked .check .ensures .right) none many)
+    (put .0, (put .1, season-right text))
 
 read-requires : tie.Need-read-requires
 read-requires c κs = (omega arith, sym (c .before .before .before .check .ensures .right) ∙ c .before .if2 .left, omega (arith, c .before .before .before .check .ensures .counted (c .before .if2 .left)))
@@ -57,10 +72,15 @@ same-length-4 c = search needs
 
 returns-4 : tie.Need-returns-4
 returns-4 c =
-    let text = c .before .before .before .before .before .before .before .before .before .before .before .before .before .args .text .now in
-    let count = c .before .before .before .before .before .before .before .before .before .check .ensures .counted (c .before .before .before .before .before .before .before .if2 .left) in
-    let page : c .before .before .before .before .over-first .result ≡ summary (records (lines text)) = c .before .before .before .before .over-first .ensures ∙ ap summary (ap (λ k. take k (c .before .before .before .before .before .read .result)) count ∙ c .before .before .before .before .before .read .ensures) in
-    rw (printed-page text (c .before .before .before .before .before .before .before .before .before .before .if1 .left) (c .before .before .before .before .before .before .before .before .before .check .result .other) (c .before .before .before .before .before .before .before .before .before .check .ensures .right) (c .before .before .before .before .before .before .before .if2 .left), ← page) (c .before .before .show .ensures)
+    let shown = c .before .before .before .before in
+    let checked = shown .before .before .before .before .before in
+    let text = checked .before .before .before .before .args .text .now in
+    let none = shown .before .before .before .if2 .left in
+    let rows = ap (λ k. take k (shown .before .read .result)) (checked .check .ensures .counted none) ∙ shown .before .read .ensures in
+    let page : shown .over-first .result ≡ summary (records (lines text)) = shown .over-first .ensures ∙ ap summary rows in
+    let put = c .before .before .show .ensures in
+    rw (printed-page text (checked .before .if1 .left) (checked .check .result .other) (checked .check .ensures .right) none, ← page)
+    (put .0, (put .1, season-right text))
 
 pub print-spec : {M : Type 1} → statement M
 print-spec =

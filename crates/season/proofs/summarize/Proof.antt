@@ -55,7 +55,8 @@ use Rattle.season.specs.declared.Study.{Study}
 use Rattle.season.specs.declared.tally.Tally.{Tally}
 use Rattle.season.specs.declared.Summary.{Summary}
 use Rattle.season.specs.Season.{summary}
-use Rattle.season.specs.Tally.{fresh, closed, Room}
+use Rattle.season.specs.Private.Tally.{fresh, closed, Room}
+use Rattle.season.proofs.SummaryLaws.{summarized}
 use Rattle.season.proofs.Folding.{fold, with-study, fold-summary, room-fresh, room-added}
 use Rattle.season.proofs.Study as S
 use Rattle.season.proofs.Study.Laws as S′
@@ -185,7 +186,7 @@ module _ {M : Type 1} (𝓤 : URA M) (H : Heap 𝓤) (A : Atoms 𝓤) (W : Given
   exits : (r : Summary) (u : Val) → r ≡ summary ys → ent 𝓤 (⋆ 𝓤 H A (‵ (U.the-row .own r (u ∷ [])) ∷ ‵ (flft κ q) ∷ ‵ Own ∷ [])) (Post u)
   exits r u e =
       qed W (‵ (U.the-row .own r (u ∷ [])) ∷ ‵ (flft κ q) ∷ ‵ Own ∷ []) ∵
-      suffices ! _ (ends-at 𝓤 H A summarize.ended stayed (summarize.clauses 𝓤 H A mem run) W (((κ, tt), (q, tt), tt, (x, tt), at), tt) u r (tt, tt) (tt, tt)) $ says ! e $
+      suffices ! _ (ends-at 𝓤 H A summarize.ended stayed (summarize.clauses 𝓤 H A mem run) W (((κ, tt), (q, tt), tt, (x, tt), at), tt) u r (tt, tt) (tt, tt)) $ says ! (summarized ys r e) $
       nothing ! $ move ! (2 ∷ 0 ∷ []) $ join ! $ frame ! $ nothing ! $ move ! (2 ∷ 0 ∷ []) $ fjoin ! $ frame ! $ done !
 
   -- what the loans of the elements are

@@ -4,7 +4,7 @@ use Prim.Native.Nat.{_-_, _/_}
 use native.Mathlib.Omega.{arith}
 use mathlib.Core.Path.{sym, _∙_}
 use lib.ListN.{length}
-use Rattle.run.specs.Outcome.{areas}
+use Rattle.engine.specs.Outcome.{areas}
 use Rattle.study.proofs.TurnLaws.{Going, going-from-start, turned, goes-on}
 use Rattle.study.proofs.in_turn.Statement.{statement}
 use Rattle.study.proofs.in_turn.Tie as tie

@@ -4,7 +4,7 @@ use lib.IntN.{ℤ, pos}
 use lib.ListN.{length-replicate}
 use borrow.Author.Needs.{needs}
 use Rattle.formula.specs.Formula.{max-entries}
-use Rattle.run.specs.Outcome.{areas}
+use Rattle.engine.specs.Outcome.{areas}
 use Rattle.study.specs.Study.{cause}
 use Rattle.study.proofs.CauseLaws.{some-setting}
 use Rattle.study.proofs.TurnLaws.{untouched, first-cause, refused-so, held, answered-so}

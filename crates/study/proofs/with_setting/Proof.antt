@@ -1,7 +1,7 @@
 -- `study::with_setting` meets its contract. Assumes nothing.
 use native.Mathlib.Omega.{arith}
 use borrow.Author.Needs.{needs}
-use Rattle.run.specs.Outcome.{areas}
+use Rattle.engine.specs.Outcome.{areas}
 use Rattle.study.proofs.TurnLaws.{setting-run, lent-bytes, few-bytes}
 use Rattle.study.proofs.with_setting.Statement.{statement}
 use Rattle.study.proofs.with_setting.Tie as tie

@@ -1,6 +1,8 @@
 -- The reader, told the form of the text. Assumes nothing.
+use lib.ListN.{length}
 use Rattle.text.specs.Reading.{read}
 use Rattle.text.proofs.ClosedRight.{closed-right}
+use Rattle.text.proofs.CausesRight.{text-causes-right}
 use borrow.Author.Needs.{needs}
 use Rattle.text.proofs.read.Statement.{statement}
 use Rattle.text.proofs.read.Tie as tie
@@ -19,7 +21,12 @@ same-length-3 c = search needs
 
 returns : tie.Need-returns
 unfolding read
-returns c = (c .before .before .before .before .before .read-as .ensures, closed-right (c .before .before .before .before .before .before .before .before .before .before .before .before .args .text .now))
+returns c =
+    let given = c .before .before .before .before .before .before .before .before .before .before .before .before .args in
+    let text = given .text .now in
+    let done = c .before .before .before .before .before .read-as .ensures in
+    let causes = text-causes-right text (length (given .kinds .now)) (length (given .literals .now)) (length (given .names .now)) (done .returns) in
+    (done, (closed-right text, causes))
 
 pub read-spec : {M : Type 1} → statement M
 read-spec = tie.close (tie.spec read-as-requires same-length same-length-2 same-length-3 returns)

@@ -1,6 +1,8 @@
 -- The reader, told the form of the text. Assumes nothing.
+use lib.ListN.{length}
 use Rattle.text.specs.Reading.{read-gates}
 use Rattle.text.proofs.GatesRight.{gates-right}
+use Rattle.text.proofs.CausesRight.{gates-causes-right}
 use borrow.Author.Needs.{needs}
 use Rattle.text.proofs.read_gates.Statement.{statement}
 use Rattle.text.proofs.read_gates.Tie as tie
@@ -19,7 +21,12 @@ same-length-3 c = search needs
 
 returns : tie.Need-returns
 unfolding read-gates
-returns c = (c .before .before .before .before .before .read-as .ensures, gates-right (c .before .before .before .before .before .before .before .before .before .before .before .before .args .text .now))
+returns c =
+    let given = c .before .before .before .before .before .before .before .before .before .before .before .before .args in
+    let text = given .text .now in
+    let done = c .before .before .before .before .before .read-as .ensures in
+    let causes = gates-causes-right text (length (given .kinds .now)) (length (given .literals .now)) (length (given .names .now)) (done .returns) in
+    (done, (gates-right text, causes))
 
 pub read-gates-spec : {M : Type 1} → statement M
 read-gates-spec = tie.close (tie.spec read-as-requires same-length same-length-2 same-length-3 returns)

@@ -1,6 +1,6 @@
 -- Assumes nothing.
 use mathlib.Core.Path.{sym, ap}
-use Rattle.text_gates.specs.Steps.{clause-count}
+use Rattle.text_gates.specs.Private.Steps.{clause-count}
 use Rattle.gates.specs.declared.Function.{Function}
 use borrow.Author.Needs.{needs}
 use Rattle.text_gates.proofs.clause_count.Statement.{statement}

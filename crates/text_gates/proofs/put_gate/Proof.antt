@@ -6,7 +6,7 @@ use lib.ListN.{length, take}
 use Rattle.gates.specs.declared.Function.{Function}
 use Rattle.gates.specs.Put.{place-behind, laid}
 use Rattle.text_gates.specs.GateLine.{function-of}
-use Rattle.text_gates.specs.Steps.{clause-count}
+use Rattle.text_gates.specs.Private.Steps.{clause-count}
 use Rattle.named.proofs.Negation.{as-positive}
 use Rattle.text_gates.proofs.GateLineLaws.{put-many, put-wide, put-over, put-full, put-done, count-few, put-entries}
 use borrow.Author.Needs.{needs}

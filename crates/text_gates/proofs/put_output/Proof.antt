@@ -5,7 +5,8 @@ use native.Mathlib.Omega.{arith}
 use borrow.Author.Tests.{ltb-true}
 use lib.IntN.{ℤ, pos}
 use lib.ListN.{length, set, length-set}
-use Rattle.text_gates.proofs.GateLineLaws.{signed-bits, output-unknown, output-over, output-full, output-put}
+use Rattle.named.proofs.Negation.{signed-bits}
+use Rattle.text_gates.proofs.GateLineLaws.{output-unknown, output-over, output-full, output-put}
 use Rattle.text_gates.proofs.put_output.Statement.{statement}
 use Rattle.text_gates.proofs.put_output.Tie as tie
 

@@ -12,7 +12,7 @@ use mir.Syntax.{w32}
 use mir.Val.{ofZ, toZ}
 use Rattle.codes.specs.Codes.{code-of}
 use Rattle.codes.proofs.Words.{bits}
-use Rattle.trimming.specs.Table.{codes}
+use Rattle.trimming.specs.Private.Table.{codes}
 use Rattle.trimming.proofs.CopyLaws.{as-many, Copied, copied-begins, fewer, copied-length, copied-one, passed-one, copied-all}
 use Rattle.trimming.proofs.copy_left.Statement.{statement}
 use Rattle.trimming.proofs.copy_left.Tie as tie

@@ -4,7 +4,7 @@ use Prim.Native.Nat.{_-_}
 use native.Mathlib.Omega.{arith}
 use mathlib.Core.Path.{_≡_, refl, sym, _∙_}
 use lib.ListN.{length}
-use Rattle.trimming.specs.Table.{marked-at, Dropping}
+use Rattle.trimming.specs.Private.Table.{marked-at, Dropping}
 use Rattle.trimming.proofs.DropLaws.{inside, all-dropped, ends-here, turned}
 use Rattle.trimming.proofs.drop_each.Statement.{statement}
 use Rattle.trimming.proofs.drop_each.Tie as tie

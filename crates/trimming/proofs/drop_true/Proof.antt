@@ -6,8 +6,8 @@ use Prim.Native.Nat.{_-_}
 use mathlib.Core.Path.{_≡_, refl, _∙_}
 use lib.ListN.{length, drop}
 use Rattle.trimming_marks.specs.Marks.{first-clause}
-use Rattle.trimming_rules.specs.Rounds.{untrue}
-use Rattle.trimming.specs.Table.{Indexed, true-from}
+use Rattle.trimming_rules.specs.Private.Rounds.{untrue}
+use Rattle.trimming.specs.Private.Table.{Indexed, true-from}
 use Rattle.trimming.proofs.TrueLaws.{untrue-local, true-dropped}
 use Rattle.trimming.proofs.PassLaws.{Passing, passing-begins, passing-more, passing-ends, goes-on}
 use Rattle.trimming.proofs.drop_true.Statement.{statement}

@@ -8,7 +8,7 @@ use lib.ListN.{length, getD, drop}
 use Rattle.formula.specs.Causes.{any}
 use Rattle.trimming_marks.specs.Marks.{first-clause}
 use Rattle.trimming_marks.proofs.Walks.{clause-end, clause-more, clause-past, any-front, any-later}
-use Rattle.trimming.specs.Table.{left-from}
+use Rattle.trimming.specs.Private.Table.{left-from}
 use Rattle.trimming.proofs.has_from.Statement.{statement}
 use Rattle.trimming.proofs.has_from.Tie as tie
 

@@ -6,7 +6,7 @@ use mathlib.Core.Path.{refl}
 use mathlib.Core.List.{List}
 use lib.ListN.{length}
 use Rattle.formula.specs.Formula.{max-unknowns, Clause}
-use Rattle.trimming.specs.Table.{Found}
+use Rattle.trimming.specs.Private.Table.{Found}
 use Rattle.trimming.proofs.PureLaws.{FromHere, pure-found, pure-later, pure-nowhere}
 use Rattle.trimming.proofs.lowest_pure.Statement.{statement}
 use Rattle.trimming.proofs.lowest_pure.Tie as tie

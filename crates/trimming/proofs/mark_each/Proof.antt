@@ -5,7 +5,7 @@ use native.Mathlib.Omega.{arith}
 use Prim.Native.Nat.{ℕ, _-_, _≤_}
 use mathlib.Core.Path.{_≡_, refl, sym, _∙_, ap, subst}
 use lib.ListN.{length, take, drop}
-use Rattle.trimming.specs.Table.{marked-at, Cleared}
+use Rattle.trimming.specs.Private.Table.{marked-at, Cleared}
 use Rattle.trimming.proofs.LoopLaws.{next-name, no-names}
 use Rattle.trimming.proofs.ThinLaws.{clearing-begins, clearing-more}
 use Rattle.trimming.proofs.mark_each.Statement.{statement}

@@ -2,7 +2,7 @@
 -- Assumes nothing.
 use borrow.Author.Needs.{needs}
 use mathlib.Core.Path.{sym, _∙_}
-use Rattle.trimming.specs.Table.{clauses-left}
+use Rattle.trimming.specs.Private.Table.{clauses-left}
 use Rattle.trimming.proofs.NamedLaws.{list-told}
 use Rattle.trimming.proofs.PureLaws.{by-unit, by-none, by-existential, by-universal, code-of-chosen}
 use Rattle.trimming.proofs.next.Statement.{statement}

@@ -9,7 +9,7 @@ use lib.ListN.{length, getD, take, drop}
 use Rattle.formula.specs.Formula.{max-unknowns}
 use Rattle.codes.specs.Codes.{last-code}
 use Rattle.trimming_marks.specs.Marks.{first-clause, unit}
-use Rattle.trimming.specs.Table.{Units, noted-unit}
+use Rattle.trimming.specs.Private.Table.{Units, noted-unit}
 use Rattle.trimming.proofs.LoopLaws.{next-name, no-names, named-stands}
 use Rattle.trimming.proofs.FirstLaws.{units-noted, noted-length, code-small}
 use Rattle.trimming.proofs.note_units.Statement.{statement}

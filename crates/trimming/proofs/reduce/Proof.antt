@@ -7,9 +7,9 @@ use mathlib.Core.Path.{_≡_, refl, sym, _∙_, ap, subst}
 use mathlib.Core.List.{List}
 use lib.ListN.{length, take, drop}
 use Rattle.formula.specs.Formula.{prefix}
-use Rattle.trimming_rules.specs.Rounds.{reduced}
+use Rattle.trimming_rules.specs.Private.Rounds.{reduced}
 use Rattle.trimming_marks.specs.Marks.{first-clause, reducible-from}
-use Rattle.trimming.specs.Table.{marked-at, Units, Pending, Toward, Here}
+use Rattle.trimming.specs.Private.Table.{marked-at, Units, Pending, Toward, Here}
 use Rattle.trimming.proofs.OneLaws.{toward-begins}
 use Rattle.trimming.proofs.LoopLaws.{next-name, name-in, no-names}
 use Rattle.trimming.proofs.AgainLaws.{pending-here, reducing-more, reducing-ends, units-reduced, list-kept}

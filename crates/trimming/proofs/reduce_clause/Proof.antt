@@ -6,7 +6,7 @@ use Prim.Native.Nat.{ℕ, _≤_}
 use mathlib.Core.Path.{sym, _∙_, ap, subst}
 use lib.ListN.{drop}
 use Rattle.trimming_marks.specs.Marks.{first-clause}
-use Rattle.trimming.specs.Table.{marked-at}
+use Rattle.trimming.specs.Private.Table.{marked-at}
 use Rattle.trimming.proofs.ReduceLaws.{two-from}
 use Rattle.trimming.proofs.AgainLaws.{nothing-from}
 use Rattle.trimming.proofs.reduce_clause.Statement.{statement}

@@ -6,7 +6,7 @@ use mathlib.Core.Path.{_≡_, refl, sym, _∙_, ap, subst}
 use mathlib.Core.List.{List}
 use lib.ListN.{length, take, length-set, length-replicate}
 use Rattle.formula.specs.Formula.{max-unknowns, max-entries, prefix}
-use Rattle.trimming.specs.Table.{Pending, Units}
+use Rattle.trimming.specs.Private.Table.{Pending, Units}
 use Rattle.trimming.proofs.LoopLaws.{list-bounds, list-saved, pending-begins, pending-again, standing-still}
 use Rattle.trimming.proofs.CodeLaws.{opposite-bounds}
 use Rattle.trimming.proofs.FirstLaws.{units-begin, units-joined, units-off, units-all, none-noted}

@@ -17,22 +17,38 @@ enum-told : tie.Need-enum-told
 enum-told c = search needs
 
 returns : tie.Need-returns
-returns c = output-refused (c .before .before .before .before .before .args .kinds .now) (c .before .before .before .before .before .args .literals .now) (c .before .before .before .before .before .args .output .now) (c .before .enum-told .given .0 .0) (sym (c .before .before .before .check .ensures .0) ∙ c .before .enum-told .given .1) (c .if1 .taken)
+returns c =
+    let given = c .before .before .before .before .before .args in
+    let told = c .before .enum-told .given in
+    let checked = sym (c .before .before .before .check .ensures .0) ∙ told .1 in
+    output-refused (given .kinds .now) (given .literals .now) (given .output .now) (told .0 .0) checked (c .if1 .taken)
 
-slice-aggregate-over-table : tie.Need-slice-aggregate-over-table
-slice-aggregate-over-table c = search needs
-
-over-table-requires : tie.Need-over-table-requires
-over-table-requires c κs = (accepted (c .before .before .before .before .before .before .before .args .kinds .now) (c .before .before .before .before .before .before .before .args .literals .now) (sym (c .before .before .before .before .before .check .ensures .0) ∙ c .before .before .before .enum-told .given .1), c .before .before .if1 .left, accepted (c .before .before .before .before .before .before .before .args .kinds .now) (c .before .before .before .before .before .before .before .args .literals .now) (sym (c .before .before .before .before .before .check .ensures .0) ∙ c .before .before .before .enum-told .given .1) .few-entries)
+over-output-requires : tie.Need-over-output-requires
+over-output-requires c κs =
+    let given = c .before .before .before .before .before .before .args in
+    let told = c .before .before .enum-told .given in
+    let checked = sym (c .before .before .before .before .check .ensures .0) ∙ told .1 in
+    (accepted (given .kinds .now) (given .literals .now) checked, c .before .if1 .left)
 
 returns-2 : tie.Need-returns-2
-returns-2 c = formula-refused (c .before .before .before .before .before .args .kinds .now) (c .before .before .before .before .before .args .literals .now) (c .before .before .before .before .before .args .output .now) (c .before .cause .given .0 .0) (sym (c .before .before .before .check .ensures .0) ∙ c .before .cause .given .1)
+returns-2 c =
+    let given = c .before .before .before .before .before .args in
+    let told = c .before .cause .given in
+    let checked = sym (c .before .before .before .check .ensures .0) ∙ told .1 in
+    formula-refused (given .kinds .now) (given .literals .now) (given .output .now) (told .0 .0) checked
 
 same-length : tie.Need-same-length
 same-length c = search needs
 
 returns-3 : tie.Need-returns-3
-returns-3 c = answered (c .before .before .before .before .before .before .before .before .before .before .args .kinds .now) (c .before .before .before .before .before .before .before .before .before .before .args .literals .now) (c .before .before .before .before .before .before .before .before .before .before .args .output .now) (c .before .before .before .before .before .before .enum-told .given .0 .0) (sym (c .before .before .before .before .before .before .before .before .check .ensures .0) ∙ c .before .before .before .before .before .before .enum-told .given .1) (c .before .before .before .before .before .if1 .left) (c .before .before .over-table .result) (c .before .before .over-table .last .1 .1 .0) (c .before .before .over-table .ensures .0) (c .before .before .over-table .ensures .1)
+returns-3 c =
+    let given = c .before .before .before .before .before .before .before .before .args in
+    let told = c .before .before .before .before .enum-told .given in
+    let trimming = c .before .over-output in
+    let checked = sym (c .before .before .before .before .before .before .check .ensures .0) ∙ told .1 in
+    let room = c .before .before .before .if1 .left in
+    let end = answered (given .kinds .now) (given .literals .now) (given .output .now) (told .0 .0) checked room in
+    end (trimming .result) (trimming .last .1 .1 .0) (trimming .ensures .0) (trimming .ensures .1)
 
 pub trim-spec : {M : Type 1} → statement M
 trim-spec =
@@ -42,8 +58,7 @@ trim-spec =
     enum-known-cause
     enum-told
     returns
-    slice-aggregate-over-table
-    over-table-requires
+    over-output-requires
     returns-2
     same-length
     returns-3)

@@ -1,4 +1,5 @@
--- `main` hands on what fits: `answer_within` says how many bytes of the buffer it wrote. Assumes nothing.
+-- `main` hands on what fits: the answer says how many bytes of the buffer it wrote. Assumes nothing.
+use native.Mathlib.Omega.{arith}
 use mathlib.Core.Path.{sym}
 use lib.Seq.{length-take-le}
 use borrow.Author.Needs.{needs}
@@ -12,8 +13,14 @@ slice-aggregate-read-full c = search needs
 read-full-requires : tie.Need-read-full-requires
 read-full-requires c κs = search needs
 
+read-on-requires : tie.Need-read-on-requires
+read-on-requires c κs = search needs
+
 slice-aggregate-answer-within : tie.Need-slice-aggregate-answer-within
 slice-aggregate-answer-within c = search needs
+
+add-answer-within : tie.Need-add-answer-within
+add-answer-within c = omega (arith, c .before .before .before .read-full .ensures, c .before .before .before .read-full .kept .1 .0, c .before .read-on .ensures)
 
 slice-aggregate-answer-within-2 : tie.Need-slice-aggregate-answer-within-2
 slice-aggregate-answer-within-2 c = search needs
@@ -22,10 +29,14 @@ answer-within-requires : tie.Need-answer-within-requires
 answer-within-requires c κs = search needs
 
 array-share-prefix-out : tie.Need-array-share-prefix-out
-array-share-prefix-out c = within _ _ (c .before .before .answer-within .ensures .0 .counted) (c .before .before .answer-within .ensures .0 .written)
+array-share-prefix-out c =
+    let put = c .before .before .answer-within .ensures .0 in
+    within _ _ (put .counted) (put .written)
 
 slice-aggregate-write-all : tie.Need-slice-aggregate-write-all
-slice-aggregate-write-all c = sym (length-take-le _ _ (within _ _ (c .before .before .before .answer-within .ensures .0 .counted) (c .before .before .before .answer-within .ensures .0 .written)))
+slice-aggregate-write-all c =
+    let put = c .before .before .before .answer-within .ensures .0 in
+    sym (length-take-le _ _ (within _ _ (put .counted) (put .written)))
 
 write-all-requires : tie.Need-write-all-requires
 write-all-requires c κs = search needs
@@ -39,7 +50,9 @@ main-spec =
     (tie.spec
     slice-aggregate-read-full
     read-full-requires
+    read-on-requires
     slice-aggregate-answer-within
+    add-answer-within
     slice-aggregate-answer-within-2
     answer-within-requires
     array-share-prefix-out

@@ -1,4 +1,5 @@
 -- `main` hands on what fits: `tell` says how many bytes of the buffer it wrote. Assumes nothing.
+use native.Mathlib.Omega.{arith}
 use mathlib.Core.Path.{sym}
 use lib.Seq.{length-take-le}
 use borrow.Author.Needs.{needs}
@@ -11,17 +12,20 @@ slice-aggregate-read-full c = search needs
 read-full-requires : tie.Need-read-full-requires
 read-full-requires c κs = search needs
 
+read-on-requires : tie.Need-read-on-requires
+read-on-requires c κs = search needs
+
 slice-aggregate-read-full-2 : tie.Need-slice-aggregate-read-full-2
 slice-aggregate-read-full-2 c = search needs
 
 read-full-requires-2 : tie.Need-read-full-requires-2
 read-full-requires-2 c κs = search needs
 
-array-share-prefix-input : tie.Need-array-share-prefix-input
-array-share-prefix-input c = search needs
-
 slice-aggregate-tell : tie.Need-slice-aggregate-tell
 slice-aggregate-tell c = search needs
+
+add-tell : tie.Need-add-tell
+add-tell c = omega (arith, c .before .before .before .before .before .before .read-full .ensures, c .before .before .before .before .before .before .read-full .kept .1 .0, c .before .before .before .before .read-on .ensures)
 
 slice-aggregate-tell-2 : tie.Need-slice-aggregate-tell-2
 slice-aggregate-tell-2 c = search needs
@@ -47,10 +51,11 @@ main-spec =
     (tie.spec
     slice-aggregate-read-full
     read-full-requires
+    read-on-requires
     slice-aggregate-read-full-2
     read-full-requires-2
-    array-share-prefix-input
     slice-aggregate-tell
+    add-tell
     slice-aggregate-tell-2
     tell-requires
     array-share-prefix-out

@@ -1,19 +1,26 @@
 -- `main` hands on what fits: `print_gates` says how many bytes of the buffer it wrote. No answer is searched for, since a search would write out the two million
 -- zeros of the file's buffer. Assumes nothing.
-use Prim.Native.Nat.{ℕ, _+_}
-use mathlib.Core.Path.{sym}
+use Prim.Native.Nat.{ℕ}
+use native.Mathlib.Omega.{arith}
+use mathlib.Core.Path.{sym, _∙_}
 use lib.ListN.{length-replicate}
 use lib.Seq.{length-take-le}
-use Rattle.text.specs.Reading.{max-bytes}
+use Rattle.formula.specs.Formula.{work-size}
 use Rattle.report.proofs.Lengths.{within}
 use Rattle.vulzhenn_judge_gates.proofs.main.Statement.{statement}
 use Rattle.vulzhenn_judge_gates.proofs.main.Tie as tie
 
 slice-aggregate-read-full : tie.Need-slice-aggregate-read-full
-slice-aggregate-read-full c = sym (length-replicate {A = ℕ} (max-bytes + 1) 0)
+slice-aggregate-read-full c = sym (length-replicate {A = ℕ} work-size 0)
 
 read-full-requires : tie.Need-read-full-requires
 read-full-requires c κs = tt
+
+read-on-requires : tie.Need-read-on-requires
+read-on-requires c κs = tt
+
+add-size : tie.Need-add-size
+add-size c = omega (arith, c .before .before .read-full .ensures, c .before .before .read-full .kept .1 .0, c .read-on .ensures)
 
 slice-aggregate-read-full-2 : tie.Need-slice-aggregate-read-full-2
 slice-aggregate-read-full-2 c = sym (length-replicate {A = ℕ} 2097133 0)
@@ -21,11 +28,8 @@ slice-aggregate-read-full-2 c = sym (length-replicate {A = ℕ} 2097133 0)
 read-full-requires-2 : tie.Need-read-full-requires-2
 read-full-requires-2 c κs = tt
 
-array-share-prefix-input : tie.Need-array-share-prefix-input
-array-share-prefix-input c = c .before .before .before .before .read-full .ensures .0
-
 slice-aggregate-print-gates : tie.Need-slice-aggregate-print-gates
-slice-aggregate-print-gates c = sym (length-take-le _ _ (c .before .before .before .before .before .read-full .ensures .0))
+slice-aggregate-print-gates c = sym (c .before .before .before .before .before .before .read-full .kept .1 .0 ∙ length-replicate {A = ℕ} work-size 0)
 
 array-share-prefix-file : tie.Need-array-share-prefix-file
 array-share-prefix-file c = c .before .before .read-full2 .ensures .0
@@ -57,9 +61,10 @@ main-spec =
     (tie.spec
     slice-aggregate-read-full
     read-full-requires
+    read-on-requires
+    add-size
     slice-aggregate-read-full-2
     read-full-requires-2
-    array-share-prefix-input
     slice-aggregate-print-gates
     array-share-prefix-file
     slice-aggregate-print-gates-2

@@ -1,4 +1,5 @@
 -- `main` hands on what fits: `answer` says how many bytes of the buffer it wrote. Assumes nothing.
+use native.Mathlib.Omega.{arith}
 use mathlib.Core.Path.{sym}
 use lib.Seq.{length-take-le}
 use borrow.Author.Needs.{needs}
@@ -12,11 +13,14 @@ slice-aggregate-read-full c = search needs
 read-full-requires : tie.Need-read-full-requires
 read-full-requires c κs = search needs
 
-array-share-prefix-input : tie.Need-array-share-prefix-input
-array-share-prefix-input c = search needs
+read-on-requires : tie.Need-read-on-requires
+read-on-requires c κs = search needs
 
 slice-aggregate-answer : tie.Need-slice-aggregate-answer
 slice-aggregate-answer c = search needs
+
+add-answer : tie.Need-add-answer
+add-answer c = omega (arith, c .before .before .before .read-full .ensures, c .before .before .before .read-full .kept .1 .0, c .before .read-on .ensures)
 
 slice-aggregate-answer-2 : tie.Need-slice-aggregate-answer-2
 slice-aggregate-answer-2 c = search needs
@@ -42,8 +46,9 @@ main-spec =
     (tie.spec
     slice-aggregate-read-full
     read-full-requires
-    array-share-prefix-input
+    read-on-requires
     slice-aggregate-answer
+    add-answer
     slice-aggregate-answer-2
     answer-requires
     array-share-prefix-out

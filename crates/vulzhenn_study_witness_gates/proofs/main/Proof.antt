@@ -1,4 +1,5 @@
 -- `main` hands on what fits: `certify_gates` says how many bytes of each buffer it wrote. Assumes nothing.
+use native.Mathlib.Omega.{arith}
 use mathlib.Core.Path.{sym}
 use lib.Seq.{length-take-le}
 use borrow.Author.Needs.{needs}
@@ -12,11 +13,14 @@ slice-aggregate-read-full c = search needs
 read-full-requires : tie.Need-read-full-requires
 read-full-requires c κs = search needs
 
-array-share-prefix-input : tie.Need-array-share-prefix-input
-array-share-prefix-input c = search needs
+read-on-requires : tie.Need-read-on-requires
+read-on-requires c κs = search needs
 
 slice-aggregate-certify-gates : tie.Need-slice-aggregate-certify-gates
 slice-aggregate-certify-gates c = search needs
+
+add-certify-gates : tie.Need-add-certify-gates
+add-certify-gates c = omega (arith, c .before .before .before .read-full .ensures, c .before .before .before .read-full .kept .1 .0, c .before .read-on .ensures)
 
 slice-aggregate-certify-gates-2 : tie.Need-slice-aggregate-certify-gates-2
 slice-aggregate-certify-gates-2 c = search needs
@@ -57,8 +61,9 @@ main-spec =
     (tie.spec
     slice-aggregate-read-full
     read-full-requires
-    array-share-prefix-input
+    read-on-requires
     slice-aggregate-certify-gates
+    add-certify-gates
     slice-aggregate-certify-gates-2
     slice-aggregate-certify-gates-3
     slice-aggregate-certify-gates-4

@@ -6,7 +6,7 @@ use mathlib.Core.List.{_++_}
 use native.Mathlib.Omega.{arith}
 use lib.ListN.{length}
 use Rattle.witness.specs.File.{stands, part, if-stands, two-bytes, rows-field}
-use Rattle.witness.specs.Steps.{Put, head}
+use Rattle.witness.specs.Private.Steps.{Put, head}
 use Rattle.witness.proofs.PutLaws.{length-part, length-head, length-rows-field, put-both}
 use borrow.Author.Needs.{needs}
 use Rattle.witness.proofs.put_all.Statement.{statement}

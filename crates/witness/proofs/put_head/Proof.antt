@@ -6,7 +6,7 @@ use mathlib.Core.List.{[], _∷_, _++_}
 use native.Mathlib.Omega.{arith}
 use lib.ListN.{length}
 use Rattle.witness.specs.File.{stands, part, if-stands, two-bytes}
-use Rattle.witness.specs.Steps.{Put}
+use Rattle.witness.specs.Private.Steps.{Put}
 use Rattle.witness.proofs.PutLaws.{length-part, four, put-both}
 use borrow.Author.Needs.{needs}
 use Rattle.witness.proofs.put_head.Statement.{statement}

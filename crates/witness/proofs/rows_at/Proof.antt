@@ -1,7 +1,8 @@
 -- `witness::rows_at` meets its contract. Assumes nothing.
 use Prim.Native.Nat.{ℕ, _+_, _*_, _-_, _≤_}
-use mathlib.Core.Path.{_≡_, sym, ap, _∙_, subst}
+use mathlib.Core.Path.{_≡_, refl, sym, ap, _∙_, subst}
 use mathlib.Core.Bool.{Bool}
+use mathlib.Core.List.{List}
 use native.Mathlib.Omega.{arith}
 use lib.ListN.{length, take, drop}
 use Rattle.witness.specs.File.{part, if-stands}
@@ -32,10 +33,12 @@ part-result-end c =
 
 returns : tie.Need-returns
 returns c =
-    let at-entry = c .before .before .args in
-    let bytes : at-entry .at + 2 + 16 * at-entry .count - (at-entry .at + 2) ≡ 16 * at-entry .count = omega arith in
-    ap (λ (n : ℕ). take n (drop (at-entry .at + 2) (at-entry .file .now))) bytes
-    ∙ sym (ap (λ (t : Bool). part t (take (16 * at-entry .count) (drop (at-entry .at + 2) (at-entry .file .now)))) (c .before .if1 .taken))
+    let given = c .before .before .args in
+    let rows : ℕ → List ℕ = λ n. take n (drop (given .at + 2) (given .file .now)) in
+    let bytes : given .at + 2 + 16 * given .count - (given .at + 2) ≡ 16 * given .count = omega arith in (
+      (refl, rw (c .before .if1 .taken) (omega arith)),
+      ap rows bytes ∙ sym (ap (λ (t : Bool). part t (rows (16 * given .count))) (c .before .if1 .taken)),
+    )
 
 sub-result-2 : tie.Need-sub-result-2
 sub-result-2 c = search needs
@@ -47,7 +50,7 @@ part-result-end-2 : tie.Need-part-result-end-2
 part-result-end-2 c = search needs
 
 returns-2 : tie.Need-returns-2
-returns-2 c = search needs
+returns-2 c = ((refl, rw (c .before .if1 .left) (omega arith)), rw (c .before .if1 .left))
 
 pub rows-at-spec : {M : Type 1} → statement M
 rows-at-spec =

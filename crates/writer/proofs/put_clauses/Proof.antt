@@ -7,7 +7,7 @@ use Rattle.writer.proofs.PartLaws.{next-entry, no-entry}
 use Rattle.writer.proofs.PutLaws.{Left, left-all, left-next, left-room, left-ends}
 use Rattle.named.specs.Named.{signed}
 use Rattle.writing.specs.Writing.{clause-lines}
-use Rattle.writer.specs.Steps.{entry}
+use Rattle.writer.specs.Private.Steps.{entry}
 use Rattle.writer.proofs.put_clauses.Statement.{statement}
 use Rattle.writer.proofs.put_clauses.Tie as tie
 

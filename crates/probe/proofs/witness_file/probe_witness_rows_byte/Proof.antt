@@ -14,12 +14,12 @@ shared-slice-read-result : tie.Need-shared-slice-read-result
 shared-slice-read-result c = search needs
 
 returns : tie.Need-returns
-returns c = ap (λ (l : List ℕ). getD l (c .before .before .before .before .args .j) 0) (c .before .before .rows .ensures)
+returns c = ap (λ (l : List ℕ). getD l (c .before .before .before .before .args .j) 0) (c .before .before .rows .ensures .0)
 
 returns-2 : tie.Need-returns-2
 returns-2 c =
     sym (List·getD-eq-default (c .before .rows .result .now) 0 (c .if1 .left))
-    ∙ ap (λ (l : List ℕ). getD l (c .before .before .before .args .j) 0) (c .before .rows .ensures)
+    ∙ ap (λ (l : List ℕ). getD l (c .before .before .before .args .j) 0) (c .before .rows .ensures .0)
 
 pub probe-witness-rows-byte-spec : {M : Type 1} → statement M
 probe-witness-rows-byte-spec =

@@ -9,7 +9,7 @@ rows-requires : tie.Need-rows-requires
 rows-requires c κs = search needs
 
 returns : tie.Need-returns
-returns c = ap length (c .rows .ensures)
+returns c = ap length (c .rows .ensures .0)
 
 pub probe-witness-rows-length-spec : {M : Type 1} → statement M
 probe-witness-rows-length-spec = tie.close (tie.spec rows-requires returns)

@@ -4,7 +4,7 @@ use borrow.Author.Tests.{le-leb, lt-leb}
 use native.Mathlib.Omega.{arith}
 use lib.Dec.{eqb}
 use Rattle.season.specs.Season.{max-studies}
-use Rattle.season.specs.Tally.{added}
+use Rattle.season.specs.Private.Tally.{added}
 use Rattle.season.proofs.Fits.{count-fits, sum-fits}
 use Rattle.season.proofs.tally.add.Statement.{statement}
 use Rattle.season.proofs.tally.add.Tie as tie

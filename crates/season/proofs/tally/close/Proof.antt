@@ -1,6 +1,6 @@
 -- `season::tally::close` meets its contract: the tests stand in the order of the causes. Assumes nothing.
 use mathlib.Core.Path.{refl}
-use Rattle.season.specs.Tally.{closed}
+use Rattle.season.specs.Private.Tally.{closed}
 use Rattle.season.proofs.Closing.{first-cause, later, here, next}
 use Rattle.season.proofs.tally.close.Statement.{statement}
 use Rattle.season.proofs.tally.close.Tie as tie

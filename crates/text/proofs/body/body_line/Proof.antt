@@ -2,7 +2,7 @@
 use mathlib.Core.Path.{refl, sym, _∙_}
 use native.Mathlib.Omega.{arith}
 use Rattle.lines.specs.Shapes.{is-prefix}
-use Rattle.text.specs.Steps.{held}
+use Rattle.text.specs.Private.Steps.{held}
 use Rattle.text.proofs.BodyLaws.{resized, none-read, marked-bound, body-prefix, body-none, gate-shape, gate-item, clause-item}
 use borrow.Author.Needs.{needs}
 use Rattle.text.proofs.body.body_line.Statement.{statement}

@@ -6,7 +6,7 @@ use borrow.Author.Tests.{lt-ltb, le-ltb}
 use native.Mathlib.Numerals.{add-one}
 use lib.ListN.{take}
 use Rattle.text.specs.Reading.{clause-line, with-entries}
-use Rattle.text.specs.Steps.{free-in, held}
+use Rattle.text.specs.Private.Steps.{free-in, held}
 use Rattle.text.proofs.BodyLaws.{resized, clause-read-unless}
 use borrow.Author.Needs.{needs}
 use Rattle.text.proofs.body.clause_line.Statement.{statement}

@@ -4,7 +4,7 @@ use mathlib.Core.List.{[]}
 use native.Mathlib.Omega.{arith}
 use lib.ListN.{take}
 use Rattle.text.specs.Reading.{State, prefix-line, kind-of-word, bind-all}
-use Rattle.text.specs.Steps.{held}
+use Rattle.text.specs.Private.Steps.{held}
 use borrow.Author.Needs.{needs}
 use Rattle.text.proofs.body.prefix_line.Statement.{statement}
 use Rattle.text.proofs.body.prefix_line.Tie as tie

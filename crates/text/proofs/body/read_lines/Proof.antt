@@ -10,7 +10,7 @@ use lib.ListN.{length, drop, length-drop}
 use Rattle.named.specs.Named.{max-places}
 use Rattle.lines.specs.Lines.{lines}
 use Rattle.text.specs.Reading.{body}
-use Rattle.text.specs.Steps.{Marked, placed-in, Sized, form-at, fresh, held, outcome}
+use Rattle.text.specs.Private.Steps.{Marked, placed-in, Sized, form-at, fresh, held, outcome}
 use Rattle.lines.proofs.Spans.{before-le}
 use Rattle.lines.proofs.LineLaws.{lines-line, lines-rest, lines-none}
 use Rattle.text.proofs.Places.{marked-none}

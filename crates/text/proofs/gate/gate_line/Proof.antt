@@ -6,7 +6,7 @@ use Rattle.lines.specs.Lines.{words}
 use Rattle.lines.specs.Numbers.{number}
 use Rattle.lines.proofs.ShapeLaws.{taken-word}
 use Rattle.text.specs.Reading.{gate-line}
-use Rattle.text.specs.Steps.{held}
+use Rattle.text.specs.Private.Steps.{held}
 use Rattle.text.proofs.BodyLaws.{resized}
 use Rattle.text.proofs.GateStateLaws.{line-put}
 use Rattle.text.proofs.GateLineRead.{name-refused, clauses-faulty, gate-read}

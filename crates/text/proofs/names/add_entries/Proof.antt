@@ -13,7 +13,7 @@ use Rattle.lines.specs.Lines.{words}
 use Rattle.lines.proofs.Pieces.{words-none}
 use Rattle.named.specs.Closing.{closed-names}
 use Rattle.text.specs.Reading.{State, went, literal-cause, with-entries, add-entries}
-use Rattle.text.specs.Steps.{Marked, free-in, placed-in}
+use Rattle.text.specs.Private.Steps.{Marked, free-in, placed-in}
 use Rattle.text.proofs.NameLaws.{add-refused, add-taken}
 use Rattle.text.proofs.InsertLaws.{length-placed}
 use Rattle.text.proofs.names.add_entries.Statement.{statement}

@@ -8,7 +8,7 @@ use lib.Seq.{length-take-le}
 use Rattle.formula.specs.Formula.{max-unknowns}
 use Rattle.lines.specs.Lines.{words}
 use Rattle.text.specs.Reading.{State, went, with-prefix, bind-all}
-use Rattle.text.specs.Steps.{Marked}
+use Rattle.text.specs.Private.Steps.{Marked}
 use Rattle.lines.proofs.Pieces.{words-none}
 use Rattle.text.proofs.NameLaws.{bind-ended, bind-refused, bind-taken}
 use Rattle.text.proofs.Places.{marked-more}

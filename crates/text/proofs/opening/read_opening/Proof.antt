@@ -6,7 +6,7 @@ use native.Mathlib.Omega.{arith}
 use lib.ListN.{length, drop, length-drop}
 use Rattle.lines.proofs.Spans.{before-le}
 use Rattle.text.specs.Reading.{scan, lent-well}
-use Rattle.text.specs.Steps.{fresh}
+use Rattle.text.specs.Private.Steps.{fresh}
 use Rattle.text.proofs.ProblemLaws.{scan-lent, lent-sizes, problem-none, problem-refused, problem-taken}
 use borrow.Author.Needs.{needs}
 use Rattle.text.proofs.opening.read_opening.Statement.{statement}

@@ -2,7 +2,7 @@
 use mathlib.Core.Path.{sym, _∙_}
 use Rattle.lines.specs.Lines.{words}
 use Rattle.text.specs.Reading.{problem-cause}
-use Rattle.text.specs.Steps.{range-cause}
+use Rattle.text.specs.Private.Steps.{range-cause}
 use Rattle.text.proofs.ProblemLaws.{range-small, output-form}
 use borrow.Author.Needs.{needs}
 use Rattle.text.proofs.opening.read_problem.Statement.{statement}

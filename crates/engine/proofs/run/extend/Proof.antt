@@ -1,0 +1,69 @@
+-- `run::extend` meets its contract. Assumes nothing.
+use mathlib.Core.Path.{ap, _∙_}
+use Rattle.growth.specs.declared.Growth.{Growth}
+use Rattle.engine.specs.Private.Growing.{step-of}
+use Rattle.engine.proofs.run.ExtendLaws.{no-model-extended, model-extended}
+use Rattle.engine.proofs.run.CountingLaws.{packs}
+use borrow.Author.Needs.{needs}
+use Rattle.engine.proofs.run.extend.Statement.{statement}
+use Rattle.engine.proofs.run.extend.Tie as tie
+
+finds-requires : tie.Need-finds-requires
+finds-requires c κs = search needs
+
+same-length : tie.Need-same-length
+same-length c = search needs
+
+same-length-2 : tie.Need-same-length-2
+same-length-2 c = search needs
+
+returns : tie.Need-returns
+returns c =
+    let given = c .before .before .before .before .before .before .before .before .before .before .before .before .before .before .before .args in (
+      λ literals of led from t from-found found found-marks passes counted counted-t held held-t long.
+          no-model-extended (given .kinds .now) literals (given .preferences .now) (given .others .now) (given .other-count) (given .universal) (given .work .now) from from-found passes counted held long
+          (given .mark) (given .rows .now) (given .marks .now) (given .count) t found found-marks counted-t held-t
+          _ _ (c .before .before .before .finds .ensures .0 literals of led) (c .before .before .before .finds .ensures .1 literals of led) (c .if1 .left),
+      λ literals of led. packs (given .kinds .now) literals (given .preferences .now) (given .others .now) (given .other-count) (given .universal) (given .work .now) _ (c .before .before .before .finds .ensures .1 literals of led),
+    )
+
+grow-requires : tie.Need-grow-requires
+grow-requires c κs = search needs
+
+after-growth-requires : tie.Need-after-growth-requires
+after-growth-requires c κs = search needs
+
+same-length-3 : tie.Need-same-length-3
+same-length-3 c = search needs
+
+same-length-4 : tie.Need-same-length-4
+same-length-4 c = search needs
+
+same-length-5 : tie.Need-same-length-5
+same-length-5 c = search needs
+
+returns-2 : tie.Need-returns-2
+returns-2 c =
+    let given = c .before .before .before .before .before .before .before .before .before .before .before .before .before .before .before .before .before .before .before .before .before .before .before .before .args in (
+      λ literals of led from t from-found found found-marks passes counted counted-t held held-t long.
+          model-extended (given .kinds .now) literals (given .preferences .now) (given .others .now) (given .other-count) (given .universal) (given .work .now) from from-found passes counted held long
+          (given .mark) (given .rows .now) (given .marks .now) (given .count) t found found-marks counted-t held-t
+          _ _ (c .before .before .before .before .before .before .before .before .before .before .before .before .finds .ensures .0 literals of led) (c .before .before .before .before .before .before .before .before .before .before .before .before .finds .ensures .1 literals of led) (c .before .before .before .before .before .before .before .before .before .if1 .taken)
+          _ _ _ (c .after-growth .ensures ∙ ap (λ (g : Growth). step-of g (given .count)) (c .before .before .before .before .before .grow .ensures .0)) (c .before .before .before .before .before .grow .ensures .1 .0) (c .before .before .before .before .before .grow .ensures .1 .1 .0),
+      λ literals of led. packs (given .kinds .now) literals (given .preferences .now) (given .others .now) (given .other-count) (given .universal) (given .work .now) _ (c .before .before .before .before .before .before .before .before .before .before .before .before .finds .ensures .1 literals of led),
+    )
+
+pub extend-spec : {M : Type 1} → statement M
+extend-spec =
+    tie.close
+    (tie.spec
+    finds-requires
+    same-length
+    same-length-2
+    returns
+    grow-requires
+    after-growth-requires
+    same-length-3
+    same-length-4
+    same-length-5
+    returns-2)

@@ -1,0 +1,24 @@
+-- The laws of the search.
+pub mod BitLaws
+pub mod ClauseLaws
+pub mod ListLaws
+pub mod RowLaws
+pub mod OpenLaws
+pub mod LiveRows
+pub mod TermLaws
+pub mod HeldLaws
+pub mod HeldSteps
+pub mod CallLaws
+pub mod LiveLaws
+pub mod MemoryLaws
+pub mod StepLaws
+pub mod SolveLaws
+pub mod SearchSteps
+pub mod Rows
+pub mod ForceLaws
+pub mod ReasonLaws
+pub mod TopLaws
+pub mod GoalLaws
+pub mod WholeLaws
+pub mod OutcomeLaws
+pub mod PreparedLaws

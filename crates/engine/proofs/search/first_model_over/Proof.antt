@@ -1,0 +1,104 @@
+-- `first_model_over` meets its contract. Assumes nothing.
+use Prim.Native.Nat.{_-_}
+use mathlib.Core.Path.{sym, _∙_, ap}
+use borrow.Author.Needs.{needs}
+use lib.ListN.{length}
+use Rattle.expansion.specs.OtherSide.{side-of}
+use Rattle.engine.proofs.search.OutcomeLaws.{universals-most, others-existential, others-universal}
+use Rattle.engine.proofs.search.PreparedLaws.{one, tables-lent, over-refused-kinds, over-refused-tables, over-answered}
+use native.Mathlib.Omega.{arith}
+use Rattle.engine.proofs.search.first_model_over.Statement.{statement}
+use Rattle.engine.proofs.search.first_model_over.Tie as tie
+
+slice-aggregate-check : tie.Need-slice-aggregate-check
+slice-aggregate-check c = search needs
+
+check-requires : tie.Need-check-requires
+check-requires c κs = tt
+
+enum-known-cause : tie.Need-enum-known-cause
+enum-known-cause c = search needs
+
+enum-known-formula : tie.Need-enum-known-formula
+enum-known-formula c = search needs
+
+fit-requires : tie.Need-fit-requires
+fit-requires c κs = tt
+
+returns : tie.Need-returns
+returns c =
+    let q = c .before .before .before .before .before .before .before .before .before .before .before .before .before .before .before .args in
+    over-refused-tables (q .kinds .now) (q .codes .now) (q .index .now) (q .terms .now) (q .preferences .now) (q .own .now) (q .known) (q .rows .now) (q .count) (q .universal) (q .work .now)
+    (c .before .before .before .formula .given .0 .0) (sym (c .before .before .before .before .before .check .ensures .0) ∙ c .before .before .before .formula .given .1) (sym (c .before .fit .ensures) ∙ c .if1 .left)
+
+sub-others : tie.Need-sub-others
+sub-others c = universals-most (c .before .before .before .before .before .before .before .before .before .before .before .before .before .before .before .before .args .kinds .now) one (c .before .before .before .before .formula .given .0 .0) (sym (c .before .before .before .before .before .before .check .ensures .0) ∙ c .before .before .before .before .formula .given .1)
+
+over-rows-requires : tie.Need-over-rows-requires
+over-rows-requires c κs =
+    let formula = c .before .before .before .before .before .formula .given .0 .0 in
+    let passed = sym (c .before .before .before .before .before .before .before .check .ensures .0) ∙ c .before .before .before .before .before .formula .given .1 in
+    record {
+      tables = tables-lent (c .before .before .before .before .before .before .before .before .before .before .before .before .before .before .before .before .before .args .kinds .now) (c .before .before .before .before .before .before .before .before .before .before .before .before .before .before .before .before .before .args .codes .now) (c .before .before .before .before .before .before .before .before .before .before .before .before .before .before .before .before .before .args .index .now) formula passed (sym (c .before .before .before .fit .ensures) ∙ c .before .before .if1 .taken);
+      others-known = others-universal (c .before .before .before .before .before .before .before .before .before .before .before .before .before .before .before .before .before .args .kinds .now) one formula passed;
+      side-fits = omega arith;
+    }
+
+over-rows-requires-2 : tie.Need-over-rows-requires-2
+over-rows-requires-2 c κs =
+    let formula = c .before .before .before .before .before .formula .given .0 .0 in
+    let passed = sym (c .before .before .before .before .before .before .before .check .ensures .0) ∙ c .before .before .before .before .before .formula .given .1 in
+    record {
+      tables = tables-lent (c .before .before .before .before .before .before .before .before .before .before .before .before .before .before .before .before .before .args .kinds .now) (c .before .before .before .before .before .before .before .before .before .before .before .before .before .before .before .before .before .args .codes .now) (c .before .before .before .before .before .before .before .before .before .before .before .before .before .before .before .before .before .args .index .now) formula passed (sym (c .before .before .before .fit .ensures) ∙ c .before .before .if1 .taken);
+      others-known = others-existential (c .before .before .before .before .before .before .before .before .before .before .before .before .before .before .before .before .before .args .kinds .now) one formula passed;
+      side-fits = omega arith;
+    }
+
+returns-2 : tie.Need-returns-2
+returns-2 c =
+    let q = c .before .before .before .before .before .before .before .before .before .before .before .before .before .args in
+    over-refused-kinds (q .kinds .now) (q .codes .now) (q .index .now) (q .terms .now) (q .preferences .now) (q .own .now) (q .known) (q .rows .now) (q .count) (q .universal) (q .work .now) _
+    (sym (c .before .before .before .check .ensures .0) ∙ c .before .cause .given .1)
+
+same-length : tie.Need-same-length
+same-length c = c .before .before .over-rows .kept .1 .1 .1 .1 .1 .1 .1 .1 .1 .1 .1 .0
+
+returns-3 : tie.Need-returns-3
+returns-3 c =
+    let q = c .before .before .before .before .before .before .before .before .before .before .before .before .before .before .before .before .before .before .before .before .args in
+    let formula = c .before .before .before .before .before .before .before .before .formula .given .0 .0 in
+    let passed = sym (c .before .before .before .before .before .before .before .before .before .before .check .ensures .0) ∙ c .before .before .before .before .before .before .before .before .formula .given .1 in
+    over-answered (q .kinds .now) (q .codes .now) (q .index .now) (q .terms .now) (q .preferences .now) (q .own .now) (q .known) (q .rows .now) (q .count) (q .universal) (q .work .now) formula passed
+    (sym (c .before .before .before .before .before .before .fit .ensures) ∙ c .before .before .before .before .before .if1 .taken) (length (q .kinds .now) - formula .universals) 1 (ap side-of (sym (c .before .before .before .before .if2 .taken))) (others-universal (q .kinds .now) one formula passed) _ _
+    (c .before .before .over-rows .ensures)
+
+same-length-2 : tie.Need-same-length-2
+same-length-2 c = c .before .before .over-rows2 .kept .1 .1 .1 .1 .1 .1 .1 .1 .1 .1 .1 .0
+
+returns-4 : tie.Need-returns-4
+returns-4 c =
+    let q = c .before .before .before .before .before .before .before .before .before .before .before .before .before .before .before .before .before .before .before .before .args in
+    let formula = c .before .before .before .before .before .before .before .before .formula .given .0 .0 in
+    let passed = sym (c .before .before .before .before .before .before .before .before .before .before .check .ensures .0) ∙ c .before .before .before .before .before .before .before .before .formula .given .1 in
+    over-answered (q .kinds .now) (q .codes .now) (q .index .now) (q .terms .now) (q .preferences .now) (q .own .now) (q .known) (q .rows .now) (q .count) (q .universal) (q .work .now) formula passed
+    (sym (c .before .before .before .before .before .before .fit .ensures) ∙ c .before .before .before .before .before .if1 .taken) (formula .universals) 0 (ap side-of (sym (c .before .before .before .before .if2 .left))) (others-existential (q .kinds .now) one formula passed) _ _
+    (c .before .before .over-rows2 .ensures)
+
+pub first-model-over-spec : {M : Type 1} → statement M
+first-model-over-spec =
+    tie.close
+    (tie.spec
+    slice-aggregate-check
+    check-requires
+    enum-known-cause
+    enum-known-formula
+    fit-requires
+    returns
+    sub-others
+    over-rows-requires
+    over-rows-requires-2
+    returns-2
+    same-length
+    returns-3
+    same-length-2
+    returns-4)

@@ -1,0 +1,100 @@
+-- `force::visit` meets its contract. The invariant: no look has failed. Assumes nothing.
+use Prim.Native.Nat.{_≤_, _-_}
+use mathlib.Core.Path.{_∙_}
+use mathlib.Core.Logic.{⊎-elim}
+use native.Mathlib.Omega.{arith}
+use Rattle.engine.specs.Private.Steps.{Indexed}
+use Rattle.engine.proofs.search.ForceLaws.{Going, going-start, going-then, going-at, going-ends, lent-still, lent-starts}
+use Rattle.engine.proofs.search.force.visit.Statement.{statement}
+use Rattle.engine.proofs.search.force.visit.Tie as tie
+
+abbrev Inv-loop : tie.InvT-loop
+Inv-loop splits codes work₀ sets₀ index mark lo hi k from to i₀ work sets i = (from ≤ i) × Going (Indexed 0 codes index) splits codes lo hi mark work₀ work sets₀ sets
+
+abbrev μ-loop : tie.MeasureT-loop
+μ-loop splits codes work₀ sets₀ index mark lo hi k from to i₀ work sets i = to - i
+
+loop-holds : tie.Need-loop-holds Inv-loop μ-loop
+loop-holds c = (omega arith, going-start)
+
+level-requires : tie.Need-level-requires Inv-loop μ-loop
+level-requires c κs = tt
+
+value-requires : tie.Need-value-requires Inv-loop μ-loop
+value-requires c κs = (omega arith, omega arith, omega arith)
+
+shortened-requires : tie.Need-shortened-requires Inv-loop μ-loop
+shortened-requires c κs = omega arith
+
+mul-wide16 : tie.Need-mul-wide16 Inv-loop μ-loop
+mul-wide16 c = omega arith
+
+shared-slice-read-wide16 : tie.Need-shared-slice-read-wide16 Inv-loop μ-loop
+shared-slice-read-wide16 c = omega (arith, c .before .before .before .before .before .before .before .before .before .before .before .before .before .before .pre .0 .index-lent)
+
+wide16-requires : tie.Need-wide16-requires Inv-loop μ-loop
+wide16-requires c κs = tt
+
+list-end-requires : tie.Need-list-end-requires Inv-loop μ-loop
+list-end-requires c κs = (c .before .before .before .before .before .before .before .before .before .before .before .before .before .before .before .pre .0 .index-lent, omega arith)
+
+visit-row-requires : tie.Need-visit-row-requires Inv-loop μ-loop
+visit-row-requires c κs = (lent-still (c .before .before .before .before .before .before .before .before .before .before .before .before .loop .inv .1) (c .before .before .before .before .before .before .before .before .before .before .before .before .before .before .before .before .before .before .pre .0), (c .before .before .list-end .ensures .0, (omega arith, omega arith, omega arith)))
+
+same-length : tie.Need-same-length Inv-loop μ-loop
+same-length c = c .before .before .before .before .before .visit-row .kept .1 .1 .0 ∙ c .before .before .before .before .before .before .before .before .before .before .before .before .before .before .before .before .before .before .loop .inv .1 .work
+
+same-length-2 : tie.Need-same-length-2 Inv-loop μ-loop
+same-length-2 c = c .before .before .before .before .before .visit-row .kept .1 .1 .1 .0 ∙ c .before .before .before .before .before .before .before .before .before .before .before .before .before .before .before .before .before .before .loop .inv .1 .sets
+
+returns : tie.Need-returns Inv-loop μ-loop
+returns c = going-ends (c .before .before .before .before .before .before .before .before .before .before .before .before .before .before .before .before .before .before .loop .inv .1) (c .before .before .before .before .before .visit-row .last .1 .1 .0) (c .before .before .before .before .before .visit-row .last .1 .1 .1 .0) (c .before .before .before .before .before .visit-row .result) (λ listed. c .before .before .before .before .before .visit-row .ensures (lent-starts (c .before .before .before .before .before .before .before .before .before .before .before .before .before .before .before .before .before .before .before .before .before .before .before .before .pre .0) listed (c .before .before .before .before .before .before .before .before .before .before .before .shortened .result) _ _ (omega arith) (c .before .before .before .before .before .before .before .before .before .wide16 .ensures) (c .before .before .before .before .before .before .before .before .list-end .ensures .1))) (c .if2 .left)
+
+add-i : tie.Need-add-i Inv-loop μ-loop
+add-i c = omega arith
+
+loop-less : tie.Need-loop-less Inv-loop μ-loop
+loop-less c = omega arith
+
+loop-again : tie.Need-loop-again Inv-loop μ-loop
+loop-again c = (
+  omega arith,
+  ⊎-elim
+      (λ w. going-at (going-then (c .before .before .before .before .loop .inv .1) (w .9 .result) (λ listed. w .9 .ensures (lent-starts (c .before .before .before .before .before .before .before .before .before .before .pre .0) listed (w .3 .result) _ _ (omega arith) (w .5 .ensures) (w .6 .ensures .1))) (w .14 .taken) (w .9 .kept .1 .1 .0) (w .9 .kept .1 .1 .1 .0)) (w .15) (w .16))
+      (λ w. going-at (c .before .before .before .before .loop .inv .1) (w .1) (w .2))
+      (c .if1 .came),
+)
+
+same-length-3 : tie.Need-same-length-3 Inv-loop μ-loop
+same-length-3 c = c .before .loop .inv .1 .work
+
+same-length-4 : tie.Need-same-length-4 Inv-loop μ-loop
+same-length-4 c = c .before .loop .inv .1 .sets
+
+returns-2 : tie.Need-returns-2 Inv-loop μ-loop
+returns-2 c = c .before .loop .inv .1 .settles
+
+pub visit-spec : {M : Type 1} → statement M
+visit-spec =
+    tie.close
+    (tie.spec
+    Inv-loop
+    μ-loop
+    loop-holds
+    level-requires
+    value-requires
+    shortened-requires
+    mul-wide16
+    shared-slice-read-wide16
+    wide16-requires
+    list-end-requires
+    visit-row-requires
+    same-length
+    same-length-2
+    returns
+    add-i
+    loop-less
+    loop-again
+    same-length-3
+    same-length-4
+    returns-2)

@@ -1,0 +1,27 @@
+-- `is_passed` meets its contract. Assumes nothing.
+use mathlib.Core.Path.{sym, _∙_}
+use Rattle.engine.proofs.search.TermLaws.{term-closed, term-passed}
+use borrow.Author.Needs.{needs}
+use Rattle.engine.proofs.search.live_rows.is_passed.Statement.{statement}
+use Rattle.engine.proofs.search.live_rows.is_passed.Tie as tie
+
+is-open-requires : tie.Need-is-open-requires
+is-open-requires c κs = search needs
+
+first-requires : tie.Need-first-requires
+first-requires c κs = search needs
+
+is-met-requires : tie.Need-is-met-requires
+is-met-requires c κs = search needs
+
+same-length : tie.Need-same-length
+same-length c = search needs
+
+returns : tie.Need-returns
+returns c = term-passed _ _ _ _ _ (c .before .before .before .before .before .before .before .before .before .before .before .before .args .t) (c .before .before .before .first .result) _ _ (c .before .before .before .first .ensures) (c .before .before .is-met .ensures)
+
+returns-2 : tie.Need-returns-2
+returns-2 c = term-closed _ _ _ _ _ _ _ (sym (c .before .is-open .ensures) ∙ c .if1 .left)
+
+pub is-passed-spec : {M : Type 1} → statement M
+is-passed-spec = tie.close (tie.spec is-open-requires first-requires is-met-requires same-length returns returns-2)

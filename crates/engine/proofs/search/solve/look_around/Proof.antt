@@ -1,0 +1,46 @@
+-- `solve::look_around` meets its contract: each side's own step settles the group. Assumes nothing.
+use mathlib.Core.Path.{_≡_}
+use native.Mathlib.Omega.{arith}
+use lib.ListN.{length}
+use Rattle.engine.proofs.search.ForceLaws.{lent-existential}
+use Rattle.engine.proofs.search.LiveLaws.{group-checked}
+use borrow.Author.Needs.{needs}
+use Rattle.engine.proofs.search.solve.look_around.Statement.{statement}
+use Rattle.engine.proofs.search.solve.look_around.Tie as tie
+
+check-given-requires : tie.Need-check-given-requires
+check-given-requires c κs = tt
+
+survey-requires : tie.Need-survey-requires
+survey-requires c κs = let existential : c .before .before .before .before .before .before .before .before .before .before .args .side ≡ 0 = (let p = c .before .before .before .before .before .before .before .before .before .before .pre in omega arith) in lent-existential existential (c .before .before .before .before .before .before .before .before .before .before .pre .0)
+
+same-length : tie.Need-same-length
+same-length c = search needs
+
+same-length-2 : tie.Need-same-length-2
+same-length-2 c = search needs
+
+returns : tie.Need-returns
+returns c = rw (c .before .before .before .before .before .if1 .taken) (λ _. group-checked (c .before .before .before .before .before .before .before .before .before .before .before .before .before .args .kinds .now) (c .before .before .before .before .before .before .before .before .before .before .before .before .before .args .splits .now) (c .before .before .before .before .before .before .before .before .before .before .before .before .before .args .codes .now) (c .before .before .before .before .before .before .before .before .before .before .before .before .before .args .opened .now) 0 (length (c .before .before .before .before .before .before .before .before .before .before .before .before .before .args .splits .now)) 1 _ _ _ _ (c .before .before .before .before .before .before .before .before .before .before .before .before .before .pre .1 .0) (c .before .before .check-given .ensures))
+
+same-length-3 : tie.Need-same-length-3
+same-length-3 c = search needs
+
+same-length-4 : tie.Need-same-length-4
+same-length-4 c = search needs
+
+returns-2 : tie.Need-returns-2
+returns-2 c = let existential : c .before .before .before .before .before .before .before .before .before .before .before .before .before .before .before .args .side ≡ 0 = omega arith in rw existential (λ listed P k v seen. c .before .before .before .before .survey .ensures listed P (c .before .before .before .before .before .before .before .before .before .before .before .before .before .before .before .args .kinds .now) k v (seen .fits))
+
+pub look-around-spec : {M : Type 1} → statement M
+look-around-spec =
+    tie.close
+    (tie.spec
+    check-given-requires
+    survey-requires
+    same-length
+    same-length-2
+    returns
+    same-length-3
+    same-length-4
+    returns-2)

@@ -1,0 +1,64 @@
+-- `search_terms::fill` meets its contract. The invariant: the rows of the words passed are done. Assumes nothing.
+use Rattle.engine.specs.Private.TermTables.{row-words}
+use Rattle.engine.proofs.search.OpenLaws.{filled-none, filled-more}
+use Rattle.engine.specs.Private.TermSteps.{Filled}
+use Rattle.codes.specs.Private.Clauses.{Coded}
+use lib.ListN.{length}
+use mathlib.Core.Path.{_≡_, subst}
+use native.Mathlib.Omega.{arith}
+use Prim.Native.Nat.{ℕ, _-_, _*_, _≤_}
+use Rattle.engine.proofs.search.term_table.fill.Statement.{statement}
+use Rattle.engine.proofs.search.term_table.fill.Tie as tie
+
+abbrev Inv-loop : tie.InvT-loop
+Inv-loop kinds codes terms work count misses₀ opened₀ w₀ misses opened w = (length misses ≡ length misses₀) × (length opened ≡ length opened₀) × (w ≤ row-words) × ((m : ℕ) → m ≤ count → m ≤ 64 * w → Coded (length kinds) codes → Filled kinds codes terms work m opened)
+
+abbrev μ-loop : tie.MeasureT-loop
+μ-loop kinds codes terms work count misses₀ opened₀ w₀ misses opened w = count - w
+
+loop-holds : tie.Need-loop-holds Inv-loop μ-loop
+loop-holds c = (omega arith, omega arith, omega arith, λ m a b coded. subst (λ (n : ℕ). Filled (c .before .before .before .before .before .before .args .kinds .now) (c .before .before .before .before .before .before .args .codes .now) (c .before .before .before .before .before .before .args .terms .now) (c .before .before .before .before .before .before .args .work .now) n (c .before .before .before .before .before .before .args .opened .now)) (omega arith) (filled-none (c .before .before .before .before .before .before .args .kinds .now) (c .before .before .before .before .before .before .args .codes .now) (c .before .before .before .before .before .before .args .terms .now) (c .before .before .before .before .before .before .args .work .now) (c .before .before .before .before .before .before .args .opened .now)))
+
+mul-loop : tie.Need-mul-loop Inv-loop μ-loop
+mul-loop c = omega arith
+
+look-requires : tie.Need-look-requires Inv-loop μ-loop
+look-requires c κs = (omega arith, omega arith, omega arith, omega arith, omega arith)
+
+visit-requires : tie.Need-visit-requires Inv-loop μ-loop
+visit-requires c κs = (omega arith, omega arith, omega arith, omega arith)
+
+add-w : tie.Need-add-w Inv-loop μ-loop
+add-w c = omega arith
+
+loop-less : tie.Need-loop-less Inv-loop μ-loop
+loop-less c = omega arith
+
+loop-again : tie.Need-loop-again Inv-loop μ-loop
+loop-again c = (omega arith, omega arith, omega arith, λ m a b coded. filled-more coded (c .before .before .before .before .before .before .before .before .before .before .loop .inv .3 (64 * c .before .before .before .before .before .before .before .before .before .before .loop .w) (omega arith) (omega arith) coded) (c .before .before .before .before .before .before .before .look .ensures) (c .before .before .visit .ensures) m a b)
+
+same-length : tie.Need-same-length Inv-loop μ-loop
+same-length c = omega arith
+
+same-length-2 : tie.Need-same-length-2 Inv-loop μ-loop
+same-length-2 c = omega arith
+
+returns : tie.Need-returns Inv-loop μ-loop
+returns c = λ coded. c .before .loop .inv .3 (c .before .before .before .before .before .before .before .before .args .count) (omega arith) (omega arith) coded
+
+pub fill-spec : {M : Type 1} → statement M
+fill-spec =
+    tie.close
+    (tie.spec
+    Inv-loop
+    μ-loop
+    loop-holds
+    mul-loop
+    look-requires
+    visit-requires
+    add-w
+    loop-less
+    loop-again
+    same-length
+    same-length-2
+    returns)

@@ -1,0 +1,64 @@
+-- `search_terms::names` meets its contract. The invariant: a code in the rest is one in the clause. Assumes nothing.
+use Rattle.engine.proofs.search.ClauseLaws.{some-later, some-here}
+use Rattle.expansion.proofs.ClauseCuts.{Some}
+use Rattle.codes.specs.Private.Clauses.{clause-of}
+use lib.ListN.{drop, length}
+use Rattle.expansion.proofs.Booleans.{never-both}
+use mathlib.Core.Path.{_≡_, refl}
+use native.Mathlib.Omega.{arith}
+use Prim.Native.Nat.{ℕ, _-_}
+use Rattle.engine.proofs.search.term_table.names.Statement.{statement}
+use Rattle.engine.proofs.search.term_table.names.Tie as tie
+
+abbrev Inv-loop : tie.InvT-loop
+Inv-loop codes start c e₀ e = Some (λ (d : ℕ). d ≡ c) (clause-of (drop e codes)) → Some (λ (d : ℕ). d ≡ c) (clause-of (drop start codes))
+
+abbrev μ-loop : tie.MeasureT-loop
+μ-loop codes start c e₀ e = length codes - e
+
+loop-holds : tie.Need-loop-holds Inv-loop μ-loop
+loop-holds c = λ s. s
+
+mul-wide : tie.Need-mul-wide Inv-loop μ-loop
+mul-wide c = omega arith
+
+shared-slice-read-wide : tie.Need-shared-slice-read-wide Inv-loop μ-loop
+shared-slice-read-wide c = omega arith
+
+wide-requires : tie.Need-wide-requires Inv-loop μ-loop
+wide-requires c κs = tt
+
+add-e : tie.Need-add-e Inv-loop μ-loop
+add-e c = omega arith
+
+returns : tie.Need-returns Inv-loop μ-loop
+returns c = λ e. absurd (never-both e refl)
+
+returns-2 : tie.Need-returns-2 Inv-loop μ-loop
+returns-2 c = λ _. some-here (c .before .before .before .before .before .before .before .args .codes .now) (c .before .before .before .before .before .loop .e) (c .before .before .wide .result) (omega arith) (c .before .before .wide .ensures) (λ (d : ℕ). d ≡ c .before .before .before .before .before .before .before .args .c) (λ z. omega arith) (c .before .before .before .before .before .loop .inv) (omega arith)
+
+loop-less : tie.Need-loop-less Inv-loop μ-loop
+loop-less c = omega arith
+
+loop-again : tie.Need-loop-again Inv-loop μ-loop
+loop-again c = some-later (c .before .before .before .before .before .before .before .args .codes .now) (c .before .before .before .before .before .loop .e) (c .before .before .wide .result) (omega arith) (c .before .before .wide .ensures) (λ (d : ℕ). d ≡ c .before .before .before .before .before .before .before .args .c) (λ z. omega arith) (c .before .before .before .before .before .loop .inv)
+
+returns-3 : tie.Need-returns-3 Inv-loop μ-loop
+returns-3 c = λ e. absurd (never-both e refl)
+
+pub names-spec : {M : Type 1} → statement M
+names-spec =
+    tie.close
+    (tie.spec
+    Inv-loop
+    μ-loop
+    loop-holds
+    mul-wide
+    shared-slice-read-wide
+    wide-requires
+    add-e
+    returns
+    returns-2
+    loop-less
+    loop-again
+    returns-3)

@@ -1,0 +1,76 @@
+-- `search_terms::remaining` meets its contract. The invariant: a row is left, or a literal that was read hits in it. Assumes nothing.
+use Rattle.engine.proofs.search.ClauseLaws.{Reading, reading-start, reading-passed, reading-more}
+use lib.ListN.{length}
+use native.Mathlib.Omega.{arith}
+use Prim.Native.Nat.{_-_}
+use Rattle.engine.proofs.search.term_table.remaining.Statement.{statement}
+use Rattle.engine.proofs.search.term_table.remaining.Tie as tie
+
+abbrev Inv-loop : tie.InvT-loop
+Inv-loop codes misses start rows left₀ e₀ left e = Reading codes misses start rows left e
+
+abbrev μ-loop : tie.MeasureT-loop
+μ-loop codes misses start rows left₀ e₀ left e = length codes - e
+
+loop-holds : tie.Need-loop-holds Inv-loop μ-loop
+loop-holds c = reading-start (c .before .before .args .codes .now) (c .before .before .args .misses .now) (c .before .before .args .start) (c .before .before .args .rows)
+
+returns : tie.Need-returns Inv-loop μ-loop
+returns c = c .before .before .loop .inv .so-far
+
+mul-wide : tie.Need-mul-wide Inv-loop μ-loop
+mul-wide c = omega arith
+
+shared-slice-read-wide : tie.Need-shared-slice-read-wide Inv-loop μ-loop
+shared-slice-read-wide c = omega arith
+
+wide-requires : tie.Need-wide-requires Inv-loop μ-loop
+wide-requires c κs = tt
+
+add-e : tie.Need-add-e Inv-loop μ-loop
+add-e c = omega arith
+
+returns-2 : tie.Need-returns-2 Inv-loop μ-loop
+returns-2 c = c .before .before .before .before .before .loop .inv .so-far
+
+mul-left : tie.Need-mul-left Inv-loop μ-loop
+mul-left c = omega arith
+
+shared-slice-read-left : tie.Need-shared-slice-read-left Inv-loop μ-loop
+shared-slice-read-left c = omega arith
+
+loop-less : tie.Need-loop-less Inv-loop μ-loop
+loop-less c = omega arith
+
+loop-again : tie.Need-loop-again Inv-loop μ-loop
+loop-again c = reading-more (c .before .before .before .before .before .before .before .loop .inv) (c .before .before .before .wide .result) (omega arith) (c .before .before .before .wide .ensures) (λ z. omega arith)
+
+loop-less-2 : tie.Need-loop-less-2 Inv-loop μ-loop
+loop-less-2 c = omega arith
+
+loop-again-2 : tie.Need-loop-again-2 Inv-loop μ-loop
+loop-again-2 c = reading-passed (c .before .before .before .before .before .before .loop .inv) (c .before .before .wide .result) (omega arith) (c .before .before .wide .ensures) (λ z. omega arith)
+
+returns-3 : tie.Need-returns-3 Inv-loop μ-loop
+returns-3 c = c .before .loop .inv .so-far
+
+pub remaining-spec : {M : Type 1} → statement M
+remaining-spec =
+    tie.close
+    (tie.spec
+    Inv-loop
+    μ-loop
+    loop-holds
+    returns
+    mul-wide
+    shared-slice-read-wide
+    wide-requires
+    add-e
+    returns-2
+    mul-left
+    shared-slice-read-left
+    loop-less
+    loop-again
+    loop-less-2
+    loop-again-2
+    returns-3)

@@ -1,0 +1,55 @@
+-- `search_terms::shown` meets its contract. Assumes nothing.
+use mathlib.Core.Logic.{inl, inr}
+use mathlib.Core.Path.{refl, subst}
+use native.Mathlib.Omega.{arith}
+use Prim.Native.Nat.{ℕ}
+use Rattle.engine.specs.Private.Terms.{StandsFor}
+use Rattle.engine.proofs.search.term_table.shown.Statement.{statement}
+use Rattle.engine.proofs.search.term_table.shown.Tie as tie
+
+add-wide : tie.Need-add-wide
+add-wide c = omega arith
+
+mul-wide : tie.Need-mul-wide
+mul-wide c = omega arith
+
+shared-slice-read-wide : tie.Need-shared-slice-read-wide
+shared-slice-read-wide c = omega arith
+
+wide-requires : tie.Need-wide-requires
+wide-requires c κs = tt
+
+begins-requires : tie.Need-begins-requires
+begins-requires c κs = tt
+
+within-requires : tie.Need-within-requires
+within-requires c κs = tt
+
+returns : tie.Need-returns
+returns c =
+    let begun = c .before .before .before .begins .ensures (c .before .before .if2 .taken) in
+    inr (omega arith, subst (λ (first : ℕ). StandsFor (c .before .before .before .before .before .before .before .before .before .before .args .kinds .now) (c .before .before .before .before .before .before .before .before .before .before .args .codes .now) first (c .before .before .before .before .before .before .before .before .before .before .args .start)) (c .before .before .before .before .wide .ensures) (record { inside = begun .0; begins = begun .1; within = c .before .within .ensures (c .if3 .taken) }))
+
+returns-2 : tie.Need-returns-2
+returns-2 c = inl refl
+
+returns-3 : tie.Need-returns-3
+returns-3 c = inl refl
+
+returns-4 : tie.Need-returns-4
+returns-4 c = inl refl
+
+pub shown-spec : {M : Type 1} → statement M
+shown-spec =
+    tie.close
+    (tie.spec
+    add-wide
+    mul-wide
+    shared-slice-read-wide
+    wide-requires
+    begins-requires
+    within-requires
+    returns
+    returns-2
+    returns-3
+    returns-4)

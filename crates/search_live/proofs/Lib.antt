@@ -1,3 +1,0 @@
--- The laws of reading the codes of a row once.
-pub mod LiveLaws
-pub mod TermLaws

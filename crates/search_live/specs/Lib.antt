@@ -1,2 +1,0 @@
--- Rows that are dead on the universal side, and clauses that are false.
-pub mod Live

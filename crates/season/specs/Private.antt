@@ -1,0 +1,3 @@
+-- For contracts of private functions and for proofs. No public contract reaches it.
+pub mod Steps
+pub mod Tally
