@@ -1,54 +1,24 @@
 #!/usr/bin/env python3
-"""The page of a decision: what ./explain writes.
+"""The page of a decision: what `vulzhenn explain` writes.
 
-usage: page ACCOUNT JUDGE NAME VERSION [OUT]      the text on standard input
+usage: page.py VULZHENN NAME VERSION [OUT]      the text on standard input
 
-ACCOUNT and JUDGE are the two programs, NAME the text's name, empty if it has none, VERSION the engine's; the page goes to OUT, or to standard output.
+VULZHENN is the command, NAME the text's name, empty if it has none, VERSION the engine's; the page goes to OUT, or to standard output.
 Everything on it that concerns the formula is read from the account's lines; here it is set out as HTML and as a witness file, which the judge has
-to accept, and the rows of a round are counted.
+to accept, and the rows of a round are counted. What is said of a refused text are the command's sentences.
 Exit status: 0 for the page of a decision, 3 for that of a refused text; 2 with a sentence on standard error if there is no page.
 """
-import signal
-
-# An interruption ends this program in silence, as it would any other.
-if signal.getsignal(signal.SIGINT) is signal.default_int_handler:
-    signal.signal(signal.SIGINT, signal.SIG_DFL)
-
 import base64
-import hashlib
 import html
 import os
 import re
 import shlex
-import shutil
-import stat
-import subprocess
 import sys
-import tempfile
 
-# As much of a text as tells that it is too long.
-MOST_BYTES = 65537
-# What is longer is not read to its end, so that an endless one has one: its size and sum are not known.
-LONGEST = 1 << 26
+import facts
+from facts import Account, Text, Trouble
 
-HERE = os.path.dirname(os.path.dirname(os.path.abspath(__file__)))
-if os.path.exists(os.path.join(HERE, "crates.txt")):
-    JUDGE, STUDY, FORMATS = "./judge", "./study", "README.md has"
-else:
-    JUDGE, STUDY, FORMATS = "vulzhenn-judge", "vulzhenn-study", "man 5 vulzhenn has"
-
-CAUSES = {
-    1: "It has over 128 unknowns, or a kind that is neither 0 nor 1.",
-    2: "It has over 8,192 entries or over 2,048 clauses, or its last clause is not ended.",
-    3: "A clause names an unknown that is not there.",
-    9: "The text is longer than 65,536 bytes.",
-    10: "The line has no shape that is allowed at its place, there is no p line, or the last line end is missing.",
-    11: "A number is out of range: V, C, G or a name.",
-    12: "A name is bound twice.",
-    14: "There are too many names or entries, or other lines behind the prefix than the p line says.",
-    19: "An input, or the output, is neither bound nor an earlier gate.",
-    20: "A gate has a name that is already used.",
-}
+JUDGE, STUDY, FORMATS = f"{facts.ME} judge", f"{facts.ME} study", f"{facts.FORMATS} has"
 
 DEFINITIONS = [
     ("crates/formula/specs/Meaning.antt", "what a formula means"),
@@ -59,10 +29,6 @@ DEFINITIONS = [
     ("crates/account/specs/Account.antt", "the lines that this page is made of"),
     ("crates/judgement/specs/JudgementRight.antt", "that what the judge accepts is the formula's value"),
 ]
-
-
-class Trouble(Exception):
-    pass
 
 
 def shown(text):
@@ -81,131 +47,6 @@ def number(n):
 
 def many(n, thing):
     return f"{number(n)} {thing}" + ("" if n == 1 else "s")
-
-
-# ---- the facts
-
-
-class Text:
-    """What was read: the first bytes, more than which no program takes, and the size and the sum of the whole, or none of a text that goes on and on."""
-
-    def __init__(self, file):
-        self.start, self.size, self.sum = b"", 0, None
-        whole = hashlib.sha256()
-        while self.size <= LONGEST:
-            part = file.read(1 << 20)
-            if not part:
-                self.sum = whole.hexdigest()
-                break
-            self.start += part[: max(0, MOST_BYTES - self.size)]
-            self.size += len(part)
-            whole.update(part)
-
-
-def run(program, text, second):
-    """What a program prints that has the text on standard input and the second bytes on descriptor 3."""
-    with_death = ["setpriv", "--pdeathsig", "KILL"] if shutil.which("setpriv") else []
-    with tempfile.TemporaryFile() as file:
-        file.write(second)
-        file.seek(0)
-
-        def descriptors():
-            os.dup2(file.fileno(), 3)
-
-        try:
-            return subprocess.run(
-                with_death + [program], input=text, stdout=subprocess.PIPE, stderr=subprocess.PIPE, preexec_fn=descriptors, pass_fds=(3,)
-            ).stdout
-        except OSError as error:
-            raise Trouble(f"cannot run {program} ({error.strerror})") from error
-
-
-class Account:
-    """The lines of an account, taken apart."""
-
-    def __init__(self, printed):
-        self.refused = None
-        self.kinds, self.names, self.opening = [], [], []
-        self.rows = {"universal": [], "existential": []}
-        lines = printed.decode("ascii").split("\n")
-        if not printed.endswith(b"\n"):
-            raise Trouble("the program ended without an answer")
-        refusal = re.fullmatch(r"c refused (\d+) (\d+)", lines[0])
-        if refusal:
-            self.refused = (int(refusal[1]), int(refusal[2]))
-            return
-        one = re.fullmatch(r"s cnf (-?1|0) (\d+) (\d+)", lines[0])
-        two = re.fullmatch(r"c rounds (\d+) universal (\d+) existential (\d+)", lines[1])
-        three = re.fullmatch(r"c answer (\d)", lines[2])
-        if not (one and two and three):
-            raise Trouble("the program printed lines that are not an account's")
-        self.truth, self.variables, self.clauses = (int(n) for n in one.groups())
-        self.rounds, universal, existential = (int(n) for n in two.groups())
-        self.answer = int(three[1])
-        for line in lines[3:-1]:
-            words = line.split(" ")
-            if words[0] in ("a", "e"):
-                self.kinds.append(words[0])
-                self.names.append(int(words[1]))
-            elif words[0] == "V":
-                self.opening.append(int(words[1]))
-            elif words[0] in self.rows:
-                self.rows[words[0]].append((int(words[1]), int(words[2]), words[3]))
-            else:
-                raise Trouble("the program printed lines that are not an account's")
-        if (universal, existential) != tuple(len(rows) for rows in self.rows.values()):
-            raise Trouble("the program printed other rows than it counted")
-
-    def blocks(self):
-        """Neighbouring unknowns of one kind: the kind, and their places in the prefix."""
-        found = []
-        for i, kind in enumerate(self.kinds):
-            if found and found[-1][0] == kind:
-                found[-1][1].append(i)
-            else:
-                found.append((kind, [i]))
-        return found
-
-    def witness(self):
-        """The witness file of the side that settled it: claim, sizes, rows and rounds."""
-        side = "existential" if self.truth == 1 else "universal"
-        rows = b"".join(int(bits[::-1] or "0", 2).to_bytes(16, "little") for _, _, bits in self.rows[side])
-        words = (len(self.kinds), self.clauses, len(self.rows[side]))
-        file = bytes([27 if self.truth == 1 else 23, self.truth]) + b"".join(n.to_bytes(2, "little") for n in words)
-        return file + rows + self.rounds.to_bytes(2, "little")
-
-    def after(self, side, r):
-        """How many rows a side had after round r."""
-        return sum(1 for mark, _, _ in self.rows[side] if mark <= r)
-
-
-def comments(text):
-    """The text's c lines before its p line, as text."""
-    found = []
-    for line in text.split(b"\n"):
-        if not line.startswith(b"c"):
-            break
-        found.append(line[1:].decode("utf-8", "replace").strip())
-    return found
-
-
-def labels(lines):
-    """The labels that lines `c name 17 car-2 serves foyer-B` give, and the other comments."""
-    given, others = {}, []
-    for line in lines:
-        label = re.fullmatch(r"name ([1-9]\d{0,4}) +(.*\S)", line)
-        if label:
-            given[int(label[1])] = label[2]
-        elif line:
-            others.append(line)
-    return given, others
-
-
-def is_gates(text):
-    for line in text.split(b"\n"):
-        if not line.startswith(b"c"):
-            return re.match(rb"p +gate( |$)", line) is not None
-    return False
 
 
 # ---- the page
@@ -301,8 +142,8 @@ WORDS = {"a": ("\u2200", "whatever", "universal"), "e": ("\u2203", "there is", "
 class Page:
     def __init__(self, text, name, version):
         self.text, self.version = text, version
-        self.given, self.others = labels(comments(text.start))
-        self.gates = is_gates(text.start)
+        self.given, self.others = facts.labels(facts.comments(text.start))
+        self.gates = facts.is_gates(text.start)
         self.name = name or "standard input"
         # a name under which it can be saved, where it has none
         self.file = name or ("formula.gate" if self.gates else "formula.qdimacs")
@@ -326,7 +167,7 @@ class Page:
         )
 
     def facts(self, pairs):
-        size = ("" if self.text.sum else "over ") + number(self.text.size if self.text.sum else LONGEST)
+        size = ("" if self.text.sum else "over ") + number(self.text.size if self.text.sum else facts.LONGEST)
         sha = self.text.sum or "not known: the text was not read to its end"
         items = [f'<div><dt>{what}</dt><dd data-fact="{fact}">{value}</dd></div>' for what, fact, value in pairs]
         items += [
@@ -342,13 +183,15 @@ class Page:
         return f"<dl>\n{chr(10).join(items)}{said}\n</dl>"
 
     # A refused text.
-    def refusal(self, cause, line):
+    def refusal(self, cause, line, said):
         where = f"line {number(line)}" if line else "the text as a whole"
         body = self.head(
             "false", "\u2717 Refused", "The text is not taken, so nothing was decided.", f"cause <span data-fact=\"cause\">{cause}</span>, {where}"
         )
         body += self.facts([("Cause", "cause-number", cause), ("Line", "line", line if line else "\u2013")])
-        body += f'<section><h2>Why</h2>\n<p data-fact="why">{CAUSES.get(cause, "The text breaks a rule of its format.")}</p>\n'
+        # the lines that show the text are left to the picture below
+        why = [re.sub("^standard input(, |: )", "", one) for one in said if not one.startswith("  ")]
+        body += '<section><h2>Why</h2>\n' + "".join(f'<p data-fact="{"advice" if i else "why"}">{shown(one)}</p>\n' for i, one in enumerate(why))
         lines = self.text.start.split(b"\n")
         if lines and lines[-1] == b"":
             lines.pop()
@@ -483,7 +326,6 @@ class Page:
         name = pasted(self.file)
         same = "That it is the same text" + ("" if self.name == self.file else f", saved as {name}")
         steps = [f'<li>{same}: <code id="sum">sha256sum {name}</code> prints the sum above.</li>']
-        option = "--gates " if self.gates else ""
         if witness:
             data = base64.b64encode(witness).decode("ascii")
             save = re.sub(r"[^A-Za-z0-9._-]", "_", self.file) + ".witness"
@@ -492,13 +334,13 @@ class Page:
                 f'<a class="button" id="witness" download="{save}" href="data:application/octet-stream;base64,{data}">{save}, {number(len(witness))} bytes</a></li>'
             )
             steps.append(
-                f'<li><code id="judge">{JUDGE} {option}{name} {pasted(save)}</code> prints <code>accepted {account.truth}</code>. '
+                f'<li><code id="judge">{JUDGE} {name} {pasted(save)}</code> prints <code>accepted {account.truth}</code>. '
                 "The judge knows nothing of the run: it looks for a model over the rows, and there is none.</li>"
             )
         else:
             steps.append(
                 "<li>Nothing was settled, so there are no rows to judge. Another run may settle it, also with fewer rows: "
-                f'<code id="study">{STUDY} {option}{name}</code> makes up to four, with other settings.</li>'
+                f'<code id="study">{STUDY} {name}</code> makes up to four, with other settings.</li>'
             )
         read = "".join(f"<li><code>{path}</code>, {what}</li>" for path, what in DEFINITIONS)
         return (
@@ -526,68 +368,26 @@ class Page:
         return self.whole(f"{shown(self.name)}: {mark[2:].lower()}", body)
 
 
-def replace(path, out):
-    """Puts the bytes into the file of that name: an older one stays until the new one is whole, and what is half done is removed, also if a signal comes."""
-    path = os.path.realpath(path)
-    umask = os.umask(0)
-    os.umask(umask)
-    mode = 0o666 & ~umask
-    if os.path.exists(path):
-        with open(path, "r+b" if os.path.isfile(path) else "wb") as file:
-            mode = os.stat(file.fileno()).st_mode
-            if not stat.S_ISREG(mode):  # a device, or a pipe
-                file.write(out)
-                return
-    signals = (signal.SIGHUP, signal.SIGINT, signal.SIGTERM)
-    signal.pthread_sigmask(signal.SIG_BLOCK, signals)
-    handle, made = tempfile.mkstemp(dir=os.path.dirname(path), prefix=".page-")
-    try:
-        with os.fdopen(handle, "wb") as file:
-            file.write(out)
-            os.fchmod(handle, stat.S_IMODE(mode))
-        os.replace(made, path)
-    except BaseException:
-        os.unlink(made)
-        raise
-    finally:
-        signal.pthread_sigmask(signal.SIG_UNBLOCK, signals)
-
-
 def main(words):
-    if len(words) not in (4, 5):
+    if len(words) not in (3, 4):
         sys.exit(__doc__)
-    account_program, judge_program, name, version = words[:4]
+    command, name, version = words[:3]
     try:
         text = Text(sys.stdin.buffer)
     except OSError as error:
         raise Trouble(f"cannot read {name or 'standard input'} to its end ({error.strerror})") from error
     page = Page(text, os.fsencode(name).decode("utf-8", "replace"), version)
-    account = Account(run(account_program, text.start, b"g" * page.gates))
+    printed, said = facts.ask(command, ["account"], text.start)
+    account = Account(printed)
     if account.refused:
-        made, status = page.refusal(*account.refused), 3
+        made, status = page.refusal(*account.refused, said), 3
     else:
         witness = account.witness() if account.truth >= 0 else b""
-        # beside the program for texts stands that for gate lists
-        if witness and run(judge_program + "_gates" * page.gates, text.start, witness) != b"accepted %d\n" % account.truth:
+        if witness and facts.ask(command, ["judge"], text.start, witness)[0] != b"accepted %d\n" % account.truth:
             raise Trouble("the judge does not accept the rows that the run has left")
         made, status = page.decision(account, witness), 0
-    out = made.encode("utf-8")
-    try:
-        if len(words) == 5:
-            replace(words[4], out)
-        else:
-            sys.stdout.buffer.write(out)
-            sys.stdout.buffer.flush()
-    except OSError as error:
-        where = words[4] if len(words) == 5 else "standard output"
-        raise Trouble(f"{where} could not be written ({error.strerror})") from error
+    facts.write(words[3] if len(words) == 4 else "", made.encode("utf-8"))
     return status
 
 
-try:
-    code = main(sys.argv[1:])
-except Trouble as trouble:
-    print(f"explain: {trouble}", file=sys.stderr)
-    code = 2
-sys.stdout = None
-os._exit(code)
+facts.ended("explain", main)
