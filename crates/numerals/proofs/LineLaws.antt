@@ -13,8 +13,7 @@ use Rattle.lines.specs.Numbers.{is-digit, all-digits}
 use Rattle.lines.specs.Shapes.{is-trimmed}
 use Rattle.lines.proofs.Pieces.{pieces-first}
 use Rattle.report.specs.Report.{decimal}
-use Rattle.named.proofs.NameLaws.{and-both}
-use Rattle.writing.proofs.DigitLaws.{decimal-some, decimal-digits, zero-word}
+use Rattle.numerals.proofs.DigitLaws.{and-both, decimal-some, decimal-digits, zero-word}
 
 -- The byte b is none of these.
 abbrev pub No : ℕ → Bytes → Type 0
@@ -47,12 +46,12 @@ no-digit b low (x ∷ xs) d =
     let digit = leb-true 48 x (and-both (leb 48 x) (leb x 57) (both .0) .0) in
     (ne-eqb x b (λ e. omega arith), no-digit b low xs (both .1))
 
-pub decimal-word : (n : ℕ) → n < 100000 → Word (decimal n)
-decimal-word n small =
+pub decimal-word : (n : ℕ) → Word (decimal n)
+decimal-word n =
     record {
-      some = decimal-some n small;
-      no-space = no-digit 32 (omega arith) (decimal n) (decimal-digits n small);
-      no-end = no-digit 10 (omega arith) (decimal n) (decimal-digits n small);
+      some = decimal-some n;
+      no-space = no-digit 32 (omega arith) (decimal n) (decimal-digits n);
+      no-end = no-digit 10 (omega arith) (decimal n) (decimal-digits n);
     }
 
 pub zero-is-word : Word zero-word
@@ -60,7 +59,7 @@ zero-is-word = record { some = omega arith; no-space = (refl, tt); no-end = (ref
 
 -- ---- pieces
 
-pieces-part : (b : ℕ) (w xs : Bytes) → No b w → pieces b (w ++ (b ∷ xs)) ≡ w ∷ pieces b xs
+pub pieces-part : (b : ℕ) (w xs : Bytes) → No b w → pieces b (w ++ (b ∷ xs)) ≡ w ∷ pieces b xs
 pieces-part b [] xs n = rw (eq-eqb b b refl) refl
 pieces-part b (x ∷ w) xs n = go (eqb x b) (n .0) (pieces-part b w xs (n .1))
   where
@@ -68,7 +67,7 @@ pieces-part b (x ∷ w) xs n = go (eqb x b) (n .0) (pieces-part b w xs (n .1))
     go true e ih = absurd (true≢false e)
     go false e ih = ap (onto x) ih
 
-pieces-whole : (b : ℕ) (w : Bytes) → No b w → pieces b w ≡ w ∷ []
+pub pieces-whole : (b : ℕ) (w : Bytes) → No b w → pieces b w ≡ w ∷ []
 pieces-whole b [] n = refl
 pieces-whole b (x ∷ w) n = go (eqb x b) (n .0) (pieces-whole b w (n .1))
   where
