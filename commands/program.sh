@@ -4,6 +4,7 @@
 #     help        what --help prints, with the parts that are the same for all; its first line is the usage
 #     name        what it calls itself, if that is not its crate
 #     second      set where it takes a second file, which the program reads from descriptor 3
+#     told        set where the program is told the form of the text by a byte in front of it: 0 clauses, 1 gates, 2 the one that its p line tells
 # defines
 #     status_of LINE      prints the exit status for the first line that the program printed, on standard error if it printed none on standard
 #                         output; 2 for a line that it never prints
@@ -270,6 +271,7 @@ answer() { # INPUT FILE
     exec {lines}>"$room/lines" {first_line}<"$room/lines" {all_lines}<"$room/lines"
     exec {errors}>"$room/errors" {first_error}<"$room/errors" {all_errors}<"$room/errors"
     rm -rf "$room" # a file lasts as long as it is open
+    [ -z "${told-}" ] || printf '%b' "\\0$told" >&"$text"
     said=$(head -c "$MOST_BYTES" 2>&1 >&"$text") || fail "cannot read $1 to its end (${said#head: })"
     if [ -n "${second-}" ]; then
         said=$(head -c "$MOST_BYTES" <&8 2>&1 >&"$file") || fail "cannot read $2 to its end (${said#head: })"

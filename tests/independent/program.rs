@@ -7,23 +7,24 @@ use super::reader::{Read, Refusal};
 use std::io::{self, Write};
 use std::process::{Command, Output, Stdio};
 
-/// A program, and the script of the repository that calls it, with its options.
+/// A program, and the script of the repository that calls it, with its options; what the program is told in front of a text.
 pub struct Program {
     built: &'static str,
     script: &'static str,
     options: &'static [&'static str],
+    told: &'static [u8],
 }
 
-pub const VULZHENN: Program = Program { built: "target/bin/vulzhenn", script: "./vulzhenn", options: &[] };
-pub const GATES: Program = Program { built: "target/bin/vulzhenn_gates", script: "./gates", options: &[] };
-pub const SHEET: Program = Program { built: "target/bin/sheet", script: "./sheet", options: &[] };
-pub const WITNESS: Program = Program { built: "target/bin/vulzhenn_witness", script: "./witness", options: &[] };
-pub const JUDGE: Program = Program { built: "target/bin/vulzhenn_judge", script: "./judge", options: &[] };
-pub const WITNESS_GATES: Program = Program { built: "target/bin/vulzhenn_witness_gates", script: "./witness", options: &["--gates"] };
-pub const STUDY_WITNESS: Program = Program { built: "target/bin/vulzhenn_study_witness", script: "./study", options: &["--witness"] };
+pub const VULZHENN: Program = Program { built: "target/bin/vulzhenn", script: "./vulzhenn", options: &[], told: &[] };
+pub const GATES: Program = Program { built: "target/bin/vulzhenn_gates", script: "./gates", options: &[], told: &[] };
+pub const SHEET: Program = Program { built: "target/bin/sheet", script: "./sheet", options: &[], told: &[] };
+pub const WITNESS: Program = Program { built: "target/bin/vulzhenn_witness", script: "./witness", options: &[], told: &[] };
+pub const JUDGE: Program = Program { built: "target/bin/vulzhenn_judge", script: "./judge", options: &[], told: &[2] };
+pub const WITNESS_GATES: Program = Program { built: "target/bin/vulzhenn_witness_gates", script: "./witness", options: &["--gates"], told: &[] };
+pub const STUDY_WITNESS: Program = Program { built: "target/bin/vulzhenn_study_witness", script: "./study", options: &["--witness"], told: &[] };
 pub const STUDY_WITNESS_GATES: Program =
-    Program { built: "target/bin/vulzhenn_study_witness_gates", script: "./study", options: &["--gates", "--witness"] };
-pub const JUDGE_GATES: Program = Program { built: "target/bin/vulzhenn_judge_gates", script: "./judge", options: &["--gates"] };
+    Program { built: "target/bin/vulzhenn_study_witness_gates", script: "./study", options: &["--gates", "--witness"], told: &[] };
+pub const JUDGE_GATES: Program = Program { built: "target/bin/vulzhenn_judge", script: "./judge", options: &["--gates"], told: &[1] };
 
 /// Runs it and says what is not as wanted, if anything. Returned with the wanted lines.
 pub fn compare(program: &Program, random: &mut Random, text: &[u8], read: &Result<Read, Refusal>, looks: usize) -> Result<(String, Option<String>), TooLong> {
@@ -117,7 +118,7 @@ fn from_a_pipe(program: &Program, random: &mut Random, text: &[u8], second: Opti
     let mut child = command.stdin(Stdio::piped()).stdout(Stdio::piped()).stderr(Stdio::piped()).spawn()?;
     let mut input = child.stdin.take().unwrap();
     let size = random.pick(&[7, 100, 4_096, 65_536, 1 << 20]).max(text.len() / 50);
-    for piece in text.chunks(size) {
+    for piece in std::iter::once(program.told).chain(text.chunks(size)) {
         // A program that has read enough may have ended.
         if input.write_all(piece).is_err() {
             break;
