@@ -29,7 +29,8 @@ module _ (text : Bytes) (at end : ℕ) (e : end ≡ at + before 10 (drop at text
       let all : take (end - at) (drop at text) ≡ drop at text = take-all (end - at) (drop at text) (omega (arith, length-drop at text)) in
       rw (lines-rest text at end e some k) (sym (ap words all) ∙ front)
 
-  pub words-comment : end < length text → is-comment (take (end - at) (drop at text)) ≡ true → p-words (lines (drop at text)) ≡ p-words (lines (drop (end + 1) text))
+  pub words-comment : end < length text → is-comment (take (end - at) (drop at text)) ≡ true
+      → p-words (lines (drop at text)) ≡ p-words (lines (drop (end + 1) text))
   words-comment inside comment = rw (lines-line text at end e inside, comment) refl
 
 pub words-none : (text : Bytes) (at : ℕ) → length text ≤ at → p-words (lines (drop at text)) ≡ words (take (before 10 (drop at text)) (drop at text))

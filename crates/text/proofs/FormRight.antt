@@ -29,7 +29,8 @@ shaped : (gates : Bool) (line : Bytes) → problem-cause gates line ≡ 0 → is
 unfolding problem-cause
 shaped gates line h = no-ten (is-problem gates line) _ h
 
-first-two : (gates : Bool) (line : Bytes) → is-problem gates line ≡ true → (same (first (words line)) p-word ≡ true) × (same (second (words line)) (form-word gates) ≡ true)
+first-two : (gates : Bool) (line : Bytes) → is-problem gates line ≡ true
+    → (same (first (words line)) p-word ≡ true) × (same (second (words line)) (form-word gates) ≡ true)
 unfolding is-problem
 first-two gates line h =
     let ws = words line in
@@ -58,7 +59,8 @@ whatever A a (whole s) = a
 whatever A a (stopped n line) = tt
 
 p-line-told : (gates : Bool) (line : Bytes) (ls : List Line) (k : ℕ) → is-comment line ≡ false
-    → Scans Any (Told gates (ended line ∷ ls)) (go-on (unless (problem-cause gates line) (went (opened (words line)))) k (λ t. body (items-of gates (words line) k) t (suc k) ls))
+    → Scans Any (Told gates (ended line ∷ ls))
+    (go-on (unless (problem-cause gates line) (went (opened (words line)))) k (λ t. body (items-of gates (words line) k) t (suc k) ls))
 p-line-told gates line ls k c =
     go-on-so Any (Told gates (ended line ∷ ls)) (Told gates (ended line ∷ ls)) (unless (problem-cause gates line) (went (opened (words line)))) k
     (λ t. body (items-of gates (words line) k) t (suc k) ls)

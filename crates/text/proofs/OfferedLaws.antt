@@ -52,7 +52,8 @@ module _ (buffer : Bytes) (n : ℕ) where
       subst (λ (text : Bytes). Read-so (result-of (scan gates text k l m)) r K L N K′ L′ N′) (sym (offered-inside h)) d
 
   -- In the form that was found in its own bytes.
-  pub form-read-so : n ≤ length buffer → (form : Form) {gates : Bool} → gates ≡ has-gates form (take n buffer) → (k l m : ℕ) {r : Reading} {K N K′ N′ : List ℕ} {L L′ : List ℤ}
+  pub form-read-so : n ≤ length buffer → (form : Form) {gates : Bool} → gates ≡ has-gates form (take n buffer)
+      → (k l m : ℕ) {r : Reading} {K N K′ N′ : List ℕ} {L L′ : List ℤ}
       → Read-so (result-of (scan gates (take n buffer) k l m)) r K L N K′ L′ N′
       → Read-so (result-of (scan (has-gates form (offered buffer n)) (offered buffer n) k l m)) r K L N K′ L′ N′
   form-read-so h form {gates} e k l m {r} {K} {N} {K′} {N′} {L} {L′} d =

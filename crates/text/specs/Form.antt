@@ -1,6 +1,6 @@
 -- The form of a text, clauses or gates. A reader is told it, or finds it out: the first line that is no comment begins `p gate` or not, and every
 -- refusal is then that reader's. Assumes nothing.
-use Prim.Native.Nat.{ℕ}
+use Prim.Native.Nat.{ℕ, zero, suc}
 use mathlib.Core.Bool.{Bool, true, false, cond, _&&_}
 use mathlib.Core.List.{List, [], _∷_}
 use Rattle.text.specs.declared.Form.{Form}
@@ -33,3 +33,9 @@ has-gates Either text = begins-gates text
 -- What a text of that form gives.
 abbrev pub form-read : Form → Bytes → Result
 form-read form text = read-as (has-gates form text) text
+
+-- The form that a byte tells, where a program has one in front of its text.
+abbrev pub form-told : ℕ → Form
+form-told zero = Clauses
+form-told (suc zero) = Gates
+form-told (suc (suc n)) = Either

@@ -9,7 +9,7 @@ ghost use Rattle.text.specs.Offered.{offered};
 ghost use Rattle.text.specs.CausesRight.{CausesRight};
 ghost use Rattle.text.specs.ClosedRight.{ClosedRight};
 ghost use Rattle.text.specs.GatesRight.{GatesRight};
-ghost use Rattle.text.specs.Form.{has-gates};
+ghost use Rattle.text.specs.Form.{has-gates, form-told};
 ghost use Rattle.text.specs.FormRight.{FormRight};
 ghost use mathlib.Core.Path.{_≡_};
 use formula::Formula;
@@ -30,6 +30,19 @@ pub enum Form {
     Clauses,
     Gates,
     Either,
+}
+
+// The form that a byte in front of a program's input tells: 0 clauses, 1 gates, any other the one that the p line tells.
+pub fn form_told(byte: u8) -> Form
+    ensures { λ r. ⌜ r ≡ form-told byte ⌝ }
+{
+    if byte == 0 {
+        return Form::Clauses;
+    }
+    if byte == 1 {
+        return Form::Gates;
+    }
+    Form::Either
 }
 
 // What a text gives: the unknowns, the entries of the literals, V and C; or the cause's number and its line.

@@ -19,13 +19,19 @@ begins-gates-requires : tie.Need-begins-gates-requires
 begins-gates-requires c κs = search needs
 
 returns : tie.Need-returns
-returns c = sym (ap (λ (form : Form). has-gates form (c .before .before .before .args .text .now)) (c .enum-told .given .1))
+returns c =
+    let text = c .before .before .before .args .text .now in
+    sym (ap (λ (form : Form). has-gates form text) (c .enum-told .given .1))
 
 returns-2 : tie.Need-returns-2
-returns-2 c = sym (ap (λ (form : Form). has-gates form (c .before .before .before .args .text .now)) (c .enum-told2 .given .1))
+returns-2 c =
+    let text = c .before .before .before .args .text .now in
+    sym (ap (λ (form : Form). has-gates form text) (c .enum-told2 .given .1))
 
 returns-3 : tie.Need-returns-3
-returns-3 c = c .begins-gates .ensures ∙ sym (ap (λ (form : Form). has-gates form (c .before .before .before .before .args .text .now)) (c .before .enum-told3 .given .1))
+returns-3 c =
+    let text = c .before .before .before .before .args .text .now in
+    c .begins-gates .ensures ∙ sym (ap (λ (form : Form). has-gates form text) (c .before .enum-told3 .given .1))
 
 pub has-gates-spec : {M : Type 1} → statement M
 has-gates-spec =

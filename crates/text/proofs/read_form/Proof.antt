@@ -41,8 +41,13 @@ same-length-3 c = search needs
 
 returns-2 : tie.Need-returns-2
 returns-2 c =
-    let given = c .before .before .before .before .before .before .before .before .before .before .before .before .before .before .before .before .args in
-    (form-read-so (given .buffer .now) (given .count) (c .before .before .before .before .before .before .before .before .before .before .before .before .if1 .left) (given .form) (c .before .before .before .before .before .before .before .before .before .before .has-gates .ensures) (length (given .kinds .now)) (length (given .literals .now)) (length (given .names .now)) (c .before .before .before .before .before .read-as .ensures), form-right (offered (given .buffer .now) (given .count)))
+    let read-call = c .before .before .before .before .before in
+    let form-call = read-call .before .before .before .before .before in
+    let given = form-call .before .before .before .before .before .before .args in
+    let text = offered (given .buffer .now) (given .count) in
+    let found = form-read-so (given .buffer .now) (given .count) (form-call .before .before .if1 .left) (given .form) (form-call .has-gates .ensures)
+    (length (given .kinds .now)) (length (given .literals .now)) (length (given .names .now)) (read-call .read-as .ensures) in
+    (found, form-right text)
 
 pub read-form-spec : {M : Type 1} → statement M
 read-form-spec =

@@ -18,7 +18,8 @@ use Rattle.text.proofs.opening.comments.Tie as tie
 
 abbrev Inv-loop : tie.InvT-loop
 Inv-loop text at₀ line₀ at line =
-    (at ≤ length text) × (line ≤ at + 1) × ((gates : Bool) → after-comments gates line (lines (drop at text)) ≡ after-comments gates 1 (lines text)) × (p-words (lines (drop at text)) ≡ p-words (lines text))
+    (at ≤ length text) × (line ≤ at + 1) × ((gates : Bool) → after-comments gates line (lines (drop at text)) ≡ after-comments gates 1 (lines text))
+    × (p-words (lines (drop at text)) ≡ p-words (lines text))
 
 abbrev μ-loop : tie.MeasureT-loop
 μ-loop text at₀ line₀ at line = length text - at
@@ -34,11 +35,12 @@ returns c =
     let text = c .before .before .before .before .before .args .text .now in
     let found = c .before .find in
     let turn = c .before .before .before .loop in
+    let some = c .before .before .loop-test .taken in
     record {
       within = omega arith;
       small = omega arith;
-      right = λ gates. rw (← turn .inv .2 gates, lines-rest text (turn .at) (found .result) (found .ensures) (c .before .before .loop-test .taken) (c .if1 .taken)) refl;
-      opens = sym (turn .inv .3) ∙ words-rest text (turn .at) (found .result) (found .ensures) (c .before .before .loop-test .taken) (c .if1 .taken);
+      right = λ gates. rw (← turn .inv .2 gates, lines-rest text (turn .at) (found .result) (found .ensures) some (c .if1 .taken)) refl;
+      opens = sym (turn .inv .3) ∙ words-rest text (turn .at) (found .result) (found .ensures) some (c .if1 .taken);
     }
 
 shared-slice-read-if2 : tie.Need-shared-slice-read-if2 Inv-loop μ-loop
@@ -46,9 +48,10 @@ shared-slice-read-if2 c = omega arith
 
 returns-2 : tie.Need-returns-2 Inv-loop μ-loop
 returns-2 c =
-    let text = c .before .before .before .before .before .before .before .args .text .now in
     let found = c .before .before .before .find in
-    let turn = c .before .before .before .before .before .loop in
+    let loop-place = c .before .before .before .before .before in
+    let turn = loop-place .loop in
+    let text = loop-place .before .before .args .text .now in
     let inside : found .result < length text = omega (arith, before-le 10 (drop (turn .at) text), length-drop (turn .at) text) in
     let other = comment-first text (turn .at) (found .result) (found .ensures) ∙ ne-eqb (getD text (turn .at) 0) 99 (c .if2 .taken) in
     record {
@@ -60,8 +63,9 @@ returns-2 c =
 
 add-at : tie.Need-add-at Inv-loop μ-loop
 add-at c =
-    let text = c .before .before .before .before .before .before .before .args .text .now in
-    omega (arith, before-le 10 (drop (c .before .before .before .before .before .loop .at) text), length-drop (c .before .before .before .before .before .loop .at) text)
+    let loop-place = c .before .before .before .before .before in
+    let text = loop-place .before .before .args .text .now in
+    omega (arith, before-le 10 (drop (loop-place .loop .at) text), length-drop (loop-place .loop .at) text)
 
 add-line : tie.Need-add-line Inv-loop μ-loop
 add-line c = omega arith
@@ -71,14 +75,17 @@ loop-less c = omega arith
 
 loop-again : tie.Need-loop-again Inv-loop μ-loop
 loop-again c =
-    let text = c .before .before .before .before .before .before .before .args .text .now in
     let found = c .before .before .before .find in
-    let turn = c .before .before .before .before .before .loop in
+    let loop-place = c .before .before .before .before .before in
+    let turn = loop-place .loop in
+    let text = loop-place .before .before .args .text .now in
     let inside : found .result < length text = omega (arith, before-le 10 (drop (turn .at) text), length-drop (turn .at) text) in
     let comment = comment-first text (turn .at) (found .result) (found .ensures) ∙ eq-eqb (getD text (turn .at) 0) 99 (c .if2 .left) in
     let more = lines (drop (found .result + 1) text) in
     let passed = lines-line text (turn .at) (found .result) (found .ensures) inside in
-    (omega arith, omega arith, (λ gates. rw (← turn .inv .2 gates, passed, comment) (ap (λ (n : ℕ). after-comments gates n more) (add-one (turn .line)))), sym (words-comment text (turn .at) (found .result) (found .ensures) inside comment) ∙ turn .inv .3)
+    let kept = sym (words-comment text (turn .at) (found .result) (found .ensures) inside comment) ∙ turn .inv .3 in
+    let next = add-one (turn .line) in
+    (omega arith, omega arith, (λ gates. rw (← turn .inv .2 gates, passed, comment) (ap (λ (n : ℕ). after-comments gates n more) next)), kept)
 
 returns-3 : tie.Need-returns-3 Inv-loop μ-loop
 returns-3 c =

@@ -31,8 +31,9 @@ same-requires c κs = search needs
 
 returns : tie.Need-returns
 returns c =
-    let line = c .before .before .before .before .before .before .before .args .line .now in
-    let p = taken-word {ws = words line} (c .before .before .before .before .before .next .ensures) refl in
+    let next-call = c .before .before .before .before .before in
+    let line = next-call .before .before .args .line .now in
+    let p = taken-word {ws = words line} (next-call .next .ensures) refl in
     let other : same (first (words line)) p-word ≡ false = sym (c .before .same .ensures ∙ ap (λ w. same w p-word) (p .0)) ∙ c .if1 .left in
     rw other refl
 
@@ -53,10 +54,13 @@ same-requires-2 c κs = search needs
 
 returns-2 : tie.Need-returns-2
 returns-2 c =
-    let line = c .before .before .before .before .before .before .before .before .before .before .args .line .now in
-    let p = taken-word {ws = words line} (c .before .before .before .before .before .before .before .before .next .ensures) refl in
-    let form = taken-word (c .before .before .before .before .before .before .before .next2 .ensures) (p .1) in
-    let begins : same (first (words line)) p-word ≡ true = sym (c .before .before .before .before .same .ensures ∙ ap (λ w. same w p-word) (p .0)) ∙ c .before .before .before .if1 .taken in
+    let same-call = c .before .before .before .before in
+    let next-call = same-call .before .before .before in
+    let line = next-call .before .before .before .args .line .now in
+    let p = taken-word {ws = words line} (next-call .before .next .ensures) refl in
+    let form = taken-word (next-call .next2 .ensures) (p .1) in
+    let is-p = sym (same-call .same .ensures ∙ ap (λ w. same w p-word) (p .0)) in
+    let begins : same (first (words line)) p-word ≡ true = is-p ∙ c .before .before .before .if1 .taken in
     rw begins (c .same2 .ensures ∙ ap (λ w. same w gate-word) (form .0))
 
 pub tells-gates-spec : {M : Type 1} → statement M
