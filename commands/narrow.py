@@ -151,7 +151,7 @@ class Formula:
                 self.open, self.kind, self.begun = [], word.decode(), number
                 continue
             if not re.fullmatch(rb"[+-]?[0-9]{1,18}", word):
-                shown = word[:20].decode("ascii", "backslashreplace")
+                shown = repr(word[:20])[2:-1]
                 raise Refused(f"line {number}: '{shown}' is no number")
             n = int(word)
             if b"%d" % n != word:
