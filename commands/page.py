@@ -1,4 +1,3 @@
-#!/usr/bin/env python3
 """The page of a decision: what `vulzhenn explain` writes.
 
 usage: page.py VULZHENN NAME VERSION [OUT]      the text on standard input

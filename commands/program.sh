@@ -222,7 +222,7 @@ keep_inputs() {
     {
         exec {text}>"$room.t" {look}<"$room.t" {read_text}<"$room.t" {refused_text}<"$room.t" {file_kept}>"$room.f" {read_file}<"$room.f" {refused_file}<"$room.f"
         exec {lines}>"$room.l" {first_line}<"$room.l" {all_lines}<"$room.l" {errors}>"$room.e" {first_error}<"$room.e" {all_errors}<"$room.e"
-    } 2>/dev/null || fail "cannot make a temporary file in ${TMPDIR:-/tmp}"
+    } 2>|/dev/null || fail "cannot make a temporary file in ${TMPDIR:-/tmp}"
     set +C
     umask "$mask"
     rm -f "$room".[tfle]
@@ -253,10 +253,10 @@ answer_by() {
         make_current
     fi
     ask_program
-    local line='' printed=()
+    local line said='' printed=()
     mapfile -t -n 9 printed <&"$first_line"
-    line=${printed[0]-}
-    [ -n "$line" ] || IFS= read -r line <&"$first_error"
+    IFS= read -r said <&"$first_error"
+    line=${printed[0]:-$said}
     if [ -n "$timeout" ] && [ "$ended" -eq 124 ]; then
         say "no answer within $timeout seconds"
         exit 124
@@ -264,7 +264,7 @@ answer_by() {
     status=2
     status_of "$line"
     [ "$status" -ne 2 ] || fail "the program ended with status $ended and without an answer"
-    [ ! -s "/dev/fd/$all_errors" ] || cat <&"$all_errors" >&2
+    [ -z "$said" ] || cat <&"$all_errors" >&2
     print_lines
     case $line in 'c refused '*) say_refusal "$1" "$line" ;; esac
     ! declare -F afterwards >/dev/null || afterwards "$line"
@@ -289,7 +289,7 @@ ask_program() {
     [ -z "$timeout" ] || with+=(timeout --foreground "$timeout" "${with[@]}")
     if [ "${operands-1}" = 2 ] || [ -n "$beside" ]; then exec 3<&"$read_file"; else exec 3<&-; fi
     if [ -n "$front" ]; then
-        "${with[@]}" "$program" < <(printf '%b' "$front" && cat <&"$read_text") >&"$lines" 2>&"$errors" 8<&- &
+        { printf '%b' "$front" && cat <&"$read_text"; } | "${with[@]}" "$program" >&"$lines" 2>&"$errors" 8<&- &
     else
         "${with[@]}" "$program" <&"$read_text" >&"$lines" 2>&"$errors" 8<&- &
     fi
@@ -335,7 +335,7 @@ end_life() { # PROCESS
 # What the program printed, to where it is wanted. Few lines go out without another process.
 print_lines() {
     if [ -n "$out" ]; then
-        [ ! -s "/dev/fd/$all_lines" ] || put_whole "$out" <&"$all_lines" || fail "$out could not be written"
+        [ ${#printed[@]} -eq 0 ] || put_whole "$out" <&"$all_lines" || fail "$out could not be written"
     elif [ -z "${binary-}" ] && [ ${#printed[@]} -lt 9 ]; then
         trap '' PIPE
         [ ${#printed[@]} -eq 0 ] || printf '%s\n' "${printed[@]}" 2>/dev/null || fail "standard output could not be written"
@@ -379,7 +379,7 @@ say_refusal() {
     . "$root/commands/refusal.sh"
     local number line said
     read -r _ _ number line <<<"$2"
-    while IFS= read -r said; do say "$said"; done < <(refusal_in_words "$1" "$form" "$number" "$line" "$input" "$file" <&"$refused_text" 3<&"$refused_file")
+    refusal_in_words "$1" "$form" "$number" "$line" "$input" "$file" <&"$refused_text" 3<&"$refused_file" | while IFS= read -r said; do say "$said"; done
 }
 
 # The status for 01's lines, of a word that decides.

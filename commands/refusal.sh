@@ -149,7 +149,8 @@ odd_line() {
     elif [[ $body =~ ^p\ +cnf ]] && [ "$form" = gates ]; then
         echo "this is a formula in clauses, and a gate list is wanted here"
     elif [[ $body == p* ]]; then
-        echo "the p line is p cnf V C, or p gate V G O of a gate list, with numbers of at most five digits" && narrow=yes
+        echo "the p line is p cnf V C, or p gate V G O of a gate list, with numbers of at most five digits"
+        [[ ! $body =~ ^p\ +cnf\ +\+?[0-9]+\ +\+?[0-9]+$ ]] || narrow=yes
     elif [ "$at" = "$body" ]; then
         echo "its line end is missing" && narrow=yes
     else
