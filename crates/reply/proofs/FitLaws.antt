@@ -1,10 +1,11 @@
 -- The rows that fit the moves: one row more, and a row by its bits. Assumes nothing.
-use Prim.Native.Nat.{ℕ, zero, suc, _+_, _≤_, _<_}
+use Prim.Native.Nat.{ℕ, zero, suc, _+_, _-_, _≤_, _<_}
 use native.Mathlib.Omega.{arith}
 use mathlib.Core.Path.{_≡_, refl, sym, ap, _∙_}
 use mathlib.Core.Bool.{Bool, true, false, cond, _&&_, Bool·beq, false≢true}
 use mathlib.Core.List.{List, [], _∷_, _++_}
-use lib.ListN.{length, getD, take, drop, length-map, List·getD-map}
+use lib.ListN.{length, getD, take, drop, length-map, length-drop, List·getD-map}
+use lib.Seq.{take-all}
 use Rattle.formula.specs.Formula.{Kind, existential, universal, kind-of, prefix}
 use Rattle.formula.specs.Causes.{count}
 use Rattle.expansion.specs.OtherSide.{side-of, other}
@@ -17,6 +18,10 @@ use Rattle.case_rules.specs.Casebook.{offered}
 use Rattle.reply_rules.specs.Position.{beginning, rows-behind, fitting}
 use Rattle.reply.specs.Private.Fitting.{one-if, more-if, owned, agrees, fits}
 use Rattle.reply.proofs.BitLaws.{values-same}
+
+-- The part of a list from a place on, as it is lent.
+pub part-is : (l : List ℕ) (d : ℕ) → take (length l - d) (drop d l) ≡ drop d l
+part-is l d = take-all (length l - d) (drop d l) (omega (arith, length-drop d l))
 
 -- ---- whose an unknown is
 
@@ -176,7 +181,7 @@ module _ (claim : Bool) where
 
 module _ (claim : Bool) (bits : ℕ → Bool) where
   -- What is left to be compared behind d moves, of which `bit` were own.
-  abbrev Left : List ℕ → List Bool → ℕ → ℕ → Bool
+  abbrev pub Left : List ℕ → List Bool → ℕ → ℕ → Bool
   Left kinds vs d bit = fits claim (prefix (drop d kinds)) (drop d vs) (λ j. bits (bit + j))
 
   pub fits-start : (kinds : List ℕ) (vs : List Bool) → fits claim (prefix kinds) vs bits ≡ Left kinds vs 0 0
@@ -228,7 +233,7 @@ module _ (claim : Bool) (bits : ℕ → Bool) where
   fits-end (k ∷ kinds) (v ∷ vs) (suc d) bit h = fits-end kinds vs d bit (omega arith)
 
   -- One move, as it is read.
-  pub fits-one-more : (kinds moves : List ℕ) (d bit : ℕ) → d < length moves → length moves ≤ length kinds → {own there same : Bool}
+  fits-one-more : (kinds moves : List ℕ) (d bit : ℕ) → d < length moves → length moves ≤ length kinds → {own there same : Bool}
       → own ≡ offered claim (kind-of (getD kinds d 0)) → there ≡ bits bit → same ≡ agrees own (value-of (getD moves d 0)) there
       → Left kinds (values-of moves) d bit ≡ (same && Left kinds (values-of moves) (d + 1) (bit + one-if own))
   fits-one-more kinds moves d bit below few {own} {there} {same} o t s =
@@ -237,3 +242,17 @@ module _ (claim : Bool) (bits : ℕ → Bool) where
       (List·getD-map value-of moves d 0)
       ∙ ap (λ (b : Bool). agrees b (value-of (getD moves d 0)) (bits bit) && Left kinds (values-of moves) (d + 1) (bit + one-if b)) (sym o)
       ∙ ap (λ (b : Bool). b && Left kinds (values-of moves) (d + 1) (bit + one-if own)) (ap (agrees own (value-of (getD moves d 0))) (sym t) ∙ sym s)
+
+  module _ (kinds moves : List ℕ) (d bit : ℕ) (below : d < length moves) (few : length moves ≤ length kinds) {own there same : Bool}
+      (o : own ≡ offered claim (kind-of (getD kinds d 0))) (t : there ≡ bits bit) (s : same ≡ agrees own (value-of (getD moves d 0)) there) where
+    abbrev later : Bool
+    later = Left kinds (values-of moves) (d + 1) (bit + one-if own)
+
+    pub fits-differs : same ≡ false → Left kinds (values-of moves) d bit ≡ false
+    fits-differs e = fits-one-more kinds moves d bit below few o t s ∙ ap (λ (b : Bool). b && later) e
+
+    pub fits-agrees : same ≡ true → (n : ℕ) → n ≡ one-if own → Left kinds (values-of moves) d bit ≡ Left kinds (values-of moves) (d + 1) (bit + n)
+    fits-agrees e n one =
+        fits-one-more kinds moves d bit below few o t s
+        ∙ ap (λ (b : Bool). b && later) e
+        ∙ ap (λ (m : ℕ). Left kinds (values-of moves) (d + 1) (bit + m)) (sym one)

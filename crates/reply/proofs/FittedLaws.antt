@@ -1,14 +1,14 @@
 -- The rows that fit, one row after the other. Assumes nothing.
-use Prim.Native.Nat.{ℕ, zero, suc, _+_, _*_, _/_, _%_, _^_, _≤_, _<_}
+use Prim.Native.Nat.{ℕ, zero, suc, _+_, _-_, _*_, _/_, _%_, _^_, _≤_, _<_}
 use native.Mathlib.Decide.{decLt, ℕ-discrete}
 use native.Mathlib.Omega.{arith}
 use mathlib.Core.Path.{_≡_, refl, sym, ap, ap₂, _∙_, subst}
 use mathlib.Core.Bool.{Bool, true, false, cond, _&&_}
 use mathlib.Core.List.{List, [], _∷_, _++_, append-nil}
 use lib.Dec.{ltb}
-use lib.ListN.{length, take, getD, replicate}
+use lib.ListN.{length, take, drop, getD, replicate, length-map}
 use borrow.Author.Tests.{lt-ltb, le-ltb}
-use Rattle.formula.specs.Formula.{prefix}
+use Rattle.formula.specs.Formula.{prefix, max-unknowns}
 use Rattle.preference.specs.Preference.{odd}
 use Rattle.expansion.specs.Play.{Row}
 use Rattle.rows.specs.Row.{bit-of, values, row-of}
@@ -17,11 +17,12 @@ use Rattle.rows.specs.Table.{row-at, rows-of, room}
 use Rattle.rows.proofs.BitLaws.{odd-zero}
 use Rattle.rows.proofs.RowLaws.{none-stray, no-bit-past-end}
 use Rattle.rows.proofs.TableLaws.{rows-of-next, bit-of-row-at, row-at-outside}
+use Rattle.restriction.specs.Outcome.{value-of, values-of}
 use Rattle.case_rules.specs.Restricted.{kinds-behind}
 use Rattle.reply_rules.specs.Position.{fitting}
 use Rattle.reply.specs.Private.Fitting.{one-if, owned, fits, Blank, Copied, Kept, Fitted}
 use Rattle.reply.proofs.BitLaws.{values-same, rows-of-same}
-use Rattle.reply.proofs.FitLaws.{fitting-empty, fitting-append, fitting-one}
+use Rattle.reply.proofs.FitLaws.{part-is, owned-few, owned-both, fitting-empty, fitting-append, fitting-one}
 
 -- A table of zeros has no bit.
 pub zeros-blank : (n : ℕ) → Blank 0 (replicate n 0)
@@ -146,3 +147,45 @@ module _ (fit : Bool) (bits : ℕ → Bool) (from width : ℕ) (before : List �
 
   pub kept-copied : (now : List ℕ) → fit ≡ true → Copied bits from width before to now → (to + 1 ≡ to + one-if fit) × Kept fit bits from width before to now
   kept-copied now e copy = (ap (λ (b : Bool). to + one-if b) (sym e), subst (λ (b : Bool). Kept b bits from width before to now) (sym e) copy)
+
+-- ---- as the loop hands it on
+
+module _ (claim : Bool) (kinds moves : List ℕ) where
+  abbrev vs : List Bool
+  vs = values-of moves
+
+  same-depth : length moves ≡ length vs
+  same-depth = sym (length-map moves value-of)
+
+  module _ {from width : ℕ} (few : length kinds ≤ max-unknowns) (short : length moves ≤ length kinds) (from-is : from ≡ owned claim (prefix (take (length moves) kinds)))
+      (width-is : width ≡ owned claim (prefix (take (length kinds - length moves) (drop (length moves) kinds)))) where
+    pub widths-few : from + width ≤ max-unknowns
+    widths-few =
+        let both = owned-both claim kinds (length moves) in
+        let all = owned-few claim kinds in
+        let rest = width-is ∙ ap (λ (l : List ℕ). owned claim (prefix l)) (part-is kinds (length moves)) in
+        omega arith
+
+    from-so : from ≡ owned claim (prefix (take (length vs) kinds))
+    from-so = from-is ∙ ap (λ (n : ℕ). owned claim (prefix (take n kinds))) same-depth
+
+    width-so : width ≡ owned claim (prefix (kinds-behind vs kinds))
+    width-so =
+        width-is
+        ∙ ap (λ (l : List ℕ). owned claim (prefix l)) (part-is kinds (length moves))
+        ∙ ap (λ (n : ℕ). owned claim (prefix (drop n kinds))) same-depth
+
+module _ (claim : Bool) (kinds moves rows : List ℕ) (i : ℕ) (table : List ℕ) (to : ℕ) (done : Fitted claim kinds (values-of moves) rows i table to)
+    (few : length kinds ≤ max-unknowns) (short : length moves ≤ length kinds) (into : i < room rows) {fit : Bool} {from width : ℕ}
+    (fit-is : fit ≡ fits claim (prefix kinds) (values-of moves) (bit-of (row-at rows i))) (from-is : from ≡ owned claim (prefix (take (length moves) kinds)))
+    (width-is : width ≡ owned claim (prefix (take (length kinds - length moves) (drop (length moves) kinds)))) (room-there : to < room table) where
+  pub one-kept : {now : List ℕ} {next : ℕ} → next ≡ to + one-if fit → Kept fit (bit-of (row-at rows i)) from width table to now
+      → (length now ≡ length table) × Fitted claim kinds (values-of moves) rows (i + 1) now next
+  one-kept {now} {next} count copy =
+      let shorter : length (values-of moves) ≤ length kinds = omega (arith, short, length-map moves value-of) in
+      let narrow = widths-few claim kinds moves few short from-is width-is in
+      let wide-so = width-so claim kinds moves few short from-is width-is in (
+        kept-size claim kinds (values-of moves) rows i table to done shorter into fit now from width copy,
+        one-fitted claim kinds (values-of moves) rows i table to done shorter into fit now next from width fit-is (from-so claim kinds moves few short from-is width-is) wide-so room-there
+            (omega (arith, narrow, wide-so)) count copy,
+      )

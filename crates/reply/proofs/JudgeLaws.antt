@@ -1,12 +1,13 @@
 -- The judge over the rows that fit, on the formula with the moves set, says whether the position is borne out. Assumes nothing.
-use Prim.Native.Nat.{ℕ, _+_, _*_, _/_, _%_, _≤_, _<_}
+use Prim.Native.Nat.{ℕ, _+_, _-_, _*_, _/_, _%_, _≤_, _<_}
 use native.Mathlib.Omega.{arith}
-use mathlib.Core.Path.{_≡_, refl, sym, ap, _∙_}
+use mathlib.Core.Path.{_≡_, refl, sym, ap, subst, _∙_}
 use mathlib.Core.Bool.{Bool, true, false, cond, not, _&&_, _||_}
-use mathlib.Core.List.{List, map}
+use mathlib.Core.List.{List, map, _++_}
 use lib.Dec.{eqb, leb, ltb}
 use lib.IntN.{ℤ}
-use lib.ListN.{length, replicate, length-replicate, length-map}
+use lib.ListN.{length, take, drop, replicate, length-replicate, length-map, length-append}
+use lib.Seq.{take-at}
 use borrow.Author.Tests.{eq-eqb, le-ltb}
 use Rattle.formula.specs.Formula.{prefix, clauses, max-rows, work-size}
 use Rattle.formula.specs.Meaning.{matrix}
@@ -21,13 +22,17 @@ use Rattle.judge.specs.Judge as Judge
 use Rattle.judge.specs.Judge.{claims-true, other-claim, width, lent-rows}
 use Rattle.judge.specs.declared.Judgement.the-variants as Judgement
 use Rattle.judge.proofs.Causes.{none-other-to-1}
+use Rattle.formula.specs.declared.Check.{Check}
+use Rattle.restriction.specs.declared.Set.{Set}
+use Rattle.restriction.specs.declared.Set.the-variants.{Entries, Refused}
+use Rattle.restriction.specs.Outcome as Setting
 use Rattle.restriction.specs.Outcome.{value-of, values-of, wrong-values}
 use Rattle.restriction.proofs.OutcomeLaws.{few-values}
-use Rattle.case_rules.specs.Restricted.{restricted, kinds-behind}
+use Rattle.case_rules.specs.Restricted.{IsAccepted, restricted, kinds-behind}
 use Rattle.case_rules.proofs.Proved.{restricted-right}
 use Rattle.reply_rules.specs.Position.{fitting, borne-out}
 use Rattle.reply.specs.Private.Fitting.{Lent, owned, Fitted, says-accepted}
-use Rattle.reply.proofs.FitLaws.{width-owned}
+use Rattle.reply.proofs.FitLaws.{part-is, width-owned}
 
 fits-4096 : (table : List ℕ) → length table ≡ 4096 → table-fits table ≡ true
 unfolding table-fits
@@ -87,7 +92,55 @@ module _ (kinds : List ℕ) (literals : List ℤ) (claim : ℕ) (rows : List ℕ
       ap (λ (n : ℕ). says-accepted (cond (eqb n 0) (Judge.answer (Judge.borne-out behind left claim table fit)) (Judgement.Refused n))) no-cause
       ∙ says-answer (Judge.borne-out behind left claim table fit)
 
-  pub borne-said : says-accepted (Judge.outcome behind left claim table fit area)
+  borne-said : says-accepted (Judge.outcome behind left claim table fit area)
       ≡ borne-out (claims-true claim) kinds literals (lent-rows kinds claim rows count) (values-of moves)
   unfolding Judge.borne-out borne-out
   borne-said = said ∙ ap (accepted (claims-true claim) (prefix behind) (matrix (clauses left))) same-rows
+
+pub borne-said-of : (kinds : List ℕ) (literals : List ℤ) (claim : ℕ) (rows : List ℕ) (count : ℕ) (moves : List ℕ) → Lent kinds literals claim rows count
+    → wrong-values (length kinds) moves ≡ false → {table : List ℕ} {fit : ℕ} {left : List ℤ} → length table ≡ 4096
+    → Fitted (claims-true claim) kinds (values-of moves) rows count table fit → left ≡ restricted (values-of moves) literals
+    → says-accepted (Judge.outcome (take (length kinds - length moves) (drop (length moves) kinds)) left claim table fit (replicate work-size 0))
+    ≡ borne-out (claims-true claim) kinds literals (lent-rows kinds claim rows count) (values-of moves)
+borne-said-of kinds literals claim rows count moves lent good {table} {fit} {left} size done is =
+    ap (λ (ks : List ℕ). says-accepted (Judge.outcome ks left claim table fit (replicate work-size 0))) (part-is kinds (length moves))
+    ∙ ap (λ (n : ℕ). says-accepted (Judge.outcome (drop n kinds) left claim table fit (replicate work-size 0))) (sym (length-map moves value-of))
+    ∙ ap (λ (l : List ℤ). says-accepted (Judge.outcome (kinds-behind (values-of moves) kinds) l claim table fit (replicate work-size 0))) is
+    ∙ borne-said kinds literals claim rows count moves lent good table size fit done
+
+-- ---- the formula with the moves set, as it is written
+
+module _ (kinds : List ℕ) (literals : List ℤ) (moves : List ℕ) (output : List ℤ) (fine : IsAccepted kinds literals) (room-there : length literals ≤ length output)
+    (good : wrong-values (length kinds) moves ≡ false) where
+  set-cause : Setting.cause kinds literals moves output ≡ 0
+  unfolding Setting.cause
+  set-cause =
+      ap (λ (k : Check). cond (eqb (Causes.number k) 0) (cond (ltb (length output) (length literals)) 15 (cond (wrong-values (length kinds) moves) 27 0)) (Causes.number k)) fine
+      ∙ ap (λ (b : Bool). cond b 15 (cond (wrong-values (length kinds) moves) 27 0)) (le-ltb (length output) (length literals) room-there)
+      ∙ ap (λ (b : Bool). cond b 27 0) good
+
+  abbrev rest : List ℤ
+  rest = restricted (values-of moves) literals
+
+  set-outcome : Setting.outcome kinds literals moves output ≡ Entries (length rest)
+  unfolding Setting.outcome
+  set-outcome = ap (λ (n : ℕ). cond (eqb n 0) (Entries (length rest)) (Refused n)) set-cause
+
+  set-output : Setting.output-after kinds literals moves output ≡ rest ++ drop (length rest) output
+  unfolding Setting.output-after
+  set-output = ap (λ (n : ℕ). cond (eqb n 0) (rest ++ drop (length rest) output) output) set-cause
+
+  entries-same : (a b : ℕ) → Entries a ≡ Entries b → a ≡ b
+  entries-same a b e = cc
+
+  pub set-entries : {r : Set} (exit : List ℤ) (used : ℕ) → r ≡ Setting.outcome kinds literals moves output → exit ≡ Setting.output-after kinds literals moves output
+      → r ≡ Entries used → (used ≤ length exit) × (take used exit ≡ rest)
+  set-entries exit used returned written told =
+      let many = entries-same used (length rest) (sym told ∙ returned ∙ set-outcome) in
+      let stands = written ∙ set-output in (
+        subst (λ (l : List ℤ). used ≤ length l) (sym stands) (omega (arith, many, length-append rest (drop (length rest) output))),
+        ap (take used) stands ∙ take-at rest (drop (length rest) output) used (sym many),
+      )
+
+  pub set-not-refused : {r : Set} (cause : ℕ) → r ≡ Setting.outcome kinds literals moves output → r ≡ Refused cause → ⊥
+  set-not-refused cause returned told = let same = sym told ∙ returned ∙ set-outcome in let z : _≡_ {A = ℕ} 0 1 = cc in omega arith

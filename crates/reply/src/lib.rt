@@ -69,14 +69,7 @@ pub fn next_move(
 }
 
 // The number of the first cause that applies, or 0.
-fn cause(
-    kinds: &[u8],
-    literals: &[i32],
-    claim: u8,
-    rows: &[u8],
-    count: usize,
-    moves: &[u8],
-) -> u32
+fn cause(kinds: &[u8], literals: &[i32], claim: u8, rows: &[u8], count: usize, moves: &[u8]) -> u32
     ensures { λ r. ⌜ r ≡ cause-of (now (kinds .entry)) (now (literals .entry)) claim (now (rows .entry)) count (now (moves .entry)) ⌝ }
 {
     match Formula::check(kinds, literals) {
@@ -305,14 +298,7 @@ fn keep(
 }
 
 // Copies the bits of row i from `from` on, as many as the width says, to an empty row.
-fn copy_behind(
-    rows: &[u8],
-    i: usize,
-    from: usize,
-    width: usize,
-    table: &mut [u8],
-    to: usize,
-)
+fn copy_behind(rows: &[u8], i: usize, from: usize, width: usize, table: &mut [u8], to: usize)
     requires { ⌜ (from + width ≤ max-unknowns) × (to < room (now table)) × Blank to (now table) ⌝ }
     ensures { λ _. ⌜ Copied (bit-of (row-at (now (rows .entry)) i)) from width (now (table .entry)) to (now (table .exit)) ⌝ }
 {
