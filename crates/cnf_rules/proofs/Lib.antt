@@ -4,7 +4,6 @@ pub mod LeftOver
 pub mod Breaks
 pub mod Extended
 pub mod NamedLaws
-pub mod Counted
 pub mod Numbering
 pub mod FirstRow
 pub mod Right

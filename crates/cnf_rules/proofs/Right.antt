@@ -18,12 +18,11 @@ use Rattle.expansion.proofs.Booleans.{never-both, false-if-not-true}
 use Rattle.expansion.proofs.Engine.{length-tabulate}
 use Rattle.expansion.proofs.FirstModel.{values-of, is-model-of-values}
 use Rattle.expansion.proofs.Judged.{accepted-exactly, accepted-verdict}
-use Rattle.cnf_rules.specs.Clauses.{copy-number, expansion, variables, clause-count}
+use Rattle.cnf_rules.specs.Clauses.{copy-number, expansion, variables}
 use Rattle.cnf_rules.specs.Right.{AllNamed, Satisfiable, Unsatisfiable, HasModel, ExpansionRight}
 use Rattle.cnf_rules.proofs.LeftOver.{all-true-value}
 use Rattle.cnf_rules.proofs.Breaks.{wins-if-some-false}
 use Rattle.cnf_rules.proofs.Extended.{At, all-marks, length-all-marks, at-behind, some-false-if-wins}
-use Rattle.cnf_rules.proofs.Counted.{length-over-rows}
 use Rattle.cnf_rules.proofs.NamedLaws.{all-true-named, some-false-named}
 use Rattle.cnf_rules.proofs.Numbering.{Numbers, strategy-by, values-by, agrees-to, agrees-from, below-in}
 use Rattle.cnf_rules.proofs.FirstRow.{by-first-row}
@@ -108,10 +107,6 @@ module _ (ks : List Kind) (cs : List Clause) (rows : List Row) (few : length ks 
       some-false-named m (m + length cs * length rows) (omega arith) ts (copy-number ts rows) cs m rows
       (below-in ts rows (copy-number ts rows) m (numbers true)) (omega arith)
 
-  counted : (claim : Bool) → length (expansion claim ks cs rows) ≡ clause-count claim ks cs rows
-  unfolding expansion clause-count
-  counted claim = length-over-rows claim (own-flags claim) (copy-number (own-flags claim) rows) cs (max-unknowns * length rows) rows
-
   pub expansion-right : (claim : Bool) → ExpansionRight claim ks cs rows
   expansion-right claim =
       record {
@@ -119,5 +114,4 @@ module _ (ks : List Kind) (cs : List Clause) (rows : List Row) (few : length ks 
         exactly = exactly claim;
         verdict = λ none. accepted-verdict claim ks (matrix cs) rows (exactly claim .1 none);
         named = named claim;
-        counted = counted claim;
       }

@@ -104,33 +104,6 @@ unfoldable pub variables : Bool → List Kind → List Clause → List Row → �
 variables false ks cs rows = max-unknowns * length rows
 variables true ks cs rows = max-unknowns * length rows + length cs * length rows
 
--- How many clauses a row leaves, how many own literals a clause has, and how many those have that the row leaves.
-abbrev pub left-count : List Bool → Row → List Clause → ℕ
-left-count ts row [] = zero
-left-count ts row (c ∷ cs) =
-    let kept = suc (left-count ts row cs) in
-    cond (any (row-literal ts row) c) (left-count ts row cs) kept
-
-abbrev pub own-count : List Bool → Clause → ℕ
-own-count ts [] = zero
-own-count ts (z ∷ c) =
-    let kept = suc (own-count ts c) in
-    cond (own-literal ts z) kept (own-count ts c)
-
-abbrev pub left-literals : List Bool → Row → List Clause → ℕ
-left-literals ts row [] = zero
-left-literals ts row (c ∷ cs) =
-    let kept = own-count ts c + left-literals ts row cs in
-    cond (any (row-literal ts row) c) (left-literals ts row cs) kept
-
--- How many clauses a row has, and all rows have.
-abbrev pub row-count : Bool → List Bool → Row → List Clause → ℕ
-row-count false ts row cs = left-count ts row cs
-row-count true ts row cs = left-literals ts row cs + 1
-
-abbrev pub count-over : Bool → List Bool → List Clause → List Row → ℕ
-count-over claim ts cs [] = zero
-count-over claim ts cs (row ∷ rows) = row-count claim ts row cs + count-over claim ts cs rows
-
+-- How many clauses it is.
 unfoldable pub clause-count : Bool → List Kind → List Clause → List Row → ℕ
-clause-count claim ks cs rows = count-over claim (flags (side-of claim) ks) cs rows
+clause-count claim ks cs rows = length (expansion claim ks cs rows)

@@ -55,9 +55,8 @@ pub record ExpansionRight (claim : Bool) (ks : List Kind) (cs : List Clause) (ro
   pub exactly : (accepted claim ks (matrix cs) rows ≡ true) ↔ Unsatisfiable (variables claim ks cs rows) (expansion claim ks cs rows)
   -- .. and the claim is then the verdict.
   pub verdict : Unsatisfiable (variables claim ks cs rows) (expansion claim ks cs rows) → meaning ks (matrix cs) ≡ claim
-  -- The clauses are of the variables that are counted, and as many as are counted.
+  -- The clauses are of the variables that are counted.
   pub named : AllNamed (variables claim ks cs rows) (expansion claim ks cs rows)
-  pub counted : length (expansion claim ks cs rows) ≡ clause-count claim ks cs rows
 
 -- For any claim, kinds, clauses, rows and names.
 pub record TextRight (claim : Bool) (ks : List Kind) (cs : List Clause) (rows : List Row) (names : List ℕ) : Type 0 where
