@@ -34,7 +34,7 @@ use Rattle.cnf_rules.proofs.Right.{named}
 
 -- ---- part after part
 
-lines-append : (cs ds : List Clause) → lines (cs ++ ds) ≡ lines cs ++ lines ds
+pub lines-append : (cs ds : List Clause) → lines (cs ++ ds) ≡ lines cs ++ lines ds
 lines-append [] ds = refl
 lines-append (c ∷ cs) ds = ap (λ l. line c ++ l) (lines-append cs ds) ∙ sym (append-assoc (line c) (lines cs) (lines ds))
 
@@ -68,7 +68,7 @@ module _ (claim : Bool) (ks : List Kind) (cs : List Clause) (rows : List Row) wh
       ∙ ap (λ l. parts claim ks cs rows n ++ l) (sym (next-part n within))
       ∙ parts-left n (omega arith)
 
-  all-parts : lines (expansion claim ks cs rows) ≡ parts claim ks cs rows (length rows)
+  pub all-parts : lines (expansion claim ks cs rows) ≡ parts claim ks cs rows (length rows)
   all-parts =
       let whole : length rows ≤ length rows = omega arith in
       let none : drop (length rows) rows ≡ [] = drop-of-length-le rows whole in
@@ -77,7 +77,7 @@ module _ (claim : Bool) (ks : List Kind) (cs : List Clause) (rows : List Row) wh
 -- ---- comment lines are passed over
 
 -- A digit is no end of a line, and no c.
-digit-no-end : (d : ℕ) → is-digit d ≡ true → eqb d 10 ≡ false
+pub digit-no-end : (d : ℕ) → is-digit d ≡ true → eqb d 10 ≡ false
 digit-no-end d e = ne-eqb d 10 (λ same. omega (arith, same, leb-true 48 d (and-both (leb 48 d) (leb d 57) e .0)))
 
 digits-passed : (ds : Bytes) (rest : Bytes) → all-digits ds ≡ true → past-comments true (ds ++ rest) ≡ past-comments true rest
