@@ -106,7 +106,7 @@ unfolding decimal
 decimal-digits n = within-digits 20 n
 
 module _ (n : ℕ) (small : n < 1000000000) where
-  decimal-value : value 0 (decimal n) ≡ n
+  pub decimal-value : value 0 (decimal n) ≡ n
   unfolding decimal
   decimal-value = digits-value 20 n (omega (arith, small))
 
