@@ -67,7 +67,8 @@ module _ (s : List ℕ) {t : List ℕ} (size : length s ≡ sets-size) where
   pub excuses : (k at : ℕ) → at ≤ max-unknowns → t ≡ excused s max-unknowns k at → Excused k at s t
   excuses k at high e = subst (λ (x : List ℕ). Excused k at s x) (sym e) (excuse-excuses s size k at high)
 
-  pub blames : (codes : List ℕ) (start to : ℕ) → to < set-places → Coded max-unknowns codes → t ≡ blamed codes s start to → Blamed (clause-of (drop start codes)) to s t
+  pub blames : (codes : List ℕ) (start to : ℕ) → to < set-places → Coded max-unknowns codes → t ≡ blamed codes s start to →
+      Blamed (clause-of (drop start codes)) to s t
   blames codes start to place coded e =
       subst (λ (x : List ℕ). Blamed (clause-of (drop start codes)) to s x) (sym e) (blame-blames s size codes start to place coded)
 
@@ -98,7 +99,8 @@ module _ (splits : List ℕ) where
   pub parts-there : (lo mid n : ℕ) {r : ℕ} → mid < length splits → r ≡ parted-at splits lo mid n → PartedAt splits lo mid n r
   parts-there lo mid n high e = subst (λ (x : ℕ). PartedAt splits lo mid n x) (sym e) (parted-at-there splits lo mid n high)
 
-pub stands : (kinds w : List ℕ) (side k lo until : ℕ) {r : ℕ} → length w ≡ work-size → length kinds ≤ max-unknowns → until ≤ length kinds → k ≤ length kinds → lo < max-rows
+pub stands : (kinds w : List ℕ) (side k lo until : ℕ) {r : ℕ} → length w ≡ work-size → length kinds ≤ max-unknowns → until ≤ length kinds → k ≤ length kinds →
+    lo < max-rows
     → r ≡ open-position kinds w side k lo until → Stands kinds w side k lo until r
 stands kinds w side k lo until area few within known row e =
     subst (λ (x : ℕ). Stands kinds w side k lo until x) (sym e) (open-position-stands kinds w side k lo until area few within known row)
@@ -106,8 +108,10 @@ stands kinds w side k lo until area few within known row e =
 -- ---- cells
 
 module _ {w u : List ℕ} (area : length w ≡ work-size) where
-  pub sets-rows : (k lo hi mark : ℕ) (value : Bool) → k < max-unknowns → lo ≤ hi → hi ≤ max-rows → u ≡ rows-set k lo hi mark value w → CellsSet k lo hi mark value w u
-  sets-rows k lo hi mark value small low high e = subst (λ (x : List ℕ). CellsSet k lo hi mark value w x) (sym e) (rows-are-set k lo hi mark value w area small high low)
+  pub sets-rows : (k lo hi mark : ℕ) (value : Bool) → k < max-unknowns → lo ≤ hi → hi ≤ max-rows → u ≡ rows-set k lo hi mark value w →
+      CellsSet k lo hi mark value w u
+  sets-rows k lo hi mark value small low high e = subst (λ (x : List ℕ). CellsSet k lo hi mark value w x) (sym e)
+      (rows-are-set k lo hi mark value w area small high low)
 
   pub opens-rows : (lo hi bound : ℕ) → lo ≤ hi → hi ≤ max-rows → u ≡ rows-opened lo hi bound w → CellsOpened lo hi bound w u
   opens-rows lo hi bound low high e = subst (λ (x : List ℕ). CellsOpened lo hi bound w x) (sym e) (rows-are-opened lo hi bound w area high low)
@@ -118,7 +122,8 @@ pub sorts : (rows : List ℕ) (count m : ℕ) (before : List ℕ) {place : List 
     → Sorted rows count m place
 sorts rows count m before few fits e = subst (λ (x : List ℕ). Sorted rows count m x) (sym e) (places-sorted rows count m before few fits)
 
-pub compares : (kinds w : List ℕ) (count side : ℕ) (before : List ℕ) {splits : List ℕ} → length w ≡ work-size → length kinds ≤ max-unknowns → count ≤ max-rows → length before ≡ max-rows
+pub compares : (kinds w : List ℕ) (count side : ℕ) (before : List ℕ) {splits : List ℕ} → length w ≡ work-size → length kinds ≤ max-unknowns → count ≤ max-rows →
+    length before ≡ max-rows
     → splits ≡ rows-compared kinds w count side before → (i : ℕ) → i + 1 < count → FirstDifference kinds side w i (getD splits (i + 1) 0)
 compares kinds w count side before area few most room e i less =
     subst (λ (x : List ℕ). FirstDifference kinds side w i (getD x (i + 1) 0)) (sym e) (rows-are-compared kinds w count side before area few most room i less)
@@ -127,7 +132,8 @@ pub numbers : (kinds preferences place splits : List ℕ) (side : ℕ) {w u : Li
     → ((i : ℕ) → i < length place → (r : ℕ) × (r < length place) × (getD place r 0 ≡ i)) → length splits ≡ max-rows → length w ≡ work-size
     → u ≡ numbered kinds preferences place splits side w → WantsFilled kinds preferences place splits side w u
 numbers kinds preferences place splits side {w} few most met room area e =
-    subst (λ (x : List ℕ). WantsFilled kinds preferences place splits side w x) (sym e) (wants-filled kinds preferences place splits side w few most met room area)
+    subst (λ (x : List ℕ). WantsFilled kinds preferences place splits side w x) (sym e) (wants-filled kinds preferences place splits side w few most met room
+    area)
 
 all-are-codes : (codes : List ℕ) → Coded max-unknowns codes → all-codes codes ≡ true
 all-are-codes [] coded = refl
@@ -138,7 +144,8 @@ all-are-codes (suc c ∷ codes) coded =
     rw (same, le-leb (suc c) last-code (omega arith), ne-eqb (suc c) 1 (λ e. omega arith)) (all-are-codes codes (λ e less. coded (suc e) (omega arith)))
 
 -- The index that is filled is the one of the codes.
-pub lists : (codes before : List ℕ) {index : List ℕ} → length codes ≤ max-entries → Coded max-unknowns codes → length before ≡ index-size → index ≡ indexed codes before → index ≡ index-of codes
+pub lists : (codes before : List ℕ) {index : List ℕ} → length codes ≤ max-entries → Coded max-unknowns codes → length before ≡ index-size →
+    index ≡ indexed codes before → index ≡ index-of codes
 unfolding indexed table-fits
 lists codes before few coded size e = e ∙ whole
   where

@@ -47,7 +47,8 @@ abbrev Literal : ℕ → ℕ → Type 0
 Literal n c = ((2 ≤ c) × (position c < n)) × (position c < max-unknowns)
 
 -- the existential side's goal is the matrix
-pub goal-matrix : (P : Problem) (kinds splits codes : List ℕ) → Fits P kinds splits codes 0 → (f : ℕ → Bool) → P .goal f ≡ matrix-at code-true (code-clauses codes) f
+pub goal-matrix : (P : Problem) (kinds splits codes : List ℕ) → Fits P kinds splits codes 0 → (f : ℕ → Bool) →
+    P .goal f ≡ matrix-at code-true (code-clauses codes) f
 unfolding code-goal
 goal-matrix P kinds splits codes F f = F .goal f
 
@@ -55,7 +56,8 @@ pub cut-is : (t : List ℕ) → cut t ≡ set-at t max-unknowns
 unfolding cut
 cut-is t = refl
 
-module _ (P : Problem) (kinds splits codes : List ℕ) (F : Fits P kinds splits codes 0) (coded : Coded max-unknowns codes) (k lo hi : ℕ) (v : ℕ → Bool) (w s : List ℕ) (A : Node P k lo hi v (cells w) (masks s))
+module _ (P : Problem) (kinds splits codes : List ℕ) (F : Fits P kinds splits codes 0) (coded : Coded max-unknowns codes) (k lo hi : ℕ) (v : ℕ → Bool)
+    (w s : List ℕ) (A : Node P k lo hi v (cells w) (masks s))
     (i start : ℕ) (il : lo ≤ i) (ih : i < hi) (begins : Begins codes start) where
   abbrev clause : List ℕ
   clause = clause-of (drop start codes)
@@ -68,23 +70,28 @@ module _ (P : Problem) (kinds splits codes : List ℕ) (F : Fits P kinds splits 
 
   -- ---- a clause that is false
 
-  module _ (found : ℕ) (none : found ≡ 0) (looked : Looked codes w i start found) (s1 t : List ℕ) (emptied : SetsKept s s1) (blamed : Blamed clause max-unknowns s1 t) where
+  module _ (found : ℕ) (none : found ≡ 0) (looked : Looked codes w i start found) (s1 t : List ℕ) (emptied : SetsKept s s1)
+      (blamed : Blamed clause max-unknowns s1 t) where
     within-cut : (c : ℕ) → position c < max-unknowns → Takes s1 t max-unknowns c → Within k (masks s (position c)) (cut t)
     within-cut c lt takes l lk h =
         ⊎-elim
         (λ e. absurd (omega arith))
-        (λ takes′. ap (λ (m : Mask). m l) (cut-is t) ∙ takes′ l (emptied .same (position c) lt l ∙ sym (ap (λ (m : Mask). m l) (masks-below s (position c) lt)) ∙ h))
+        (λ takes′. ap (λ (m : Mask). m l) (cut-is t) ∙ takes′ l (emptied .same (position c) lt l ∙ sym (ap (λ (m : Mask). m l) (masks-below s (position c) lt))
+        ∙ h))
         takes
 
     dead-rests : Every (Rests code-true position (P .n) k (cells w) (masks s) (cut t) i false) clause
     dead-rests =
-        every-both (λ c. Literal (P .n) c × FalseBut w i found c) (Takes s1 t max-unknowns) (Rests code-true position (P .n) k (cells w) (masks s) (cut t) i false)
+        every-both (λ c. Literal (P .n) c × FalseBut w i found c) (Takes s1 t max-unknowns) (Rests code-true position (P .n) k (cells w) (masks s) (cut t) i
+        false)
         (λ c a b. rests c a b)
         clause
-        (every-both (Literal (P .n)) (FalseBut w i found) (λ c. Literal (P .n) c × FalseBut w i found c) (λ c a b. (a, b)) clause named (looked .rest (λ e. omega arith)))
+        (every-both (Literal (P .n)) (FalseBut w i found) (λ c. Literal (P .n) c × FalseBut w i found c) (λ c a b. (a, b)) clause named
+        (looked .rest (λ e. omega arith)))
         (blamed .takes)
       where
-        rests : (c : ℕ) → Literal (P .n) c × FalseBut w i found c → Takes s1 t max-unknowns c → Rests code-true position (P .n) k (cells w) (masks s) (cut t) i false c
+        rests : (c : ℕ) → Literal (P .n) c × FalseBut w i found c → Takes s1 t max-unknowns c →
+            Rests code-true position (P .n) k (cells w) (masks s) (cut t) i false c
         rests c a b =
             ⊎-elim
             (λ e. absurd (let p : 2 ≤ c = a .0 .0 .0 in omega arith))
@@ -93,7 +100,8 @@ module _ (P : Problem) (kinds splits codes : List ℕ) (F : Fits P kinds splits 
 
     refuted-here : Refuted P k v (cut t) i
     refuted-here =
-        dead-clause code-true position code-local P k lo hi v (cells w) (masks s) (cut t) A i il ih (code-clauses codes) clause (goal-matrix P kinds splits codes F)
+        dead-clause code-true position code-local P k lo hi v (cells w) (masks s) (cut t) A i il ih (code-clauses codes) clause
+        (goal-matrix P kinds splits codes F)
         (clause-among codes start begins (looked .ends (λ e. omega arith))) dead-rests
 
     settled-dead : (mark : ℕ) → Settled P k lo hi v mark w w s t false
@@ -107,10 +115,13 @@ module _ (P : Problem) (kinds splits codes : List ℕ) (F : Fits P kinds splits 
 
   -- ---- a clause with one open literal, all others false
 
-  module _ (c : ℕ) (two : 2 ≤ c) (looked : Looked codes w i start c) (t t1 : List ℕ) (blamed : Blamed clause (position c) s t) (noted : SetsKept t t1) (u : List ℕ) (mark from to : ℕ) (pos : 0 < mark) (most : mark ≤ k + 1)
-      (copy-from : CopyFrom splits (position c) lo i from) (copy-to : CopyTo splits (position c) i hi to) (stored : CellsSet (position c) from to mark (eqb (c % 2) 0) w u) where
+  module _ (c : ℕ) (two : 2 ≤ c) (looked : Looked codes w i start c) (t t1 : List ℕ) (blamed : Blamed clause (position c) s t) (noted : SetsKept t t1)
+      (u : List ℕ) (mark from to : ℕ) (pos : 0 < mark) (most : mark ≤ k + 1)
+      (copy-from : CopyFrom splits (position c) lo i from) (copy-to : CopyTo splits (position c) i hi to)
+      (stored : CellsSet (position c) from to mark (eqb (c % 2) 0) w u) where
     below : position c < P .n
-    below = every-some (Literal (P .n)) (λ x. x ≡ c) (position c < P .n) (λ x a e. subst (λ (y : ℕ). position y < P .n) e (a .0 .1)) clause named (looked .named two)
+    below = every-some (Literal (P .n)) (λ x. x ≡ c) (position c < P .n) (λ x a e. subst (λ (y : ℕ). position y < P .n) e (a .0 .1)) clause named
+        (looked .named two)
 
     unset : cells w .level i (position c) ≡ 0
     unset = looked .unset two
@@ -129,7 +140,8 @@ module _ (P : Problem) (kinds splits codes : List ℕ) (F : Fits P kinds splits 
     own =
         ⊎-elim
         (λ o. o)
-        (λ o. absurd (let z : 0 < cells w .level i (position c) = A .given i (position c) il ih below o .0 in let y : cells w .level i (position c) ≡ 0 = unset in omega arith))
+        (λ o. absurd (let z : 0 < cells w .level i (position c) = A .given i (position c) il ih below o .0 in let y : cells w .level i (position c) ≡ 0 = unset
+        in omega arith))
         (true-or-false (P .own (position c)))
 
     later : k ≤ position c
@@ -137,24 +149,30 @@ module _ (P : Problem) (kinds splits codes : List ℕ) (F : Fits P kinds splits 
       where
         go : Dec (k ≤ position c) → k ≤ position c
         go (yes le) = le
-        go (no n) = absurd (let z : 0 < cells w .level i (position c) = A .past i (position c) il ih (omega arith) .0 in let y : cells w .level i (position c) ≡ 0 = unset in omega arith)
+        go (no n) = absurd (let z : 0 < cells w .level i (position c) = A .past i (position c) il ih (omega arith) .0 in let y : cells w .level i
+            (position c) ≡ 0 = unset in omega arith)
 
-    within-blamed : (x : ℕ) → position x < max-unknowns → 0 < cells w .level i (position x) → Takes s t (position c) x → Within k (masks s (position x)) (masks t (position c))
+    within-blamed : (x : ℕ) → position x < max-unknowns → 0 < cells w .level i (position x) → Takes s t (position c) x →
+        Within k (masks s (position x)) (masks t (position c))
     within-blamed x lt set takes l lk h =
         ⊎-elim
-        (λ e. absurd (let z : cells w .level i (position x) ≡ cells w .level i (position c) = ap (cells w .level i) e in let y : cells w .level i (position c) ≡ 0 = unset in omega arith))
+        (λ e. absurd (let z : cells w .level i (position x) ≡ cells w .level i (position c) = ap (cells w .level i) e in let y : cells w .level i
+        (position c) ≡ 0 = unset in omega arith))
         (λ takes′. ap (λ (m : Mask). m l) (masks-below t (position c) fits) ∙ takes′ l (sym (ap (λ (m : Mask). m l) (masks-below s (position x) lt)) ∙ h))
         takes
 
     unit-rests : Every (λ x. (x ≡ c) ⊎ Rests code-true position (P .n) k (cells w) (masks s) (masks t (position c)) i false x) clause
     unit-rests =
-        every-both (λ x. Literal (P .n) x × FalseBut w i c x) (Takes s t (position c)) (λ x. (x ≡ c) ⊎ Rests code-true position (P .n) k (cells w) (masks s) (masks t (position c)) i false x)
+        every-both (λ x. Literal (P .n) x × FalseBut w i c x) (Takes s t (position c)) (λ x. (x ≡ c) ⊎ Rests code-true position (P .n) k (cells w) (masks s)
+        (masks t (position c)) i false x)
         (λ x a b. rests x a b)
         clause
-        (every-both (Literal (P .n)) (FalseBut w i c) (λ x. Literal (P .n) x × FalseBut w i c x) (λ x a b. (a, b)) clause named (looked .rest (λ e. omega arith)))
+        (every-both (Literal (P .n)) (FalseBut w i c) (λ x. Literal (P .n) x × FalseBut w i c x) (λ x a b. (a, b)) clause named
+        (looked .rest (λ e. omega arith)))
         (blamed .takes)
       where
-        rests : (x : ℕ) → Literal (P .n) x × FalseBut w i c x → Takes s t (position c) x → (x ≡ c) ⊎ Rests code-true position (P .n) k (cells w) (masks s) (masks t (position c)) i false x
+        rests : (x : ℕ) → Literal (P .n) x × FalseBut w i c x → Takes s t (position c) x →
+            (x ≡ c) ⊎ Rests code-true position (P .n) k (cells w) (masks s) (masks t (position c)) i false x
         rests x a b =
             ⊎-elim
             (λ e. inl e)
@@ -163,7 +181,8 @@ module _ (P : Problem) (kinds splits codes : List ℕ) (F : Fits P kinds splits 
 
     implied-here : Implied P k v (masks t (position c)) i (position c) (eqb (c % 2) 0)
     implied-here =
-        unit-clause code-true position code-local P k lo hi v (cells w) (masks s) (masks t (position c)) A i il ih (code-clauses codes) clause c (eqb (c % 2) 0) (code-sign c) (goal-matrix P kinds splits codes F)
+        unit-clause code-true position code-local P k lo hi v (cells w) (masks s) (masks t (position c)) A i il ih (code-clauses codes) clause c (eqb (c % 2) 0)
+        (code-sign c) (goal-matrix P kinds splits codes F)
         (clause-among codes start begins (looked .ends (λ e. omega arith))) unit-rests
 
     -- the rows from `from` to `to` have row i's copy, and no other row of the group has it
@@ -177,19 +196,23 @@ module _ (P : Problem) (kinds splits codes : List ℕ) (F : Fits P kinds splits 
     shares h p q = go (decLe h i)
       where
         go : Dec (h ≤ i) → Agree P i h (position c)
-        go (yes le) = agree-sym P h i (position c) (agree-between P kinds splits codes 0 F (position c) h i le (let g : hi ≤ length splits = group-rows in omega arith) inside (λ g a b. copy-from .shared g (omega arith) b))
-        go (no n) = agree-between P kinds splits codes 0 F (position c) i h (omega arith) (let g : hi ≤ length splits = group-rows in let th : to ≤ hi = to-high in omega arith) inside (λ g a b. copy-to .shared g a (omega arith))
+        go (yes le) = agree-sym P h i (position c) (agree-between P kinds splits codes 0 F (position c) h i le
+            (let g : hi ≤ length splits = group-rows in omega arith) inside (λ g a b. copy-from .shared g (omega arith) b))
+        go (no n) = agree-between P kinds splits codes 0 F (position c) i h (omega arith) (let g : hi ≤ length splits = group-rows in let th : to ≤ hi = to-high
+            in omega arith) inside (λ g a b. copy-to .shared g a (omega arith))
 
     closed : (h g : ℕ) → lo ≤ h → h < hi → lo ≤ g → g < hi → Agree P h g (position c) → from ≤ h → h < to → (from ≤ g) × (g < to)
     closed h g hl hh gl gh a p q = (low (decLe from g), high (decLt g to))
       where
         low : Dec (from ≤ g) → from ≤ g
         low (yes le) = le
-        low (no n) = absurd (parted-apart P kinds splits codes 0 F (position c) g h from (omega arith) p (let r : hi ≤ length splits = group-rows in omega arith) inside (copy-from .first (omega arith)) (agree-sym P h g (position c) a))
+        low (no n) = absurd (parted-apart P kinds splits codes 0 F (position c) g h from (omega arith) p
+            (let r : hi ≤ length splits = group-rows in omega arith) inside (copy-from .first (omega arith)) (agree-sym P h g (position c) a))
 
         high : Dec (g < to) → g < to
         high (yes lt) = lt
-        high (no n) = absurd (parted-apart P kinds splits codes 0 F (position c) h g to q (omega arith) (let r : hi ≤ length splits = group-rows in omega arith) inside (copy-to .last (omega arith)) a)
+        high (no n) = absurd (parted-apart P kinds splits codes 0 F (position c) h g to q (omega arith) (let r : hi ≤ length splits = group-rows in omega arith)
+            inside (copy-to .last (omega arith)) a)
 
     open-there : (h : ℕ) → from ≤ h → h < to → cells w .level h (position c) ≡ 0
     open-there h p q =
@@ -199,7 +222,8 @@ module _ (P : Problem) (kinds splits codes : List ℕ) (F : Fits P kinds splits 
         absurd
         (let lf : lo ≤ from = from-low in
         let th : to ≤ hi = to-high in
-        let z : 0 < cells w .level i (position c) = A .alike h i (position c) (omega arith) (omega arith) il ih below own (agree-sym P i h (position c) (shares h p q)) set .0 in
+        let z : 0 < cells w .level i (position c) = A .alike h i (position c) (omega arith) (omega arith) il ih below own
+        (agree-sym P i h (position c) (shares h p q)) set .0 in
         let y : cells w .level i (position c) ≡ 0 = unset in
         omega arith))
         (open-or-set (cells w .level h (position c)))
@@ -210,34 +234,44 @@ module _ (P : Problem) (kinds splits codes : List ℕ) (F : Fits P kinds splits 
     forced : (h : ℕ) → lo ≤ h → h < hi → from ≤ h → h < to → Implied P k v (masks t1 (position c)) h (position c) (eqb (c % 2) 0)
     forced h hl hh p q =
         implied-larger P k v (masks t (position c)) (masks t1 (position c)) h (position c) (eqb (c % 2) 0) (masks-kept k t t1 noted (position c))
-        (implied-row P i h k (position c) v (masks t (position c)) (eqb (c % 2) 0) (omega arith) (omega arith) (A .depth) below (A .agree i h il ih hl hh) own (shares h p q) implied-here)
+        (implied-row P i h k (position c) v (masks t (position c)) (eqb (c % 2) 0) (omega arith) (omega arith) (A .depth) below (A .agree i h il ih hl hh) own
+        (shares h p q) implied-here)
 
     settled-force : Settled P k lo hi v mark w u s t1 true
     settled-force = record {
       grown = grown-stored mark lo hi from to (position c) (eqb (c % 2) 0) (cells w) (cells u) from-low to-high open-there (stored .stored);
       wanted = stored .wanted;
       masked = larger;
-      kept = λ e. node-store P k lo hi v (cells w) (cells u) (masks s) from to (position c) mark (eqb (c % 2) 0) A (stored .stored) below own pos closed (masks t1) larger most later forced;
+      kept = λ e. node-store P k lo hi v (cells w) (cells u) (masks s) from to (position c) mark (eqb (c % 2) 0) A (stored .stored) below own pos closed
+          (masks t1) larger most later forced;
       failed = λ e. absurd (never-both refl e);
     }
 
 -- ---- the same over every problem
 
-module _ (splits codes : List ℕ) (coded : Coded max-unknowns codes) (lo hi mark : ℕ) (w s : List ℕ) (i start : ℕ) (il : lo ≤ i) (ih : i < hi) (begins : Begins codes start) where
-  pub settles-dead : (found : ℕ) → found ≡ 0 → Looked codes w i start found → (s1 t : List ℕ) → SetsKept s s1 → Blamed (clause-of (drop start codes)) max-unknowns s1 t → Settles 0 splits codes lo hi mark w w s t false
+module _ (splits codes : List ℕ) (coded : Coded max-unknowns codes) (lo hi mark : ℕ) (w s : List ℕ) (i start : ℕ) (il : lo ≤ i) (ih : i < hi)
+    (begins : Begins codes start) where
+  pub settles-dead : (found : ℕ) → found ≡ 0 → Looked codes w i start found → (s1 t : List ℕ) → SetsKept s s1 →
+      Blamed (clause-of (drop start codes)) max-unknowns s1 t → Settles 0 splits codes lo hi mark w w s t false
   settles-dead found none looked s1 t emptied blamed P kinds k v F A pos most =
       settled-dead P kinds splits codes F coded k lo hi v w s A i start il ih begins found none looked s1 t emptied blamed mark
 
-  pub settles-force : (c : ℕ) → 2 ≤ c → Looked codes w i start c → (t t1 : List ℕ) → Blamed (clause-of (drop start codes)) (position c) s t → SetsKept t t1 → (u : List ℕ) (from to : ℕ) → CopyFrom splits (position c) lo i from → CopyTo splits (position c) i hi to → CellsSet (position c) from to mark (eqb (c % 2) 0) w u
+  pub settles-force : (c : ℕ) → 2 ≤ c → Looked codes w i start c → (t t1 : List ℕ) → Blamed (clause-of (drop start codes)) (position c) s t → SetsKept t t1 →
+      (u : List ℕ) (from to : ℕ) → CopyFrom splits (position c) lo i from → CopyTo splits (position c) i hi to →
+      CellsSet (position c) from to mark (eqb (c % 2) 0) w u
       → Settles 0 splits codes lo hi mark w u s t1 true
   settles-force c two looked t t1 blamed noted u from to copy-from copy-to stored P kinds k v F A pos most =
-      settled-force P kinds splits codes F coded k lo hi v w s A i start il ih begins c two looked t t1 blamed noted u mark from to pos most copy-from copy-to stored
+      settled-force P kinds splits codes F coded k lo hi v w s A i start il ih begins c two looked t t1 blamed noted u mark from to pos most copy-from copy-to
+      stored
 
   -- at a number that is the literal's position
-  pub settles-force-at : (p c : ℕ) → p ≡ position c → 2 ≤ c → Looked codes w i start c → (t t1 : List ℕ) → Blamed (clause-of (drop start codes)) p s t → SetsKept t t1 → (u : List ℕ) (from to : ℕ) → CopyFrom splits p lo i from → CopyTo splits p i hi to → CellsSet p from to mark (eqb (c % 2) 0) w u
+  pub settles-force-at : (p c : ℕ) → p ≡ position c → 2 ≤ c → Looked codes w i start c → (t t1 : List ℕ) → Blamed (clause-of (drop start codes)) p s t →
+      SetsKept t t1 → (u : List ℕ) (from to : ℕ) → CopyFrom splits p lo i from → CopyTo splits p i hi to → CellsSet p from to mark (eqb (c % 2) 0) w u
       → Settles 0 splits codes lo hi mark w u s t1 true
   settles-force-at p c e two looked t t1 blamed noted u from to copy-from copy-to stored =
-      settles-force c two looked t t1 (subst (λ (x : ℕ). Blamed (clause-of (drop start codes)) x s t) e blamed) noted u from to (subst (λ (x : ℕ). CopyFrom splits x lo i from) e copy-from) (subst (λ (x : ℕ). CopyTo splits x i hi to) e copy-to) (subst (λ (x : ℕ). CellsSet x from to mark (eqb (c % 2) 0) w u) e stored)
+      settles-force c two looked t t1 (subst (λ (x : ℕ). Blamed (clause-of (drop start codes)) x s t) e blamed) noted u from to
+      (subst (λ (x : ℕ). CopyFrom splits x lo i from) e copy-from) (subst (λ (x : ℕ). CopyTo splits x i hi to) e copy-to)
+      (subst (λ (x : ℕ). CellsSet x from to mark (eqb (c % 2) 0) w u) e stored)
 
 -- ---- looks one after the other
 
@@ -254,8 +288,10 @@ settles-noted splits codes lo hi mark w s t noted = settles-refl 0 splits codes 
 pub settles-nothing : (splits codes : List ℕ) (lo hi mark : ℕ) (w s : List ℕ) → Settles 0 splits codes lo hi mark w w s s true
 settles-nothing splits codes lo hi mark w s = settles-refl 0 splits codes lo hi mark w s s (λ k. within-refl k (masks s))
 
-pub noted-first : (splits codes : List ℕ) (lo hi mark : ℕ) (w x s t y : List ℕ) (r : Bool) → SetsKept s t → Settles 0 splits codes lo hi mark w x t y r → Settles 0 splits codes lo hi mark w x s y r
-noted-first splits codes lo hi mark w x s t y r noted next = settles-then 0 splits codes lo hi mark w w x s t y r (settles-noted splits codes lo hi mark w s t noted) next
+pub noted-first : (splits codes : List ℕ) (lo hi mark : ℕ) (w x s t y : List ℕ) (r : Bool) → SetsKept s t → Settles 0 splits codes lo hi mark w x t y r →
+    Settles 0 splits codes lo hi mark w x s y r
+noted-first splits codes lo hi mark w x s t y r noted next = settles-then 0 splits codes lo hi mark w w x s t y r
+    (settles-noted splits codes lo hi mark w s t noted) next
 
 pub lent-noted : {side : ℕ} {splits codes w s t x : List ℕ} → Lent side splits codes w s x → length t ≡ length s → Lent side splits codes w t x
 lent-noted lent a = record {
@@ -299,9 +335,11 @@ module _ {H : Type 0} {splits codes : List ℕ} {lo hi mark : ℕ} {w u s t : Li
     sets = same ∙ so-far .sets;
   }
 
-  pub going-then : {x y : List ℕ} (r : Bool) → (H → Settles 0 splits codes lo hi mark u x t y r) → r ≡ true → length x ≡ length u → length y ≡ length t → Going H splits codes lo hi mark w x s y
+  pub going-then : {x y : List ℕ} (r : Bool) → (H → Settles 0 splits codes lo hi mark u x t y r) → r ≡ true → length x ≡ length u → length y ≡ length t →
+      Going H splits codes lo hi mark w x s y
   going-then {x} {y} r next e a b = record {
-    settles = λ h. settles-then 0 splits codes lo hi mark w u x s t y true (so-far .settles h) (subst (λ (z : Bool). Settles 0 splits codes lo hi mark u x t y z) e (next h));
+    settles = λ h. settles-then 0 splits codes lo hi mark w u x s t y true (so-far .settles h)
+        (subst (λ (z : Bool). Settles 0 splits codes lo hi mark u x t y z) e (next h));
     work = a ∙ so-far .work;
     sets = b ∙ so-far .sets;
   }
@@ -310,7 +348,8 @@ module _ {H : Type 0} {splits codes : List ℕ} {lo hi mark : ℕ} {w u s t : Li
   pub going-last : (x y : List ℕ) (r : Bool) → (H → Settles 0 splits codes lo hi mark u x t y r) → H → Settles 0 splits codes lo hi mark w x s y r
   going-last x y r next h = settles-then 0 splits codes lo hi mark w u x s t y r (so-far .settles h) (next h)
 
-  pub going-ends : (x y : List ℕ) (r : Bool) → (H → Settles 0 splits codes lo hi mark u x t y r) → r ≡ false → H → Settles 0 splits codes lo hi mark w x s y false
+  pub going-ends : (x y : List ℕ) (r : Bool) → (H → Settles 0 splits codes lo hi mark u x t y r) → r ≡ false → H →
+      Settles 0 splits codes lo hi mark w x s y false
   going-ends x y r next e = going-last x y false (λ h. subst (λ (z : Bool). Settles 0 splits codes lo hi mark u x t y z) e (next h))
 
   pub going-at : {u′ t′ : List ℕ} → u′ ≡ u → t′ ≡ t → Going H splits codes lo hi mark w u′ s t′
@@ -320,7 +359,8 @@ module _ {H : Type 0} {splits codes : List ℕ} {lo hi mark : ℕ} {w u s t : Li
 -- ---- lists of clauses
 
 -- a start that is put behind those that are counted may be counted too
-pub starts-put : (codes list : List ℕ) (count start more : ℕ) → count < length list → more ≤ 1 → Begins codes start → Starts codes list 0 count → Starts codes (set list count start) 0 (count + more)
+pub starts-put : (codes list : List ℕ) (count start more : ℕ) → count < length list → more ≤ 1 → Begins codes start → Starts codes list 0 count →
+    Starts codes (set list count start) 0 (count + more)
 starts-put codes list count start more fits few begins starts at low high = go (ℕ-discrete at count)
   where
     go : Dec (at ≡ count) → Begins codes (getD (set list count start) at 0)
@@ -328,9 +368,12 @@ starts-put codes list count start more fits few begins starts at low high = go (
     go (no n) = subst (λ (x : ℕ). Begins codes x) (sym (getD-set-other list count at start 0 n)) (starts at (omega arith) (omega arith))
 
 -- what stands at a place of a list
-pub starts-at : (codes list : List ℕ) (begin end at start : ℕ) → begin ≤ at → at < end → start ≡ getD list at 0 → Starts codes list begin end → Begins codes start
+pub starts-at : (codes list : List ℕ) (begin end at start : ℕ) → begin ≤ at → at < end → start ≡ getD list at 0 → Starts codes list begin end →
+    Begins codes start
 starts-at codes list begin end at start low high read starts = subst (λ (x : ℕ). Begins codes x) (sym read) (starts at low high)
 
 -- what the index lists for a code, up to an end that is no later
-pub lent-starts : {splits codes work sets index : List ℕ} → Lent 0 splits codes work sets index → Indexed 0 codes index → (c begin end : ℕ) → c ≤ last-code → begin ≡ getD index c 0 → end ≤ getD index (code-count + c) 0 → Starts codes index begin end
-lent-starts {splits} {codes} {work} {sets} {index} lent listed c begin end le is early at low high = lists-starts codes index (lent .entries) (lent .coded) (listed refl) c at le (omega arith) (omega arith)
+pub lent-starts : {splits codes work sets index : List ℕ} → Lent 0 splits codes work sets index → Indexed 0 codes index → (c begin end : ℕ) → c ≤ last-code →
+    begin ≡ getD index c 0 → end ≤ getD index (code-count + c) 0 → Starts codes index begin end
+lent-starts {splits} {codes} {work} {sets} {index} lent listed c begin end le is early at low high = lists-starts codes index (lent .entries) (lent .coded)
+    (listed refl) c at le (omega arith) (omega arith)

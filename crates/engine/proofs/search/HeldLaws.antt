@@ -76,7 +76,8 @@ module _ (codes w s : List ℕ) (i : ℕ) where
       clause-solved D f m = true-clause code-true f (code-clauses codes) clause (m .solves) (clause-among codes start begins (looked .ends))
 
       -- a literal that is false, and whose position's set lies in D, is false in every model of D
-      literal-false : (D : Mask) (f : ℕ → Bool) (c : ℕ) → 2 ≤ c → position c < max-unknowns → IsFalse a c → ((l : ℕ) → set-at o (position c) l ≡ true → D l ≡ true)
+      literal-false : (D : Mask) (f : ℕ → Bool) (c : ℕ) → 2 ≤ c → position c < max-unknowns → IsFalse a c →
+          ((l : ℕ) → set-at o (position c) l ≡ true → D l ≡ true)
           → Model codes w s i D f → code-true f c ≡ false
       literal-false D f c two lt at within m =
           let there = row-position-is c two lt in
@@ -86,7 +87,8 @@ module _ (codes w s : List ℕ) (i : ℕ) where
 
       literals : Every (λ c. ((2 ≤ c) × (position c < max-unknowns)) × ((c ≡ found) ⊎ IsFalse a c)) clause
       literals =
-          every-both (λ c. (2 ≤ c) × (position c < max-unknowns)) (λ c. (c ≡ found) ⊎ IsFalse a c) (λ c. ((2 ≤ c) × (position c < max-unknowns)) × ((c ≡ found) ⊎ IsFalse a c))
+          every-both (λ c. (2 ≤ c) × (position c < max-unknowns)) (λ c. (c ≡ found) ⊎ IsFalse a c)
+          (λ c. ((2 ≤ c) × (position c < max-unknowns)) × ((c ≡ found) ⊎ IsFalse a c))
           (λ c x y. (x, y)) clause (clause-coded max-unknowns codes start coded) (looked .rest)
 
       -- all its literals are false: its set is denied
@@ -94,10 +96,12 @@ module _ (codes w s : List ℕ) (i : ℕ) where
       denied-false none r q kept blamed f m =
           never-both (clause-solved (set-at q max-unknowns) f m)
           (clause-false code-true f clause
-          (every-both (λ c. ((2 ≤ c) × (position c < max-unknowns)) × ((c ≡ found) ⊎ IsFalse a c)) (λ c. (position c ≡ max-unknowns) ⊎ ((l : ℕ) → set-at r (position c) l ≡ true → set-at q max-unknowns l ≡ true))
+          (every-both (λ c. ((2 ≤ c) × (position c < max-unknowns)) × ((c ≡ found) ⊎ IsFalse a c))
+          (λ c. (position c ≡ max-unknowns) ⊎ ((l : ℕ) → set-at r (position c) l ≡ true → set-at q max-unknowns l ≡ true))
           (λ c. code-true f c ≡ false) each clause literals (blamed .takes)))
         where
-          each : (c : ℕ) → ((2 ≤ c) × (position c < max-unknowns)) × ((c ≡ found) ⊎ IsFalse a c) → (position c ≡ max-unknowns) ⊎ ((l : ℕ) → set-at r (position c) l ≡ true → set-at q max-unknowns l ≡ true)
+          each : (c : ℕ) → ((2 ≤ c) × (position c < max-unknowns)) × ((c ≡ found) ⊎ IsFalse a c) →
+              (position c ≡ max-unknowns) ⊎ ((l : ℕ) → set-at r (position c) l ≡ true → set-at q max-unknowns l ≡ true)
               → code-true f c ≡ false
           each c x (inl e) = absurd (let p : position c < max-unknowns = x .0 .1 in omega arith)
           each c x (inr takes) =
@@ -113,7 +117,8 @@ module _ (codes w s : List ℕ) (i : ℕ) where
           ap f (sym there)
           ∙ code-sign found f
           (unit-true code-true f found clause (clause-solved (set-at q p) f m)
-          (every-both (λ c. ((2 ≤ c) × (position c < max-unknowns)) × ((c ≡ found) ⊎ IsFalse a c)) (λ c. (position c ≡ p) ⊎ ((l : ℕ) → set-at r (position c) l ≡ true → set-at q p l ≡ true))
+          (every-both (λ c. ((2 ≤ c) × (position c < max-unknowns)) × ((c ≡ found) ⊎ IsFalse a c))
+          (λ c. (position c ≡ p) ⊎ ((l : ℕ) → set-at r (position c) l ≡ true → set-at q p l ≡ true))
           (λ c. (c ≡ found) ⊎ (code-true f c ≡ false)) each clause literals (blamed .takes)))
         where
           apart : (c : ℕ) → 2 ≤ c → position c < max-unknowns → IsFalse a c → position c ≢ p
@@ -162,6 +167,7 @@ module _ (codes w s : List ℕ) (i : ℕ) where
         (true-or-false _);
   }
     where
-      at : (f : ℕ → Bool) → ((l : ℕ) → l < k → D l ≡ true → f l ≡ cells w .value i l) → (l : ℕ) → l < max-unknowns → D l ≡ true → Dec (l < k) → f l ≡ cells w .value i l
+      at : (f : ℕ → Bool) → ((l : ℕ) → l < k → D l ≡ true → f l ≡ cells w .value i l) → (l : ℕ) → l < max-unknowns → D l ≡ true → Dec (l < k) →
+          f l ≡ cells w .value i l
       at f heeds l lt d (yes less) = heeds l less d
       at f heeds l lt d (no n) = absurd (never-both d (before l (omega arith) lt))

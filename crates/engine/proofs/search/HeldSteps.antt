@@ -28,7 +28,8 @@ use Rattle.search_sets.proofs.MaskLaws.{store-elsewhere}
 use Rattle.search_evaluation.specs.Evaluation.{has-row, level-in}
 use Rattle.engine.specs.Private.Reasons.{Fixed, IsReason, Shorter}
 use Rattle.engine.specs.Private.Held.{LineSet, LineOpened, IsFalse, FalseBut, Held, Moved, Moves, StepsOn, SetsBut, Inheriting, Inherited, Same}
-use Rattle.engine.proofs.search.HeldLaws.{held-same, held-store, held-open, denied-false, implied-open, implied-fixed, implied-decided, implied-turned, denied-reason}
+use Rattle.engine.proofs.search.HeldLaws.{held-same, held-store, held-open, denied-false, implied-open, implied-fixed, implied-decided, implied-turned}
+use Rattle.engine.proofs.search.HeldLaws.{denied-reason}
 
 -- ---- sets that stay
 
@@ -69,14 +70,17 @@ module _ (o : List ℕ) {q : List ℕ} (size : length o ≡ sets-size) where
   pub adds : (p l : ℕ) → p < max-unknowns → l < max-unknowns → q ≡ added o p l → set-at q p l ≡ true
   adds p l pl ll e = subst (λ (x : List ℕ). set-at x p l ≡ true) (sym e) (add-adds o size p l (omega arith) ll)
 
-  pub blames : (codes : List ℕ) (start p : ℕ) → p < set-places → Coded max-unknowns codes → q ≡ blamed codes o start p → Blamed (clause-of (drop start codes)) p o q
-  blames codes start p place coded e = subst (λ (x : List ℕ). Blamed (clause-of (drop start codes)) p o x) (sym e) (blame-blames o size codes start p place coded)
+  pub blames : (codes : List ℕ) (start p : ℕ) → p < set-places → Coded max-unknowns codes → q ≡ blamed codes o start p →
+      Blamed (clause-of (drop start codes)) p o q
+  blames codes start p place coded e = subst (λ (x : List ℕ). Blamed (clause-of (drop start codes)) p o x) (sym e)
+      (blame-blames o size codes start p place coded)
 
 pub has-at : (o : List ℕ) → length o ≡ sets-size → (l : ℕ) {r : Bool} → l < max-unknowns → r ≡ has o max-unknowns l → r ≡ set-at o max-unknowns l
 has-at o size l below e = e ∙ has-is o size max-unknowns l (omega arith) below
 
 -- no position passed is in the set, nor the next one
-pub none-more : (o : List ℕ) (k l : ℕ) → ((j : ℕ) → k ≤ j → j < l → set-at o max-unknowns j ≡ false) → set-at o max-unknowns l ≡ false → (j : ℕ) → k ≤ j → j < l + 1 → set-at o max-unknowns j ≡ false
+pub none-more : (o : List ℕ) (k l : ℕ) → ((j : ℕ) → k ≤ j → j < l → set-at o max-unknowns j ≡ false) → set-at o max-unknowns l ≡ false → (j : ℕ) → k ≤ j →
+    j < l + 1 → set-at o max-unknowns j ≡ false
 none-more o k l none here j low high = go (ℕ-discrete j l)
   where
     go : Dec (j ≡ l) → set-at o max-unknowns j ≡ false
@@ -106,7 +110,8 @@ opened-more {a} {b} p r so-far inside within = record { each = λ j. go j (ℕ-d
         let here = ap (λ (x : ℕ). getD (set b p r) x 0) e ∙ getD-set-same b p r 0 inside in
         ⊎-elim
         (λ z. inl (here ∙ z))
-        (λ z. ⊎-elim (λ q. inl (here ∙ z ∙ ap (λ (x : ℕ). getD b x 0) (sym e) ∙ q)) (λ q. inr (here ∙ z ∙ ap (λ (x : ℕ). getD b x 0) (sym e) ∙ q)) (so-far .each j))
+        (λ z. ⊎-elim (λ q. inl (here ∙ z ∙ ap (λ (x : ℕ). getD b x 0) (sym e) ∙ q)) (λ q. inr (here ∙ z ∙ ap (λ (x : ℕ). getD b x 0) (sym e) ∙ q))
+        (so-far .each j))
         within
     go j (no n) =
         let same = getD-set-other b p j r 0 n in
@@ -206,8 +211,10 @@ false-moves codes a o q1 q start c size size1 begins looked none e1 e2 = record 
         blamed = blames q1 size1 codes start max-unknowns (omega arith) coded e2
 
 -- a clause with one open literal
-module _ (codes a o b q1 q2 q : List ℕ) (p start c : ℕ) (size : length o ≡ sets-size) (size1 : length q1 ≡ sets-size) (small : p < max-unknowns) (two : 2 ≤ c) (last : c ≤ last-code)
-    (ep : p ≡ row-position c) (unset : getD a p 0 ≡ 0) (e1 : q1 ≡ emptied o p) (e2 : q2 ≡ blamed codes q1 start p) (stored : LineSet p (eqb (c % 2) 0) a b) (noted : SetsKept q2 q)
+module _ (codes a o b q1 q2 q : List ℕ) (p start c : ℕ) (size : length o ≡ sets-size) (size1 : length q1 ≡ sets-size) (small : p < max-unknowns) (two : 2 ≤ c)
+    (last : c ≤ last-code)
+    (ep : p ≡ row-position c) (unset : getD a p 0 ≡ 0) (e1 : q1 ≡ emptied o p) (e2 : q2 ≡ blamed codes q1 start p) (stored : LineSet p (eqb (c % 2) 0) a b)
+    (noted : SetsKept q2 q)
     (begins : Begins codes start) (looked : FalseBut codes a start c) where
   there : position c ≡ p
   there = sym (row-position-is c two (omega arith)) ∙ sym ep
@@ -241,7 +248,8 @@ decides codes w a b b′ o q1 q2 q3 q i r same put kept moves = record {
   on = λ s coded moved. moves .on w s i coded (held-same codes w s i b q2 (put codes s (held-same codes w s i a o (moved .held) q1 (same-kept same))) q3 kept);
 }
 
-pub turns : (codes w a a1 b b′ o q1 q2 q : List ℕ) (i p : ℕ) (y r : Bool) → LineOpened a a1 → Inherited p o q1 → y ≡ not (cells w .value i p) → LineSet p y a1 b → SetsKept q1 q2
+pub turns : (codes w a a1 b b′ o q1 q2 q : List ℕ) (i p : ℕ) (y r : Bool) → LineOpened a a1 → Inherited p o q1 → y ≡ not (cells w .value i p) →
+    LineSet p y a1 b → SetsKept q1 q2
     → Moves codes b b′ q2 q r → StepsOn codes w i a b′ o q false r
 turns codes w a a1 b b′ o q1 q2 q i p y r opened inherited ey stored kept moves = record {
   on = λ s coded moved.
@@ -254,7 +262,8 @@ turns codes w a a1 b b′ o q1 q2 q i p y r opened inherited ey stored kept move
       q2 kept);
 }
 
-pub steps-at : {codes w : List ℕ} {i : ℕ} {a b o q : List ℕ} {going going′ r : Bool} → going ≡ going′ → StepsOn codes w i a b o q going r → StepsOn codes w i a b o q going′ r
+pub steps-at : {codes w : List ℕ} {i : ℕ} {a b o q : List ℕ} {going going′ r : Bool} → going ≡ going′ → StepsOn codes w i a b o q going r →
+    StepsOn codes w i a b o q going′ r
 steps-at {codes} {w} {i} {a} {b} {o} {q} {going} {going′} {r} e steps = subst (λ (x : Bool). StepsOn codes w i a b o q x r) e steps
 
 -- ---- the set at p as it is taken from the one behind

@@ -98,16 +98,20 @@ module _ (P : Problem) (kinds splits codes : List ℕ) (F : Fits P kinds splits 
 
   row-refuted : Every (Some (TrueBy kinds w i s t)) (code-clauses codes) → Refuted P k v (cut t) i
   row-refuted dead =
-      dead-row code-true position code-local P k lo hi v (cells w) (own-masks P (masks s)) (cut t) (node-own P k lo hi v (cells w) (masks s) A) i low high (code-clauses codes)
+      dead-row code-true position code-local P k lo hi v (cells w) (own-masks P (masks s)) (cut t) (node-own P k lo hi v (cells w) (masks s) A) i low high
+      (code-clauses codes)
       (universal-goal P kinds splits codes F)
-      (every-map (Some (λ c. ((2 ≤ c) × (position c < P .n)) × TrueBy kinds w i s t c)) (Some (Rests code-true position (P .n) k (cells w) (own-masks P (masks s)) (cut t) i true))
-      (λ x. some-map (λ c. ((2 ≤ c) × (position c < P .n)) × TrueBy kinds w i s t c) (Rests code-true position (P .n) k (cells w) (own-masks P (masks s)) (cut t) i true) rests x)
+      (every-map (Some (λ c. ((2 ≤ c) × (position c < P .n)) × TrueBy kinds w i s t c))
+      (Some (Rests code-true position (P .n) k (cells w) (own-masks P (masks s)) (cut t) i true))
+      (λ x. some-map (λ c. ((2 ≤ c) × (position c < P .n)) × TrueBy kinds w i s t c) (Rests code-true position (P .n) k (cells w) (own-masks P (masks s))
+      (cut t) i true) rests x)
       (code-clauses codes)
       (every-some-with (λ c. (2 ≤ c) × (position c < P .n)) (TrueBy kinds w i s t) (code-clauses codes) (coded-every (P .n) codes (F .coded)) dead))
 
 -- ---- what is known of a row of a node
 
-module _ (P : Problem) (kinds splits codes opened : List ℕ) (seen : Viewed P kinds splits codes opened 1) (short : length kinds ≤ max-unknowns) (k lo hi : ℕ) (v : ℕ → Bool)
+module _ (P : Problem) (kinds splits codes opened : List ℕ) (seen : Viewed P kinds splits codes opened 1) (short : length kinds ≤ max-unknowns) (k lo hi : ℕ)
+    (v : ℕ → Bool)
     (w s : List ℕ) (A : Node P k lo hi v (cells w) (masks s)) (i : ℕ) (low : lo ≤ i) (high : i < hi) where
   all-coded : Coded (length kinds) codes
   all-coded = subst (λ (n : ℕ). Coded n codes) (seen .fits .unknowns) (seen .fits .coded)
@@ -121,7 +125,8 @@ module _ (P : Problem) (kinds splits codes opened : List ℕ) (seen : Viewed P k
       let same : row-position c ≡ position c = row-position-is c (q .0 .0) (omega arith) in
       record {
         given = q .1 .given;
-        is = code-local c (cells w .value i) (P .given i) (given-cell (position c) inside (subst (λ (p : ℕ). IsGiven kinds p) same (own-of kinds c (q .1 .given))) .1) ∙ q .1 .is;
+        is = code-local c (cells w .value i) (P .given i)
+            (given-cell (position c) inside (subst (λ (p : ℕ). IsGiven kinds p) same (own-of kinds c (q .1 .given))) .1) ∙ q .1 .is;
       }
 
   known : RowKnown kinds codes opened w i
@@ -132,8 +137,10 @@ module _ (P : Problem) (kinds splits codes opened : List ℕ) (seen : Viewed P k
     set = λ p inside given. given-cell p inside given .0;
     terms = λ start inside begins.
         ⊎-elim
-        (λ some. inl (some-map (λ c. ((2 ≤ c) × (position c < length kinds)) × GivenIn P kinds i c) (GivenTrue kinds w i) given-true (clause-of (drop start codes))
-        (some-with (λ c. (2 ≤ c) × (position c < length kinds)) (GivenIn P kinds i) (clause-of (drop start codes)) (clause-coded (length kinds) codes start all-coded) some)))
+        (λ some. inl (some-map (λ c. ((2 ≤ c) × (position c < length kinds)) × GivenIn P kinds i c) (GivenTrue kinds w i) given-true
+        (clause-of (drop start codes))
+        (some-with (λ c. (2 ≤ c) × (position c < length kinds)) (GivenIn P kinds i) (clause-of (drop start codes))
+        (clause-coded (length kinds) codes start all-coded) some)))
         (λ open-there. inr open-there)
         (seen .shown refl i start (let z : hi ≤ P .count = A .rows in omega arith) inside begins);
   }
@@ -141,7 +148,8 @@ module _ (P : Problem) (kinds splits codes opened : List ℕ) (seen : Viewed P k
 -- ---- the group
 
 -- a check settles the group: no row is lost and it stays, or a lost row ends the branch
-pub group-checked : (kinds splits codes opened : List ℕ) (lo hi mark : ℕ) (w s t : List ℕ) (r : Bool) → length kinds ≤ max-unknowns → Checked kinds codes opened w lo hi s t r
+pub group-checked : (kinds splits codes opened : List ℕ) (lo hi mark : ℕ) (w s t : List ℕ) (r : Bool) → length kinds ≤ max-unknowns →
+    Checked kinds codes opened w lo hi s t r
     → SettlesFor kinds 1 splits codes opened lo hi mark w w s t r
 group-checked kinds splits codes opened lo hi mark w s t true short checked P k v seen A pos le =
     settles-refl 1 splits codes lo hi mark w s t (λ j. masks-kept j s t (checked .kept)) P kinds k v (seen .fits) A pos le
@@ -160,4 +168,5 @@ group-checked kinds splits codes opened lo hi mark w s t false short checked P k
         (let z : hi ≤ P .count = A .rows in let y : lo < hi = A .some in omega arith)
         (A .depth)
         (A .agree (q .0) lo (q .1) (q .2) (omega arith) (A .some))
-        (row-refuted P kinds splits codes (seen .fits) k lo hi v w s t A (q .0) (q .1) (q .2) (q .3 (known P kinds splits codes opened seen short k lo hi v w s A (q .0) (q .1) (q .2))))
+        (row-refuted P kinds splits codes (seen .fits) k lo hi v w s t A (q .0) (q .1) (q .2)
+        (q .3 (known P kinds splits codes opened seen short k lo hi v w s A (q .0) (q .1) (q .2))))

@@ -22,7 +22,8 @@ use borrow.Rule.Slice.PartMut.{putMid, postOf}
 use Rattle.search_sets.specs.Private.Masks.{words, set-at, SetGrown, SetsKept, United}
 use Rattle.search_sets.proofs.MaskLaws.{store-elsewhere, store-behind, kept-trans, kept-grown, set-grown-refl, set-grown-trans}
 use Rattle.search_sets.proofs.SetLaws.{unite-unites, empty-keeps}
-use Rattle.engine.specs.Private.Live.{given-mark, IsGiven, TakenIn, TrueBy, RowKnown, RowLost, RowDead, Checked, RowTold, RowLooked, RowBlamed, TakesIn, FalseFound}
+use Rattle.engine.specs.Private.Live.{given-mark, IsGiven, TakenIn, TrueBy, RowKnown, RowLost, RowDead, Checked, RowTold, RowLooked, RowBlamed, TakesIn}
+use Rattle.engine.specs.Private.Live.{FalseFound}
 
 pub not-true : (b : Bool) → not b ≡ true → b ≡ false
 not-true true e = absurd (never-both e refl)
@@ -256,7 +257,11 @@ module _ (kinds codes opened w : List ℕ) (i : ℕ) where
   lost-noted s t at x behind lost known =
       every-map (Some (TrueBy kinds w i s t)) (Some (TrueBy kinds w i s (set t at x)))
       (λ cs. some-map (TrueBy kinds w i s t) (TrueBy kinds w i s (set t at x))
-      (λ c q. (q .0, ⊎-elim (λ g. inl g) (λ taken. inr (λ l h. store-elsewhere t at x max-unknowns l (λ e. omega arith) (λ e. omega arith) ∙ taken l h)) (q .1))) cs)
+      (λ c q. (
+        q .0,
+        ⊎-elim (λ g. inl g) (λ taken. inr (λ l h. store-elsewhere t at x max-unknowns l (λ e. omega arith) (λ e. omega arith) ∙ taken l h))
+            (q .1),
+      )) cs)
       (code-clauses codes) (lost known)
 
   pub told-lives : (s t : List ℕ) → SetsKept s t → RowTold kinds codes opened w i s t false
@@ -271,7 +276,8 @@ pub rows-live : (kinds codes opened w : List ℕ) (lo hi : ℕ) (s t : List ℕ)
 rows-live kinds codes opened w lo hi s t kept = record { kept = kept; dead = λ e. absurd (never-both refl e) }
 
 -- .. with a note behind the sets
-pub a-row-dead : (kinds codes opened w : List ℕ) (lo hi i : ℕ) (s t u : List ℕ) (at x : ℕ) {r : Bool} → 2 * max-unknowns + 2 ≤ at → lo ≤ i → i < hi → SetsKept s t
+pub a-row-dead : (kinds codes opened w : List ℕ) (lo hi i : ℕ) (s t u : List ℕ) (at x : ℕ) {r : Bool} → 2 * max-unknowns + 2 ≤ at → lo ≤ i → i < hi →
+    SetsKept s t
     → RowTold kinds codes opened w i t u r → r ≡ true → Checked kinds codes opened w lo hi s (set u at x) false
 a-row-dead kinds codes opened w lo hi i s t u at x behind low high kept told e = record {
   kept = kept-trans (kept-trans kept (told .kept)) (store-behind u at x (omega arith));

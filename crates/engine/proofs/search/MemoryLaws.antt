@@ -48,11 +48,13 @@ Before memory w i k = (j : ℕ) → j < k → said memory j ≡ cells w .value i
 pub none-before : (memory w : List ℕ) (i : ℕ) → Before memory w i 0
 none-before memory w i j lt = absurd (omega arith)
 
-pub one-more-before : (memory w : List ℕ) (i k : ℕ) (v r : Bool) → v ≡ cells w .value i k → r ≡ Bool·beq (said memory k) v → r ≡ true → Before memory w i k → Before memory w i (k + 1)
+pub one-more-before : (memory w : List ℕ) (i k : ℕ) (v r : Bool) → v ≡ cells w .value i k → r ≡ Bool·beq (said memory k) v → r ≡ true → Before memory w i k →
+    Before memory w i (k + 1)
 one-more-before memory w i k v r is e has h j lt =
     ⊎-elim (h j) (λ q. subst (λ (x : ℕ). said memory x ≡ cells w .value i x) (sym q) (same (said memory k) v (sym e ∙ has) ∙ is)) (below-or-last j k lt)
 
-pub ruled-out : (memory w : List ℕ) (i k : ℕ) (y v r q : Bool) → k < length memory → r ≡ Bool·beq (said memory k) y → r ≡ false → v ≡ wants w i k → q ≡ Bool·beq (said memory k) v → q ≡ false
+pub ruled-out : (memory w : List ℕ) (i k : ℕ) (y v r q : Bool) → k < length memory → r ≡ Bool·beq (said memory k) y → r ≡ false → v ≡ wants w i k →
+    q ≡ Bool·beq (said memory k) v → q ≡ false
     → Before memory w i k → RuledOut memory w i k y
 ruled-out memory w i k y v r q below e lacks is f lacks-too h =
     record { below = below; other = unlike (said memory k) y (sym e ∙ lacks); unwanted = unlike (said memory k) v (sym f ∙ lacks-too) ∙ ap not is; before = h }
@@ -75,14 +77,21 @@ one-more-read kinds own row side memory k x v less room is bit byte r = record {
   values = λ j lt.
       ⊎-elim
       (λ q. ap (λ (n : ℕ). eqb n 1) (getD-set-other memory k j x 0 (λ e. omega arith)) ∙ r .values j q)
-      (λ q. subst (λ (n : ℕ). said (set memory k x) n ≡ bit-of (row-at own row) n) (sym q) (ap (λ (n : ℕ). eqb n 1) (getD-set-same memory k x 0 room) ∙ byte ∙ bit))
+      (λ q. subst (λ (n : ℕ). said (set memory k x) n ≡ bit-of (row-at own row) n) (sym q) (ap (λ (n : ℕ). eqb n 1) (getD-set-same memory k x 0 room) ∙ byte ∙
+      bit))
       (below-or-last j k lt);
 }
 
 pub reads-none : (kinds own : List ℕ) (known side : ℕ) (memory : List ℕ) → Reads kinds own known side memory 0
-reads-none kinds own known side memory = record { inside = omega arith; some-known = λ h. absurd (omega arith); of-side = λ j lt. absurd (omega arith); values = λ j lt. absurd (omega arith) }
+reads-none kinds own known side memory = record {
+  inside = omega arith;
+  some-known = λ h. absurd (omega arith);
+  of-side = λ j lt. absurd (omega arith);
+  values = λ j lt. absurd (omega arith);
+}
 
-pub reads-all : (kinds own : List ℕ) (known side : ℕ) (memory : List ℕ) (k : ℕ) → (known ≡ 0 → ⊥) → Read kinds own (known - 1) side memory k → Reads kinds own known side memory k
+pub reads-all : (kinds own : List ℕ) (known side : ℕ) (memory : List ℕ) (k : ℕ) → (known ≡ 0 → ⊥) → Read kinds own (known - 1) side memory k →
+    Reads kinds own known side memory k
 reads-all kinds own known side memory k some r = record { inside = r .inside; some-known = λ h. omega arith; of-side = r .of-side; values = r .values }
 
 -- The part of the table that is in use.

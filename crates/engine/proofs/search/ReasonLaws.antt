@@ -27,7 +27,8 @@ use Rattle.engine.proofs.search.CallLaws.{empties, unites-words}
 use Rattle.engine.proofs.search.StepLaws.{masks-below, masks-kept, within-trans}
 use Rattle.engine.proofs.search.ForceLaws.{goal-matrix, cut-is}
 
-module _ (P : Problem) (kinds splits codes : List ℕ) (F : Fits P kinds splits codes 0) (coded : Coded max-unknowns codes) (k lo hi : ℕ) (v : ℕ → Bool) (w s : List ℕ) (A : Node P k lo hi v (cells w) (masks s))
+module _ (P : Problem) (kinds splits codes : List ℕ) (F : Fits P kinds splits codes 0) (coded : Coded max-unknowns codes) (k lo hi : ℕ) (v : ℕ → Bool)
+    (w s : List ℕ) (A : Node P k lo hi v (cells w) (masks s))
     (i : ℕ) (il : lo ≤ i) (ih : i < hi) where
   -- a model's values of the row, and the table's behind the unknowns
   of-model : (ℕ → Bool) → ℕ → Bool
@@ -57,7 +58,8 @@ module _ (P : Problem) (kinds splits codes : List ℕ) (F : Fits P kinds splits 
   reason-refutes : (u : List ℕ) (b : ℕ) (D : Mask) → SetsKept s u → b ≤ k → IsReason codes w u i b D → Refuted P k v D i
   reason-refutes u b D kept le reason m M heeds =
       never-both
-      (sym (goal-matrix P kinds splits codes F (of-model (m i))) ∙ F .sound .goal-of-values (m i) (of-model (m i)) (λ j lt. sym (below-is (m i) j lt)) (M .reaches i below))
+      (sym (goal-matrix P kinds splits codes F (of-model (m i))) ∙ F .sound .goal-of-values (m i) (of-model (m i)) (λ j lt. sym (below-is (m i) j lt))
+      (M .reaches i below))
       (reason .denies (of-model (m i)) (fixed-is u kept m M) there)
     where
       below : i < P .count
@@ -78,7 +80,8 @@ settles-shortened splits codes coded lo hi mark w s s1 t i il ih kept settles sh
       wanted = before .wanted;
       masked = within-trans k (masks s) (masks s1) (masks t) (before .masked) (masks-kept k s1 t (shortened .kept));
       kept = λ e. absurd (never-both e refl);
-      failed = λ e. ⊎-elim (λ same m M heeds. before .failed refl m M (λ l lk d. heeds l lk (same l ∙ d))) (λ new. refuted (new .0) (new .1) (new .2 coded)) (shortened .reason);
+      failed = λ e. ⊎-elim (λ same m M heeds. before .failed refl m M (λ l lk d. heeds l lk (same l ∙ d))) (λ new. refuted (new .0) (new .1) (new .2 coded))
+          (shortened .reason);
     }
   where
     some : lo < hi
@@ -101,12 +104,15 @@ shortened-none codes w i mark s t same = record {
   reason = inl (λ l. cut-at t l ∙ same .same max-unknowns (omega arith) l ∙ sym (cut-at s l));
 }
 
-pub shortened-new : (codes w : List ℕ) (i mark k low high : ℕ) (found : Bool) (s s1 s2 s3 t : List ℕ) → Same s s1 → Same s1 s2 → length s2 ≡ sets-size → length s3 ≡ sets-size
-    → k ≡ mark - 1 → Shorter codes w s1 i k found low high → found ≡ true → s3 ≡ emptied s2 max-unknowns → t ≡ united-words s3 max-unknowns low high → Shortened codes w i mark s t
+pub shortened-new : (codes w : List ℕ) (i mark k low high : ℕ) (found : Bool) (s s1 s2 s3 t : List ℕ) → Same s s1 → Same s1 s2 → length s2 ≡ sets-size →
+    length s3 ≡ sets-size
+    → k ≡ mark - 1 → Shorter codes w s1 i k found low high → found ≡ true → s3 ≡ emptied s2 max-unknowns → t ≡ united-words s3 max-unknowns low high → Shortened
+    codes w i mark s t
 shortened-new codes w i mark k low high found s s1 s2 s3 t first second size size′ ek shorter is-found ee eu =
     let united = unites-words s3 size′ max-unknowns low high (omega arith) eu in
     record {
-      kept = kept-trans (same-kept (same-trans first second)) (kept-trans (empties s2 size max-unknowns (omega arith) (omega arith) ee) (kept-grown (omega arith) (united .grown)));
+      kept = kept-trans (same-kept (same-trans first second)) (kept-trans (empties s2 size max-unknowns (omega arith) (omega arith) ee)
+          (kept-grown (omega arith) (united .grown)));
       reason = inr (
         s1,
         same-kept first,

@@ -18,13 +18,15 @@ module _ (P : Problem) (kinds splits codes : List ℕ) (side : ℕ) (F : Fits P 
   agree-run k i zero lt lk shared = subst (λ (x : ℕ). Agree P i x k) (sym (add-zero i)) (λ l ll o. refl)
   agree-run k i (suc d) lt lk shared =
       subst (λ (x : ℕ). Agree P i x k) (let e : i + d + 1 ≡ i + suc d = omega arith in e)
-      (agree-trans P i (i + d) (i + d + 1) k (agree-run k i d (omega arith) lk (λ h a b. shared h a (omega arith))) (neighbours k (i + d) (omega arith) lk (shared (i + d + 1) (omega arith) (omega arith))))
+      (agree-trans P i (i + d) (i + d + 1) k (agree-run k i d (omega arith) lk (λ h a b. shared h a (omega arith)))
+      (neighbours k (i + d) (omega arith) lk (shared (i + d + 1) (omega arith) (omega arith))))
 
   pub agree-between : (k i h : ℕ) → i ≤ h → h < length splits → k ≤ length kinds → ((g : ℕ) → i < g → g ≤ h → k ≤ getD splits g 0) → Agree P i h k
   agree-between k i h le lt lk shared =
       subst (λ (x : ℕ). Agree P i x k) (let e : i + (h - i) ≡ h = omega arith in e) (agree-run k i (h - i) (omega arith) lk (λ g a b. shared g a (omega arith)))
 
-  pub agree-group : (k lo hi : ℕ) → hi ≤ length splits → k ≤ length kinds → ((g : ℕ) → lo < g → g < hi → k ≤ getD splits g 0) → (i h : ℕ) → lo ≤ i → i < hi → lo ≤ h → h < hi → Agree P i h k
+  pub agree-group : (k lo hi : ℕ) → hi ≤ length splits → k ≤ length kinds → ((g : ℕ) → lo < g → g < hi → k ≤ getD splits g 0) → (i h : ℕ) → lo ≤ i → i < hi →
+      lo ≤ h → h < hi → Agree P i h k
   agree-group k lo hi lt lk shared i h p q r s =
       agree-trans P i lo h k
       (agree-sym P lo i k (agree-between k lo i p (omega arith) lk (λ g a b. shared g a (omega arith))))
@@ -36,7 +38,8 @@ module _ (P : Problem) (kinds splits codes : List ℕ) (side : ℕ) (F : Fits P 
   parted-apart k i h (suc m) im mh lt lk parted a =
       let left : Agree P i m k = F .together i m h k (omega arith) (omega arith) lt lk a in
       let right : Agree P i (suc m) k = F .together i (suc m) h k (omega arith) (omega arith) lt lk a in
-      let both : Agree P m (m + 1) k = agree-trans P m i (m + 1) k (agree-sym P i m k left) (subst (λ (x : ℕ). Agree P i x k) (let e : suc m ≡ m + 1 = omega arith in e) right) in
+      let both : Agree P m (m + 1) k = agree-trans P m i (m + 1) k (agree-sym P i m k left)
+      (subst (λ (x : ℕ). Agree P i x k) (let e : suc m ≡ m + 1 = omega arith in e) right) in
       let stays : k ≤ getD splits (m + 1) 0 = F .differ m k (omega arith) lk .1 both in
       let here : getD splits (m + 1) 0 < k = subst (λ (x : ℕ). getD splits x 0 < k) (let e : suc m ≡ m + 1 = omega arith in e) parted in
       omega arith

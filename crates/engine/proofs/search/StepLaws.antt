@@ -28,7 +28,8 @@ unfolding masks
 masks-behind s p le = ap (λ (b : Bool). cond {A = Mask} b (set-at s p) (λ l. false)) (le-ltb p max-unknowns le)
 
 -- what no set of a position loses, no mask loses
-pub masks-within : (k : ℕ) (s t : List ℕ) → ((p : ℕ) → p < max-unknowns → (l : ℕ) → l < k → set-at s p l ≡ true → set-at t p l ≡ true) → MasksWithin k (masks s) (masks t)
+pub masks-within : (k : ℕ) (s t : List ℕ) → ((p : ℕ) → p < max-unknowns → (l : ℕ) → l < k → set-at s p l ≡ true → set-at t p l ≡ true) →
+    MasksWithin k (masks s) (masks t)
 masks-within k s t keeps p l lk h = go (decLt p max-unknowns)
   where
     go : Dec (p < max-unknowns) → masks t p l ≡ true
@@ -59,7 +60,8 @@ wants-trans w u x a b i k = b i k ∙ a i k
 
 -- ---- settled after settled
 
-pub settled-refl : (P : Problem) (k lo hi : ℕ) (v : ℕ → Bool) (mark : ℕ) (w s t : List ℕ) → Node P k lo hi v (cells w) (masks s) → MasksWithin k (masks s) (masks t) → Settled P k lo hi v mark w w s t true
+pub settled-refl : (P : Problem) (k lo hi : ℕ) (v : ℕ → Bool) (mark : ℕ) (w s t : List ℕ) → Node P k lo hi v (cells w) (masks s) →
+    MasksWithin k (masks s) (masks t) → Settled P k lo hi v mark w w s t true
 settled-refl P k lo hi v mark w s t A m = record {
   grown = grown-refl mark lo hi (cells w);
   wanted = λ i j. refl;
@@ -68,7 +70,8 @@ settled-refl P k lo hi v mark w s t A m = record {
   failed = λ e. absurd (never-both refl e);
 }
 
-pub settled-then : (P : Problem) (k lo hi : ℕ) (v : ℕ → Bool) (mark : ℕ) (w u x s t y : List ℕ) (r : Bool) → 0 < mark → Settled P k lo hi v mark w u s t true → (Node P k lo hi v (cells u) (masks t) → Settled P k lo hi v mark u x t y r) → Settled P k lo hi v mark w x s y r
+pub settled-then : (P : Problem) (k lo hi : ℕ) (v : ℕ → Bool) (mark : ℕ) (w u x s t y : List ℕ) (r : Bool) → 0 < mark → Settled P k lo hi v mark w u s t true →
+    (Node P k lo hi v (cells u) (masks t) → Settled P k lo hi v mark u x t y r) → Settled P k lo hi v mark w x s y r
 settled-then P k lo hi v mark w u x s t y r pos a b =
     let c : Settled P k lo hi v mark u x t y r = b (a .kept refl) in
     record {
@@ -80,9 +83,11 @@ settled-then P k lo hi v mark w u x s t y r pos a b =
     }
 
 -- the same of steps over every problem
-pub settles-refl : (side : ℕ) (splits codes : List ℕ) (lo hi mark : ℕ) (w s t : List ℕ) → ((k : ℕ) → MasksWithin k (masks s) (masks t)) → Settles side splits codes lo hi mark w w s t true
+pub settles-refl : (side : ℕ) (splits codes : List ℕ) (lo hi mark : ℕ) (w s t : List ℕ) → ((k : ℕ) → MasksWithin k (masks s) (masks t)) →
+    Settles side splits codes lo hi mark w w s t true
 settles-refl side splits codes lo hi mark w s t m P kinds k v F A pos le = settled-refl P k lo hi v mark w s t A (m k)
 
-pub settles-then : (side : ℕ) (splits codes : List ℕ) (lo hi mark : ℕ) (w u x s t y : List ℕ) (r : Bool) → Settles side splits codes lo hi mark w u s t true → Settles side splits codes lo hi mark u x t y r → Settles side splits codes lo hi mark w x s y r
+pub settles-then : (side : ℕ) (splits codes : List ℕ) (lo hi mark : ℕ) (w u x s t y : List ℕ) (r : Bool) → Settles side splits codes lo hi mark w u s t true →
+    Settles side splits codes lo hi mark u x t y r → Settles side splits codes lo hi mark w x s y r
 settles-then side splits codes lo hi mark w u x s t y r a b P kinds k v F A pos le =
     settled-then P k lo hi v mark w u x s t y r pos (a P kinds k v F A pos le) (λ N. b P kinds k v F N pos le)

@@ -10,6 +10,31 @@ use Rattle.engine.proofs.search.CallLaws.{compares, numbers}
 use Rattle.engine.proofs.search.decide.Statement.{statement}
 use Rattle.engine.proofs.search.decide.Tie as tie
 
+-- Back along the path, to the place behind a call.
+abbrev back-to-read : tie.After-slice-known3 → tie.After-read
+back-to-read at =
+    let after-memory2 = at .before .before .before .before .before .before in
+    after-memory2 .before
+
+abbrev back-to-fill : tie.After-from-start-arg → tie.After-fill
+back-to-fill at =
+    let after-slice-known2 = at .before .before .before .before .before .before in
+    after-slice-known2 .before .before
+
+abbrev back-to-compare : tie.After-splits4 → tie.After-compare
+back-to-compare at =
+    let after-fill = at .before .before .before .before .before .before in
+    after-fill .before .before .before .before
+
+abbrev back-to-start : tie.After-memory → tie.Start
+back-to-start at =
+    let after-splits2 = at .before .before .before .before .before .before in
+    let after-shared-slice-known6 = after-splits2 .before .before .before .before .before .before in
+    after-shared-slice-known6 .before .before .before .before .before .before
+
+abbrev back-to-start-2 : tie.After-splits4 → tie.Start
+back-to-start-2 at = back-to-start (at .before .before .before)
+
 slice-aggregate-compare : tie.Need-slice-aggregate-compare
 slice-aggregate-compare c = search needs
 
@@ -28,53 +53,65 @@ slice-aggregate-read c = search needs
 read-requires : tie.Need-read-requires
 read-requires c κs =
     let size : length (replicate {A = ℕ} max-unknowns 0) ≡ max-unknowns = length-replicate {A = ℕ} max-unknowns 0 in
-    omega (arith, c .before .before .before .before .before .before .before .before .before .before .before .before .before .before .before .before .before .before .pre .tables .few-unknowns, size)
+    omega (arith, (back-to-start c) .pre .tables .few-unknowns, size)
 
 array-share-prefix-splits : tie.Need-array-share-prefix-splits
 array-share-prefix-splits c = search needs
 
 slice-aggregate-from-start : tie.Need-slice-aggregate-from-start
-slice-aggregate-from-start c = simp length-take (omega (arith, c .before .before .before .before .before .before .before .before .before .before .compare .kept .1 .1 .1 .1 .0, c .before .before .before .before .before .before .before .before .before .before .before .before .before .before .before .before .before .before .before .before .before .pre .few))
+slice-aggregate-from-start c = simp length-take (omega (arith, (back-to-compare c) .compare .kept .1 .1 .1 .1 .0, (back-to-start-2 c) .pre .few))
 
 array-share-prefix-memory : tie.Need-array-share-prefix-memory
 array-share-prefix-memory c =
     let size : length (replicate {A = ℕ} max-unknowns 0) ≡ max-unknowns = length-replicate {A = ℕ} max-unknowns 0 in
-    omega (arith, c .before .before .before .before .before .before .before .before .before .before .before .before .before .before .before .before .before .before .before .before .before .pre .tables .few-unknowns, c .before .before .read .ensures .inside, c .before .before .read .kept .1 .1 .1 .1 .0, size)
+    omega (arith, (back-to-start-2 c) .pre .tables .few-unknowns, c .before .before .read .ensures .inside, c .before .before .read .kept .1 .1 .1 .1 .0, size)
 
 slice-aggregate-from-start-2 : tie.Need-slice-aggregate-from-start-2
 slice-aggregate-from-start-2 c =
+    let read-call = c .before .before .before .read in
     let size : length (replicate {A = ℕ} max-unknowns 0) ≡ max-unknowns = length-replicate {A = ℕ} max-unknowns 0 in
-    simp length-take (omega (arith, c .before .before .before .before .before .before .before .before .before .before .before .before .before .before .before .before .before .before .before .before .before .before .pre .tables .few-unknowns, c .before .before .before .read .ensures .inside, c .before .before .before .read .kept .1 .1 .1 .1 .0, size))
+    simp length-take (omega (arith, (back-to-start-2 (c .before)) .pre .tables .few-unknowns, read-call .ensures .inside, read-call .kept .1 .1 .1 .1 .0, size))
 
 from-start-requires : tie.Need-from-start-requires
-from-start-requires c κs = (
-  c .before .before .before .before .before .before .before .before .before .before .before .before .before .before .before .before .before .before .before .before .before .before .before .pre .tables .few-unknowns,
-  simp length-take (omega (arith, c .before .before .before .before .before .before .before .before .before .before .before .before .compare .kept .1 .1 .1 .1 .0, c .before .before .before .before .before .before .before .before .before .before .before .before .before .before .before .before .before .before .before .before .before .before .before .pre .few, c .before .before .before .before .before .before .before .before .before .before .before .before .before .before .before .before .before .before .before .before .before .before .before .pre .some-row)),
-  simp length-take (omega (arith, c .before .before .before .before .before .before .before .before .before .before .before .before .compare .kept .1 .1 .1 .1 .0, c .before .before .before .before .before .before .before .before .before .before .before .before .before .before .before .before .before .before .before .before .before .before .before .pre .few)),
-  c .before .before .before .before .before .before .before .before .before .before .before .before .before .before .before .before .before .before .before .before .before .before .before .pre .tables .entries,
-  c .before .before .before .before .before .before .before .before .before .before .before .before .before .before .before .before .before .before .before .before .before .before .before .pre .tables .coded,
-  c .before .before .before .before .before .before .before .before .before .before .before .before .before .before .before .before .before .before .before .before .before .before .before .pre .tables .index-lent,
-  c .before .before .before .before .before .before .before .before .before .before .before .before .before .before .before .before .before .before .before .before .before .before .before .pre .side-fits,
-  c .before .before .before .before .before .before .before .before .fill .kept .1 .1 .1 .1 .1 .0 ∙ c .before .before .before .before .before .before .before .before .before .before .before .before .before .before .before .before .before .before .before .before .before .before .before .pre .area,
-)
+from-start-requires c κs =
+    let compare-call = (back-to-compare (c .before .before)) .compare in
+    let pre = (back-to-start-2 (c .before .before)) .pre in (
+      pre .tables .few-unknowns,
+      simp length-take (omega (arith, compare-call .kept .1 .1 .1 .1 .0, pre .few, pre .some-row)),
+      simp length-take (omega (arith, compare-call .kept .1 .1 .1 .1 .0, pre .few)),
+      pre .tables .entries,
+      pre .tables .coded,
+      pre .tables .index-lent,
+      pre .side-fits,
+      (back-to-fill c) .fill .kept .1 .1 .1 .1 .1 .0 ∙ pre .area,
+    )
 
 same-length : tie.Need-same-length
-same-length c = c .before .before .from-start .kept .1 .1 .1 .1 .1 .1 .1 .0 ∙ c .before .before .before .before .before .before .before .before .before .before .before .fill .kept .1 .1 .1 .1 .1 .0
+same-length c = c .before .before .from-start .kept .1 .1 .1 .1 .1 .1 .1 .0 ∙ (back-to-fill (c .before .before .before)) .fill .kept .1 .1 .1 .1 .1 .0
 
 returns : tie.Need-returns
-returns c = record {
-  all = c .before .before .before .before .before .before .before .before .before .before .before .before .before .before .before .compare .last .1 .1 .1 .1 .0;
-  wanting-area = c .before .before .before .before .before .before .before .before .before .before .before .fill .last .1 .1 .1 .1 .1 .0;
-  long = omega (arith, c .before .before .before .before .before .before .before .before .before .before .before .before .before .before .before .compare .kept .1 .1 .1 .1 .0, c .before .before .before .before .before .before .before .before .before .before .before .before .before .before .before .before .before .before .before .before .before .before .before .before .before .before .pre .few);
-  differences = compares (c .before .before .before .before .before .before .before .before .before .before .before .before .before .before .before .before .before .before .before .before .before .before .before .before .before .before .args .kinds .now) (c .before .before .before .before .before .before .before .before .before .before .before .before .before .before .before .before .before .before .before .before .before .before .before .before .before .before .args .work .now) _ (c .before .before .before .before .before .before .before .before .before .before .before .before .before .before .before .before .before .before .before .before .before .before .before .before .before .before .args .side) _ (c .before .before .before .before .before .before .before .before .before .before .before .before .before .before .before .before .before .before .before .before .before .before .before .before .before .before .pre .area) (c .before .before .before .before .before .before .before .before .before .before .before .before .before .before .before .before .before .before .before .before .before .before .before .before .before .before .pre .tables .few-unknowns) (c .before .before .before .before .before .before .before .before .before .before .before .before .before .before .before .before .before .before .before .before .before .before .before .before .before .before .pre .few) refl (c .before .before .before .before .before .before .before .before .before .before .before .before .before .before .before .compare .ensures);
-  wanting = numbers (c .before .before .before .before .before .before .before .before .before .before .before .before .before .before .before .before .before .before .before .before .before .before .before .before .before .before .args .kinds .now) (c .before .before .before .before .before .before .before .before .before .before .before .before .before .before .before .before .before .before .before .before .before .before .before .before .before .before .args .preferences .now) (c .before .before .before .before .before .before .before .before .before .before .before .before .before .before .before .before .before .before .before .before .before .before .before .before .before .before .args .place .now) _ (c .before .before .before .before .before .before .before .before .before .before .before .before .before .before .before .before .before .before .before .before .before .before .before .before .before .before .args .side) (c .before .before .before .before .before .before .before .before .before .before .before .before .before .before .before .before .before .before .before .before .before .before .before .before .before .before .pre .tables .few-unknowns) (c .before .before .before .before .before .before .before .before .before .before .before .before .before .before .before .before .before .before .before .before .before .before .before .before .before .before .pre .few) (c .before .before .before .before .before .before .before .before .before .before .before .before .before .before .before .before .before .before .before .before .before .before .before .before .before .before .pre .met) (c .before .before .before .before .before .before .before .before .before .before .before .before .before .before .before .compare .kept .1 .1 .1 .1 .0) (c .before .before .before .before .before .before .before .before .before .before .before .before .before .before .before .before .before .before .before .before .before .before .before .before .before .before .pre .area) (c .before .before .before .before .before .before .before .before .before .before .before .fill .ensures);
-  memory = take (c .before .before .before .before .before .before .before .read .result) (c .before .before .before .before .before .before .before .read .last .1 .1 .1 .1 .0);
-  reads =
-      let size : length (replicate {A = ℕ} max-unknowns 0) ≡ max-unknowns = length-replicate {A = ℕ} max-unknowns 0 in
-      reads-taken (c .before .before .before .before .before .before .before .before .before .before .before .before .before .before .before .before .before .before .before .before .before .before .before .before .before .before .args .kinds .now) (c .before .before .before .before .before .before .before .before .before .before .before .before .before .before .before .before .before .before .before .before .before .before .before .before .before .before .args .own .now) (c .before .before .before .before .before .before .before .before .before .before .before .before .before .before .before .before .before .before .before .before .before .before .before .before .before .before .args .known) (c .before .before .before .before .before .before .before .before .before .before .before .before .before .before .before .before .before .before .before .before .before .before .before .before .before .before .args .side) (c .before .before .before .before .before .before .before .read .last .1 .1 .1 .1 .0) (c .before .before .before .before .before .before .before .read .result)
-      (omega (arith, c .before .before .before .before .before .before .before .before .before .before .before .before .before .before .before .before .before .before .before .before .before .before .before .before .before .before .pre .tables .few-unknowns, c .before .before .before .before .before .before .before .read .ensures .inside, c .before .before .before .before .before .before .before .read .kept .1 .1 .1 .1 .0, size)) (c .before .before .before .before .before .before .before .read .ensures);
-  from = c .before .before .from-start .ensures;
-}
+returns c =
+    let read-call = (back-to-read c) .read in
+    let fill-call = (back-to-fill (c .before .before .before)) .fill in
+    let compare-call = (back-to-compare (c .before .before .before .before .before)) .compare in
+    let given = (back-to-start-2 (c .before .before .before .before .before)) .args in
+    let pre = (back-to-start-2 (c .before .before .before .before .before)) .pre in
+    let kinds = given .kinds .now in
+    let side = given .side in
+    record {
+      all = compare-call .last .1 .1 .1 .1 .0;
+      wanting-area = fill-call .last .1 .1 .1 .1 .1 .0;
+      long = omega (arith, compare-call .kept .1 .1 .1 .1 .0, pre .few);
+      differences = compares kinds (given .work .now) _ side _ (pre .area) (pre .tables .few-unknowns) (pre .few) refl (compare-call .ensures);
+      wanting = numbers kinds (given .preferences .now) (given .place .now) _ side (pre .tables .few-unknowns) (pre .few) (pre .met)
+          (compare-call .kept .1 .1 .1 .1 .0) (pre .area) (fill-call .ensures);
+      memory = take (read-call .result) (read-call .last .1 .1 .1 .1 .0);
+      reads =
+          let size : length (replicate {A = ℕ} max-unknowns 0) ≡ max-unknowns = length-replicate {A = ℕ} max-unknowns 0 in
+          reads-taken kinds (given .own .now) (given .known) side (read-call .last .1 .1 .1 .1 .0) (read-call .result)
+          (omega (arith, pre .tables .few-unknowns, read-call .ensures .inside, read-call .kept .1 .1 .1 .1 .0, size)) (read-call .ensures);
+      from = c .before .before .from-start .ensures;
+    }
 
 pub decide-spec : {M : Type 1} → statement M
 decide-spec =

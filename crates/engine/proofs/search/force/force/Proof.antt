@@ -5,6 +5,24 @@ use Rattle.engine.proofs.search.ForceLaws.{settles-force-at}
 use Rattle.engine.proofs.search.force.force.Statement.{statement}
 use Rattle.engine.proofs.search.force.force.Tie as tie
 
+-- Back along the path, to the place behind a call.
+abbrev back-to-copy-end : tie.After-slice-known5 → tie.After-copy-end
+back-to-copy-end at =
+    let after-set-rows = at .before .before .before .before .before .before in
+    after-set-rows .before .before
+
+abbrev back-to-copy-start : tie.After-slice-known5 → tie.After-copy-start
+back-to-copy-start at = (back-to-copy-end at) .before
+
+abbrev back-to-blame : tie.After-slice-known5 → tie.After-blame
+back-to-blame at = (back-to-copy-start at) .before .before .before
+
+abbrev back-to-position : tie.After-slice-known5 → tie.After-position
+back-to-position at = (back-to-blame at) .before .before
+
+abbrev back-to-start : tie.After-slice-known5 → tie.Start
+back-to-start at = (back-to-position at) .before .before .before .before .before .before
+
 position-requires : tie.Need-position-requires
 position-requires c κs = omega arith
 
@@ -31,11 +49,25 @@ same-length-2 c = omega arith
 
 returns : tie.Need-returns
 returns c =
+    let set-rows-call = c .before .before .before .before .before .before .set-rows in
+    let copy-end-call = (back-to-copy-end c) .copy-end in
+    let copy-start-call = (back-to-copy-start c) .copy-start in
+    let blame-call = (back-to-blame c) .blame in
+    let position-call = (back-to-position c) .position in
+    let given = (back-to-start c) .args in
+    let pre = (back-to-start c) .pre in
+    let i = given .i in
+    let splits = given .splits .now in
     λ begins looked.
-    let copied-from = copy-from (c .before .before .before .before .before .before .before .before .before .before .before .before .before .before .before .before .before .before .before .before .args .splits .now) (c .before .before .before .before .before .before .before .before .before .before .before .before .before .before .position .result) (c .before .before .before .before .before .before .before .before .before .before .before .before .before .before .before .before .before .before .before .before .args .lo) (c .before .before .before .before .before .before .before .before .before .before .before .before .before .before .before .before .before .before .before .before .args .i) (omega arith) (omega arith) (c .before .before .before .before .before .before .before .before .before .copy-start .ensures) in
-    let copied-to = copy-to (c .before .before .before .before .before .before .before .before .before .before .before .before .before .before .before .before .before .before .before .before .args .splits .now) (c .before .before .before .before .before .before .before .before .before .before .before .before .before .before .position .result) (c .before .before .before .before .before .before .before .before .before .before .before .before .before .before .before .before .before .before .before .before .args .i) (c .before .before .before .before .before .before .before .before .before .before .before .before .before .before .before .before .before .before .before .before .args .hi) (omega arith) (omega arith) (c .before .before .before .before .before .before .before .before .copy-end .ensures) in
-    settles-force-at (c .before .before .before .before .before .before .before .before .before .before .before .before .before .before .before .before .before .before .before .before .args .splits .now) (c .before .before .before .before .before .before .before .before .before .before .before .before .before .before .before .before .before .before .before .before .args .codes .now) (c .before .before .before .before .before .before .before .before .before .before .before .before .before .before .before .before .before .before .before .before .pre .0 .coded) (c .before .before .before .before .before .before .before .before .before .before .before .before .before .before .before .before .before .before .before .before .args .lo) (c .before .before .before .before .before .before .before .before .before .before .before .before .before .before .before .before .before .before .before .before .args .hi) (c .before .before .before .before .before .before .before .before .before .before .before .before .before .before .before .before .before .before .before .before .args .mark) (c .before .before .before .before .before .before .before .before .before .before .before .before .before .before .before .before .before .before .before .before .args .work .now) (c .before .before .before .before .before .before .before .before .before .before .before .before .before .before .before .before .before .before .before .before .args .sets .now) (c .before .before .before .before .before .before .before .before .before .before .before .before .before .before .before .before .before .before .before .before .args .i) (c .before .before .before .before .before .before .before .before .before .before .before .before .before .before .before .before .before .before .before .before .args .start) (c .before .before .before .before .before .before .before .before .before .before .before .before .before .before .before .before .before .before .before .before .pre .1 .0) (c .before .before .before .before .before .before .before .before .before .before .before .before .before .before .before .before .before .before .before .before .pre .1 .1) begins
-    (c .before .before .before .before .before .before .before .before .before .before .before .before .before .before .position .result) (c .before .before .before .before .before .before .before .before .before .before .before .before .before .before .before .before .before .before .before .before .args .c) (c .before .before .before .before .before .before .before .before .before .before .before .before .before .before .position .ensures) (c .before .before .before .before .before .before .before .before .before .before .before .before .before .before .before .before .before .before .before .before .pre .1 .3) looked (c .before .before .before .before .before .before .before .before .before .before .before .before .blame .last .1 .0) (c .before .before .note .last .0) (blames _ (c .before .before .before .before .before .before .before .before .before .before .before .before .before .before .before .before .before .before .before .before .pre .0 .sets-lent) (c .before .before .before .before .before .before .before .before .before .before .before .before .before .before .before .before .before .before .before .before .args .codes .now) (c .before .before .before .before .before .before .before .before .before .before .before .before .before .before .before .before .before .before .before .before .args .start) (c .before .before .before .before .before .before .before .before .before .before .before .before .before .before .position .result) (omega arith) (c .before .before .before .before .before .before .before .before .before .before .before .before .before .before .before .before .before .before .before .before .pre .0 .coded) (c .before .before .before .before .before .before .before .before .before .before .before .before .blame .ensures)) (c .before .before .note .ensures) (c .before .before .before .before .before .before .set-rows .last .0) (c .before .before .before .before .before .before .before .before .before .copy-start .result) (c .before .before .before .before .before .before .before .before .copy-end .result) copied-from copied-to (sets-rows (c .before .before .before .before .before .before .before .before .before .before .before .before .before .before .before .before .before .before .before .before .pre .0 .area) (c .before .before .before .before .before .before .before .before .before .before .before .before .before .before .position .result) (c .before .before .before .before .before .before .before .before .before .copy-start .result) (c .before .before .before .before .before .before .before .before .copy-end .result) (c .before .before .before .before .before .before .before .before .before .before .before .before .before .before .before .before .before .before .before .before .args .mark) _ (omega arith) (omega arith) (omega arith) (c .before .before .before .before .before .before .set-rows .ensures))
+    let copied-from = copy-from splits (position-call .result) (given .lo) i (omega arith) (omega arith) (copy-start-call .ensures) in
+    let copied-to = copy-to splits (position-call .result) i (given .hi) (omega arith) (omega arith) (copy-end-call .ensures) in
+    settles-force-at splits (given .codes .now) (pre .0 .coded) (given .lo) (given .hi) (given .mark) (given .work .now) (given .sets .now) i (given .start)
+    (pre .1 .0) (pre .1 .1) begins
+    (position-call .result) (given .c) (position-call .ensures) (pre .1 .3) looked (blame-call .last .1 .0) (c .before .before .note .last .0)
+    (blames _ (pre .0 .sets-lent) (given .codes .now) (given .start) (position-call .result) (omega arith) (pre .0 .coded) (blame-call .ensures))
+    (c .before .before .note .ensures) (set-rows-call .last .0) (copy-start-call .result) (copy-end-call .result) copied-from copied-to
+    (sets-rows (pre .0 .area) (position-call .result) (copy-start-call .result) (copy-end-call .result) (given .mark) _ (omega arith) (omega arith)
+    (omega arith) (set-rows-call .ensures))
 
 pub force-spec : {M : Type 1} → statement M
 force-spec =

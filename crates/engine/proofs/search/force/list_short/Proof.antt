@@ -11,10 +11,18 @@ use Rattle.engine.proofs.search.force.list_short.Tie as tie
 
 abbrev Inv-loop : tie.InvT-loop
 Inv-loop kinds codes index short₀ end count₀ at₀ short count at =
-    (end ≤ length index) × (end ≤ getD index (code-count + 1) 0) × (getD index 1 0 ≤ at) × (length short ≡ length short₀) × (count ≤ length short) × (Starts codes index (getD index 1 0) (getD index (code-count + 1) 0) → Starts codes short 0 count)
+    (end ≤ length index) × (end ≤ getD index (code-count + 1) 0) × (getD index 1 0 ≤ at) × (length short ≡ length short₀) × (count ≤ length short) ×
+    (Starts codes index (getD index 1 0) (getD index (code-count + 1) 0) → Starts codes short 0 count)
 
 abbrev μ-loop : tie.MeasureT-loop
 μ-loop kinds codes index short₀ end count₀ at₀ short count at = end - at
+
+-- Back along the path, to the place behind a call.
+abbrev back-to-start : tie.After-is-short Inv-loop μ-loop → tie.Start Inv-loop μ-loop
+back-to-start at =
+    let after-wide16 = at .before .before .before .before .before .before in
+    let after-shared-slice-known = after-wide16 .before .before .before .before .before .before in
+    after-shared-slice-known .before
 
 list-end-requires : tie.Need-list-end-requires Inv-loop μ-loop
 list-end-requires c κs = (c .before .before .before .before .pre, omega arith)
@@ -26,7 +34,15 @@ wide16-requires : tie.Need-wide16-requires Inv-loop μ-loop
 wide16-requires c κs = tt
 
 loop-holds : tie.Need-loop-holds Inv-loop μ-loop
-loop-holds c = (c .before .before .list-end .ensures .0, c .before .before .list-end .ensures .1, omega arith, refl, omega arith, λ _ at low high. absurd (omega arith))
+loop-holds c = (
+  c .before .before .list-end .ensures .0,
+  c .before .before .list-end .ensures .1,
+  omega arith,
+  refl,
+  omega arith,
+  λ _ at low high. absurd
+      (omega arith),
+)
 
 same-length : tie.Need-same-length Inv-loop μ-loop
 same-length c = c .before .before .loop .inv .3
@@ -62,14 +78,16 @@ loop-less : tie.Need-loop-less Inv-loop μ-loop
 loop-less c = omega arith
 
 loop-again : tie.Need-loop-again Inv-loop μ-loop
-loop-again c = (
-  c .before .before .before .before .before .loop .inv .0,
-  c .before .before .before .before .before .loop .inv .1,
-  omega arith,
-  simp length-set (c .before .before .before .before .before .loop .inv .3),
-  simp length-set (omega arith),
-  λ listed. starts-put (c .before .before .before .before .before .before .before .before .before .before .before .before .before .args .codes .now) (c .before .before .before .before .before .loop .short) (c .before .before .before .before .before .loop .count) _ _ (omega arith) (c .is-short .ensures) (listed (c .before .before .before .before .before .loop .at) (c .before .before .before .before .before .loop .inv .2) (omega arith)) (c .before .before .before .before .before .loop .inv .5 listed),
-)
+loop-again c =
+    let loop = c .before .before .before .before .before .loop in (
+      loop .inv .0,
+      loop .inv .1,
+      omega arith,
+      simp length-set (loop .inv .3),
+      simp length-set (omega arith),
+      λ listed. starts-put ((back-to-start c) .args .codes .now) (loop .short) (loop .count) _ _ (omega arith) (c .is-short .ensures)
+          (listed (loop .at) (loop .inv .2) (omega arith)) (loop .inv .5 listed),
+    )
 
 same-length-2 : tie.Need-same-length-2 Inv-loop μ-loop
 same-length-2 c = c .before .loop .inv .3

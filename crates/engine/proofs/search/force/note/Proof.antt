@@ -9,6 +9,12 @@ use Rattle.engine.proofs.search.CallLaws.{grows}
 use Rattle.engine.proofs.search.force.note.Statement.{statement}
 use Rattle.engine.proofs.search.force.note.Tie as tie
 
+-- Back along the path, to the place behind a call.
+abbrev back-to-start : tie.After-slice-known4 → tie.Start
+back-to-start at =
+    let after-has-arg = at .before .before .before .before .before .before in
+    after-has-arg .before .before
+
 mul-at : tie.Need-mul-at
 mul-at c = search needs
 
@@ -61,7 +67,8 @@ same-length : tie.Need-same-length
 same-length c = search needs
 
 returns : tie.Need-returns
-returns c = kept-trans (kept-grown (omega arith) (grows _ (c .before .before .before .before .before .before .before .before .pre .0) (max-unknowns + 1) (c .before .before .before .before .before .before .before .before .args .k) (omega arith) (omega arith) (c .before .before .add .ensures))) (kept-trans (store-behind _ _ _ (omega arith)) (store-behind _ _ _ (omega arith)))
+returns c = kept-trans (kept-grown (omega arith) (grows _ ((back-to-start c) .pre .0) (max-unknowns + 1) ((back-to-start c) .args .k) (omega arith)
+    (omega arith) (c .before .before .add .ensures))) (kept-trans (store-behind _ _ _ (omega arith)) (store-behind _ _ _ (omega arith)))
 
 pub note-spec : {M : Type 1} → statement M
 note-spec =

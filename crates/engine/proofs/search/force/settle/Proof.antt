@@ -12,6 +12,25 @@ Inv-loop splits codes work₀ sets₀ index mark lo hi left₀ work sets left = 
 abbrev μ-loop : tie.MeasureT-loop
 μ-loop splits codes work₀ sets₀ index mark lo hi left₀ work sets left = left
 
+-- Back along the path, to the place behind a call.
+abbrev back-to-at-loop : tie.After-slice-known4 Inv-loop μ-loop → tie.At-loop Inv-loop μ-loop
+back-to-at-loop at =
+    let in-loop = at .before .before .before .before .before .before in
+    in-loop .before
+
+abbrev back-to-take-lowest : tie.After-visit-arg2 Inv-loop μ-loop → tie.After-take-lowest Inv-loop μ-loop
+back-to-take-lowest at =
+    let then1 = at .before .before .before .before .before .before in
+    then1 .before .before .before
+
+abbrev back-to-start : tie.After-slice-known4 Inv-loop μ-loop → tie.Start Inv-loop μ-loop
+back-to-start at = (back-to-at-loop at) .before .before .before .before .before .before
+
+abbrev back-to-at-loop-2 : tie.After-slice-known7 Inv-loop μ-loop → tie.At-loop Inv-loop μ-loop
+back-to-at-loop-2 at =
+    let after-take-lowest = back-to-take-lowest (at .before .before .before .before .before) in
+    after-take-lowest .before .before .before
+
 loop-holds : tie.Need-loop-holds Inv-loop μ-loop
 loop-holds c = going-start
 
@@ -25,7 +44,9 @@ same-length-2 : tie.Need-same-length-2 Inv-loop μ-loop
 same-length-2 c = c .before .before .before .take-lowest .kept .0 ∙ c .before .before .before .before .before .before .loop .inv .sets
 
 returns : tie.Need-returns Inv-loop μ-loop
-returns c = going-noted (c .before .before .before .before .before .before .loop .inv) (c .before .before .before .take-lowest .ensures) (c .before .before .before .take-lowest .kept .0) .settles
+returns c =
+    let take-lowest-call = c .before .before .before .take-lowest in
+    going-noted (c .before .before .before .before .before .before .loop .inv) (take-lowest-call .ensures) (take-lowest-call .kept .0) .settles
 
 mul-higher : tie.Need-mul-higher Inv-loop μ-loop
 mul-higher c = omega (arith, c .before .before .before .take-lowest .kept .0)
@@ -37,7 +58,10 @@ mul-higher-2 : tie.Need-mul-higher-2 Inv-loop μ-loop
 mul-higher-2 c = omega (arith, c .before .before .before .take-lowest .kept .0)
 
 slice-read-higher : tie.Need-slice-read-higher Inv-loop μ-loop
-slice-read-higher c = let p = c .before .before .before .before .before .before .before .before .before .before .before .before .before .pre in let q = c .before .before .before .before .before .before .before .loop .inv .sets in omega (arith, c .before .before .before .before .take-lowest .kept .0)
+slice-read-higher c =
+    let p = (back-to-start c) .pre in
+    let q = (back-to-at-loop c) .loop .inv .sets in
+    omega (arith, c .before .before .before .before .take-lowest .kept .0)
 
 higher-requires : tie.Need-higher-requires Inv-loop μ-loop
 higher-requires c κs = tt
@@ -55,22 +79,36 @@ mul-lower-2 : tie.Need-mul-lower-2 Inv-loop μ-loop
 mul-lower-2 c = omega (arith, c .before .before .before .before .before .take-lowest .kept .0)
 
 slice-read-lower : tie.Need-slice-read-lower Inv-loop μ-loop
-slice-read-lower c = let p = c .before .before .before .before .before .before .before .before .before .before .before .before .before .before .before .pre in let q = c .before .before .before .before .before .before .before .before .before .loop .inv .sets in omega (arith, c .before .before .before .before .before .before .take-lowest .kept .0)
+slice-read-lower c =
+    let p = (back-to-start (c .before .before)) .pre in
+    let q = (back-to-at-loop (c .before .before)) .loop .inv .sets in
+    omega (arith, c .before .before .before .before .before .before .take-lowest .kept .0)
 
 lower-requires : tie.Need-lower-requires Inv-loop μ-loop
 lower-requires c κs = tt
 
 visit-requires : tie.Need-visit-requires Inv-loop μ-loop
-visit-requires c κs = (lent-still (going-noted (c .before .before .before .before .before .before .before .before .before .before .before .before .loop .inv) (c .before .before .before .before .before .before .before .before .before .take-lowest .ensures) (c .before .before .before .before .before .before .before .before .before .take-lowest .kept .0)) (c .before .before .before .before .before .before .before .before .before .before .before .before .before .before .before .before .before .before .pre .0), (omega arith, omega arith, omega arith, omega arith))
+visit-requires c κs =
+    let take-lowest-call = (back-to-take-lowest c) .take-lowest in (
+      lent-still (going-noted ((back-to-at-loop (c .before .before .before .before .before)) .loop .inv) (take-lowest-call .ensures)
+          (take-lowest-call .kept .0))
+          ((back-to-start (c .before .before .before .before .before)) .pre .0),
+      (omega arith, omega arith, omega arith, omega arith),
+    )
 
 same-length-3 : tie.Need-same-length-3 Inv-loop μ-loop
-same-length-3 c = c .before .before .before .before .before .visit .kept .1 .1 .0 ∙ c .before .before .before .before .before .before .before .before .before .before .before .before .before .before .before .before .before .before .loop .inv .work
+same-length-3 c = c .before .before .before .before .before .visit .kept .1 .1 .0 ∙ (back-to-at-loop-2 (c .before)) .loop .inv .work
 
 same-length-4 : tie.Need-same-length-4 Inv-loop μ-loop
-same-length-4 c = c .before .before .before .before .before .visit .kept .1 .1 .1 .0 ∙ c .before .before .before .before .before .before .before .before .before .before .before .before .before .before .before .take-lowest .kept .0 ∙ c .before .before .before .before .before .before .before .before .before .before .before .before .before .before .before .before .before .before .loop .inv .sets
+same-length-4 c = c .before .before .before .before .before .visit .kept .1 .1 .1 .0 ∙ (back-to-take-lowest (c .before .before .before .before .before .before))
+    .take-lowest .kept .0 ∙ (back-to-at-loop-2 (c .before)) .loop .inv .sets
 
 returns-2 : tie.Need-returns-2 Inv-loop μ-loop
-returns-2 c = going-ends (going-noted (c .before .before .before .before .before .before .before .before .before .before .before .before .before .before .before .before .before .before .loop .inv) (c .before .before .before .before .before .before .before .before .before .before .before .before .before .before .before .take-lowest .ensures) (c .before .before .before .before .before .before .before .before .before .before .before .before .before .before .before .take-lowest .kept .0)) (c .before .before .before .before .before .visit .last .1 .1 .0) (c .before .before .before .before .before .visit .last .1 .1 .1 .0) (c .before .before .before .before .before .visit .result) (c .before .before .before .before .before .visit .ensures) (c .if2 .left)
+returns-2 c =
+    let visit-call = c .before .before .before .before .before .visit in
+    let take-lowest-call = (back-to-take-lowest (c .before .before .before .before .before .before)) .take-lowest in
+    going-ends (going-noted ((back-to-at-loop-2 (c .before)) .loop .inv) (take-lowest-call .ensures) (take-lowest-call .kept .0)) (visit-call .last .1 .1 .0)
+    (visit-call .last .1 .1 .1 .0) (visit-call .result) (visit-call .ensures) (c .if2 .left)
 
 sub-left : tie.Need-sub-left Inv-loop μ-loop
 sub-left c = omega arith
@@ -79,7 +117,11 @@ loop-less : tie.Need-loop-less Inv-loop μ-loop
 loop-less c = omega arith
 
 loop-again : tie.Need-loop-again Inv-loop μ-loop
-loop-again c = going-then (going-noted (c .before .before .before .before .before .before .before .before .before .before .before .before .before .before .before .before .before .before .loop .inv) (c .before .before .before .before .before .before .before .before .before .before .before .before .before .before .before .take-lowest .ensures) (c .before .before .before .before .before .before .before .before .before .before .before .before .before .before .before .take-lowest .kept .0)) (c .before .before .before .before .before .visit .result) (c .before .before .before .before .before .visit .ensures) (c .if2 .taken) (c .before .before .before .before .before .visit .kept .1 .1 .0) (c .before .before .before .before .before .visit .kept .1 .1 .1 .0)
+loop-again c =
+    let visit-call = c .before .before .before .before .before .visit in
+    let take-lowest-call = (back-to-take-lowest (c .before .before .before .before .before .before)) .take-lowest in
+    going-then (going-noted ((back-to-at-loop-2 (c .before)) .loop .inv) (take-lowest-call .ensures) (take-lowest-call .kept .0)) (visit-call .result)
+    (visit-call .ensures) (c .if2 .taken) (visit-call .kept .1 .1 .0) (visit-call .kept .1 .1 .1 .0)
 
 same-length-5 : tie.Need-same-length-5 Inv-loop μ-loop
 same-length-5 c = c .before .loop .inv .work

@@ -6,17 +6,31 @@ use Rattle.engine.proofs.search.ForceLaws.{lent-starts}
 use Rattle.engine.proofs.search.force.survey.Statement.{statement}
 use Rattle.engine.proofs.search.force.survey.Tie as tie
 
+-- Back along the path, to the place behind a call.
+abbrev back-to-start : tie.After-short → tie.Start
+back-to-start at =
+    let after-shared-slice-known = at .before .before .before .before .before .before in
+    after-shared-slice-known .before
+
+abbrev back-to-list-short : tie.After-slice-known4 → tie.After-list-short
+back-to-list-short at =
+    let after-survey-rows-arg2 = at .before .before .before .before .before .before in
+    after-survey-rows-arg2 .before .before .before
+
+abbrev back-to-start-2 : tie.After-short3 → tie.Start
+back-to-start-2 at = back-to-start (at .before .before .before .before .before)
+
 slice-aggregate-list-short : tie.Need-slice-aggregate-list-short
 slice-aggregate-list-short c = search needs
 
 list-short-requires : tie.Need-list-short-requires
-list-short-requires c κs = c .before .before .before .before .before .before .before .pre .index-lent
+list-short-requires c κs = (back-to-start c) .pre .index-lent
 
 slice-aggregate-survey-rows : tie.Need-slice-aggregate-survey-rows
 slice-aggregate-survey-rows c = search needs
 
 survey-rows-requires : tie.Need-survey-rows-requires
-survey-rows-requires c κs = (c .before .before .before .before .before .before .before .before .before .before .before .before .pre, c .before .before .before .before .list-short .ensures .0)
+survey-rows-requires c κs = ((back-to-start-2 c) .pre, c .before .before .before .before .list-short .ensures .0)
 
 same-length : tie.Need-same-length
 same-length c = c .before .before .before .before .survey-rows .kept .1 .1 .0
@@ -25,7 +39,11 @@ same-length-2 : tie.Need-same-length-2
 same-length-2 c = c .before .before .before .before .survey-rows .kept .1 .1 .1 .0
 
 returns : tie.Need-returns
-returns c = λ listed. c .before .before .before .before .survey-rows .ensures (listed, c .before .before .before .before .before .before .before .before .before .list-short .ensures .1 (lent-starts (c .before .before .before .before .before .before .before .before .before .before .before .before .before .before .before .before .before .pre) listed 1 _ _ (omega arith) refl (omega arith)))
+returns c = λ listed. c .before .before .before .before .survey-rows .ensures (
+  listed,
+  (back-to-list-short c) .list-short .ensures .1 (lent-starts ((back-to-start-2 (c .before .before .before .before .before)) .pre) listed 1 _ _
+      (omega arith) refl (omega arith)),
+)
 
 pub survey-spec : {M : Type 1} → statement M
 survey-spec =

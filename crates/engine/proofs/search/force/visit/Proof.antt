@@ -9,10 +9,44 @@ use Rattle.engine.proofs.search.force.visit.Statement.{statement}
 use Rattle.engine.proofs.search.force.visit.Tie as tie
 
 abbrev Inv-loop : tie.InvT-loop
-Inv-loop splits codes work₀ sets₀ index mark lo hi k from to i₀ work sets i = (from ≤ i) × Going (Indexed 0 codes index) splits codes lo hi mark work₀ work sets₀ sets
+Inv-loop splits codes work₀ sets₀ index mark lo hi k from to i₀ work sets i = (from ≤ i) × Going (Indexed 0 codes index) splits codes lo hi mark work₀ work
+    sets₀ sets
 
 abbrev μ-loop : tie.MeasureT-loop
 μ-loop splits codes work₀ sets₀ index mark lo hi k from to i₀ work sets i = to - i
+
+-- Back along the path, to the place behind a call.
+abbrev back-to-list-end : tie.Else2 Inv-loop μ-loop → tie.After-list-end Inv-loop μ-loop
+back-to-list-end at =
+    let after-visit-row-arg2 = at .before .before .before .before .before .before in
+    after-visit-row-arg2 .before .before
+
+abbrev back-to-wide16 : tie.Else2 Inv-loop μ-loop → tie.After-wide16 Inv-loop μ-loop
+back-to-wide16 at = (back-to-list-end at) .before
+
+abbrev back-to-start : tie.Joined1 Inv-loop μ-loop → tie.Start Inv-loop μ-loop
+back-to-start at =
+    let after-slice-known2 = at .before .before .before .before .before .before in
+    after-slice-known2 .before .before .before .before
+
+abbrev back-to-shortened : tie.Else2 Inv-loop μ-loop → tie.After-shortened Inv-loop μ-loop
+back-to-shortened at = (back-to-wide16 at) .before .before
+
+abbrev back-to-at-loop : tie.After-visit-row-arg2 Inv-loop μ-loop → tie.At-loop Inv-loop μ-loop
+back-to-at-loop at =
+    let after-value = at .before .before .before .before .before .before in
+    after-value .before .before .before .before .before .before
+
+abbrev back-to-start-2 : tie.After-shared-slice-known4 Inv-loop μ-loop → tie.Start Inv-loop μ-loop
+back-to-start-2 at =
+    let after-level-arg = at .before .before .before .before .before .before in
+    let after-shared-slice-known2 = after-level-arg .before .before .before .before .before .before in
+    after-shared-slice-known2 .before .before
+
+abbrev back-to-start-3 : tie.Else2 Inv-loop μ-loop → tie.Start Inv-loop μ-loop
+back-to-start-3 at =
+    let at-loop = back-to-at-loop (at .before .before .before .before .before .before) in
+    at-loop .before .before .before .before .before .before
 
 loop-holds : tie.Need-loop-holds Inv-loop μ-loop
 loop-holds c = (omega arith, going-start)
@@ -30,25 +64,35 @@ mul-wide16 : tie.Need-mul-wide16 Inv-loop μ-loop
 mul-wide16 c = omega arith
 
 shared-slice-read-wide16 : tie.Need-shared-slice-read-wide16 Inv-loop μ-loop
-shared-slice-read-wide16 c = omega (arith, c .before .before .before .before .before .before .before .before .before .before .before .before .before .before .pre .0 .index-lent)
+shared-slice-read-wide16 c = omega (arith, (back-to-start-2 c) .pre .0 .index-lent)
 
 wide16-requires : tie.Need-wide16-requires Inv-loop μ-loop
 wide16-requires c κs = tt
 
 list-end-requires : tie.Need-list-end-requires Inv-loop μ-loop
-list-end-requires c κs = (c .before .before .before .before .before .before .before .before .before .before .before .before .before .before .before .pre .0 .index-lent, omega arith)
+list-end-requires c κs = ((back-to-start-2 (c .before)) .pre .0 .index-lent, omega arith)
 
 visit-row-requires : tie.Need-visit-row-requires Inv-loop μ-loop
-visit-row-requires c κs = (lent-still (c .before .before .before .before .before .before .before .before .before .before .before .before .loop .inv .1) (c .before .before .before .before .before .before .before .before .before .before .before .before .before .before .before .before .before .before .pre .0), (c .before .before .list-end .ensures .0, (omega arith, omega arith, omega arith)))
+visit-row-requires c κs = (
+  lent-still ((back-to-at-loop c) .loop .inv .1) ((back-to-start-2 (c .before .before .before .before)) .pre .0),
+  (c .before .before .list-end .ensures .0, (omega arith, omega arith, omega arith)),
+)
 
 same-length : tie.Need-same-length Inv-loop μ-loop
-same-length c = c .before .before .before .before .before .visit-row .kept .1 .1 .0 ∙ c .before .before .before .before .before .before .before .before .before .before .before .before .before .before .before .before .before .before .loop .inv .1 .work
+same-length c = c .before .before .before .before .before .visit-row .kept .1 .1 .0 ∙
+    (back-to-at-loop (c .before .before .before .before .before .before)) .loop .inv .1 .work
 
 same-length-2 : tie.Need-same-length-2 Inv-loop μ-loop
-same-length-2 c = c .before .before .before .before .before .visit-row .kept .1 .1 .1 .0 ∙ c .before .before .before .before .before .before .before .before .before .before .before .before .before .before .before .before .before .before .loop .inv .1 .sets
+same-length-2 c = c .before .before .before .before .before .visit-row .kept .1 .1 .1 .0 ∙ (back-to-at-loop (c .before .before .before .before .before .before))
+    .loop .inv .1 .sets
 
 returns : tie.Need-returns Inv-loop μ-loop
-returns c = going-ends (c .before .before .before .before .before .before .before .before .before .before .before .before .before .before .before .before .before .before .loop .inv .1) (c .before .before .before .before .before .visit-row .last .1 .1 .0) (c .before .before .before .before .before .visit-row .last .1 .1 .1 .0) (c .before .before .before .before .before .visit-row .result) (λ listed. c .before .before .before .before .before .visit-row .ensures (lent-starts (c .before .before .before .before .before .before .before .before .before .before .before .before .before .before .before .before .before .before .before .before .before .before .before .before .pre .0) listed (c .before .before .before .before .before .before .before .before .before .before .before .shortened .result) _ _ (omega arith) (c .before .before .before .before .before .before .before .before .before .wide16 .ensures) (c .before .before .before .before .before .before .before .before .list-end .ensures .1))) (c .if2 .left)
+returns c =
+    let visit-row-call = c .before .before .before .before .before .visit-row in
+    going-ends ((back-to-at-loop (c .before .before .before .before .before .before)) .loop .inv .1) (visit-row-call .last .1 .1 .0)
+    (visit-row-call .last .1 .1 .1 .0) (visit-row-call .result)
+    (λ listed. visit-row-call .ensures (lent-starts ((back-to-start-3 c) .pre .0) listed ((back-to-shortened c) .shortened .result) _ _ (omega arith)
+    ((back-to-wide16 c) .wide16 .ensures) ((back-to-list-end c) .list-end .ensures .1))) (c .if2 .left)
 
 add-i : tie.Need-add-i Inv-loop μ-loop
 add-i c = omega arith
@@ -57,13 +101,16 @@ loop-less : tie.Need-loop-less Inv-loop μ-loop
 loop-less c = omega arith
 
 loop-again : tie.Need-loop-again Inv-loop μ-loop
-loop-again c = (
-  omega arith,
-  ⊎-elim
-      (λ w. going-at (going-then (c .before .before .before .before .loop .inv .1) (w .9 .result) (λ listed. w .9 .ensures (lent-starts (c .before .before .before .before .before .before .before .before .before .before .pre .0) listed (w .3 .result) _ _ (omega arith) (w .5 .ensures) (w .6 .ensures .1))) (w .14 .taken) (w .9 .kept .1 .1 .0) (w .9 .kept .1 .1 .1 .0)) (w .15) (w .16))
-      (λ w. going-at (c .before .before .before .before .loop .inv .1) (w .1) (w .2))
-      (c .if1 .came),
-)
+loop-again c =
+    let loop = c .before .before .before .before .loop in (
+      omega arith,
+      ⊎-elim
+          (λ w. going-at (going-then (loop .inv .1) (w .9 .result)
+          (λ listed. w .9 .ensures (lent-starts ((back-to-start c) .pre .0) listed (w .3 .result) _ _ (omega arith) (w .5 .ensures) (w .6 .ensures .1)))
+          (w .14 .taken) (w .9 .kept .1 .1 .0) (w .9 .kept .1 .1 .1 .0)) (w .15) (w .16))
+          (λ w. going-at (loop .inv .1) (w .1) (w .2))
+          (c .if1 .came),
+    )
 
 same-length-3 : tie.Need-same-length-3 Inv-loop μ-loop
 same-length-3 c = c .before .loop .inv .1 .work

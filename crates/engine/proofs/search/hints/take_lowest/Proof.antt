@@ -66,10 +66,14 @@ slice-write-sets-2 : tie.Need-slice-write-sets-2
 slice-write-sets-2 c = omega arith
 
 cast-result-2 : tie.Need-cast-result-2
-cast-result-2 c = record { fits = omega (arith, trailing-le 64 (getD (c .before .before .before .before .args .sets .now) (2 * c .before .before .before .before .args .of + 1) 0)) }
+cast-result-2 c =
+    let given = c .before .before .before .before .args in
+    record { fits = omega (arith, trailing-le 64 (getD (given .sets .now) (2 * given .of + 1) 0)) }
 
 add-result : tie.Need-add-result
-add-result c = record { fits = omega (arith, trailing-le 64 (getD (c .before .before .before .before .args .sets .now) (2 * c .before .before .before .before .args .of + 1) 0)) }
+add-result c =
+    let given = c .before .before .before .before .args in
+    record { fits = omega (arith, trailing-le 64 (getD (given .sets .now) (2 * given .of + 1) 0)) }
 
 same-length-2 : tie.Need-same-length-2
 same-length-2 c = search needs

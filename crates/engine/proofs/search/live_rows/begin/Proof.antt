@@ -10,6 +10,13 @@ use borrow.Author.Needs.{needs}
 use Rattle.engine.proofs.search.live_rows.begin.Statement.{statement}
 use Rattle.engine.proofs.search.live_rows.begin.Tie as tie
 
+-- Back along the path, to the place behind a call.
+abbrev back-to-start : tie.After-slice-known3 → tie.Start
+back-to-start at =
+    let after-by-row = at .before .before .before .before .before .before in
+    let after-shared-slice-known2 = after-by-row .before .before .before .before .before .before in
+    after-shared-slice-known2 .before .before
+
 returns : tie.Need-returns
 returns c = record { same = λ p lt l. refl }
 
@@ -41,11 +48,15 @@ same-length : tie.Need-same-length
 same-length c = search needs
 
 returns-2 : tie.Need-returns-2
-returns-2 c = let row-part = c .before .before .before .before .before .before .by-row .last .1 .1 .0 in
+returns-2 c =
+    let by-row-call = c .before .before .before .before .before .before .by-row in
+    let given = (back-to-start c) .args in
+    let row-part = by-row-call .last .1 .1 .0 in
     let code-part = c .before .before .holds .last .1 .1 .1 .0 in
     kept-trans
-    (part-kept (c .before .before .before .before .before .before .before .before .before .before .before .before .before .before .args .sets .now) row-part open-at (holds-at - open-at) (omega arith) (omega arith))
-    (part-kept _ code-part holds-at (true-at - holds-at) (omega arith) (omega (arith, same-len-mid open-at (holds-at - open-at) (c .before .before .before .before .before .before .before .before .before .before .before .before .before .before .args .sets .now) row-part (c .before .before .before .before .before .before .by-row .kept .1 .1 .0))))
+    (part-kept (given .sets .now) row-part open-at (holds-at - open-at) (omega arith) (omega arith))
+    (part-kept _ code-part holds-at (true-at - holds-at) (omega arith)
+    (omega (arith, same-len-mid open-at (holds-at - open-at) (given .sets .now) row-part (by-row-call .kept .1 .1 .0))))
 
 pub begin-spec : {M : Type 1} → statement M
 begin-spec =

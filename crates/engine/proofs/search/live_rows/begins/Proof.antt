@@ -21,7 +21,9 @@ shared-slice-read-result : tie.Need-shared-slice-read-result
 shared-slice-read-result c = search needs
 
 returns-2 : tie.Need-returns-2
-returns-2 c = λ e. inr (eqb-true (getD (c .before .before .before .args .codes .now) (c .before .before .before .args .start - 1) 0) 0 e)
+returns-2 c =
+    let given = c .before .before .before .args in
+    λ e. inr (eqb-true (getD (given .codes .now) (given .start - 1) 0) 0 e)
 
 returns-3 : tie.Need-returns-3
 returns-3 c = λ e. absurd (false≢true e)

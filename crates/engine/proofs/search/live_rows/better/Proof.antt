@@ -7,6 +7,12 @@ use borrow.Author.Needs.{needs}
 use Rattle.engine.proofs.search.live_rows.better.Statement.{statement}
 use Rattle.engine.proofs.search.live_rows.better.Tie as tie
 
+-- Back along the path, to the place behind a call.
+abbrev back-to-start : tie.Then3 → tie.Start
+back-to-start at =
+    let after-shared-slice-known2 = at .before .before .before .before .before .before in
+    after-shared-slice-known2 .before .before
+
 returns : tie.Need-returns
 returns c = inl refl
 
@@ -23,13 +29,24 @@ is-given-requires : tie.Need-is-given-requires
 is-given-requires c κs = tt
 
 returns-3 : tie.Need-returns-3
-returns-3 c = inr (sym (c .before .before .before .before .satisfied .ensures) ∙ c .before .before .before .if2 .taken, inl (refl, subst (λ (p : ℕ). IsGiven (c .before .before .before .before .before .before .before .before .args .kinds .now) p) (c .before .before .position .ensures .0) (c .before .is-given .ensures (c .if3 .taken))))
+returns-3 c = inr (
+  sym (c .before .before .before .before .satisfied .ensures) ∙ c .before .before .before .if2 .taken,
+  inl (
+    refl,
+    subst (λ (p : ℕ). IsGiven ((back-to-start c) .args .kinds .now) p) (c .before .before .position .ensures .0)
+        (c .before .is-given .ensures (c .if3 .taken)),
+  ),
+)
 
 earlier-requires : tie.Need-earlier-requires
 earlier-requires c κs = tt
 
 returns-4 : tie.Need-returns-4
-returns-4 c = ⊎-elim (λ e. inr (sym (c .before .before .before .before .before .satisfied .ensures) ∙ c .before .before .before .before .if2 .taken, inr (e ∙ c .before .before .before .position .ensures .0))) (λ e. inl e) (c .earlier .ensures)
+returns-4 c = ⊎-elim (λ e. inr (
+  sym (c .before .before .before .before .before .satisfied .ensures) ∙ c .before .before .before .before .if2 .taken,
+  inr
+      (e ∙ c .before .before .before .position .ensures .0),
+)) (λ e. inl e) (c .earlier .ensures)
 
 pub better-spec : {M : Type 1} → statement M
 better-spec =

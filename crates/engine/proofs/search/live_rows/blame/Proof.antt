@@ -15,8 +15,28 @@ Inv-loop kinds codes work sets₀ i best₀ e₀ sets best e = (length sets ≡ 
 abbrev μ-loop : tie.MeasureT-loop
 μ-loop kinds codes work sets₀ i best₀ e₀ sets best e = length codes - e
 
+-- Back along the path, to the place behind a call.
+abbrev back-to-in-loop : tie.After-slice-known2 Inv-loop μ-loop → tie.In-loop Inv-loop μ-loop
+back-to-in-loop at =
+    let after-wide = at .before .before .before .before .before .before in
+    after-wide .before .before
+
+abbrev back-to-start : tie.After-wide Inv-loop μ-loop → tie.Start Inv-loop μ-loop
+back-to-start at =
+    let after-shared-slice-known2 = at .before .before .before .before .before .before in
+    after-shared-slice-known2 .before .before
+
+abbrev back-to-at-loop : tie.After-slice-known2 Inv-loop μ-loop → tie.At-loop Inv-loop μ-loop
+back-to-at-loop at = (back-to-in-loop at) .before
+
 loop-holds : tie.Need-loop-holds Inv-loop μ-loop
-loop-holds c = (c .before .before .before .before .pre, omega arith, blaming-start (c .before .before .before .before .args .kinds .now) (c .before .before .before .before .args .codes .now) (c .before .before .before .before .args .work .now) (c .before .before .before .before .args .i) (c .before .before .before .before .args .sets .now))
+loop-holds c =
+    let given = c .before .before .before .before .args in (
+      c .before .before .before .before .pre,
+      omega arith,
+      blaming-start (given .kinds .now) (given .codes .now) (given .work .now) (given .i)
+          (given .sets .now),
+    )
 
 mul-wide : tie.Need-mul-wide Inv-loop μ-loop
 mul-wide c = omega arith
@@ -34,7 +54,10 @@ same-length : tie.Need-same-length Inv-loop μ-loop
 same-length c = omega arith
 
 returns : tie.Need-returns Inv-loop μ-loop
-returns c = blaming-left (c .before .before .before .before .before .before .before .before .before .before .args .kinds .now) (c .before .before .before .before .before .before .before .before .before .before .args .codes .now) (c .before .before .before .before .before .before .before .before .before .before .args .work .now) (c .before .before .before .before .before .before .before .before .before .before .args .i) (c .before .before .before .before .before .before .before .before .before .before .args .sets .now) (c .before .before .before .before .before .loop .e) (c .before .before .before .before .before .loop .best) (c .before .before .before .before .before .loop .sets) (c .before .before .before .before .before .loop .inv .2)
+returns c =
+    let loop = c .before .before .before .before .before .loop in
+    let given = (back-to-start (c .before .before)) .args in
+    blaming-left (given .kinds .now) (given .codes .now) (given .work .now) (given .i) (given .sets .now) (loop .e) (loop .best) (loop .sets) (loop .inv .2)
 
 take-in-requires : tie.Need-take-in-requires Inv-loop μ-loop
 take-in-requires c κs = c .before .before .before .before .before .before .loop .inv .0
@@ -43,7 +66,16 @@ loop-less : tie.Need-loop-less Inv-loop μ-loop
 loop-less c = omega arith
 
 loop-again : tie.Need-loop-again Inv-loop μ-loop
-loop-again c = (omega (arith, c .before .before .take-in .kept .0), omega arith, blaming-clause (c .before .before .before .before .before .before .before .before .before .before .before .before .before .before .args .kinds .now) (c .before .before .before .before .before .before .before .before .before .before .before .before .before .before .args .codes .now) (c .before .before .before .before .before .before .before .before .before .before .before .before .before .before .args .work .now) (c .before .before .before .before .before .before .before .before .before .before .before .before .before .before .args .i) (c .before .before .before .before .before .before .before .before .before .before .before .before .before .before .args .sets .now) (c .before .before .before .before .before .before .before .before .before .loop .e) (c .before .before .before .before .before .before .before .before .before .loop .best) (c .before .before .before .before .before .before .before .before .before .loop .sets) _ (c .before .before .before .before .before .before .before .before .loop-test .taken) (sym (c .before .before .before .before .before .before .wide .ensures) ∙ c .before .before .before .before .before .if1 .taken) (c .before .before .before .before .if2 .left) (c .before .before .before .before .before .before .before .before .before .loop .inv .2) (c .before .before .take-in .ensures))
+loop-again c =
+    let loop = (back-to-at-loop c) .loop in
+    let given = (back-to-start (c .before .before .before .before .before .before)) .args in (
+      omega (arith, c .before .before .take-in .kept .0),
+      omega arith,
+      blaming-clause (given .kinds .now) (given .codes .now) (given .work .now) (given .i)
+          (given .sets .now) (loop .e) (loop .best) (loop .sets) _ ((back-to-in-loop c) .loop-test .taken)
+          (sym (c .before .before .before .before .before .before .wide .ensures) ∙ c .before .before .before .before .before .if1 .taken)
+          (c .before .before .before .before .if2 .left) (loop .inv .2) (c .before .before .take-in .ensures),
+    )
 
 better-requires : tie.Need-better-requires Inv-loop μ-loop
 better-requires c κs = c .before .before .before .before .loop .inv .2 .most
@@ -52,13 +84,25 @@ loop-less-2 : tie.Need-loop-less-2 Inv-loop μ-loop
 loop-less-2 c = omega arith
 
 loop-again-2 : tie.Need-loop-again-2 Inv-loop μ-loop
-loop-again-2 c = (c .before .before .before .before .before .loop .inv .0, omega arith, blaming-literal (c .before .before .before .before .before .before .before .before .before .before .args .kinds .now) (c .before .before .before .before .before .before .before .before .before .before .args .codes .now) (c .before .before .before .before .before .before .before .before .before .before .args .work .now) (c .before .before .before .before .before .before .before .before .before .before .args .i) (c .before .before .before .before .before .before .before .before .before .before .args .sets .now) (c .before .before .before .before .before .loop .e) (c .before .before .before .before .before .loop .best) (c .before .before .wide .result) (c .better .result) (c .before .before .before .before .before .loop .sets) (c .before .before .before .before .loop-test .taken) (c .before .before .wide .ensures) (c .before .if1 .left) (c .better .ensures) (c .before .before .before .before .before .loop .inv .2))
+loop-again-2 c =
+    let loop = c .before .before .before .before .before .loop in
+    let given = (back-to-start (c .before .before)) .args in (
+      loop .inv .0,
+      omega arith,
+      blaming-literal (given .kinds .now) (given .codes .now) (given .work .now) (given .i) (given .sets .now) (loop .e) (loop .best)
+          (c .before .before .wide .result) (c .better .result) (loop .sets) (c .before .before .before .before .loop-test .taken)
+          (c .before .before .wide .ensures) (c .before .if1 .left) (c .better .ensures) (loop .inv .2),
+    )
 
 same-length-2 : tie.Need-same-length-2 Inv-loop μ-loop
 same-length-2 c = omega arith
 
 returns-2 : tie.Need-returns-2 Inv-loop μ-loop
-returns-2 c = blaming-end (c .before .before .before .before .before .before .args .kinds .now) (c .before .before .before .before .before .before .args .codes .now) (c .before .before .before .before .before .before .args .work .now) (c .before .before .before .before .before .before .args .i) (c .before .before .before .before .before .before .args .sets .now) (c .before .loop .e) (c .before .loop .best) (c .before .loop .sets) (c .loop-test .left) (c .before .loop .inv .2)
+returns-2 c =
+    let loop = c .before .loop in
+    let given = c .before .before .before .before .before .before .args in
+    blaming-end (given .kinds .now) (given .codes .now) (given .work .now) (given .i) (given .sets .now) (loop .e) (loop .best) (loop .sets)
+    (c .loop-test .left) (loop .inv .2)
 
 pub blame-spec : {M : Type 1} → statement M
 blame-spec =

@@ -15,7 +15,13 @@ note-true-requires : tie.Need-note-true-requires
 note-true-requires c κs = c .before .before .sizes-fit .ensures (c .before .if1 .taken) .0
 
 check-rows-requires : tie.Need-check-rows-requires
-check-rows-requires c κs = (c .before .before .before .note-true .kept .1 .1 .0 ∙ c .before .before .before .before .before .before .sizes-fit .ensures (c .before .before .before .before .before .if1 .taken) .0, c .before .before .before .before .before .before .sizes-fit .ensures (c .before .before .before .before .before .if1 .taken) .1, c .before .before .before .before .before .before .sizes-fit .ensures (c .before .before .before .before .before .if1 .taken) .2)
+check-rows-requires c κs =
+    let if1 = c .before .before .before .before .before .if1 in
+    let sizes-fit-call = c .before .before .before .before .before .before .sizes-fit in (
+      c .before .before .before .note-true .kept .1 .1 .0 ∙ sizes-fit-call .ensures (if1 .taken) .0,
+      sizes-fit-call .ensures (if1 .taken) .1,
+      sizes-fit-call .ensures (if1 .taken) .2,
+    )
 
 same-length : tie.Need-same-length
 same-length c = search needs

@@ -17,11 +17,17 @@ Inv-loop kinds codes work sets₀ opened met lo hi i₀ sets i = (lo ≤ i) × (
 abbrev μ-loop : tie.MeasureT-loop
 μ-loop kinds codes work sets₀ opened met lo hi i₀ sets i = hi - i
 
+-- Back along the path, to the place behind a call.
+abbrev back-to-start : tie.After-is-dead-arg Inv-loop μ-loop → tie.Start Inv-loop μ-loop
+back-to-start at =
+    let after-shared-slice-known2 = at .before .before .before .before .before .before in
+    after-shared-slice-known2 .before .before
+
 loop-holds : tie.Need-loop-holds Inv-loop μ-loop
 loop-holds c = (omega arith, c .before .before .before .before .before .pre .0, record { same = λ p lt l. refl })
 
 is-dead-requires : tie.Need-is-dead-requires Inv-loop μ-loop
-is-dead-requires c κs = (c .before .before .loop .inv .1, c .before .before .before .before .before .before .before .before .pre .1, omega arith)
+is-dead-requires c κs = (c .before .before .loop .inv .1, (back-to-start c) .pre .1, omega arith)
 
 add-sets : tie.Need-add-sets Inv-loop μ-loop
 add-sets c = search needs
@@ -30,10 +36,16 @@ slice-write-sets : tie.Need-slice-write-sets Inv-loop μ-loop
 slice-write-sets c = search needs
 
 same-length : tie.Need-same-length Inv-loop μ-loop
-same-length c = length-set (c .before .before .before .is-dead .last .1 .1 .1 .0) _ _ ∙ c .before .before .before .is-dead .kept .1 .1 .1 .0 ∙ c .before .before .before .before .before .before .loop .inv .1 ∙ sym (c .before .before .before .before .before .before .before .before .before .before .before .before .pre .0)
+same-length c =
+    let is-dead-call = c .before .before .before .is-dead in
+    length-set (is-dead-call .last .1 .1 .1 .0) _ _ ∙ is-dead-call .kept .1 .1 .1 .0 ∙ c .before .before .before .before .before .before .loop .inv .1 ∙ sym
+    ((back-to-start (c .before .before .before .before)) .pre .0)
 
 returns : tie.Need-returns Inv-loop μ-loop
-returns c = a-row-dead _ _ _ _ _ _ (c .before .before .before .before .before .before .loop .i) _ _ _ _ _ (omega arith) (c .before .before .before .before .before .before .loop .inv .0) (c .before .before .before .before .before .loop-test .taken) (c .before .before .before .before .before .before .loop .inv .2) (c .before .before .before .is-dead .ensures) (c .if1 .taken)
+returns c =
+    let loop = c .before .before .before .before .before .before .loop in
+    a-row-dead _ _ _ _ _ _ (loop .i) _ _ _ _ _ (omega arith) (loop .inv .0) (c .before .before .before .before .before .loop-test .taken) (loop .inv .2)
+    (c .before .before .before .is-dead .ensures) (c .if1 .taken)
 
 add-i : tie.Need-add-i Inv-loop μ-loop
 add-i c = omega arith
@@ -42,7 +54,13 @@ loop-less : tie.Need-loop-less Inv-loop μ-loop
 loop-less c = omega arith
 
 loop-again : tie.Need-loop-again Inv-loop μ-loop
-loop-again c = (omega arith, omega (arith, c .before .before .before .is-dead .kept .1 .1 .1 .0), kept-trans (c .before .before .before .before .before .before .loop .inv .2) (c .before .before .before .is-dead .ensures .kept))
+loop-again c =
+    let is-dead-call = c .before .before .before .is-dead in (
+      omega arith,
+      omega (arith, is-dead-call .kept .1 .1 .1 .0),
+      kept-trans (c .before .before .before .before .before .before .loop .inv .2)
+          (is-dead-call .ensures .kept),
+    )
 
 same-length-2 : tie.Need-same-length-2 Inv-loop μ-loop
 same-length-2 c = omega arith

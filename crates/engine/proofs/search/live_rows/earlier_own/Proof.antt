@@ -8,6 +8,12 @@ use borrow.Author.Needs.{needs}
 use Rattle.engine.proofs.search.live_rows.earlier_own.Statement.{statement}
 use Rattle.engine.proofs.search.live_rows.earlier_own.Tie as tie
 
+-- Back along the path, to the place behind a call.
+abbrev back-to-start : tie.After-earlier → tie.Start
+back-to-start at =
+    let after-shared-slice-known2 = at .before .before .before .before .before .before in
+    after-shared-slice-known2 .before .before
+
 position-requires : tie.Need-position-requires
 position-requires c κs = tt
 
@@ -27,7 +33,17 @@ earlier-requires : tie.Need-earlier-requires
 earlier-requires c κs = tt
 
 returns-3 : tie.Need-returns-3
-returns-3 c = ⊎-elim (λ e. inr (e ∙ c .before .before .before .before .before .position .ensures .0, own-is (c .before .before .before .before .before .before .before .before .args .kinds .now) (c .before .before .before .before .before .before .before .before .args .c) (subst (λ (p : ℕ). IsOwn (c .before .before .before .before .before .before .before .before .args .kinds .now) p) (c .before .before .before .before .before .position .ensures .0) (c .before .before .before .before .is-own .ensures (c .before .before .before .if1 .taken))), sym (c .before .before .satisfied .ensures) ∙ c .before .if2 .taken)) (λ e. inl e) (c .earlier .ensures)
+returns-3 c =
+    let position-call = c .before .before .before .before .before .position in
+    let given = (back-to-start c) .args in
+    ⊎-elim (λ e. inr (
+      e ∙ position-call .ensures .0,
+      own-is (given .kinds .now) (given .c)
+          (subst (λ (p : ℕ). IsOwn (given .kinds .now) p) (position-call .ensures .0)
+          (c .before .before .before .before .is-own .ensures (c .before .before .before .if1 .taken))),
+      sym (c .before .before .satisfied .ensures) ∙
+          c .before .if2 .taken,
+    )) (λ e. inl e) (c .earlier .ensures)
 
 pub earlier-own-spec : {M : Type 1} → statement M
 earlier-own-spec =

@@ -13,8 +13,16 @@ Inv-loop kinds codes work i start best₀ e₀ best e = Earliest kinds codes wor
 abbrev μ-loop : tie.MeasureT-loop
 μ-loop kinds codes work i start best₀ e₀ best e = length codes - e
 
+-- Back along the path, to the place behind a call.
+abbrev back-to-start : tie.After-earlier-own Inv-loop μ-loop → tie.Start Inv-loop μ-loop
+back-to-start at =
+    let after-shared-slice-known3 = at .before .before .before .before .before .before in
+    after-shared-slice-known3 .before .before .before
+
 loop-holds : tie.Need-loop-holds Inv-loop μ-loop
-loop-holds c = earliest-start (c .before .before .before .args .kinds .now) (c .before .before .before .args .codes .now) (c .before .before .before .args .work .now) (c .before .before .before .args .i) (c .before .before .before .args .start)
+loop-holds c =
+    let given = c .before .before .before .args in
+    earliest-start (given .kinds .now) (given .codes .now) (given .work .now) (given .i) (given .start)
 
 mul-wide : tie.Need-mul-wide Inv-loop μ-loop
 mul-wide c = omega arith
@@ -38,7 +46,11 @@ loop-less : tie.Need-loop-less Inv-loop μ-loop
 loop-less c = omega arith
 
 loop-again : tie.Need-loop-again Inv-loop μ-loop
-loop-again c = earliest-next (c .before .before .before .before .before .before .before .before .before .args .kinds .now) (c .before .before .before .before .before .before .before .before .before .args .codes .now) (c .before .before .before .before .before .before .before .before .before .args .work .now) (c .before .before .before .before .before .before .before .before .before .args .i) (c .before .before .before .before .before .before .before .before .before .args .start) (c .before .before .before .before .before .loop .e) (c .before .before .before .before .before .loop .best) (c .before .before .wide .result) (c .earlier-own .result) (omega arith) (c .before .before .wide .ensures) (λ z. omega arith) (c .earlier-own .ensures) (c .before .before .before .before .before .loop .inv)
+loop-again c =
+    let loop = c .before .before .before .before .before .loop in
+    let given = (back-to-start c) .args in
+    earliest-next (given .kinds .now) (given .codes .now) (given .work .now) (given .i) (given .start) (loop .e) (loop .best) (c .before .before .wide .result)
+    (c .earlier-own .result) (omega arith) (c .before .before .wide .ensures) (λ z. omega arith) (c .earlier-own .ensures) (loop .inv)
 
 returns-2 : tie.Need-returns-2 Inv-loop μ-loop
 returns-2 c = c .before .loop .inv .found

@@ -7,6 +7,20 @@ use borrow.Author.Needs.{needs}
 use Rattle.engine.proofs.search.live_rows.finds_false.Statement.{statement}
 use Rattle.engine.proofs.search.live_rows.finds_false.Tie as tie
 
+-- Back along the path, to the place behind a call.
+abbrev back-to-sizes-fit : tie.After-likely-arg → tie.After-sizes-fit
+back-to-sizes-fit at =
+    let then1 = at .before .before .before .before .before .before in
+    then1 .before
+
+abbrev back-to-then2 : tie.Then4 → tie.Then2
+back-to-then2 at =
+    let after-lived = at .before .before .before .before .before .before in
+    after-lived .before .before
+
+abbrev back-to-then1 : tie.Then4 → tie.Then1
+back-to-then1 at = (back-to-then2 at) .before
+
 sizes-fit-requires : tie.Need-sizes-fit-requires
 sizes-fit-requires c κs = tt
 
@@ -29,7 +43,10 @@ returns-3 : tie.Need-returns-3
 returns-3 c = false-found _ _ _ _ _ _ (record { same = λ p lt l. refl }) (c .before .is-false .ensures (c .if3 .taken))
 
 likely-requires : tie.Need-likely-requires
-likely-requires c κs = (c .before .before .before .before .before .before .before .sizes-fit .ensures (c .before .before .before .before .before .before .if1 .taken) .0, c .before .before .before .before .before .before .before .sizes-fit .ensures (c .before .before .before .before .before .before .if1 .taken) .1, c .before .before .before .before .before .if2 .taken)
+likely-requires c κs =
+    let if1 = c .before .before .before .before .before .before .if1 in
+    let sizes-fit-call = (back-to-sizes-fit c) .sizes-fit in
+    (sizes-fit-call .ensures (if1 .taken) .0, sizes-fit-call .ensures (if1 .taken) .1, c .before .before .before .before .before .if2 .taken)
 
 is-false-requires-2 : tie.Need-is-false-requires-2
 is-false-requires-2 c κs = tt
@@ -41,7 +58,9 @@ mul-sets : tie.Need-mul-sets
 mul-sets c = search needs
 
 slice-write-sets : tie.Need-slice-write-sets
-slice-write-sets c = let size = c .before .before .before .before .before .before .before .before .before .before .sizes-fit .ensures (c .before .before .before .before .before .before .before .before .before .if1 .taken) .0 in omega (arith, c .before .before .before .before .before .before .before .before .if2 .taken)
+slice-write-sets c =
+    let size = (back-to-sizes-fit (c .before .before .before)) .sizes-fit .ensures ((back-to-then1 c) .if1 .taken) .0 in
+    omega (arith, (back-to-then2 c) .if2 .taken)
 
 same-length-2 : tie.Need-same-length-2
 same-length-2 c = search needs

@@ -5,6 +5,21 @@ use borrow.Author.Needs.{needs}
 use Rattle.engine.proofs.search.live_rows.is_lost.Statement.{statement}
 use Rattle.engine.proofs.search.live_rows.is_lost.Tie as tie
 
+-- Back along the path, to the place behind a call.
+abbrev back-to-empty : tie.After-slice-known3 → tie.After-empty
+back-to-empty at = at .before .before .before .before .before .before
+
+abbrev back-to-terms-met : tie.After-slice-known4 → tie.After-terms-met
+back-to-terms-met at =
+    let after-sets2 = at .before .before .before .before .before .before in
+    after-sets2 .before
+
+abbrev back-to-start : tie.After-slice-known3 → tie.Start
+back-to-start at =
+    let after-empty = at .before .before .before .before .before .before in
+    let after-shared-slice-known = after-empty .before .before .before .before .before .before in
+    after-shared-slice-known .before
+
 empty-requires : tie.Need-empty-requires
 empty-requires c κs = search needs
 
@@ -15,7 +30,8 @@ same-length : tie.Need-same-length
 same-length c = search needs
 
 returns : tie.Need-returns
-returns c = row-told _ _ _ _ _ _ _ _ (empties _ (c .before .before .before .before .before .before .before .before .before .before .before .before .before .before .pre .0) (c .before .before .before .before .before .before .before .empty .ensures)) (c .before .before .before .terms-met .ensures) (c .if1 .taken)
+returns c = row-told _ _ _ _ _ _ _ _ (empties _ ((back-to-start (c .before)) .pre .0) ((back-to-empty (c .before)) .empty .ensures))
+    (c .before .before .before .terms-met .ensures) (c .if1 .taken)
 
 is-blamed-requires : tie.Need-is-blamed-requires
 is-blamed-requires c κs = search needs
@@ -24,7 +40,9 @@ same-length-2 : tie.Need-same-length-2
 same-length-2 c = search needs
 
 returns-2 : tie.Need-returns-2
-returns-2 c = row-read _ _ _ _ _ _ _ _ _ (empties _ (c .before .before .before .before .before .before .before .before .before .before .before .before .before .before .before .before .before .before .pre .0) (c .before .before .before .before .before .before .before .before .before .before .before .empty .ensures)) (c .before .before .before .before .before .before .before .terms-met .ensures) (c .before .before .is-blamed .ensures)
+returns-2 c = row-read _ _ _ _ _ _ _ _ _ (empties _ ((back-to-start (c .before .before .before .before .before)) .pre .0)
+    ((back-to-empty (c .before .before .before .before .before)) .empty .ensures)) ((back-to-terms-met c) .terms-met .ensures)
+    (c .before .before .is-blamed .ensures)
 
 pub is-lost-spec : {M : Type 1} → statement M
 is-lost-spec =

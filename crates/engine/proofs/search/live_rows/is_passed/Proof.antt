@@ -5,6 +5,12 @@ use borrow.Author.Needs.{needs}
 use Rattle.engine.proofs.search.live_rows.is_passed.Statement.{statement}
 use Rattle.engine.proofs.search.live_rows.is_passed.Tie as tie
 
+-- Back along the path, to the place behind a call.
+abbrev back-to-start : tie.After-slice-known2 → tie.Start
+back-to-start at =
+    let after-is-open = at .before .before .before .before .before .before in
+    after-is-open .before .before .before .before .before .before
+
 is-open-requires : tie.Need-is-open-requires
 is-open-requires c κs = search needs
 
@@ -18,7 +24,9 @@ same-length : tie.Need-same-length
 same-length c = search needs
 
 returns : tie.Need-returns
-returns c = term-passed _ _ _ _ _ (c .before .before .before .before .before .before .before .before .before .before .before .before .args .t) (c .before .before .before .first .result) _ _ (c .before .before .before .first .ensures) (c .before .before .is-met .ensures)
+returns c =
+    let first-call = c .before .before .before .first in
+    term-passed _ _ _ _ _ ((back-to-start c) .args .t) (first-call .result) _ _ (first-call .ensures) (c .before .before .is-met .ensures)
 
 returns-2 : tie.Need-returns-2
 returns-2 c = term-closed _ _ _ _ _ _ _ (sym (c .before .is-open .ensures) ∙ c .if1 .left)

@@ -60,7 +60,9 @@ slice-write-sets-2 : tie.Need-slice-write-sets-2
 slice-write-sets-2 c = search needs
 
 same-length-4 : tie.Need-same-length-4
-same-length-4 c = length-set (c .before .before .before .before .is-blamed .last .1 .1 .1 .0) _ _ ∙ c .before .before .before .before .is-blamed .kept .1 .1 .1 .0
+same-length-4 c =
+    let is-blamed-call = c .before .before .before .before .is-blamed in
+    length-set (is-blamed-call .last .1 .1 .1 .0) _ _ ∙ is-blamed-call .kept .1 .1 .1 .0
 
 returns-4 : tie.Need-returns-4
 returns-4 c = row-lives _ _ _ _ _ _ (kept-trans (c .before .before .before .before .is-blamed .ensures .kept) (store-behind _ _ _ (omega arith)))

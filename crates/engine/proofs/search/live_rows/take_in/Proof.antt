@@ -12,7 +12,8 @@ same-length : tie.Need-same-length
 same-length c = search needs
 
 returns : tie.Need-returns
-returns c = takes-set _ _ (c .before .before .before .before .before .before .pre) (c .before .before .before .before .if1 .taken) (c .before .before .unite .ensures)
+returns c = takes-set _ _ (c .before .before .before .before .before .before .pre) (c .before .before .before .before .if1 .taken)
+    (c .before .before .unite .ensures)
 
 returns-2 : tie.Need-returns-2
 returns-2 c = takes-none _ _ (λ below. omega (arith, c .if1 .left))

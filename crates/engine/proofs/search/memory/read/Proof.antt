@@ -14,14 +14,24 @@ Inv-loop kinds own known side memory₀ row k₀ memory k = (length memory ≡ l
 abbrev μ-loop : tie.MeasureT-loop
 μ-loop kinds own known side memory₀ row k₀ memory k = length kinds - k
 
+-- Back along the path, to the place behind a call.
+abbrev back-to-start : tie.After-shared-slice-known3 Inv-loop μ-loop → tie.Start Inv-loop μ-loop
+back-to-start at =
+    let after-shared-slice-known = at .before .before .before .before .before .before in
+    after-shared-slice-known .before
+
 returns : tie.Need-returns Inv-loop μ-loop
-returns c = reads-none (c .before .before .before .before .args .kinds .now) (c .before .before .before .before .args .own .now) (c .before .before .before .before .args .known) (c .before .before .before .before .args .side) (c .before .before .before .before .args .memory .now)
+returns c =
+    let given = c .before .before .before .before .args in
+    reads-none (given .kinds .now) (given .own .now) (given .known) (given .side) (given .memory .now)
 
 sub-row : tie.Need-sub-row Inv-loop μ-loop
 sub-row c = omega (arith, c .if1 .left)
 
 loop-holds : tie.Need-loop-holds Inv-loop μ-loop
-loop-holds c = (refl, nothing-read (c .before .before .before .before .args .kinds .now) (c .before .before .before .before .args .own .now) (c .before .before .before .before .args .known - 1) (c .before .before .before .before .args .side) (c .before .before .before .before .args .memory .now))
+loop-holds c =
+    let given = c .before .before .before .before .args in
+    (refl, nothing-read (given .kinds .now) (given .own .now) (given .known - 1) (given .side) (given .memory .now))
 
 shared-slice-read-if2 : tie.Need-shared-slice-read-if2 Inv-loop μ-loop
 shared-slice-read-if2 c = c .before .loop-test .taken
@@ -30,7 +40,10 @@ same-length : tie.Need-same-length Inv-loop μ-loop
 same-length c = c .before .before .before .loop .inv .0
 
 returns-2 : tie.Need-returns-2 Inv-loop μ-loop
-returns-2 c = reads-all (c .before .before .before .before .before .before .before .before .args .kinds .now) (c .before .before .before .before .before .before .before .before .args .own .now) (c .before .before .before .before .before .before .before .before .args .known) (c .before .before .before .before .before .before .before .before .args .side) _ _ (c .before .before .before .before .if1 .left) (c .before .before .before .loop .inv .1)
+returns-2 c =
+    let given = (back-to-start (c .before)) .args in
+    reads-all (given .kinds .now) (given .own .now) (given .known) (given .side) _ _ (c .before .before .before .before .if1 .left)
+    (c .before .before .before .loop .inv .1)
 
 bit-requires : tie.Need-bit-requires Inv-loop μ-loop
 bit-requires c κs = tt
@@ -39,7 +52,12 @@ byte-requires : tie.Need-byte-requires Inv-loop μ-loop
 byte-requires c κs = tt
 
 slice-write-memory : tie.Need-slice-write-memory Inv-loop μ-loop
-slice-write-memory c = omega (arith, c .before .before .before .before .before .before .before .before .before .before .pre, c .before .before .before .before .loop-test .taken, c .before .before .before .before .before .loop .inv .0)
+slice-write-memory c = omega (
+  arith,
+  (back-to-start (c .before .before .before)) .pre,
+  c .before .before .before .before .loop-test .taken,
+  c .before .before .before .before .before .loop .inv .0,
+)
 
 add-k : tie.Need-add-k Inv-loop μ-loop
 add-k c = search needs
@@ -48,16 +66,23 @@ loop-less : tie.Need-loop-less Inv-loop μ-loop
 loop-less c = omega (arith, c .before .before .before .before .loop-test .taken)
 
 loop-again : tie.Need-loop-again Inv-loop μ-loop
-loop-again c = (
-  simp length-set (c .before .before .before .before .before .loop .inv .0),
-  one-more-read (c .before .before .before .before .before .before .before .before .before .before .args .kinds .now) (c .before .before .before .before .before .before .before .before .before .before .args .own .now) (c .before .before .before .before .before .before .before .before .before .before .args .known - 1) (c .before .before .before .before .before .before .before .before .before .before .args .side) (c .before .before .before .before .before .loop .memory) (c .before .before .before .before .before .loop .k) (c .byte .result) (c .before .bit .result) (c .before .before .before .before .loop-test .taken) (omega (arith, c .before .before .before .before .before .before .before .before .before .before .pre, c .before .before .before .before .loop-test .taken, c .before .before .before .before .before .loop .inv .0)) (c .before .before .if2 .left) (c .before .bit .ensures) (c .byte .ensures) (c .before .before .before .before .before .loop .inv .1),
-)
+loop-again c =
+    let loop-test = c .before .before .before .before .loop-test in
+    let loop = c .before .before .before .before .before .loop in
+    let given = (back-to-start (c .before .before .before)) .args in (
+      simp length-set (loop .inv .0),
+      one-more-read (given .kinds .now) (given .own .now) (given .known - 1) (given .side) (loop .memory) (loop .k) (c .byte .result) (c .before .bit .result)
+          (loop-test .taken) (omega (arith, (back-to-start (c .before .before .before)) .pre, loop-test .taken, loop .inv .0)) (c .before .before .if2 .left)
+          (c .before .bit .ensures) (c .byte .ensures) (loop .inv .1),
+    )
 
 same-length-2 : tie.Need-same-length-2 Inv-loop μ-loop
 same-length-2 c = c .before .loop .inv .0
 
 returns-3 : tie.Need-returns-3 Inv-loop μ-loop
-returns-3 c = reads-all (c .before .before .before .before .before .before .args .kinds .now) (c .before .before .before .before .before .before .args .own .now) (c .before .before .before .before .before .before .args .known) (c .before .before .before .before .before .before .args .side) _ _ (c .before .before .if1 .left) (c .before .loop .inv .1)
+returns-3 c =
+    let given = c .before .before .before .before .before .before .args in
+    reads-all (given .kinds .now) (given .own .now) (given .known) (given .side) _ _ (c .before .before .if1 .left) (c .before .loop .inv .1)
 
 pub read-spec : {M : Type 1} → statement M
 read-spec =

@@ -14,6 +14,25 @@ Inv-loop memory work i k wanted j₀ j = (j ≤ k) × Before memory work i j
 abbrev μ-loop : tie.MeasureT-loop
 μ-loop memory work i k wanted j₀ j = k - j
 
+-- Back along the path, to the place behind a call.
+abbrev back-to-has : tie.After-loop Inv-loop μ-loop → tie.After-has Inv-loop μ-loop
+back-to-has at =
+    let else2 = at .before .before .before .before .before .before in
+    else2 .before
+
+abbrev back-to-start : tie.After-shared-slice-known4 Inv-loop μ-loop → tie.Start Inv-loop μ-loop
+back-to-start at =
+    let after-shared-slice-known = at .before .before .before .before .before .before in
+    after-shared-slice-known .before
+
+abbrev back-to-then1 : tie.At-loop Inv-loop μ-loop → tie.Then1 Inv-loop μ-loop
+back-to-then1 at =
+    let after-has = at .before .before .before .before .before .before in
+    after-has .before .before
+
+abbrev back-to-start-2 : tie.Else3 Inv-loop μ-loop → tie.Start Inv-loop μ-loop
+back-to-start-2 at = back-to-start (at .before .before .before)
+
 returns : tie.Need-returns Inv-loop μ-loop
 returns c = λ e. absurd (false≢true e)
 
@@ -30,7 +49,9 @@ shared-slice-read-has-2 : tie.Need-shared-slice-read-has-2 Inv-loop μ-loop
 shared-slice-read-has-2 c = c .before .before .before .before .if1 .taken
 
 wanted-requires : tie.Need-wanted-requires Inv-loop μ-loop
-wanted-requires c κs = (c .before .before .before .before .before .before .before .pre .0, c .before .before .before .before .before .before .before .pre .1, c .before .before .before .before .before .before .before .pre .2)
+wanted-requires c κs =
+    let pre = (back-to-start c) .pre in
+    (pre .0, pre .1, pre .2)
 
 has-requires-2 : tie.Need-has-requires-2 Inv-loop μ-loop
 has-requires-2 c κs = tt
@@ -39,13 +60,17 @@ returns-3 : tie.Need-returns-3 Inv-loop μ-loop
 returns-3 c = λ e. absurd (false≢true e)
 
 loop-holds : tie.Need-loop-holds Inv-loop μ-loop
-loop-holds c = (omega arith, none-before (c .before .before .before .before .before .before .before .before .before .before .args .memory .now) (c .before .before .before .before .before .before .before .before .before .before .args .work .now) (c .before .before .before .before .before .before .before .before .before .before .args .i))
+loop-holds c =
+    let given = (back-to-start-2 c) .args in
+    (omega arith, none-before (given .memory .now) (given .work .now) (given .i))
 
 shared-slice-read-has-3 : tie.Need-shared-slice-read-has-3 Inv-loop μ-loop
-shared-slice-read-has-3 c = omega (arith, c .before .before .before .before .before .before .before .before .before .before .if1 .taken, c .before .loop-test .taken)
+shared-slice-read-has-3 c = omega (arith, (back-to-then1 (c .before .before)) .if1 .taken, c .before .loop-test .taken)
 
 value-requires : tie.Need-value-requires Inv-loop μ-loop
-value-requires c κs = (c .before .before .before .before .before .before .before .before .before .before .before .before .before .pre .0, c .before .before .before .before .before .before .before .before .before .before .before .before .before .pre .1, omega (arith, c .before .before .before .before .before .before .before .before .before .before .before .before .before .pre .2, c .before .loop-test .taken))
+value-requires c κs =
+    let pre = (back-to-start-2 (c .before .before .before)) .pre in
+    (pre .0, pre .1, omega (arith, pre .2, c .before .loop-test .taken))
 
 has-requires-3 : tie.Need-has-requires-3 Inv-loop μ-loop
 has-requires-3 c κs = tt
@@ -60,13 +85,23 @@ loop-less : tie.Need-loop-less Inv-loop μ-loop
 loop-less c = omega (arith, c .before .before .before .before .loop-test .taken)
 
 loop-again : tie.Need-loop-again Inv-loop μ-loop
-loop-again c = (
-  omega (arith, c .before .before .before .before .loop-test .taken),
-  one-more-before (c .before .before .before .before .before .before .before .before .before .before .before .before .before .before .before .before .args .memory .now) (c .before .before .before .before .before .before .before .before .before .before .before .before .before .before .before .before .args .work .now) (c .before .before .before .before .before .before .before .before .before .before .before .before .before .before .before .before .args .i) (c .before .before .before .before .before .loop .j) (c .before .before .value .result) (c .before .has3 .result) (c .before .before .value .ensures) (c .before .has3 .ensures) (c .if4 .taken) (c .before .before .before .before .before .loop .inv .1),
-)
+loop-again c =
+    let loop = c .before .before .before .before .before .loop in
+    let given = (back-to-start-2 (c .before .before .before .before .before .before)) .args in (
+      omega (arith, c .before .before .before .before .loop-test .taken),
+      one-more-before (given .memory .now) (given .work .now) (given .i) (loop .j) (c .before .before .value .result) (c .before .has3 .result)
+          (c .before .before .value .ensures) (c .before .has3 .ensures) (c .if4 .taken) (loop .inv .1),
+    )
 
 returns-5 : tie.Need-returns-5 Inv-loop μ-loop
-returns-5 c = λ e. ruled-out (c .before .before .before .before .before .before .before .before .before .before .before .before .args .memory .now) (c .before .before .before .before .before .before .before .before .before .before .before .before .args .work .now) (c .before .before .before .before .before .before .before .before .before .before .before .before .args .i) (c .before .before .before .before .before .before .before .before .before .before .before .before .args .k) (c .before .before .before .before .before .before .before .before .before .before .before .before .args .value) (c .before .before .before .before .wanted .result) (c .before .before .before .before .before .before .before .has .result) (c .before .before .before .has2 .result) (c .before .before .before .before .before .before .before .before .before .if1 .taken) (c .before .before .before .before .before .before .before .has .ensures) (c .before .before .before .before .before .before .if2 .left) (c .before .before .before .before .wanted .ensures) (c .before .before .before .has2 .ensures) (c .before .before .if3 .left)
+returns-5 c =
+    let has2-call = c .before .before .before .has2 in
+    let wanted-call = c .before .before .before .before .wanted in
+    let has-call = (back-to-has c) .has in
+    let given = (back-to-start-2 (c .before .before)) .args in
+    λ e. ruled-out (given .memory .now) (given .work .now) (given .i) (given .k) (given .value) (wanted-call .result) (has-call .result) (has2-call .result)
+    ((back-to-then1 (c .before)) .if1 .taken) (has-call .ensures) (c .before .before .before .before .before .before .if2 .left) (wanted-call .ensures)
+    (has2-call .ensures) (c .before .before .if3 .left)
     (λ j lt. c .before .loop .inv .1 j (omega (arith, c .loop-test .left)))
 
 pub rules-out-spec : {M : Type 1} → statement M

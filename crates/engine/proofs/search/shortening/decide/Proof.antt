@@ -4,6 +4,23 @@ use native.Mathlib.Omega.{arith}
 use Rattle.engine.proofs.search.shortening.decide.Statement.{statement}
 use Rattle.engine.proofs.search.shortening.decide.Tie as tie
 
+-- Back along the path, to the place behind a call.
+abbrev back-to-wait-alone : tie.After-slice-known8 → tie.After-wait-alone
+back-to-wait-alone at =
+    let after-settle-arg = at .before .before .before .before .before .before in
+    after-settle-arg .before .before .before
+
+abbrev back-to-put : tie.After-slice-known8 → tie.After-put
+back-to-put at = (back-to-wait-alone at) .before .before .before .before .before .before
+
+abbrev back-to-deepen : tie.After-slice-known8 → tie.After-deepen
+back-to-deepen at = (back-to-put at) .before .before .before .before .before
+
+abbrev back-to-start : tie.After-slice-known8 → tie.Start
+back-to-start at =
+    let after-shared-slice-known = (back-to-deepen at) .before .before .before .before .before .before in
+    after-shared-slice-known .before
+
 deepen-requires : tie.Need-deepen-requires
 deepen-requires c κs = omega arith
 
@@ -24,8 +41,14 @@ same-length-2 c = omega arith
 
 returns : tie.Need-returns
 returns c =
-    decides (c .before .before .before .before .before .before .before .before .before .before .before .before .before .before .before .before .before .before .before .before .before .before .before .before .before .before .before .args .codes .now) (c .before .before .before .before .before .before .before .before .before .before .before .before .before .before .before .before .before .before .before .before .before .before .before .before .before .before .before .args .work .now) (c .before .before .before .before .before .before .before .before .before .before .before .before .before .before .before .before .before .before .before .before .before .before .before .before .before .before .before .args .line .now) (c .before .before .before .before .before .before .before .before .before .before .before .before .before .before .before .put .last .1 .0) (c .before .before .before .before .settle .last .1 .1 .0) (c .before .before .before .before .before .before .before .before .before .before .before .before .before .before .before .before .before .before .before .before .before .before .before .before .before .before .before .args .own .now) (c .before .before .before .before .before .before .before .before .before .before .before .before .before .before .before .before .before .before .before .before .deepen .last .0) (c .before .before .before .before .before .before .before .before .before .before .before .before .before .before .before .put .last .1 .1 .0) (c .before .before .before .before .before .before .before .before .before .wait-alone .last .0) (c .before .before .before .before .settle .last .1 .1 .1 .0)
-    (c .before .before .before .before .before .before .before .before .before .before .before .before .before .before .before .before .before .before .before .before .before .before .before .before .before .before .before .args .i) (c .before .before .before .before .settle .result) (c .before .before .before .before .before .before .before .before .before .before .before .before .before .before .before .before .before .before .before .before .deepen .ensures) (c .before .before .before .before .before .before .before .before .before .before .before .before .before .before .before .put .ensures) (c .before .before .before .before .before .before .before .before .before .wait-alone .ensures) (c .before .before .before .before .settle .ensures)
+    let settle-call = c .before .before .before .before .settle in
+    let wait-alone-call = (back-to-wait-alone c) .wait-alone in
+    let put-call = (back-to-put c) .put in
+    let deepen-call = (back-to-deepen c) .deepen in
+    let given = (back-to-start c) .args in
+    decides (given .codes .now) (given .work .now) (given .line .now) (put-call .last .1 .0) (settle-call .last .1 .1 .0) (given .own .now)
+    (deepen-call .last .0) (put-call .last .1 .1 .0) (wait-alone-call .last .0) (settle-call .last .1 .1 .1 .0)
+    (given .i) (settle-call .result) (deepen-call .ensures) (put-call .ensures) (wait-alone-call .ensures) (settle-call .ensures)
 
 pub decide-spec : {M : Type 1} → statement M
 decide-spec =

@@ -6,6 +6,21 @@ use borrow.Author.Needs.{needs}
 use Rattle.engine.proofs.search.shortening.force.Statement.{statement}
 use Rattle.engine.proofs.search.shortening.force.Tie as tie
 
+-- Back along the path, to the place behind a call.
+abbrev back-to-blame : tie.After-slice-known7 → tie.After-blame
+back-to-blame at =
+    let after-set = at .before .before .before .before .before .before in
+    after-set .before .before .before .before
+
+abbrev back-to-empty : tie.After-slice-known7 → tie.After-empty
+back-to-empty at = (back-to-blame at) .before .before .before .before
+
+abbrev back-to-position : tie.After-slice-known7 → tie.After-position
+back-to-position at = (back-to-empty at) .before .before .before .before
+
+abbrev back-to-start : tie.After-slice-known7 → tie.Start
+back-to-start at = (back-to-position at) .before .before .before .before .before .before
+
 returns : tie.Need-returns
 returns c = λ begins looked. moves-nothing _ _ _
 
@@ -44,9 +59,16 @@ same-length-2 c = omega arith
 
 returns-4 : tie.Need-returns-4
 returns-4 c =
+    let set-call = c .before .before .before .before .before .before .set in
+    let blame-call = (back-to-blame c) .blame in
+    let empty-call = (back-to-empty c) .empty in
+    let position-call = (back-to-position c) .position in
+    let given = (back-to-start c) .args in
     λ begins looked.
-    open-moves (c .before .before .before .before .before .before .before .before .before .before .before .before .before .before .before .before .before .before .before .before .before .before .before .before .args .codes .now) (c .before .before .before .before .before .before .before .before .before .before .before .before .before .before .before .before .before .before .before .before .before .before .before .before .args .line .now) (c .before .before .before .before .before .before .before .before .before .before .before .before .before .before .before .before .before .before .before .before .before .before .before .before .args .own .now) (c .before .before .before .before .before .before .set .last .0) (c .before .before .before .before .before .before .before .before .before .before .before .before .before .before .empty .last .0) (c .before .before .before .before .before .before .before .before .before .before .blame .last .1 .0) (c .before .before .wait .last .0) (c .before .before .before .before .before .before .before .before .before .before .before .before .before .before .before .before .before .before .position .result) (c .before .before .before .before .before .before .before .before .before .before .before .before .before .before .before .before .before .before .before .before .before .before .before .before .args .start) (c .before .before .before .before .before .before .before .before .before .before .before .before .before .before .before .before .before .before .before .before .before .before .before .before .args .c)
-    (omega arith) (omega arith) (c .before .before .before .before .before .before .before .before .before .before .before .before .before .before .before .before .before .before .position .ensures .1) (omega arith) (omega arith) (c .before .before .before .before .before .before .before .before .before .before .before .before .before .before .before .before .before .before .position .ensures .0) (omega arith) (c .before .before .before .before .before .before .before .before .before .before .before .before .before .before .empty .ensures) (c .before .before .before .before .before .before .before .before .before .before .blame .ensures) (c .before .before .before .before .before .before .set .ensures) (c .before .before .wait .ensures) begins looked
+    open-moves (given .codes .now) (given .line .now) (given .own .now) (set-call .last .0) (empty-call .last .0) (blame-call .last .1 .0)
+    (c .before .before .wait .last .0) (position-call .result) (given .start) (given .c)
+    (omega arith) (omega arith) (position-call .ensures .1) (omega arith) (omega arith) (position-call .ensures .0) (omega arith) (empty-call .ensures)
+    (blame-call .ensures) (set-call .ensures) (c .before .before .wait .ensures) begins looked
 
 pub force-spec : {M : Type 1} → statement M
 force-spec =

@@ -19,6 +19,13 @@ Inv-loop codes index line₀ own₀ mark h₀ line own h =
 abbrev μ-loop : tie.MeasureT-loop
 μ-loop codes index line₀ own₀ mark h₀ line own h = max-unknowns - h
 
+-- Back along the path, to the place behind a call.
+abbrev back-to-at-loop : tie.After-slice-known6 Inv-loop μ-loop → tie.At-loop Inv-loop μ-loop
+back-to-at-loop at =
+    let after-shortened-arg2 = at .before .before .before .before .before .before in
+    let in-loop = after-shortened-arg2 .before .before .before .before .before .before in
+    in-loop .before
+
 loop-holds : tie.Need-loop-holds Inv-loop μ-loop
 loop-holds c = (omega arith, omega arith, omega arith, moves-nothing _ _ _)
 
@@ -56,7 +63,13 @@ loop-less : tie.Need-loop-less Inv-loop μ-loop
 loop-less c = omega arith
 
 loop-again : tie.Need-loop-again Inv-loop μ-loop
-loop-again c = (omega arith, omega arith, omega arith, moves-then (c .before .before .before .before .before .before .before .before .before .before .before .before .before .before .loop .inv .3) (moves-at (c .if2 .taken) (c .before .before .before .before .before .visit .ensures)))
+loop-again c = (
+  omega arith,
+  omega arith,
+  omega arith,
+  moves-then ((back-to-at-loop (c .before)) .loop .inv .3)
+      (moves-at (c .if2 .taken) (c .before .before .before .before .before .visit .ensures)),
+)
 
 same-length-3 : tie.Need-same-length-3 Inv-loop μ-loop
 same-length-3 c = omega arith
@@ -65,7 +78,7 @@ same-length-4 : tie.Need-same-length-4 Inv-loop μ-loop
 same-length-4 c = omega arith
 
 returns-2 : tie.Need-returns-2 Inv-loop μ-loop
-returns-2 c = moves-then (c .before .before .before .before .before .before .before .before .before .before .before .before .before .before .loop .inv .3) (moves-at (c .if2 .left) (c .before .before .before .before .before .visit .ensures))
+returns-2 c = moves-then ((back-to-at-loop (c .before)) .loop .inv .3) (moves-at (c .if2 .left) (c .before .before .before .before .before .visit .ensures))
 
 same-length-5 : tie.Need-same-length-5 Inv-loop μ-loop
 same-length-5 c = omega arith

@@ -4,6 +4,12 @@ use native.Mathlib.Omega.{arith}
 use Rattle.engine.proofs.search.shortening.survey.Statement.{statement}
 use Rattle.engine.proofs.search.shortening.survey.Tie as tie
 
+-- Back along the path, to the place behind a call.
+abbrev back-to-visit : tie.After-slice-known6 → tie.After-visit
+back-to-visit at =
+    let after-settle-arg = at .before .before .before .before .before .before in
+    after-settle-arg .before .before .before .before .before .before
+
 visit-requires : tie.Need-visit-requires
 visit-requires c κs = (omega arith, omega arith, omega arith, omega arith)
 
@@ -17,7 +23,7 @@ same-length-2 : tie.Need-same-length-2
 same-length-2 c = omega arith
 
 returns : tie.Need-returns
-returns c = moves-then (c .before .before .before .before .before .before .before .before .before .before .before .before .visit .ensures) (c .before .before .before .before .settle .ensures)
+returns c = moves-then ((back-to-visit c) .visit .ensures) (c .before .before .before .before .settle .ensures)
 
 same-length-3 : tie.Need-same-length-3
 same-length-3 c = omega arith

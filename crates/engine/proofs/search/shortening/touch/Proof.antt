@@ -4,11 +4,53 @@ use native.Mathlib.Omega.{arith}
 use Rattle.engine.proofs.search.shortening.touch.Statement.{statement}
 use Rattle.engine.proofs.search.shortening.touch.Tie as tie
 
+-- Back along the path, to the place behind a call.
+abbrev back-to-then2 : tie.After-slice-known6 → tie.Then2
+back-to-then2 at =
+    let after-force-arg = at .before .before .before .before .before .before in
+    after-force-arg .before .before
+
+abbrev back-to-is-false-but : tie.After-slice-known6 → tie.After-is-false-but
+back-to-is-false-but at = (back-to-then2 at) .before
+
+abbrev back-to-then2-2 : tie.After-slice-known4 → tie.Then2
+back-to-then2-2 at =
+    let after-empty = at .before .before .before .before .before .before in
+    after-empty .before .before .before
+
+abbrev back-to-is-false-but-2 : tie.After-slice-known4 → tie.After-is-false-but
+back-to-is-false-but-2 at = (back-to-then2-2 at) .before
+
+abbrev back-to-start : tie.Else2 → tie.Start
+back-to-start at =
+    let after-begins = at .before .before .before .before .before .before in
+    after-begins .before .before .before .before
+
+abbrev back-to-shown : tie.After-slice-known4 → tie.After-shown
+back-to-shown at = (back-to-is-false-but-2 at) .before .before
+
+abbrev back-to-then1 : tie.After-slice-known6 → tie.Then1
+back-to-then1 at = (back-to-is-false-but at) .before .before .before .before
+
+abbrev back-to-begins : tie.After-slice-known6 → tie.After-begins
+back-to-begins at = (back-to-then1 at) .before
+
+abbrev back-to-then1-2 : tie.After-slice-known4 → tie.Then1
+back-to-then1-2 at = (back-to-shown at) .before .before
+
+abbrev back-to-begins-2 : tie.After-slice-known4 → tie.After-begins
+back-to-begins-2 at = (back-to-then1-2 at) .before
+
+abbrev back-to-start-2 : tie.After-slice-known4 → tie.Start
+back-to-start-2 at = (back-to-begins-2 at) .before .before .before .before
+
 begins-requires : tie.Need-begins-requires
 begins-requires c κs = tt
 
 returns : tie.Need-returns
-returns c = moves-nothing (c .before .before .before .before .before .args .codes .now) (c .before .before .before .before .before .args .line .now) (c .before .before .before .before .before .args .own .now)
+returns c =
+    let given = c .before .before .before .before .before .args in
+    moves-nothing (given .codes .now) (given .line .now) (given .own .now)
 
 shown-requires : tie.Need-shown-requires
 shown-requires c κs = omega arith
@@ -20,7 +62,9 @@ same-length : tie.Need-same-length
 same-length c = omega arith
 
 returns-2 : tie.Need-returns-2
-returns-2 c = moves-nothing (c .before .before .before .before .before .before .before .before .before .before .args .codes .now) (c .before .before .before .before .before .before .before .before .before .before .args .line .now) (c .before .before .before .before .before .before .before .before .before .before .args .own .now)
+returns-2 c =
+    let given = (back-to-start c) .args in
+    moves-nothing (given .codes .now) (given .line .now) (given .own .now)
 
 empty-requires : tie.Need-empty-requires
 empty-requires c κs = tt
@@ -36,8 +80,13 @@ same-length-3 c = omega arith
 
 returns-3 : tie.Need-returns-3
 returns-3 c =
-    false-moves (c .before .before .before .before .before .before .before .before .before .before .before .before .before .before .before .before .before .before .before .args .codes .now) (c .before .before .before .before .before .before .before .before .before .before .before .before .before .before .before .before .before .before .before .args .line .now) (c .before .before .before .before .before .before .before .before .before .before .before .before .before .before .before .before .before .before .before .args .own .now) (c .before .before .before .before .before .before .empty .last .0) (c .before .before .blame .last .1 .0) (c .before .before .before .before .before .before .before .before .before .before .before .before .before .before .before .before .before .before .before .args .start) (c .before .before .before .before .before .before .before .before .before .before .before .before .shown .result)
-    (omega arith) (omega arith) (c .before .before .before .before .before .before .before .before .before .before .before .before .before .before .before .begins .ensures (c .before .before .before .before .before .before .before .before .before .before .before .before .before .before .if1 .taken)) (c .before .before .before .before .before .before .before .before .before .before .is-false-but .ensures (c .before .before .before .before .before .before .before .before .before .if2 .taken)) (omega arith) (c .before .before .before .before .before .before .empty .ensures) (c .before .before .blame .ensures)
+    let empty-call = c .before .before .before .before .before .before .empty in
+    let given = (back-to-start-2 c) .args in
+    false-moves (given .codes .now) (given .line .now) (given .own .now) (empty-call .last .0) (c .before .before .blame .last .1 .0) (given .start)
+    ((back-to-shown c) .shown .result)
+    (omega arith) (omega arith) ((back-to-begins-2 c) .begins .ensures ((back-to-then1-2 c) .if1 .taken))
+    ((back-to-is-false-but-2 c) .is-false-but .ensures ((back-to-then2-2 c) .if2 .taken)) (omega arith) (empty-call .ensures)
+    (c .before .before .blame .ensures)
 
 force-requires : tie.Need-force-requires
 force-requires c κs = (omega arith, omega arith)
@@ -49,7 +98,8 @@ same-length-5 : tie.Need-same-length-5
 same-length-5 c = omega arith
 
 returns-4 : tie.Need-returns-4
-returns-4 c = c .before .before .before .before .force .ensures (c .before .before .before .before .before .before .before .before .before .before .before .before .before .before .begins .ensures (c .before .before .before .before .before .before .before .before .before .before .before .before .before .if1 .taken)) (c .before .before .before .before .before .before .before .before .before .is-false-but .ensures (c .before .before .before .before .before .before .before .before .if2 .taken))
+returns-4 c = c .before .before .before .before .force .ensures ((back-to-begins c) .begins .ensures ((back-to-then1 c) .if1 .taken))
+    ((back-to-is-false-but c) .is-false-but .ensures ((back-to-then2 c) .if2 .taken))
 
 pub touch-spec : {M : Type 1} → statement M
 touch-spec =

@@ -7,6 +7,29 @@ use borrow.Author.Needs.{needs}
 use Rattle.engine.proofs.search.shortening.turn.Statement.{statement}
 use Rattle.engine.proofs.search.shortening.turn.Tie as tie
 
+-- Back along the path, to the place behind a call.
+abbrev back-to-wait-alone : tie.After-slice-known9 → tie.After-wait-alone
+back-to-wait-alone at =
+    let after-settle-arg = at .before .before .before .before .before .before in
+    after-settle-arg .before .before .before
+
+abbrev back-to-set : tie.After-slice-known9 → tie.After-set
+back-to-set at = (back-to-wait-alone at) .before .before .before .before
+
+abbrev back-to-value : tie.After-slice-known9 → tie.After-value
+back-to-value at = (back-to-set at) .before
+
+abbrev back-to-inherit : tie.After-slice-known9 → tie.After-inherit
+back-to-inherit at = (back-to-value at) .before .before .before .before
+
+abbrev back-to-open-above : tie.After-slice-known9 → tie.After-open-above
+back-to-open-above at = (back-to-inherit at) .before .before .before .before
+
+abbrev back-to-start : tie.After-slice-known9 → tie.Start
+back-to-start at =
+    let after-shared-slice-known2 = (back-to-open-above at) .before .before .before .before .before .before in
+    after-shared-slice-known2 .before .before
+
 slice-read-mark : tie.Need-slice-read-mark
 slice-read-mark c = search needs
 
@@ -42,8 +65,17 @@ same-length-2 c = omega arith
 
 returns : tie.Need-returns
 returns c =
-    turns (c .before .before .before .before .before .before .before .before .before .before .before .before .before .before .before .before .before .before .before .before .before .before .before .before .before .before .before .before .before .before .args .codes .now) (c .before .before .before .before .before .before .before .before .before .before .before .before .before .before .before .before .before .before .before .before .before .before .before .before .before .before .before .before .before .before .args .work .now) (c .before .before .before .before .before .before .before .before .before .before .before .before .before .before .before .before .before .before .before .before .before .before .before .before .before .before .before .before .before .before .args .line .now) (c .before .before .before .before .before .before .before .before .before .before .before .before .before .before .before .before .before .before .before .before .before .before .open-above .last .0) (c .before .before .before .before .before .before .before .before .before .before .before .before .before .set .last .0) (c .before .before .before .before .settle .last .1 .1 .0) (c .before .before .before .before .before .before .before .before .before .before .before .before .before .before .before .before .before .before .before .before .before .before .before .before .before .before .before .before .before .before .args .own .now) (c .before .before .before .before .before .before .before .before .before .before .before .before .before .before .before .before .before .before .inherit .last .0) (c .before .before .before .before .before .before .before .before .before .wait-alone .last .0) (c .before .before .before .before .settle .last .1 .1 .1 .0)
-    (c .before .before .before .before .before .before .before .before .before .before .before .before .before .before .before .before .before .before .before .before .before .before .before .before .before .before .before .before .before .before .args .i) (c .before .before .before .before .before .before .before .before .before .before .before .before .before .before .before .before .before .before .before .before .before .before .before .before .before .before .before .before .before .before .args .p) (not (c .before .before .before .before .before .before .before .before .before .before .before .before .before .before .value .result)) (c .before .before .before .before .settle .result) (c .before .before .before .before .before .before .before .before .before .before .before .before .before .before .before .before .before .before .before .before .before .before .open-above .ensures) (c .before .before .before .before .before .before .before .before .before .before .before .before .before .before .before .before .before .before .inherit .ensures) (ap not (c .before .before .before .before .before .before .before .before .before .before .before .before .before .before .value .ensures)) (c .before .before .before .before .before .before .before .before .before .before .before .before .before .set .ensures) (c .before .before .before .before .before .before .before .before .before .wait-alone .ensures) (c .before .before .before .before .settle .ensures)
+    let settle-call = c .before .before .before .before .settle in
+    let wait-alone-call = (back-to-wait-alone c) .wait-alone in
+    let set-call = (back-to-set c) .set in
+    let value-call = (back-to-value c) .value in
+    let inherit-call = (back-to-inherit c) .inherit in
+    let open-above-call = (back-to-open-above c) .open-above in
+    let given = (back-to-start c) .args in
+    turns (given .codes .now) (given .work .now) (given .line .now) (open-above-call .last .0) (set-call .last .0) (settle-call .last .1 .1 .0)
+    (given .own .now) (inherit-call .last .0) (wait-alone-call .last .0) (settle-call .last .1 .1 .1 .0)
+    (given .i) (given .p) (not (value-call .result)) (settle-call .result) (open-above-call .ensures) (inherit-call .ensures) (ap not (value-call .ensures))
+    (set-call .ensures) (wait-alone-call .ensures) (settle-call .ensures)
 
 pub turn-spec : {M : Type 1} → statement M
 turn-spec =

@@ -19,6 +19,12 @@ Inv-loop codes index line₀ own₀ mark c end at₀ line own at =
 abbrev μ-loop : tie.MeasureT-loop
 μ-loop codes index line₀ own₀ mark c end at₀ line own at = end - at
 
+-- Back along the path, to the place behind a call.
+abbrev back-to-at-loop : tie.After-slice-known4 Inv-loop μ-loop → tie.At-loop Inv-loop μ-loop
+back-to-at-loop at =
+    let after-touch-arg = at .before .before .before .before .before .before in
+    after-touch-arg .before .before .before .before
+
 add-wide16 : tie.Need-add-wide16 Inv-loop μ-loop
 add-wide16 c = search needs
 
@@ -65,7 +71,13 @@ loop-less : tie.Need-loop-less Inv-loop μ-loop
 loop-less c = omega arith
 
 loop-again : tie.Need-loop-again Inv-loop μ-loop
-loop-again c = (omega arith, omega arith, omega arith, moves-then (c .before .before .before .before .before .before .before .before .before .before .before .loop .inv .3) (moves-at (c .if1 .taken) (c .before .before .before .before .before .touch .ensures)))
+loop-again c = (
+  omega arith,
+  omega arith,
+  omega arith,
+  moves-then ((back-to-at-loop (c .before)) .loop .inv .3)
+      (moves-at (c .if1 .taken) (c .before .before .before .before .before .touch .ensures)),
+)
 
 same-length : tie.Need-same-length Inv-loop μ-loop
 same-length c = search needs
@@ -74,7 +86,7 @@ same-length-2 : tie.Need-same-length-2 Inv-loop μ-loop
 same-length-2 c = search needs
 
 returns : tie.Need-returns Inv-loop μ-loop
-returns c = moves-then (c .before .before .before .before .before .before .before .before .before .before .before .loop .inv .3) (moves-at (c .if1 .left) (c .before .before .before .before .before .touch .ensures))
+returns c = moves-then ((back-to-at-loop (c .before)) .loop .inv .3) (moves-at (c .if1 .left) (c .before .before .before .before .before .touch .ensures))
 
 same-length-3 : tie.Need-same-length-3 Inv-loop μ-loop
 same-length-3 c = search needs

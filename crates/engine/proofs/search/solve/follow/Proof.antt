@@ -8,11 +8,27 @@ use borrow.Author.Needs.{needs}
 use Rattle.engine.proofs.search.solve.follow.Statement.{statement}
 use Rattle.engine.proofs.search.solve.follow.Tie as tie
 
+-- Back along the path, to the place behind a call.
+abbrev back-to-start : tie.After-propagate-arg2 → tie.Start
+back-to-start at =
+    let after-slice-known = at .before .before .before .before .before .before in
+    after-slice-known .before .before .before .before
+
+abbrev back-to-start-2 : tie.After-slice-known3 → tie.Start
+back-to-start-2 at =
+    let after-shared-slice-known5 = at .before .before .before .before .before .before in
+    let after-shared-slice-known = after-shared-slice-known5 .before .before .before .before .before .before in
+    after-shared-slice-known .before
+
 check-requires : tie.Need-check-requires
 check-requires c κs = tt
 
 propagate-requires : tie.Need-propagate-requires
-propagate-requires c κs = let p = c .before .before .before .before .before .before .before .before .before .before .pre in let existential : c .before .before .before .before .before .before .before .before .before .before .args .side ≡ 0 = (let p = c .before .before .before .before .before .before .before .before .before .before .pre in omega arith) in (lent-existential existential (c .before .before .before .before .before .before .before .before .before .before .pre .0), (omega arith, omega arith, omega arith))
+propagate-requires c κs =
+    let pre = (back-to-start c) .pre in
+    let p = pre in
+    let existential : (back-to-start c) .args .side ≡ 0 = (let p = pre in omega arith) in
+    (lent-existential existential (pre .0), (omega arith, omega arith, omega arith))
 
 same-length : tie.Need-same-length
 same-length c = search needs
@@ -21,7 +37,10 @@ same-length-2 : tie.Need-same-length-2
 same-length-2 c = search needs
 
 returns : tie.Need-returns
-returns c = rw (c .before .before .before .before .before .if1 .taken) (λ _. group-checked (c .before .before .before .before .before .before .before .before .before .before .before .before .before .args .kinds .now) (c .before .before .before .before .before .before .before .before .before .before .before .before .before .args .splits .now) (c .before .before .before .before .before .before .before .before .before .before .before .before .before .args .codes .now) (c .before .before .before .before .before .before .before .before .before .before .before .before .before .args .opened .now) (c .before .before .before .before .before .before .before .before .before .before .before .before .before .args .lo) (c .before .before .before .before .before .before .before .before .before .before .before .before .before .args .hi) (c .before .before .before .before .before .before .before .before .before .before .before .before .before .args .k + 2) _ _ _ _ (c .before .before .before .before .before .before .before .before .before .before .before .before .before .pre .1 .0) (c .before .before .check .ensures))
+returns c =
+    let given = (back-to-start-2 c) .args in
+    rw (c .before .before .before .before .before .if1 .taken) (λ _. group-checked (given .kinds .now) (given .splits .now) (given .codes .now)
+    (given .opened .now) (given .lo) (given .hi) (given .k + 2) _ _ _ _ ((back-to-start-2 c) .pre .1 .0) (c .before .before .check .ensures))
 
 same-length-3 : tie.Need-same-length-3
 same-length-3 c = search needs
@@ -30,7 +49,10 @@ same-length-4 : tie.Need-same-length-4
 same-length-4 c = search needs
 
 returns-2 : tie.Need-returns-2
-returns-2 c = let existential : c .before .before .before .before .before .before .before .before .before .before .before .before .before .before .before .args .side ≡ 0 = omega arith in rw existential (λ listed P k v seen. c .before .before .before .before .propagate .ensures listed P (c .before .before .before .before .before .before .before .before .before .before .before .before .before .before .before .args .kinds .now) k v (seen .fits))
+returns-2 c =
+    let given = (back-to-start (c .before .before .before .before .before)) .args in
+    let existential : given .side ≡ 0 = omega arith in
+    rw existential (λ listed P k v seen. c .before .before .before .before .propagate .ensures listed P (given .kinds .now) k v (seen .fits))
 
 pub follow-spec : {M : Type 1} → statement M
 follow-spec =

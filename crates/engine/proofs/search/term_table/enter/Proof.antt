@@ -46,7 +46,10 @@ same-length : tie.Need-same-length
 same-length c = simp length-set (omega arith)
 
 returns : tie.Need-returns
-returns c = entry-made (c .before .before .before .before .before .before .args .kinds .now) (c .before .before .before .before .before .before .args .codes .now) (c .before .before .before .before .before .before .args .terms .now) (c .before .before .before .before .before .before .args .j) (c .before .before .before .before .before .before .args .start) (c .shown .result) (omega arith) (omega arith) (c .shown .ensures)
+returns c =
+    let given = c .before .before .before .before .before .before .args in
+    entry-made (given .kinds .now) (given .codes .now) (given .terms .now) (given .j) (given .start) (c .shown .result) (omega arith) (omega arith)
+    (c .shown .ensures)
 
 pub enter-spec : {M : Type 1} → statement M
 enter-spec =

@@ -46,13 +46,20 @@ loop-less : tie.Need-loop-less Inv-loop μ-loop
 loop-less c = omega arith
 
 loop-again : tie.Need-loop-again Inv-loop μ-loop
-loop-again c = (simp length-set (omega arith), omega arith, named-more (c .wide .result) (c .before .before .before .loop .inv .2) (omega arith) (c .wide .ensures))
+loop-again c = (
+  simp length-set (omega arith),
+  omega arith,
+  named-more (c .wide .result) (c .before .before .before .loop .inv .2) (omega arith)
+      (c .wide .ensures),
+)
 
 same-length : tie.Need-same-length Inv-loop μ-loop
 same-length c = omega arith
 
 returns : tie.Need-returns Inv-loop μ-loop
-returns c = subst (λ (n : ℕ). Named (c .before .before .before .before .args .terms .now) n (c .before .before .before .before .args .opened .now) (c .before .loop .opened)) (omega arith) (c .before .loop .inv .2)
+returns c =
+    let given = c .before .before .before .before .args in
+    subst (λ (n : ℕ). Named (given .terms .now) n (given .opened .now) (c .before .loop .opened)) (omega arith) (c .before .loop .inv .2)
 
 pub name-spec : {M : Type 1} → statement M
 name-spec =

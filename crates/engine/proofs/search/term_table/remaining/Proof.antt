@@ -12,8 +12,16 @@ Inv-loop codes misses start rows left₀ e₀ left e = Reading codes misses star
 abbrev μ-loop : tie.MeasureT-loop
 μ-loop codes misses start rows left₀ e₀ left e = length codes - e
 
+-- Back along the path, to the place behind a call.
+abbrev back-to-at-loop : tie.After-shared-slice-known4 Inv-loop μ-loop → tie.At-loop Inv-loop μ-loop
+back-to-at-loop at =
+    let in-loop = at .before .before .before .before .before .before in
+    in-loop .before
+
 loop-holds : tie.Need-loop-holds Inv-loop μ-loop
-loop-holds c = reading-start (c .before .before .args .codes .now) (c .before .before .args .misses .now) (c .before .before .args .start) (c .before .before .args .rows)
+loop-holds c =
+    let given = c .before .before .args in
+    reading-start (given .codes .now) (given .misses .now) (given .start) (given .rows)
 
 returns : tie.Need-returns Inv-loop μ-loop
 returns c = c .before .before .loop .inv .so-far
@@ -43,13 +51,16 @@ loop-less : tie.Need-loop-less Inv-loop μ-loop
 loop-less c = omega arith
 
 loop-again : tie.Need-loop-again Inv-loop μ-loop
-loop-again c = reading-more (c .before .before .before .before .before .before .before .loop .inv) (c .before .before .before .wide .result) (omega arith) (c .before .before .before .wide .ensures) (λ z. omega arith)
+loop-again c =
+    let wide-call = c .before .before .before .wide in
+    reading-more ((back-to-at-loop c) .loop .inv) (wide-call .result) (omega arith) (wide-call .ensures) (λ z. omega arith)
 
 loop-less-2 : tie.Need-loop-less-2 Inv-loop μ-loop
 loop-less-2 c = omega arith
 
 loop-again-2 : tie.Need-loop-again-2 Inv-loop μ-loop
-loop-again-2 c = reading-passed (c .before .before .before .before .before .before .loop .inv) (c .before .before .wide .result) (omega arith) (c .before .before .wide .ensures) (λ z. omega arith)
+loop-again-2 c = reading-passed (c .before .before .before .before .before .before .loop .inv) (c .before .before .wide .result) (omega arith)
+    (c .before .before .wide .ensures) (λ z. omega arith)
 
 returns-3 : tie.Need-returns-3 Inv-loop μ-loop
 returns-3 c = c .before .loop .inv .so-far

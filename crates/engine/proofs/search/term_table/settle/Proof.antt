@@ -9,13 +9,27 @@ use Rattle.engine.proofs.search.term_table.settle.Statement.{statement}
 use Rattle.engine.proofs.search.term_table.settle.Tie as tie
 
 abbrev Inv-loop : tie.InvT-loop
-Inv-loop kinds codes terms₀ j₀ start₀ terms j start = (length terms ≡ length terms₀) × (j ≤ max-clauses) × (start ≤ length codes) × Entering kinds codes terms j start
+Inv-loop kinds codes terms₀ j₀ start₀ terms j start = (length terms ≡ length terms₀) × (j ≤ max-clauses) × (start ≤ length codes) × Entering kinds codes terms j
+    start
 
 abbrev μ-loop : tie.MeasureT-loop
 μ-loop kinds codes terms₀ j₀ start₀ terms j start = length codes - start
 
+-- Back along the path, to the place behind a call.
+abbrev back-to-at-loop : tie.After-past Inv-loop μ-loop → tie.At-loop Inv-loop μ-loop
+back-to-at-loop at =
+    let in-loop = at .before .before .before .before .before .before in
+    in-loop .before
+
+abbrev back-to-start : tie.After-slice-known2 Inv-loop μ-loop → tie.Start Inv-loop μ-loop
+back-to-start at =
+    let at-loop = at .before .before .before .before .before .before in
+    at-loop .before .before .before .before
+
 loop-holds : tie.Need-loop-holds Inv-loop μ-loop
-loop-holds c = (omega arith, omega arith, omega arith, entering-none (c .before .before .before .args .kinds .now) (c .before .before .before .args .codes .now) (c .before .before .before .args .terms .now))
+loop-holds c =
+    let given = c .before .before .before .args in
+    (omega arith, omega arith, omega arith, entering-none (given .kinds .now) (given .codes .now) (given .terms .now))
 
 sub-close : tie.Need-sub-close Inv-loop μ-loop
 sub-close c = omega arith
@@ -27,7 +41,9 @@ same-length : tie.Need-same-length Inv-loop μ-loop
 same-length c = omega arith
 
 returns : tie.Need-returns Inv-loop μ-loop
-returns c = listed-full (c .before .before .before .before .before .before .before .before .before .before .args .kinds .now) (c .before .before .before .before .before .before .before .before .before .before .args .codes .now) (omega arith) (c .before .before .close .ensures)
+returns c =
+    let given = (back-to-start c) .args in
+    listed-full (given .kinds .now) (given .codes .now) (omega arith) (c .before .before .close .ensures)
 
 enter-requires : tie.Need-enter-requires Inv-loop μ-loop
 enter-requires c κs = (omega arith, omega arith, omega arith)
@@ -42,7 +58,13 @@ loop-less : tie.Need-loop-less Inv-loop μ-loop
 loop-less c = let next = c .past .ensures .ahead in omega arith
 
 loop-again : tie.Need-loop-again Inv-loop μ-loop
-loop-again c = (omega arith, omega arith, c .past .ensures .inside, entering-more (c .before .before .before .before .before .before .before .loop .inv .3) (c .before .before .before .enter .ensures) (c .past .ensures))
+loop-again c = (
+  omega arith,
+  omega arith,
+  c .past .ensures .inside,
+  entering-more ((back-to-at-loop c) .loop .inv .3)
+      (c .before .before .before .enter .ensures) (c .past .ensures),
+)
 
 cast-terms : tie.Need-cast-terms Inv-loop μ-loop
 cast-terms c = omega arith

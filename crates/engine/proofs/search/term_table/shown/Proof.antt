@@ -7,6 +7,12 @@ use Rattle.engine.specs.Private.Terms.{StandsFor}
 use Rattle.engine.proofs.search.term_table.shown.Statement.{statement}
 use Rattle.engine.proofs.search.term_table.shown.Tie as tie
 
+-- Back along the path, to the place behind a call.
+abbrev back-to-start : tie.Then3 → tie.Start
+back-to-start at =
+    let then1 = at .before .before .before .before .before .before in
+    then1 .before .before .before .before
+
 add-wide : tie.Need-add-wide
 add-wide c = omega arith
 
@@ -27,8 +33,14 @@ within-requires c κs = tt
 
 returns : tie.Need-returns
 returns c =
+    let given = (back-to-start c) .args in
     let begun = c .before .before .before .begins .ensures (c .before .before .if2 .taken) in
-    inr (omega arith, subst (λ (first : ℕ). StandsFor (c .before .before .before .before .before .before .before .before .before .before .args .kinds .now) (c .before .before .before .before .before .before .before .before .before .before .args .codes .now) first (c .before .before .before .before .before .before .before .before .before .before .args .start)) (c .before .before .before .before .wide .ensures) (record { inside = begun .0; begins = begun .1; within = c .before .within .ensures (c .if3 .taken) }))
+    inr (
+      omega arith,
+      subst (λ (first : ℕ). StandsFor (given .kinds .now) (given .codes .now) first (given .start))
+          (c .before .before .before .before .wide .ensures)
+          (record { inside = begun .0; begins = begun .1; within = c .before .within .ensures (c .if3 .taken) }),
+    )
 
 returns-2 : tie.Need-returns-2
 returns-2 c = inl refl

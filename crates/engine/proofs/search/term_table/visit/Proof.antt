@@ -9,10 +9,25 @@ use Rattle.engine.proofs.search.term_table.visit.Statement.{statement}
 use Rattle.engine.proofs.search.term_table.visit.Tie as tie
 
 abbrev Inv-loop : tie.InvT-loop
-Inv-loop codes terms misses opened₀ w all listed j₀ opened j = Visiting codes terms misses w all j opened₀ opened × (length opened ≡ length opened₀) × (j ≤ listed)
+Inv-loop codes terms misses opened₀ w all listed j₀ opened j = Visiting codes terms misses w all j opened₀ opened × (length opened ≡ length opened₀) ×
+    (j ≤ listed)
 
 abbrev μ-loop : tie.MeasureT-loop
 μ-loop codes terms misses opened₀ w all listed j₀ opened j = listed - j
+
+-- Back along the path, to the place behind a call.
+abbrev back-to-start : tie.After-least Inv-loop μ-loop → tie.Start Inv-loop μ-loop
+back-to-start at =
+    let after-shared-slice-known = at .before .before .before .before .before .before in
+    after-shared-slice-known .before
+
+abbrev back-to-wide2 : tie.After-slice-known3 Inv-loop μ-loop → tie.After-wide2 Inv-loop μ-loop
+back-to-wide2 at =
+    let after-unite-arg = at .before .before .before .before .before .before in
+    after-unite-arg .before .before
+
+abbrev back-to-at-loop : tie.After-slice-known3 Inv-loop μ-loop → tie.At-loop Inv-loop μ-loop
+back-to-at-loop at = (back-to-wide2 at) .before .before .before
 
 shared-slice-read-wide : tie.Need-shared-slice-read-wide Inv-loop μ-loop
 shared-slice-read-wide c = omega arith
@@ -24,7 +39,9 @@ least-requires : tie.Need-least-requires Inv-loop μ-loop
 least-requires c κs = tt
 
 loop-holds : tie.Need-loop-holds Inv-loop μ-loop
-loop-holds c = (visiting-none (c .before .before .before .before .before .before .before .args .codes .now) (c .before .before .before .before .before .before .before .args .terms .now) (c .before .before .before .before .before .before .before .args .misses .now) (c .before .before .before .before .before .before .before .args .w) (c .before .before .before .before .before .before .before .args .all) (c .before .before .before .before .before .before .before .args .opened .now), omega arith, omega arith)
+loop-holds c =
+    let given = (back-to-start c) .args in
+    (visiting-none (given .codes .now) (given .terms .now) (given .misses .now) (given .w) (given .all) (given .opened .now), omega arith, omega arith)
 
 add-wide : tie.Need-add-wide Inv-loop μ-loop
 add-wide c = omega arith
@@ -78,7 +95,16 @@ loop-less : tie.Need-loop-less Inv-loop μ-loop
 loop-less c = omega arith
 
 loop-again : tie.Need-loop-again Inv-loop μ-loop
-loop-again c = (visiting-more (c .before .before .before .before .before .before .before .before .before .before .before .loop .inv .0) (c .before .before .before .before .before .before .before .before .wide2 .result % 64) (c .before .before .before .before .wide3 .result) (c .before .before .before .remaining .result) (ap (λ (x : ℕ). x % 64) (c .before .before .before .before .before .before .before .before .wide2 .ensures)) (c .before .before .before .before .wide3 .ensures) (c .before .before .before .remaining .ensures) (c .before .before .unite .ensures), omega arith, omega arith)
+loop-again c =
+    let remaining-call = c .before .before .before .remaining in
+    let wide3-call = c .before .before .before .before .wide3 in
+    let wide2-call = (back-to-wide2 c) .wide2 in (
+      visiting-more ((back-to-at-loop c) .loop .inv .0) (wide2-call .result % 64) (wide3-call .result) (remaining-call .result)
+          (ap (λ (x : ℕ). x % 64) (wide2-call .ensures)) (wide3-call .ensures) (remaining-call .ensures) (c .before .before .unite .ensures),
+      omega arith,
+      omega
+          arith,
+    )
 
 same-length : tie.Need-same-length Inv-loop μ-loop
 same-length c = omega arith
