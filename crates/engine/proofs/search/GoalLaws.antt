@@ -16,7 +16,7 @@ use Rattle.search_evaluation.specs.Evaluation.{look-at}
 use Rattle.search_evaluation.specs.Private.Looked.{IsAt, Looked}
 use Rattle.search_evaluation.proofs.LookLaws.{look-looked}
 use Rattle.search_sets.proofs.MaskLaws.{kept-trans}
-use Rattle.engine.specs.Private.Live.{FalseFound}
+use Rattle.engine.specs.Private.Satisfied.{FalseFound}
 use Rattle.search_sets.specs.Private.Masks.{set-at, SetsKept}
 use Rattle.engine.specs.Private.Steps.{Reached}
 

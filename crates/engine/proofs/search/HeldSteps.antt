@@ -21,9 +21,9 @@ use Rattle.codes.specs.Codes.{last-code, row-position}
 use Rattle.codes.specs.Private.Clauses.{position, clause-of, HasEnd, Begins, Coded}
 use Rattle.codes.proofs.CodeLaws.{row-position-is, clause-step, clause-stop}
 use Rattle.search_cells.specs.Cells.{cells}
-use Rattle.search_sets.specs.Sets.{set-places, sets-size, added, has, emptied, blamed}
-use Rattle.search_sets.specs.Private.Masks.{set-at, SetGrown, SetsKept, Put, Blamed}
-use Rattle.search_sets.proofs.SetLaws.{add-grows, add-adds, has-is, empty-empties, empty-keeps, blame-blames}
+use Rattle.search_sets.specs.Sets.{set-places, sets-size, added, has, emptied, reasons-added}
+use Rattle.search_sets.specs.Private.Masks.{set-at, SetGrown, SetsKept, Put, ReasonsAdded}
+use Rattle.search_sets.proofs.SetLaws.{add-grows, add-adds, has-is, empty-empties, empty-keeps, add-reasons-adds}
 use Rattle.search_sets.proofs.MaskLaws.{store-elsewhere}
 use Rattle.search_evaluation.specs.Evaluation.{has-row, level-in}
 use Rattle.engine.specs.Private.Reasons.{Fixed, IsReason, Shorter}
@@ -70,10 +70,10 @@ module _ (o : List ℕ) {q : List ℕ} (size : length o ≡ sets-size) where
   pub adds : (p l : ℕ) → p < max-unknowns → l < max-unknowns → q ≡ added o p l → set-at q p l ≡ true
   adds p l pl ll e = subst (λ (x : List ℕ). set-at x p l ≡ true) (sym e) (add-adds o size p l (omega arith) ll)
 
-  pub blames : (codes : List ℕ) (start p : ℕ) → p < set-places → Coded max-unknowns codes → q ≡ blamed codes o start p →
-      Blamed (clause-of (drop start codes)) p o q
-  blames codes start p place coded e = subst (λ (x : List ℕ). Blamed (clause-of (drop start codes)) p o x) (sym e)
-      (blame-blames o size codes start p place coded)
+  pub adds-reasons : (codes : List ℕ) (start p : ℕ) → p < set-places → Coded max-unknowns codes → q ≡ reasons-added codes o start p →
+      ReasonsAdded (clause-of (drop start codes)) p o q
+  adds-reasons codes start p place coded e = subst (λ (x : List ℕ). ReasonsAdded (clause-of (drop start codes)) p o x) (sym e)
+      (add-reasons-adds o size codes start p place coded)
 
 pub has-at : (o : List ℕ) → length o ≡ sets-size → (l : ℕ) {r : Bool} → l < max-unknowns → r ≡ has o max-unknowns l → r ≡ set-at o max-unknowns l
 has-at o size l below e = e ∙ has-is o size max-unknowns l (omega arith) below
@@ -197,41 +197,43 @@ moves-at {codes} {a} {b} {o} {q} e moves = subst (λ (x : Bool). Moves codes a b
 
 -- a clause that is false
 pub false-moves : (codes a o q1 q : List ℕ) (start c : ℕ) → length o ≡ sets-size → length q1 ≡ sets-size → Begins codes start → FalseBut codes a start c → c ≡ 0
-    → q1 ≡ emptied o max-unknowns → q ≡ blamed codes q1 start max-unknowns → Moves codes a a o q false
+    → q1 ≡ emptied o max-unknowns → q ≡ reasons-added codes q1 start max-unknowns → Moves codes a a o q false
 false-moves codes a o q1 q start c size size1 begins looked none e1 e2 = record { on = moved }
   where
     moved : (w s : List ℕ) (i : ℕ) → Coded max-unknowns codes → Held codes w s i a o → Moved codes w s i a q false
     moved w s i coded held = record {
-      held = held-same codes w s i a o held q (record { same = λ p lt l. blamed .grown .others p (λ e. omega arith) l ∙ kept-emptied o size e1 .same p lt l });
+      held = held-same codes w s i a o held q (record
+          { same = λ p lt l. reasons-added .grown .others p (λ e. omega arith) l ∙ kept-emptied o size e1 .same p lt l });
       denied = λ e.
-          denied-false codes w s i a o held coded start c begins looked none q1 q (kept-emptied o size e1) blamed;
+          denied-false codes w s i a o held coded start c begins looked none q1 q (kept-emptied o size e1) reasons-added;
     }
       where
-        blamed : Blamed (clause-of (drop start codes)) max-unknowns q1 q
-        blamed = blames q1 size1 codes start max-unknowns (omega arith) coded e2
+        reasons-added : ReasonsAdded (clause-of (drop start codes)) max-unknowns q1 q
+        reasons-added = adds-reasons q1 size1 codes start max-unknowns (omega arith) coded e2
 
 -- a clause with one open literal
 module _ (codes a o b q1 q2 q : List ℕ) (p start c : ℕ) (size : length o ≡ sets-size) (size1 : length q1 ≡ sets-size) (small : p < max-unknowns) (two : 2 ≤ c)
     (last : c ≤ last-code)
-    (ep : p ≡ row-position c) (unset : getD a p 0 ≡ 0) (e1 : q1 ≡ emptied o p) (e2 : q2 ≡ blamed codes q1 start p) (stored : LineSet p (eqb (c % 2) 0) a b)
+    (ep : p ≡ row-position c) (unset : getD a p 0 ≡ 0) (e1 : q1 ≡ emptied o p) (e2 : q2 ≡ reasons-added codes q1 start p)
+    (stored : LineSet p (eqb (c % 2) 0) a b)
     (noted : SetsKept q2 q)
     (begins : Begins codes start) (looked : FalseBut codes a start c) where
   there : position c ≡ p
   there = sym (row-position-is c two (omega arith)) ∙ sym ep
 
   module _ (w s : List ℕ) (i : ℕ) (coded : Coded max-unknowns codes) (held : Held codes w s i a o) where
-    blamed-there : Blamed (clause-of (drop start codes)) p q1 q2
-    blamed-there = blames q1 size1 codes start p (omega arith) coded e2
+    reasons-added-there : ReasonsAdded (clause-of (drop start codes)) p q1 q2
+    reasons-added-there = adds-reasons q1 size1 codes start p (omega arith) coded e2
 
     others : SetsBut p o q2
-    others = record { same = λ j lt n l. blamed-there .grown .others j n l ∙ but-emptied o size p small e1 .same j lt n l }
+    others = record { same = λ j lt n l. reasons-added-there .grown .others j n l ∙ but-emptied o size p small e1 .same j lt n l }
 
     open-moved : Moved codes w s i b q true
     open-moved = record {
       held =
           held-same codes w s i b q2
           (held-store codes w s i a o held b q2 p (eqb (c % 2) 0) stored others
-          (implied-open codes w s i a o held coded start c begins looked p there unset q1 q2 (but-emptied o size p small e1) blamed-there))
+          (implied-open codes w s i a o held coded start c begins looked p there unset q1 q2 (but-emptied o size p small e1) reasons-added-there))
           q noted;
       denied = λ e. absurd (never-both refl e);
     }
@@ -239,7 +241,7 @@ module _ (codes a o b q1 q2 q : List ℕ) (p start c : ℕ) (size : length o ≡
   pub open-moves : Moves codes a b o q true
   open-moves = record { on = open-moved }
 
--- ---- a decision, and its other value after a failure
+-- ---- a decision, and its other value after a conflict
 
 pub decides : (codes w a b b′ o q1 q2 q3 q : List ℕ) (i : ℕ) (r : Bool) → Same o q1
     → ((codes s : List ℕ) → Held codes w s i a q1 → Held codes w s i b q2) → SetsKept q2 q3 → Moves codes b b′ q3 q r

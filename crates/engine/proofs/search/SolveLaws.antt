@@ -1,4 +1,4 @@
--- The pieces of a search of a group: a trial of one value, a choice of two, a split, the end, and the positions that stand.
+-- The pieces of a search of a group: a trial of one value, a decision between two, a split, the end, and the positions that stand.
 -- Assumes nothing.
 use Prim.Native.Nat.{ℕ, zero, suc, _+_, _-_, _≤_, _<_}
 use mathlib.Core.Path.{_≡_, refl, sym, _∙_, ap, subst}
@@ -20,9 +20,9 @@ use Rattle.expansion.proofs.Success.{past-kept, won-leaf, won-wanted, won-other
 use Rattle.expansion.proofs.Stand.{node-stand, won-stand, refuted-stand}
 use Rattle.search_cells.specs.Cells.{cells, wants}
 use Rattle.search_cells.specs.Private.Changes.{SameWants, CellsSet, CellsOpened}
-use Rattle.search_sets.specs.Private.Masks.{set-at, masks, cut, SetGrown, Trimmed, Excused}
-use Rattle.engine.specs.Private.Steps.{Fits, Settled, Searched, with-value, Tried, Reached}
-use Rattle.search_groups.specs.Private.Parts.{Parting, PartedAt, Stands}
+use Rattle.search_sets.specs.Private.Masks.{set-at, masks, conflict, SetGrown, Trimmed, Resolved}
+use Rattle.engine.specs.Private.Steps.{Fits, Propagated, Searched, with-value, Tried, Reached}
+use Rattle.search_groups.specs.Private.Parts.{SplitRow, SplitPosition, FirstOpen}
 use Rattle.engine.proofs.search.Rows.{agree-group, parted-apart}
 use Rattle.engine.proofs.search.StepLaws.{masks-below, masks-within, within-refl, within-trans, within-shorter, masks-grown, wants-trans}
 
@@ -34,7 +34,7 @@ pub with-at : (k : ℕ) (y : Bool) (v : ℕ → Bool) → with-value k y v k ≡
 unfolding with-value
 with-at k y v = ap (λ (b : Bool). cond b y (v k)) (eq-eqb k k refl)
 
-module _ (kinds splits codes : List ℕ) (side k lo hi : ℕ) (k-short : k < max-unknowns) where
+module _ (kinds differences codes : List ℕ) (side k lo hi : ℕ) (k-short : k < max-unknowns) where
   -- ---- a trial of one value
 
   -- the group's cells at k are all open
@@ -54,7 +54,7 @@ module _ (kinds splits codes : List ℕ) (side k lo hi : ℕ) (k-short : k < max
           omega arith)
 
   module _ (y : Bool) (w w1 w2 s s1 s2 : List ℕ) (added : SetGrown k s s1) (named : set-at s1 k k ≡ true) (stored : CellsSet k lo hi (k + 2) y w w1)
-      (P : Problem) (v : ℕ → Bool) (F : Fits P kinds splits codes side) (W : (i j : ℕ) → i < P .count → j < P .n → P .own j ≡ true →
+      (P : Problem) (v : ℕ → Bool) (F : Fits P kinds differences codes side) (W : (i j : ℕ) → i < P .count → j < P .n → P .own j ≡ true →
       wants w i j ≡ P .wanted i j) (A : Node P k lo hi v (cells w) (masks s))
       (kn : k < P .n) (o : P .own k ≡ true) (z : cells w .level lo k ≡ 0) where
     pub tried-node : Node P (k + 1) lo hi (with-value k y v) (cells w1) (masks s1)
@@ -67,40 +67,41 @@ module _ (kinds splits codes : List ℕ) (side k lo hi : ℕ) (k-short : k < max
     tried-grown = grown-stored (k + 2) lo hi lo hi k y (cells w) (cells w1) (omega arith) (omega arith) (all-open P v w s A kn o z) (stored .stored)
 
     -- refuted by its consequences
-    pub tried-refuted : Settled P (k + 1) lo hi (with-value k y v) (k + 2) w1 w2 s1 s2 false → Tried P k lo hi v y w w2 s s2 false
-    tried-refuted settled = record {
-      grown = grown-trans (k + 2) lo hi (cells w) (cells w1) (cells w2) (omega arith) tried-grown (settled .grown);
-      wanted = wants-trans w w1 w2 (stored .wanted) (settled .wanted);
+    pub tried-refuted : Propagated P (k + 1) lo hi (with-value k y v) (k + 2) w1 w2 s1 s2 false → Tried P k lo hi v y w w2 s s2 false
+    tried-refuted propagated = record {
+      grown = grown-trans (k + 2) lo hi (cells w) (cells w1) (cells w2) (omega arith) tried-grown (propagated .grown);
+      wanted = wants-trans w w1 w2 (stored .wanted) (propagated .wanted);
       masked = within-trans k (masks s) (masks s1) (masks s2) (masks-grown k k s s1 added) (within-shorter k (k + 1) (masks s1) (masks s2) (omega arith)
-          (settled .masked));
+          (propagated .masked));
       valued = λ e. absurd (never-both e refl);
       won = λ e. absurd (never-both e refl);
-      failed = settled .failed;
+      failed = propagated .failed;
     }
 
     -- searched further on
-    pub tried-searched : (w3 s3 : List ℕ) (r : Bool) → Settled P (k + 1) lo hi (with-value k y v) (k + 2) w1 w2 s1 s2 true →
+    pub tried-searched : (w3 s3 : List ℕ) (r : Bool) → Propagated P (k + 1) lo hi (with-value k y v) (k + 2) w1 w2 s1 s2 true →
         Searched P (k + 1) lo hi (with-value k y v) w2 w3 s2 s3 r → Tried P k lo hi v y w w3 s s3 r
-    tried-searched w3 s3 r settled searched = record {
+    tried-searched w3 s3 r propagated searched = record {
       grown = grown-trans (k + 2) lo hi (cells w) (cells w1) (cells w3) (omega arith) tried-grown later;
-      wanted = wants-trans w w2 w3 (wants-trans w w1 w2 (stored .wanted) (settled .wanted)) (searched .wanted);
+      wanted = wants-trans w w2 w3 (wants-trans w w1 w2 (stored .wanted) (propagated .wanted)) (searched .wanted);
       masked = within-trans k (masks s) (masks s1) (masks s3) (masks-grown k k s s1 added) (within-shorter k (k + 1) (masks s1) (masks s3) (omega arith)
-          (within-trans (k + 1) (masks s1) (masks s2) (masks s3) (settled .masked) (searched .masked)));
+          (within-trans (k + 1) (masks s1) (masks s2) (masks s3) (propagated .masked) (searched .masked)));
       valued = λ e i p q. grown-keeps (k + 2) lo hi (cells w1) (cells w3) later i k (set-there i p q) .1 ∙ stored .stored .there i p q .1;
       won = searched .won;
       failed = searched .failed;
     }
       where
         later : Grown (k + 2) lo hi (cells w1) (cells w3)
-        later = grown-trans (k + 2) lo hi (cells w1) (cells w2) (cells w3) (omega arith) (settled .grown)
+        later = grown-trans (k + 2) lo hi (cells w1) (cells w2) (cells w3) (omega arith) (propagated .grown)
             (grown-wider (k + 1 + 2) (k + 2) lo hi lo hi (cells w2) (cells w3) (omega arith) (omega arith) (omega arith) (searched .grown))
 
         set-there : (i : ℕ) → lo ≤ i → i < hi → 0 < cells w1 .level i k
         set-there i p q = let e : cells w1 .level i k ≡ k + 2 = stored .stored .there i p q .0 in omega arith
 
-  -- ---- a choice of two values
+  -- ---- a decision between two values
 
-  module _ (P : Problem) (v : ℕ → Bool) (F : Fits P kinds splits codes side) (w s : List ℕ) (W : (i j : ℕ) → i < P .count → j < P .n → P .own j ≡ true → wants w
+  module _ (P : Problem) (v : ℕ → Bool) (F : Fits P kinds differences codes side) (w s : List ℕ)
+      (W : (i j : ℕ) → i < P .count → j < P .n → P .own j ≡ true → wants w
       i j ≡ P .wanted i j) (A : Node P k lo hi v (cells w) (masks s))
       (kn : k < P .n) (o : P .own k ≡ true) (y : Bool) (wanted : wants w lo k ≡ y) where
     some : lo < hi
@@ -122,15 +123,15 @@ module _ (kinds splits codes : List ℕ) (side k lo hi : ℕ) (k-short : k < max
       failed = λ e. absurd (never-both refl e);
     }
 
-    -- the failure does not rest on the choice
+    -- the conflict does not rest on the decision
     pub failed-without : (y′ : Bool) (w1 s1 : List ℕ) → Grown (k + 2) lo hi (cells w) (cells w1) → SameWants w w1 → MasksWithin k (masks s) (masks s1) →
-        Refuted P (k + 1) (with-value k y′ v) (cut s1) lo → cut s1 k ≡ false → Searched P k lo hi v w w1 s s1 false
+        Refuted P (k + 1) (with-value k y′ v) (conflict s1) lo → conflict s1 k ≡ false → Searched P k lo hi v w w1 s s1 false
     failed-without y′ w1 s1 g sw m refuted lacks = record {
       grown = g;
       wanted = sw;
       masked = m;
       won = λ e. absurd (never-both e refl);
-      failed = λ e. refuted-without P k v (with-value k y′ v) (cut s1) lo (with-same k y′ v) lacks refuted;
+      failed = λ e. refuted-without P k v (with-value k y′ v) (conflict s1) lo (with-same k y′ v) lacks refuted;
     }
 
     module _ (w1 w2 s1 s2 : List ℕ) (first : Tried P k lo hi v y w w1 s s1 false) (opened : CellsOpened lo hi (k + 1) w1 w2) (trimmed : Trimmed k s1 s2) where
@@ -164,9 +165,9 @@ module _ (kinds splits codes : List ℕ) (side k lo hi : ℕ) (k-short : k < max
         both-masks : MasksWithin k (masks s) (masks s3)
         both-masks = within-trans k (masks s) (masks s2) (masks s3) second-masks (second .masked)
 
-        first-refuted : (i : ℕ) → lo ≤ i → i < hi → Refuted P (k + 1) (with-value k y v) (cut s1) i
+        first-refuted : (i : ℕ) → lo ≤ i → i < hi → Refuted P (k + 1) (with-value k y v) (conflict s1) i
         first-refuted i p q =
-            refuted-row P lo i (k + 1) (with-value k y v) (cut s1) (let b : hi ≤ P .count = A .rows in omega arith)
+            refuted-row P lo i (k + 1) (with-value k y v) (conflict s1) (let b : hi ≤ P .count = A .rows in omega arith)
             (let b : hi ≤ P .count = A .rows in omega arith) (omega arith)
             (agree-own P lo i k o (A .agree lo i (omega arith) (omega arith) p q)) (first .failed refl)
 
@@ -177,7 +178,7 @@ module _ (kinds splits codes : List ℕ) (side k lo hi : ℕ) (k-short : k < max
           wanted = both-wants;
           masked = both-masks;
           won = λ e′.
-              won-other P k lo hi v (with-value k y v) (cut s1) (cells w3) kn first-refuted (with-same k y v)
+              won-other P k lo hi v (with-value k y v) (conflict s1) (cells w3) kn first-refuted (with-same k y v)
               (past-kept P k lo hi (k + 2) lo hi v (cells w) (cells w3) (masks s) A both-grown)
               (λ i p q. second .valued e i p q ∙ sym (ap not (with-at k y v)))
               (second .won e);
@@ -185,7 +186,8 @@ module _ (kinds splits codes : List ℕ) (side k lo hi : ℕ) (k-short : k < max
         }
 
         -- both values fail
-        pub failed-both : (s4 : List ℕ) → r ≡ false → Within k (cut s1) (cut s4) → Within k (cut s3) (cut s4) → MasksWithin k (masks s3) (masks s4) →
+        pub failed-both : (s4 : List ℕ) → r ≡ false → Within k (conflict s1) (conflict s4) → Within k (conflict s3) (conflict s4) → MasksWithin k
+            (masks s3) (masks s4) →
             Searched P k lo hi v w w3 s s4 false
         failed-both s4 e in1 in3 m = record {
           grown = both-grown;
@@ -193,11 +195,12 @@ module _ (kinds splits codes : List ℕ) (side k lo hi : ℕ) (k-short : k < max
           masked = within-trans k (masks s) (masks s3) (masks s4) both-masks m;
           won = λ e′. absurd (never-both e′ refl);
           failed = λ e′.
-              refuted-both P k v (with-value k y v) (with-value k (not y) v) (cut s1) (cut s3) (cut s4) lo (with-same k y v) (with-same k (not y) v)
+              refuted-both P k v (with-value k y v) (with-value k (not y) v) (conflict s1) (conflict s3) (conflict s4) lo (with-same k y v)
+              (with-same k (not y) v)
               (with-at k (not y) v ∙ sym (ap not (with-at k y v))) in1 in3 (first .failed refl) (second .failed e);
         }
 
-        pub failed-second : r ≡ false → cut s3 k ≡ false → Searched P k lo hi v w w3 s s3 false
+        pub failed-second : r ≡ false → conflict s3 k ≡ false → Searched P k lo hi v w w3 s s3 false
         failed-second e lacks = failed-without (not y) w3 s3 both-grown both-wants both-masks (second .failed e) lacks
 
 -- ---- rows that part
@@ -230,7 +233,7 @@ pub part-fits : {lo mid hi a e : ℕ} → lo < mid → mid < hi → IsPart lo mi
 part-fits {lo} {mid} {hi} {a} {e} lm mh part = ⊎-elim {C = (lo ≤ a) × (a < e) × (e ≤ hi)} (λ t. (omega arith, omega arith, omega arith))
     (λ t. (omega arith, omega arith, omega arith)) part
 
-module _ (P : Problem) (kinds splits codes : List ℕ) (side : ℕ) (F : Fits P kinds splits codes side) where
+module _ (P : Problem) (kinds differences codes : List ℕ) (side : ℕ) (F : Fits P kinds differences codes side) where
   other-given : (a b c : Bool) → (a ≡ b → ⊥) → (a ≡ c → ⊥) → b ≡ c
   other-given true true c f g = absurd (f refl)
   other-given true false true f g = absurd (g refl)
@@ -240,16 +243,16 @@ module _ (P : Problem) (kinds splits codes : List ℕ) (side : ℕ) (F : Fits P 
   other-given false false c f g = absurd (f refl)
 
   module _ (k lo mid hi : ℕ) (v : ℕ → Bool) (w s : List ℕ) (A : Node P k lo hi v (cells w) (masks s)) (kn : k < P .n) (o : P .own k ≡ false)
-      (parting : Parting splits lo hi mid) (lm : lo < mid) (at-k : getD splits mid 0 ≡ k) where
+      (split-row : SplitRow differences lo hi mid) (lm : lo < mid) (at-k : getD differences mid 0 ≡ k) where
     -- rows of the two parts have different values at k
     pub parts-differ : (i h : ℕ) → lo ≤ i → i < mid → mid ≤ h → h < hi → P .given i k ≡ P .given h k → ⊥
     parts-differ i h p q r t e =
-        parted-apart P kinds splits codes side F (k + 1) i h mid q r (omega arith) (omega arith) (omega arith)
+        parted-apart P kinds differences codes side F (k + 1) i h mid q r (omega arith) (omega arith) (omega arith)
         (agree-given P i h k e (A .agree i h p (omega arith) (omega arith) t))
 
     low-agree : (i h : ℕ) → lo ≤ i → i < mid → lo ≤ h → h < mid → Agree P i h (k + 1)
-    low-agree = agree-group P kinds splits codes side F (k + 1) lo mid (let a : mid < hi = parting .high in omega arith) (omega arith)
-        (λ g a b. let c : getD splits mid 0 < getD splits g 0 = parting .before g a b in omega arith)
+    low-agree = agree-group P kinds differences codes side F (k + 1) lo mid (let a : mid < hi = split-row .high in omega arith) (omega arith)
+        (λ g a b. let c : getD differences mid 0 < getD differences g 0 = split-row .before g a b in omega arith)
 
     high-agree : (i h : ℕ) → mid ≤ i → i < hi → mid ≤ h → h < hi → Agree P i h (k + 1)
     high-agree i h p q r t =
@@ -258,7 +261,7 @@ module _ (P : Problem) (kinds splits codes : List ℕ) (side : ℕ) (F : Fits P 
         (A .agree i h (omega arith) q (omega arith) t)
 
     high : mid < hi
-    high = parting .high
+    high = split-row .high
 
     part-agree : (a e : ℕ) → IsPart lo mid hi a e → (i h : ℕ) → a ≤ i → i < e → a ≤ h → h < e → Agree P i h (k + 1)
     part-agree a e part i h p q r t = ⊎-elim (λ x. low-agree i h (omega arith) (omega arith) (omega arith) (omega arith))
@@ -314,7 +317,7 @@ module _ (P : Problem) (kinds splits codes : List ℕ) (side : ℕ) (F : Fits P 
           wanted = first .wanted;
           masked = first-masked;
           won = λ f′. absurd (never-both f′ refl);
-          failed = λ f′. part-refuted a b (first-part order) (cut s1) (first .failed f);
+          failed = λ f′. part-refuted a b (first-part order) (conflict s1) (first .failed f);
         }
 
         module _ (s2 : List ℕ) (trimmed : Trimmed k s1 s2) where
@@ -332,7 +335,7 @@ module _ (P : Problem) (kinds splits codes : List ℕ) (side : ℕ) (F : Fits P 
             wanted = wants-trans w w1 w3 (first .wanted) (second .wanted);
             masked = within-trans k (masks s) (masks s2) (masks s3) between (within-shorter k (k + 1) (masks s2) (masks s3) (omega arith) (second .masked));
             won = λ f′. both (second .won f′) (won-kept P (k + 1) a b (k + 1 + 2) d e (cells w1) (cells w3) (second .grown) (first .won f) (F .sound));
-            failed = λ f′. part-refuted d e (second-part order) (cut s3) (second .failed f′);
+            failed = λ f′. part-refuted d e (second-part order) (conflict s3) (second .failed f′);
           }
             where
               all-grown : Grown (k + 2) lo hi (cells w) (cells w3)
@@ -353,7 +356,7 @@ module _ (P : Problem) (kinds splits codes : List ℕ) (side : ℕ) (F : Fits P 
   -- ---- past the last position
 
   pub searched-leaf : (lo hi : ℕ) (v : ℕ → Bool) (w s t : List ℕ) (r : Bool) → Node P (P .n) lo hi v (cells w) (masks s) → Reached codes side w lo s t r →
-      (r ≡ false → (l : ℕ) → l < P .n → cut t l ≡ true) → Searched P (P .n) lo hi v w w s t r
+      (r ≡ false → (l : ℕ) → l < P .n → conflict t l ≡ true) → Searched P (P .n) lo hi v w w s t r
   searched-leaf lo hi v w s t r A reached full = record {
     grown = grown-refl (P .n + 2) lo hi (cells w);
     wanted = λ i j. refl;
@@ -375,12 +378,13 @@ module _ (P : Problem) (kinds splits codes : List ℕ) (side : ℕ) (F : Fits P 
   -- ---- positions that stand
 
   module _ (k at until lo mid hi : ℕ) (v : ℕ → Bool) (w s : List ℕ) (short : length kinds ≤ max-unknowns) (A : Node P k lo hi v (cells w) (masks s))
-      (parting : Parting splits lo hi mid) (parted : PartedAt splits lo mid (length kinds) until) (stood : Stands kinds w side k lo until at) where
+      (split-row : SplitRow differences lo hi mid) (parted : SplitPosition differences lo mid (length kinds) until)
+      (stood : FirstOpen kinds w side k lo until at) where
     known : P .n ≡ length kinds
     known = F .unknowns
 
-    row-count : hi ≤ length splits
-    row-count = let a : hi ≤ P .count = A .rows in let b : P .count ≡ length splits = F .rows in omega arith
+    row-count : hi ≤ length differences
+    row-count = let a : hi ≤ P .count = A .rows in let b : P .count ≡ length differences = F .rows in omega arith
 
     until-fits : until ≤ length kinds
     until-fits = parted .most
@@ -399,11 +403,11 @@ module _ (P : Problem) (kinds splits codes : List ℕ) (side : ℕ) (F : Fits P 
         go (no n) = omega arith
         go (yes lt) = apart mid refl
           where
-            there : (lo < mid) × (getD splits mid 0 ≡ until)
+            there : (lo < mid) × (getD differences mid 0 ≡ until)
             there = parted .there (omega (arith, deep, known))
 
             high : mid < hi
-            high = parting .high
+            high = split-row .high
 
             apart : (m : ℕ) → m ≡ mid → k ≤ until
             apart zero e = absurd (let a : lo < mid = there .0 in omega arith)
@@ -412,44 +416,45 @@ module _ (P : Problem) (kinds splits codes : List ℕ) (side : ℕ) (F : Fits P 
                 let b : mid < hi = high in
                 let c : P .n ≡ length kinds = known in
                 let d : k ≤ P .n = deep in
-                let f : hi ≤ length splits = row-count in
-                let stays : k ≤ getD splits (m + 1) 0 = F .differ m k (omega arith) (omega arith) .1
+                let f : hi ≤ length differences = row-count in
+                let stays : k ≤ getD differences (m + 1) 0 = F .differ m k (omega arith) (omega arith) .1
                 (A .agree m (m + 1) (omega arith) (omega arith) (omega arith) (omega arith)) in
-                let here : getD splits (m + 1) 0 ≡ until = ap (λ (x : ℕ). getD splits x 0) (let g : m + 1 ≡ mid = omega arith in g) ∙ there .1 in
+                let here : getD differences (m + 1) 0 ≡ until = ap (λ (x : ℕ). getD differences x 0) (let g : m + 1 ≡ mid = omega arith in g) ∙ there .1 in
                 omega arith
 
     pub at-fits : at ≤ until
     at-fits = stood .high until-behind
 
-    shared-until : (g : ℕ) → lo < g → g < hi → until ≤ getD splits g 0
+    shared-until : (g : ℕ) → lo < g → g < hi → until ≤ getD differences g 0
     shared-until g a b = go (ℕ-discrete mid lo)
       where
         low : lo ≤ mid
-        low = parting .low
+        low = split-row .low
 
-        go : Dec (mid ≡ lo) → until ≤ getD splits g 0
-        go (yes e) = let c : 255 ≤ getD splits g 0 = parting .alone e g a b in omega arith
+        go : Dec (mid ≡ lo) → until ≤ getD differences g 0
+        go (yes e) = let c : 255 ≤ getD differences g 0 = split-row .alone e g a b in omega arith
         go (no n) = ⊎-elim near (λ c. far (ℕ-discrete g mid) c) (side-of (decLt g mid))
           where
             lm : lo < mid
             lm = omega (arith, low)
 
-            first : until ≤ getD splits mid 0
+            first : until ≤ getD differences mid 0
             first = parted .first lm
 
             side-of : Dec (g < mid) → (g < mid) ⊎ (mid ≤ g)
             side-of (yes c) = inl c
             side-of (no c) = inr (omega arith)
 
-            near : g < mid → until ≤ getD splits g 0
-            near c = let d : getD splits mid 0 < getD splits g 0 = parting .before g a c in omega (arith, first)
+            near : g < mid → until ≤ getD differences g 0
+            near c = let d : getD differences mid 0 < getD differences g 0 = split-row .before g a c in omega (arith, first)
 
-            far : Dec (g ≡ mid) → mid ≤ g → until ≤ getD splits g 0
-            far (yes e) c = subst (λ (x : ℕ). until ≤ getD splits x 0) (sym e) first
-            far (no d) c = let f : getD splits mid 0 ≤ getD splits g 0 = parting .behind lm g (omega arith) b in omega (arith, first)
+            far : Dec (g ≡ mid) → mid ≤ g → until ≤ getD differences g 0
+            far (yes e) c = subst (λ (x : ℕ). until ≤ getD differences x 0) (sym e) first
+            far (no d) c = let f : getD differences mid 0 ≤ getD differences g 0 = split-row .behind lm g (omega arith) b in omega (arith, first)
 
     agree-at : (i h : ℕ) → lo ≤ i → i < hi → lo ≤ h → h < hi → Agree P i h at
-    agree-at i h p q r t = agree-shorter P i h until at at-fits (agree-group P kinds splits codes side F until lo hi row-count until-fits shared-until i h p q r
+    agree-at i h p q r t = agree-shorter P i h until at at-fits
+        (agree-group P kinds differences codes side F until lo hi row-count until-fits shared-until i h p q r
         t)
 
     stands-set : (i j : ℕ) → lo ≤ i → i < hi → k ≤ j → j < at → 0 < cells w .level i j
@@ -478,11 +483,11 @@ module _ (P : Problem) (kinds splits codes : List ℕ) (side : ℕ) (F : Fits P 
     pub parted-other : until < length kinds → P .own until ≡ false
     parted-other lt = ⊎-elim (λ o. absurd (mine o)) (λ o. o) (true-or-false (P .own until))
       where
-        there : (lo < mid) × (getD splits mid 0 ≡ until)
+        there : (lo < mid) × (getD differences mid 0 ≡ until)
         there = parted .there lt
 
         high : mid < hi
-        high = parting .high
+        high = split-row .high
 
         mine : P .own until ≡ true → ⊥
         mine o = go mid refl
@@ -490,21 +495,22 @@ module _ (P : Problem) (kinds splits codes : List ℕ) (side : ℕ) (F : Fits P 
             go : (m : ℕ) → m ≡ mid → ⊥
             go zero e = let a : lo < mid = there .0 in omega arith
             go (suc m) e =
-                let here : getD splits (m + 1) 0 ≡ until = ap (λ (x : ℕ). getD splits x 0) (let c : m + 1 ≡ mid = omega arith in c) ∙ there .1 in
+                let here : getD differences (m + 1) 0 ≡ until = ap (λ (x : ℕ). getD differences x 0) (let c : m + 1 ≡ mid = omega arith in c) ∙ there .1 in
                 let before : Agree P m (m + 1) until = F .differ m until (omega arith) until-fits .0 (omega arith) in
-                let more : until + 1 ≤ getD splits (m + 1) 0 = F .differ m (until + 1) (omega arith) (omega arith) .1 (agree-own P m (m + 1) until o before) in
+                let more : until + 1 ≤ getD differences (m + 1) 0 = F .differ m (until + 1) (omega arith) (omega arith) .1
+                (agree-own P m (m + 1) until o before) in
                 omega arith
 
-    pub stood-searched : (u t t′ : List ℕ) (r : Bool) → Searched P at lo hi (cells w .value lo) w u s t r → Excused k at t t′ → Searched P k lo hi v w u s t′ r
-    unfolding cut
-    stood-searched u t t′ r searched excused = record {
+    pub stood-searched : (u t t′ : List ℕ) (r : Bool) → Searched P at lo hi (cells w .value lo) w u s t r → Resolved k at t t′ → Searched P k lo hi v w u s t′ r
+    unfolding conflict
+    stood-searched u t t′ r searched resolved = record {
       grown = wider;
       wanted = searched .wanted;
       masked = within-trans k (masks s) (masks t) (masks t′) (within-shorter k at (masks s) (masks t) (stood .low) (searched .masked))
-          (masks-grown k max-unknowns t t′ (excused .grown));
+          (masks-grown k max-unknowns t t′ (resolved .grown));
       won = λ e. won-stand P k at lo hi v (cells w) (masks s) A (stood .low) (omega arith) agree-at stands-set (k + 2) lo hi (cells u) wider (searched .won e);
       failed = λ e.
-          refuted-stand P k at lo hi v (cells w) (masks s) A (stood .low) (omega arith) agree-at stands-set (cut t) (cut t′) (λ l lk d. kept l d)
+          refuted-stand P k at lo hi v (cells w) (masks s) A (stood .low) (omega arith) agree-at stands-set (conflict t) (conflict t′) (λ l lk d. kept l d)
           (λ p kp pa d l lk h. taken p l kp pa d (sym (ap (λ (m : Mask). m l) (masks-below t p (omega arith))) ∙ searched .masked p l
           (let c : k ≤ at = stood .low in omega arith) h))
           (searched .failed e);
@@ -516,13 +522,13 @@ module _ (P : Problem) (kinds splits codes : List ℕ) (side : ℕ) (F : Fits P 
         wider : Grown (k + 2) lo hi (cells w) (cells u)
         wider = grown-wider (at + 2) (k + 2) lo hi lo hi (cells w) (cells u) (omega arith) (omega arith) (omega arith) (searched .grown)
 
-        kept : (l : ℕ) → cut t l ≡ true → cut t′ l ≡ true
-        kept l d = excused .grown .keeps l d
+        kept : (l : ℕ) → conflict t l ≡ true → conflict t′ l ≡ true
+        kept l d = resolved .grown .keeps l d
 
-        taken : (p l : ℕ) → k ≤ p → p < at → cut t p ≡ true → set-at t p l ≡ true → cut t′ l ≡ true
-        taken p l kp pa d h = excused .takes p kp pa d l h
+        taken : (p l : ℕ) → k ≤ p → p < at → conflict t p ≡ true → set-at t p l ≡ true → conflict t′ l ≡ true
+        taken p l kp pa d h = resolved .takes p kp pa d l h
 
-    -- a success needs no excuse
+    -- a success needs no resolution
     pub stood-won : (u t : List ℕ) → Searched P at lo hi (cells w .value lo) w u s t true → Searched P k lo hi v w u s t true
     stood-won u t searched = record {
       grown = wider;

@@ -1,4 +1,4 @@
--- A row is lost if each term that is open there has a true own literal. Assumes nothing.
+-- A row is satisfied if each term that is open there has a true own literal. Assumes nothing.
 use Prim.Native.Nat.{ℕ, _+_, _≤_, _<_}
 use mathlib.Core.Path.{_≡_, refl, sym, _∙_, subst}
 use mathlib.Core.Logic.{_⊎_, inl, inr, ⊎-elim}
@@ -22,9 +22,10 @@ use Rattle.engine.specs.Private.TermTables.{others, is-open, name-of}
 use Rattle.engine.specs.Private.Terms.{own, GivenTrue}
 use Rattle.engine.proofs.search.ClauseLaws.{some-here, some-later}
 use Rattle.engine.proofs.search.OpenLaws.{row-covered}
-use Rattle.engine.specs.Private.Live.{IsGiven, IsOwn, TakenIn, TrueBy, RowKnown, RowLost, OwnMet, TermMet, TermPassed, TermsMet, OwnTrue, TakesIn}
-use Rattle.engine.specs.Private.Live.{RowTold, RowLooked}
-use Rattle.engine.proofs.search.LiveRows.{coded-every, every-some-with, known-coded, dead-lost, lost-before}
+use Rattle.engine.specs.Private.Satisfied.{IsGiven, IsOwn, TakenIn, TrueBy, RowKnown, RowSatisfied}
+use Rattle.engine.specs.Private.Satisfied.{OwnMet, TermMet, TermPassed, TermsMet, OwnTrue, TakesIn}
+use Rattle.engine.specs.Private.Satisfied.{RowTold, RowLooked}
+use Rattle.engine.proofs.search.SatisfiedRows.{coded-every, every-some-with, known-coded, all-satisfied-row, row-satisfied-before}
 
 -- ---- one literal
 
@@ -187,7 +188,7 @@ pub row-told : (kinds codes opened w : List ℕ) (i : ℕ) (s t u : List ℕ) {r
     RowTold kinds codes opened w i s u true
 row-told kinds codes opened w i s t u emptied met e = record {
   kept = kept-trans emptied (kept-grown (omega arith) (met .grown));
-  dead = λ yes-true. lost-before kinds codes opened w i s t u emptied
+  satisfied = λ yes-true. row-satisfied-before kinds codes opened w i s t u emptied
       (every-true kinds codes opened w i t u (subst (λ (b : Bool). TermsMet kinds codes opened w i t u b) e met));
 }
 
@@ -199,6 +200,6 @@ row-read kinds codes opened w i s t u x emptied met looked =
     let before : SetsKept s u = kept-trans emptied (kept-grown (omega arith) (met .grown)) in
     record {
       kept = kept-trans before (looked .kept);
-      dead = λ e. lost-before kinds codes opened w i s u x before
-          (dead-lost kinds codes opened w i u x (looked .dead e));
+      satisfied = λ e. row-satisfied-before kinds codes opened w i s u x before
+          (all-satisfied-row kinds codes opened w i u x (looked .satisfied e));
     }

@@ -37,7 +37,7 @@ use Rattle.search_cells.specs.Private.Changes.{Filled, FirstDifference}
 use Rattle.codes.specs.Private.Clauses.{Coded, code-true, code-clauses, code-goal, Encoded}
 use Rattle.search_order.specs.Private.Sorted.{up-to, Sorted}
 use Rattle.engine.specs.Private.Prepared.{LastLeads}
-use Rattle.engine.specs.Private.Memory.{said, Remembered, Reads}
+use Rattle.engine.specs.Private.FirstBlock.{said, Remembered, Reads}
 use Rattle.engine.specs.Private.Steps.{Fits, FromStart}
 use Rattle.engine.specs.Private.Whole.{side-kind}
 use Rattle.search_numbering.specs.Private.Wants.{WantsFilled}
@@ -78,15 +78,15 @@ goal-of-codes (suc s) literals codes h f = ap not (h f)
 
 -- ---- the problem of a search
 
-module _ (kinds : List ℕ) (literals : List ℤ) (preferences rows place all splits codes : List ℕ) (side count m : ℕ) (side-fits : side ≤ 1)
+module _ (kinds : List ℕ) (literals : List ℤ) (preferences rows place all differences codes : List ℕ) (side count m : ℕ) (side-fits : side ≤ 1)
     (accepted : Accepted kinds literals)
     (inside : count ≤ room rows) (some-row : 0 < count)
     (sorted : Sorted rows count m place)
     (others-fit : (k : ℕ) → k < length kinds → getD (owned kinds side) k false ≡ false → others-before (owned kinds side) k < m)
-    (encoded : Encoded literals codes) (placed : length place ≡ count) (split : length splits ≡ count)
+    (encoded : Encoded literals codes) (placed : length place ≡ count) (split : length differences ≡ count)
     (z w w2 : List ℕ) (filled : Filled kinds rows place side z w) (empty : (i j : ℕ) → cells z .level i j ≡ 0)
-    (differences : (i : ℕ) → i + 1 < count → FirstDifference kinds side w i (getD splits (i + 1) 0))
-    (wanting : WantsFilled kinds preferences place all side w w2) (same-splits : (i : ℕ) → i < count → getD all i 0 ≡ getD splits i 0) where
+    (compared : (i : ℕ) → i + 1 < count → FirstDifference kinds side w i (getD differences (i + 1) 0))
+    (wanting : WantsFilled kinds preferences place all side w w2) (same-differences : (i : ℕ) → i < count → getD all i 0 ≡ getD differences i 0) where
   abbrev row : ℕ → ℕ
   row = sorted .row
 
@@ -146,33 +146,33 @@ module _ (kinds : List ℕ) (literals : List ℤ) (preferences rows place all sp
       ap (λ (x : ℕ). cells w .level x k) (sym (sorted .place-of-row i lt))
       ∙ filled .there (row i) k (subst (λ (x : ℕ). row i < x) (sym placed) (sorted .row-below i lt)) lk (sym (own-is k) ∙ o) .0
 
-  differ-at : (i k : ℕ) → i + 1 < length splits → k ≤ length kinds → (k ≤ getD splits (i + 1) 0) ↔ Agree P i (i + 1) k
+  differ-at : (i k : ℕ) → i + 1 < length differences → k ≤ length kinds → (k ≤ getD differences (i + 1) 0) ↔ Agree P i (i + 1) k
   differ-at i k lt lk = (forth, back)
     where
       next : i + 1 < count
       next = omega arith
 
-      D : FirstDifference kinds side w i (getD splits (i + 1) 0)
-      D = differences i (omega arith)
+      D : FirstDifference kinds side w i (getD differences (i + 1) 0)
+      D = compared i (omega arith)
 
-      forth : k ≤ getD splits (i + 1) 0 → Agree P i (i + 1) k
+      forth : k ≤ getD differences (i + 1) 0 → Agree P i (i + 1) k
       forth h l ll o =
           given-value i l (omega arith) (omega arith) o
           ∙ D .same l (omega arith) (sym (own-is l) ∙ o)
           ∙ sym (given-value (i + 1) l (omega arith) (omega arith) o)
 
-      back : Agree P i (i + 1) k → k ≤ getD splits (i + 1) 0
-      back a = go (decLt (getD splits (i + 1) 0) k)
+      back : Agree P i (i + 1) k → k ≤ getD differences (i + 1) 0
+      back a = go (decLt (getD differences (i + 1) 0) k)
         where
-          go : Dec (getD splits (i + 1) 0 < k) → k ≤ getD splits (i + 1) 0
+          go : Dec (getD differences (i + 1) 0 < k) → k ≤ getD differences (i + 1) 0
           go (no n) = omega arith
           go (yes h) =
-              let o : P .own (getD splits (i + 1) 0) ≡ false = own-is (getD splits (i + 1) 0) ∙ D .other (omega arith) in
+              let o : P .own (getD differences (i + 1) 0) ≡ false = own-is (getD differences (i + 1) 0) ∙ D .other (omega arith) in
               absurd
               (D .unlike (omega arith)
-              (sym (given-value i (getD splits (i + 1) 0) (omega arith) (omega arith) o)
-              ∙ a (getD splits (i + 1) 0) h o
-              ∙ given-value (i + 1) (getD splits (i + 1) 0) (omega arith) (omega arith) o))
+              (sym (given-value i (getD differences (i + 1) 0) (omega arith) (omega arith) o)
+              ∙ a (getD differences (i + 1) 0) h o
+              ∙ given-value (i + 1) (getD differences (i + 1) 0) (omega arith) (omega arith) o))
 
   same-restriction : (i h k : ℕ) → Agree P i h k →
       restriction (flags (side-kind side) (prefix kinds)) k (getD lent (row i) []) ≡ restriction (flags (side-kind side) (prefix kinds)) k
@@ -191,13 +191,13 @@ module _ (kinds : List ℕ) (literals : List ℤ) (preferences rows place all sp
   in-order : (i h : ℕ) → i ≤ h → h < count → up-to (getD lent (row i) []) (getD lent (row h) []) ≡ true
   in-order i h le lt = ap₂ up-to (lent-row i (omega arith)) (lent-row h lt) ∙ sorted .in-order i h le lt
 
-  together-at : (i h g k : ℕ) → i ≤ h → h ≤ g → g < length splits → k ≤ length kinds → Agree P i g k → Agree P i h k
+  together-at : (i h g k : ℕ) → i ≤ h → h ≤ g → g < length differences → k ≤ length kinds → Agree P i g k → Agree P i h k
   together-at i h g k ih hg lt lk a =
       same-agree i h k lk
       (sandwich (flags (side-kind side) (prefix kinds)) k (getD lent (row i) []) (getD lent (row h) []) (getD lent (row g) []) (in-order i h ih (omega arith))
       (in-order h g hg (omega arith)) (same-restriction i g k a))
 
-  fits : Fits P kinds splits codes side
+  fits : Fits P kinds differences codes side
   unfolding problem
   fits = record {
     unknowns = known;
@@ -223,8 +223,8 @@ module _ (kinds : List ℕ) (literals : List ℤ) (preferences rows place all sp
       short : k ≤ length kinds
       short = let e : length (owned kinds side) ≡ length kinds = length-owned kinds side in omega arith
 
-      here : getD all (i + 1) 0 ≡ getD splits (i + 1) 0
-      here = same-splits (i + 1) (omega arith)
+      here : getD all (i + 1) 0 ≡ getD differences (i + 1) 0
+      here = same-differences (i + 1) (omega arith)
 
   placed-rows : Placed (owned kinds side) lent place all row
   placed-rows = record {
@@ -265,25 +265,25 @@ module _ (kinds : List ℕ) (literals : List ℤ) (preferences rows place all sp
       kept (no a) b o = filled .unplaced i j (λ r lr e. a (subst (λ (x : ℕ). x < count) (sym e) (sorted .place-below r (omega (arith, placed))))) .0
 
   -- what is known of the first block holds of the problem
-  module _ (own-rows : List ℕ) (known-rows : ℕ) (memory : List ℕ) (reads : Reads kinds own-rows known-rows side memory (length memory))
+  module _ (own-rows : List ℕ) (known-rows : ℕ) (block : List ℕ) (reads : Reads kinds own-rows known-rows side block (length block))
       (leads : LastLeads kinds literals preferences own-rows known-rows (side-kind side) lent) where
     abbrev known-row : Row
     known-row = row-of (unknowns (side-kind side) (prefix kinds)) (row-at own-rows (known-rows - 1))
 
-    own-there : (k : ℕ) → k < length memory → P .own k ≡ true
+    own-there : (k : ℕ) → k < length block → P .own k ≡ true
     own-there k lt = own-is k ∙ owned-at kinds side k (omega (arith, reads .inside)) ∙ eq-eqb (getD kinds k 0) side (reads .of-side k lt)
 
-    own-up-to : (k : ℕ) → k < length memory → (j : ℕ) → j ≤ k → P .own j ≡ true
+    own-up-to : (k : ℕ) → k < length block → (j : ℕ) → j ≤ k → P .own j ≡ true
     own-up-to k lt j le = own-there j (omega arith)
 
-    known-value : (k : ℕ) → k < length memory → getD known-row k false ≡ said memory k
+    known-value : (k : ℕ) → k < length block → getD known-row k false ≡ said block k
     unfolding problem
     known-value k lt =
         getD-row-of (unknowns (side-kind side) (prefix kinds)) (row-at own-rows (known-rows - 1)) k
         (counted-in-block (side-kind side) (prefix kinds) k (own-up-to k lt))
         ∙ sym (reads .values k lt)
 
-    remembered : Remembered P memory
+    remembered : Remembered P block
     remembered = record {
       inside = omega (arith, known, reads .inside);
       own = own-there;
@@ -297,14 +297,14 @@ module _ (kinds : List ℕ) (literals : List ℤ) (preferences rows place all sp
     }
 
     -- what the search returns is what the definition gives
-    pub searched-none : (u : List ℕ) → FromStart kinds splits codes memory side w2 u false →
+    pub searched-none : (u : List ℕ) → FromStart kinds differences codes block side w2 u false →
         search (prefer preferences) (side-kind side) (prefix kinds) (matrix (clauses literals)) lent ≡ none
     searched-none u from =
         let refuted : (D : Mask) × Refuted P 0 (λ j. false) D 0 = from P fits wants-right filled-right open-right remembered .1 refl (λ j. false) in
         refuted-is-none (prefer preferences) (side-kind side) (prefix kinds) (clauses literals) lent row (λ r. getD place r 0) named places (λ j. false)
         (refuted .0) (subst (λ (x : ℕ). 0 < x) (sym (length-rows-of m count rows)) some-row) (refuted .1)
 
-    pub searched-some : (u : List ℕ) → FromStart kinds splits codes memory side w2 u true →
+    pub searched-some : (u : List ℕ) → FromStart kinds differences codes block side w2 u true →
         search (prefer preferences) (side-kind side) (prefix kinds) (matrix (clauses literals)) lent ≡ some
         (tabulate count (λ r. part (owned kinds side) (tabulate (length kinds) (cells u .value (getD place r 0)))))
     unfolding problem

@@ -31,7 +31,7 @@ use Rattle.search_cells.proofs.FillLaws.{rows-are-filled}
 use Rattle.search_cells.proofs.PackLaws.{packed-inside}
 use Rattle.engine.specs.Private.Steps.{Tabled, FromStart}
 use Rattle.engine.specs.Private.Prepared.{LastLeads}
-use Rattle.engine.specs.Private.Whole.{side-kind, TablesOf, Ready, Arranged, Decided, OverPlaces, FoundIs}
+use Rattle.engine.specs.Private.Whole.{side-kind, TablesOf, Ready, Arranged, OverCells, OverPlaces, FoundIs}
 use Rattle.search_cells.proofs.OwnedLaws.{length-owned}
 use Rattle.engine.proofs.search.CallLaws.{zero-at}
 use Rattle.engine.proofs.search.TopLaws.{searched-none, searched-some}
@@ -141,7 +141,7 @@ module _ (kinds : List ℕ) (literals : List ℤ) (preferences rows : List ℕ) 
       (cleared : z ≡ replicate (length w₀) 0) (r : Bool) (over : OverPlaces kinds codes index terms preferences own-rows known-rows rows (take lent place) side
       z x r) (of : TablesOf kinds literals codes index terms)
       (leads : LastLeads kinds literals preferences own-rows known-rows (side-kind side) (rows-of others lent rows)) where
-    abbrev decided : Decided kinds codes index terms preferences own-rows known-rows (take lent place) side (rows-filled kinds rows (take lent place) side z)
+    abbrev decided : OverCells kinds codes index terms preferences own-rows known-rows (take lent place) side (rows-filled kinds rows (take lent place) side z)
         (over .searched) r
     decided = over .decided
 
@@ -173,13 +173,13 @@ module _ (kinds : List ℕ) (literals : List ℤ) (preferences rows : List ℕ) 
         let c : others ≡ count (other (side-kind side)) (prefix kinds) = ready .others-known in
         omega arith
 
-    same-splits : (i : ℕ) → i < lent → getD (decided .all) i 0 ≡ getD (take (length (take lent place)) (decided .all)) i 0
-    same-splits i lt = sym (getD-take (length (take lent place)) (decided .all) i 0 (let q : length (take lent place) ≡ lent = placed in omega arith))
+    same-differences : (i : ℕ) → i < lent → getD (decided .all) i 0 ≡ getD (take (length (take lent place)) (decided .all)) i 0
+    same-differences i lt = sym (getD-take (length (take lent place)) (decided .all) i 0 (let q : length (take lent place) ≡ lent = placed in omega arith))
 
-    differences : (i : ℕ) → i + 1 < lent → FirstDifference kinds side w i (getD (take (length (take lent place)) (decided .all)) (i + 1) 0)
-    differences i lt =
-        subst (λ (x : ℕ). FirstDifference kinds side w i x) (same-splits (i + 1) lt)
-        (decided .differences i (let q : length (take lent place) ≡ lent = placed in omega arith))
+    compared : (i : ℕ) → i + 1 < lent → FirstDifference kinds side w i (getD (take (length (take lent place)) (decided .all)) (i + 1) 0)
+    compared i lt =
+        subst (λ (x : ℕ). FirstDifference kinds side w i x) (same-differences (i + 1) lt)
+        (decided .compared i (let q : length (take lent place) ≡ lent = placed in omega arith))
 
     split-length : length (take (length (take lent place)) (decided .all)) ≡ lent
     split-length = length-take-le (length (take lent place)) (decided .all) (decided .long) ∙ placed
@@ -192,9 +192,9 @@ module _ (kinds : List ℕ) (literals : List ℤ) (preferences rows : List ℕ) 
         subst (λ (o : Option (List Row)). FoundIs o false x)
         (sym (searched-none kinds literals preferences rows (take lent place) (decided .all) (take (length (take lent place)) (decided .all)) codes side lent
         others (ready .side-fits) (of .accepted) (ready .inside) some-row (sorted-take rows lent others place sorted) others-fit (of .encoded) placed
-        split-length z w (decided .wanting-area) filled (cleared-levels w₀ z cleared) differences (decided .wanting) same-splits own-rows known-rows
-        (decided .memory) (decided .reads) leads u
-        (subst (λ (b : Bool). FromStart kinds (take (length (take lent place)) (decided .all)) codes (decided .memory) side (decided .wanting-area) u b) e
+        split-length z w (decided .wanting-area) filled (cleared-levels w₀ z cleared) compared (decided .wanting) same-differences own-rows known-rows
+        (decided .block) (decided .reads) leads u
+        (subst (λ (b : Bool). FromStart kinds (take (length (take lent place)) (decided .all)) codes (decided .block) side (decided .wanting-area) u b) e
         (decided .from tabled))))
         (refl, h ∙ ap (λ (n : ℕ). replicate n 0) (ready .area))
 
@@ -206,9 +206,9 @@ module _ (kinds : List ℕ) (literals : List ℤ) (preferences rows : List ℕ) 
         subst (λ (o : Option (List Row)). FoundIs o true x)
         (sym (searched-some kinds literals preferences rows (take lent place) (decided .all) (take (length (take lent place)) (decided .all)) codes side lent
         others (ready .side-fits) (of .accepted) (ready .inside) some-row (sorted-take rows lent others place sorted) others-fit (of .encoded) placed
-        split-length z w (decided .wanting-area) filled (cleared-levels w₀ z cleared) differences (decided .wanting) same-splits own-rows known-rows
-        (decided .memory) (decided .reads) leads u
-        (subst (λ (b : Bool). FromStart kinds (take (length (take lent place)) (decided .all)) codes (decided .memory) side (decided .wanting-area) u b) e
+        split-length z w (decided .wanting-area) filled (cleared-levels w₀ z cleared) compared (decided .wanting) same-differences own-rows known-rows
+        (decided .block) (decided .reads) leads u
+        (subst (λ (b : Bool). FromStart kinds (take (length (take lent place)) (decided .all)) codes (decided .block) side (decided .wanting-area) u b) e
         (decided .from tabled)))) (
           refl,
           h ∙ ap (λ (n : ℕ). table-of (yields n) ++ replicate (work-size - 16 * n) 0) placed ∙ ap

@@ -66,7 +66,7 @@ pub record Moved (codes w s : List ℕ) (i : ℕ) (a o : List ℕ) (r : Bool) : 
 pub record Moves (codes a b o q : List ℕ) (r : Bool) : Type 0 where
   pub on : (w s : List ℕ) (i : ℕ) → Coded max-unknowns codes → Held codes w s i a o → Moved codes w s i b q r
 
--- A step for row i, after an answer: a decision, or after a failure the other value of one.
+-- A step for row i, after an answer: a decision, or after a conflict the other value of one.
 pub record StepsOn (codes w : List ℕ) (i : ℕ) (a b o q : List ℕ) (going r : Bool) : Type 0 where
   pub on : (s : List ℕ) → Coded max-unknowns codes → Moved codes w s i a o going → Moved codes w s i b q r
 

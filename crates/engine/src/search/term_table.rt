@@ -1,5 +1,5 @@
 // The universal side's clauses by their own literals, the universal ones. Clauses with the same own literals are one term; a term is open in
-// a row if one of its clauses has no literal that the row's given values make true. The row is lost if every open term has a true own literal.
+// a row if one of its clauses has no literal that the row's given values make true. The row is satisfied if every open term has a true own literal.
 // The terms are listed once a formula, the open rows are found once a search, 64 rows at a time.
 // Every public function is total. Which term a clause gets is a hint: `list` tests it before anything rests on it.
 use codes::LAST_CODE;
@@ -63,7 +63,7 @@ pub(crate) fn list(kinds: &[u8], codes: &[u16], terms: &mut [u16])
         return;
     }
     classify(kinds, codes, terms);
-    settle(kinds, codes, terms);
+    enter_clauses(kinds, codes, terms);
 }
 
 // Finds the rows below the count in which each term is open.
@@ -235,7 +235,7 @@ fn is_own(kinds: &[u8], c: usize) -> bool
 
 // Lists every clause's start, and its term if the clause that stands for it shows that. An empty clause among the others stands for those
 // that there is no room for.
-fn settle(kinds: &[u8], codes: &[u16], terms: &mut [u16])
+fn enter_clauses(kinds: &[u8], codes: &[u16], terms: &mut [u16])
     requires { ⌜ (length (now terms) ≡ table-size) × (length (now codes) ≤ max-entries) ⌝ }
     ensures { λ _. ⌜ Listed (now (kinds .entry)) (now (codes .entry)) (now (terms .exit)) ⌝ }
 {
@@ -373,7 +373,7 @@ fn fill(
     let mut w = 0;
     while 64 * w < count {
         let all = look(kinds, work, misses, w, count);
-        visit(codes, terms, misses, opened, w, all);
+        fill_word(codes, terms, misses, opened, w, all);
         w += 1;
     }
 }
@@ -422,7 +422,7 @@ fn column(kind: u8, work: &[u8], k: usize, from: usize, rows: usize) -> Values
 }
 
 // Every listed clause in the rows of word w.
-fn visit(codes: &[u16], terms: &[u16], misses: &[u64], opened: &mut [u64], w: usize, all: u64)
+fn fill_word(codes: &[u16], terms: &[u16], misses: &[u64], opened: &mut [u64], w: usize, all: u64)
     requires { ⌜ (length (now terms) ≡ table-size) × (length (now misses) ≡ last-code + 1) × (length (now opened) ≡ open-size) × (w < row-words) ⌝ }
     ensures { λ _. ⌜ WordFilled (now (codes .entry)) (now (terms .entry)) (now (misses .entry)) w all (now (opened .entry)) (now (opened .exit)) ⌝ }
 {

@@ -44,7 +44,7 @@ same-length : tie.Need-same-length
 same-length c = search needs
 
 returns : tie.Need-returns
-returns c = rw (c .bit .ensures) (with-cell-stored (c .before .before .before .args .i) (c .before .before .before .args .k) (c .before .before .before .args .mark) (c .before .before .before .args .value) (c .before .before .before .args .work .now) (omega arith) (omega arith))
+returns c = rw (c .bit .ensures) (with-cell-stored (c .before .before .before .args .i) (c .before .before .before .args .k) (c .before .before .before .args .level) (c .before .before .before .args .value) (c .before .before .before .args .work .now) (omega arith) (omega arith))
 
 pub set-spec : {M : Type 1} → statement M
 set-spec =

@@ -14,10 +14,10 @@ use Rattle.search_groups.proofs.copy_end.Statement.{statement}
 use Rattle.search_groups.proofs.copy_end.Tie as tie
 
 abbrev Inv-loop : tie.InvT-loop
-Inv-loop splits k i hi to₀ to = (to ≤ hi) × (copy-end splits k i hi ≡ first-from (differ-before splits k) to (hi - to))
+Inv-loop differences k i hi to₀ to = (to ≤ hi) × (copy-end differences k i hi ≡ first-from (differ-before differences k) to (hi - to))
 
 abbrev μ-loop : tie.MeasureT-loop
-μ-loop splits k i hi to₀ to = hi - to
+μ-loop differences k i hi to₀ to = hi - to
 
 returns : tie.Need-returns Inv-loop μ-loop
 returns c = copy-end-none _ _ _ _ (λ low high. omega arith)
@@ -43,7 +43,7 @@ returns-3 c =
     let to = c .before .before .before .loop .to in
     sym
     (c .before .before .before .loop .inv .1
-    ∙ first-from-step (differ-before (given .splits .now) (given .k)) to (given .hi) true (omega arith) (lt-ltb (getD (given .splits .now) to 0) (given .k) (omega arith)))
+    ∙ first-from-step (differ-before (given .differences .now) (given .k)) to (given .hi) true (omega arith) (lt-ltb (getD (given .differences .now) to 0) (given .k) (omega arith)))
 
 add-to-2 : tie.Need-add-to-2 Inv-loop μ-loop
 add-to-2 c = omega arith
@@ -57,14 +57,14 @@ loop-again c =
     let to = c .before .before .before .loop .to in (
       omega arith,
       c .before .before .before .loop .inv .1
-          ∙ first-from-step (differ-before (given .splits .now) (given .k)) to (given .hi) false (omega arith) (le-ltb (getD (given .splits .now) to 0) (given .k) (omega arith)),
+          ∙ first-from-step (differ-before (given .differences .now) (given .k)) to (given .hi) false (omega arith) (le-ltb (getD (given .differences .now) to 0) (given .k) (omega arith)),
     )
 
 returns-4 : tie.Need-returns-4 Inv-loop μ-loop
 returns-4 c =
     let given = c .before .before .before .before .args in
     sym
-    (c .before .loop .inv .1 ∙ first-from-end (differ-before (given .splits .now) (given .k)) (c .before .loop .to) (given .hi) (omega arith))
+    (c .before .loop .inv .1 ∙ first-from-end (differ-before (given .differences .now) (given .k)) (c .before .loop .to) (given .hi) (omega arith))
 
 pub copy-end-spec : {M : Type 1} → statement M
 copy-end-spec =

@@ -12,12 +12,12 @@ is-sized-requires c κs = search needs
 returns : tie.Need-returns
 returns c =
     let a = c .before .before .before .before .before .before .before .args in
-    filled-unsized (a .kinds .now) (a .preferences .now) (a .place .now) (a .splits .now) (a .side) (a .work .now) (sym (c .before .is-sized .ensures) ∙ c .if1 .left)
+    filled-unsized (a .kinds .now) (a .preferences .now) (a .place .now) (a .differences .now) (a .side) (a .work .now) (sym (c .before .is-sized .ensures) ∙ c .if1 .left)
 
 fill-positions-requires : tie.Need-fill-positions-requires
 fill-positions-requires c κs =
     let a = c .before .before .before .before .before .before .before .before .args in
-    sized-bounds (length (a .kinds .now)) (length (a .place .now)) (length (a .splits .now)) (length (a .work .now)) (sym (c .before .before .is-sized .ensures) ∙ c .before .if1 .taken)
+    sized-bounds (length (a .kinds .now)) (length (a .place .now)) (length (a .differences .now)) (length (a .work .now)) (sym (c .before .before .is-sized .ensures) ∙ c .before .if1 .taken)
 
 same-length : tie.Need-same-length
 same-length c = search needs
@@ -25,7 +25,7 @@ same-length c = search needs
 returns-2 : tie.Need-returns-2
 returns-2 c =
     let a = c .before .before .before .before .before .before .before .before .before .before .before .args in
-    filled-sized (a .kinds .now) (a .preferences .now) (a .place .now) (a .splits .now) (a .side) (a .work .now) (sym (c .before .before .before .before .before .is-sized .ensures) ∙ c .before .before .before .before .if1 .taken)
+    filled-sized (a .kinds .now) (a .preferences .now) (a .place .now) (a .differences .now) (a .side) (a .work .now) (sym (c .before .before .before .before .before .is-sized .ensures) ∙ c .before .before .before .before .if1 .taken)
     (c .before .before .fill-positions .last .1 .1 .1 .1 .1 .0) (c .before .before .fill-positions .ensures)
 
 pub fill-spec : {M : Type 1} → statement M

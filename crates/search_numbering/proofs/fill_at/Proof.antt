@@ -40,8 +40,8 @@ returns c =
     let a = c .before .before .before .before .before .before .before .before .before .before .before .before .before .before .before .before .before .args in
     let grouped = c .before .before .before .before .before .before .before .before .before .before .before .group in
     let numbered = c .before .before .before .before .before .before .before .number-copies in
-    let behind = number-behind (a .preferences .now) (a .place .now) (a .splits .now) (a .k) (a .number) (grouped .last .1 .1 .1 .0) (numbered .last .1 .1 .1 .1 .0) (numbered .result) (grouped .ensures) (numbered .ensures) in
-    let fill = notes-fill (a .preferences .now) (a .place .now) (a .splits .now) (a .k) (a .number) (grouped .last .1 .1 .1 .0) (numbered .last .1 .1 .1 .1 .0) (numbered .result) (grouped .ensures) (numbered .ensures) in
+    let behind = number-behind (a .preferences .now) (a .place .now) (a .differences .now) (a .k) (a .number) (grouped .last .1 .1 .1 .0) (numbered .last .1 .1 .1 .1 .0) (numbered .result) (grouped .ensures) (numbered .ensures) in
+    let fill = notes-fill (a .preferences .now) (a .place .now) (a .differences .now) (a .k) (a .number) (grouped .last .1 .1 .1 .0) (numbered .last .1 .1 .1 .1 .0) (numbered .result) (grouped .ensures) (numbered .ensures) in
     (behind, fill (a .work .now) (c .before .before .write .last .1 .1 .1 .1 .0) (c .before .before .write .ensures))
 
 pub fill-at-spec : {M : Type 1} → statement M

@@ -13,10 +13,10 @@ use Rattle.search_numbering.proofs.fill_positions.Statement.{statement}
 use Rattle.search_numbering.proofs.fill_positions.Tie as tie
 
 abbrev Inv-loop : tie.InvT-loop
-Inv-loop kinds preferences place splits side work₀ number₀ k₀ work number k = (k ≤ length kinds) × (length work ≡ work-size) × (number ≤ max-rows * k) × (filled-from preferences place splits side (drop k kinds) k number work ≡ filled-from preferences place splits side kinds 0 0 work₀)
+Inv-loop kinds preferences place differences side work₀ number₀ k₀ work number k = (k ≤ length kinds) × (length work ≡ work-size) × (number ≤ max-rows * k) × (filled-from preferences place differences side (drop k kinds) k number work ≡ filled-from preferences place differences side kinds 0 0 work₀)
 
 abbrev μ-loop : tie.MeasureT-loop
-μ-loop kinds preferences place splits side work₀ number₀ k₀ work number k = length kinds - k
+μ-loop kinds preferences place differences side work₀ number₀ k₀ work number k = length kinds - k
 
 loop-holds : tie.Need-loop-holds Inv-loop μ-loop
 loop-holds c = (omega arith, omega arith, omega arith, refl)
@@ -39,10 +39,10 @@ loop-again c =
     let l = c .before .before .before .loop in
     ⊎-elim
     (λ t.
-    let turn = filled-own (a .kinds .now) (a .preferences .now) (a .place .now) (a .splits .now) (a .side) (l .k) (l .number) (l .work) (omega arith) (t .0 .taken) in
-    (omega arith, omega (arith, ap length (t .5)), omega (arith, t .2 .ensures .0, copies-at-most (a .splits .now) (a .place .now) (l .k), c .before .before .before .before .before .before .before .before .before .pre), rw (t .5, t .6, t .2 .ensures .0, t .2 .ensures .1) (sym turn ∙ l .inv .3)))
+    let turn = filled-own (a .kinds .now) (a .preferences .now) (a .place .now) (a .differences .now) (a .side) (l .k) (l .number) (l .work) (omega arith) (t .0 .taken) in
+    (omega arith, omega (arith, ap length (t .5)), omega (arith, t .2 .ensures .0, copies-at-most (a .differences .now) (a .place .now) (l .k), c .before .before .before .before .before .before .before .before .before .pre), rw (t .5, t .6, t .2 .ensures .0, t .2 .ensures .1) (sym turn ∙ l .inv .3)))
     (λ t.
-    let turn = filled-other (a .kinds .now) (a .preferences .now) (a .place .now) (a .splits .now) (a .side) (l .k) (l .number) (l .work) (omega arith) (t .0 .left) in
+    let turn = filled-other (a .kinds .now) (a .preferences .now) (a .place .now) (a .differences .now) (a .side) (l .k) (l .number) (l .work) (omega arith) (t .0 .left) in
     (omega arith, omega (arith, ap length (t .1)), omega arith, rw (t .1, t .2) (sym turn ∙ l .inv .3)))
     (c .if1 .came)
 

@@ -18,7 +18,7 @@ use Rattle.engine.specs.Private.Growing.{Ready}
 use Rattle.engine.specs.Private.Counting.{CountsShow}
 use Rattle.engine.proofs.run.LoopLaws.{Going, fresh-going, number-in-marks, run-stopped, run-stopped-back, round-made, run-spent}
 use Rattle.engine.proofs.run.RoundCounts.{fresh-counts, counts-stopped, counts-stopped-back, counts-made, counts-spent}
-use Rattle.engine.proofs.run.MemoryLaws.{known-S, known-A}
+use Rattle.engine.proofs.run.FirstBlockLaws.{known-S, known-A}
 use Rattle.engine.proofs.run.rounds.Statement.{statement}
 use Rattle.engine.proofs.run.rounds.Tie as tie
 

@@ -1,4 +1,4 @@
--- `reasons::shorten` meets its contract: the set at CUT stays, or is that of a reason. Assumes nothing.
+-- `reasons::shorten` meets its contract: the set at CONFLICT stays, or is that of a reason. Assumes nothing.
 use Rattle.engine.proofs.search.ReasonLaws.{shortened-none, shortened-new}
 use Rattle.engine.proofs.search.HeldSteps.{same-trans}
 use native.Mathlib.Omega.{arith}
@@ -52,7 +52,7 @@ returns : tie.Need-returns
 returns c =
     let is-due-call = c .before .before .before .is-due in
     let given = (back-to-start c) .args in
-    shortened-none (given .codes .now) (given .work .now) (given .i) (given .mark) (given .sets .now) (is-due-call .last .0) (is-due-call .ensures)
+    shortened-none (given .codes .now) (given .work .now) (given .i) (given .level) (given .sets .now) (is-due-call .last .0) (is-due-call .ensures)
 
 slice-read-allowed : tie.Need-slice-read-allowed
 slice-read-allowed c = omega arith
@@ -84,7 +84,7 @@ same-length-2 c = omega arith
 returns-2 : tie.Need-returns-2
 returns-2 c =
     shortened-new ((back-to-start-3 c) .args .codes .now) ((back-to-start-3 c) .args .work .now) ((back-to-start-3 c) .args .i)
-    ((back-to-start-3 c) .args .mark) ((back-to-depth c) .depth .result) _ _ _ ((back-to-start-3 c) .args .sets .now)
+    ((back-to-start-3 c) .args .level) ((back-to-depth c) .depth .result) _ _ _ ((back-to-start-3 c) .args .sets .now)
     ((back-to-is-due-2 c) .is-due .last .0) ((back-to-note c) .note .last .0) (c .before .before .before .before .before .before .empty .last .0)
     (c .before .before .unite-words .last .0)
     ((back-to-is-due-2 c) .is-due .ensures) ((back-to-note c) .note .ensures) (omega arith) (omega arith) ((back-to-depth c) .depth .ensures)
@@ -98,7 +98,7 @@ returns-3 : tie.Need-returns-3
 returns-3 c =
     let note-call = c .before .before .before .note in
     let given = (back-to-start-2 c) .args in
-    shortened-none (given .codes .now) (given .work .now) (given .i) (given .mark) (given .sets .now) (note-call .last .0)
+    shortened-none (given .codes .now) (given .work .now) (given .i) (given .level) (given .sets .now) (note-call .last .0)
     (same-trans ((back-to-is-due c) .is-due .ensures) (note-call .ensures))
 
 pub shorten-spec : {M : Type 1} → statement M

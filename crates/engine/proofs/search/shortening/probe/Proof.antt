@@ -1,4 +1,4 @@
--- `probe` meets its contract. The invariant: what is set is held, and after a failure the set behind is denied. Assumes nothing.
+-- `probe` meets its contract. The invariant: what is set is held, and after a conflict the set behind is denied. Assumes nothing.
 use Prim.Native.Nat.{ℕ}
 use mathlib.Core.Path.{_≡_, refl}
 use lib.ListN.{length}
@@ -36,13 +36,13 @@ back-to-next at =
 
 abbrev back-to-begin : tie.After-slice-known6 Inv-loop μ-loop → tie.After-begin Inv-loop μ-loop
 back-to-begin at =
-    let after-survey-arg = at .before .before .before .before .before .before in
-    after-survey-arg .before .before .before .before .before
+    let after-propagate-all-arg = at .before .before .before .before .before .before in
+    after-propagate-all-arg .before .before .before .before .before
 
 abbrev back-to-at-loop-2 : tie.After-slice-known9 Inv-loop μ-loop → tie.At-loop Inv-loop μ-loop
 back-to-at-loop-2 at = (back-to-next at) .before .before .before .before
 
-abbrev back-to-start-2 : tie.After-survey-arg2 Inv-loop μ-loop → tie.Start Inv-loop μ-loop
+abbrev back-to-start-2 : tie.After-propagate-all-arg2 Inv-loop μ-loop → tie.Start Inv-loop μ-loop
 back-to-start-2 at =
     let after-begin = at .before .before .before .before .before .before in
     back-to-start (after-begin .before)
@@ -60,20 +60,20 @@ begin-requires c κs =
     let pre = (back-to-start c) .pre in
     (pre .0 .area, pre .0 .sets-lent, pre .0 .own-line, pre .0 .own-sets, pre .0 .row)
 
-survey-requires : tie.Need-survey-requires Inv-loop μ-loop
-survey-requires c κs =
+propagate-all-requires : tie.Need-propagate-all-requires Inv-loop μ-loop
+propagate-all-requires c κs =
     let begin-call = c .before .before .before .before .before .before .begin in
     let pre = (back-to-start-2 c) .pre in
     (pre .0 .index-lent, begin-call .kept .1 .1 .0 ∙ pre .0 .own-line, begin-call .kept .1 .1 .1 .0 ∙ pre .0 .own-sets)
 
 loop-holds : tie.Need-loop-holds Inv-loop μ-loop
 loop-holds c =
-    let survey-call = c .before .before .before .before .survey in
+    let propagate-all-call = c .before .before .before .before .propagate-all in
     let begin-call = (back-to-begin c) .begin in
     let pre = (back-to-start-3 c) .pre in (
-      survey-call .kept .1 .1 .0 ∙ begin-call .kept .1 .1 .0 ∙ pre .0 .own-line,
-      survey-call .kept .1 .1 .1 .0 ∙ begin-call .kept .1 .1 .1 .0 ∙ pre .0 .own-sets,
-      λ coded. survey-call .ensures .on _ _ _ coded (begin-call .ensures _),
+      propagate-all-call .kept .1 .1 .0 ∙ begin-call .kept .1 .1 .0 ∙ pre .0 .own-line,
+      propagate-all-call .kept .1 .1 .1 .0 ∙ begin-call .kept .1 .1 .1 .0 ∙ pre .0 .own-sets,
+      λ coded. propagate-all-call .ensures .on _ _ _ coded (begin-call .ensures _),
     )
 
 sub-left : tie.Need-sub-left Inv-loop μ-loop
@@ -135,7 +135,7 @@ probe-spec =
     Inv-loop
     μ-loop
     begin-requires
-    survey-requires
+    propagate-all-requires
     loop-holds
     sub-left
     next-requires

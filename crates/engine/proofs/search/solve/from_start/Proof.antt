@@ -7,8 +7,8 @@ use Rattle.engine.proofs.search.solve.from_start.Statement.{statement}
 use Rattle.engine.proofs.search.solve.from_start.Tie as tie
 
 -- Back along the path, to the place behind a call.
-abbrev back-to-look-around : tie.After-opened4 → tie.After-look-around
-back-to-look-around at =
+abbrev back-to-consequences-at-start : tie.After-opened4 → tie.After-consequences-at-start
+back-to-consequences-at-start at =
     let after-work = at .before .before .before .before .before .before in
     after-work .before
 
@@ -19,8 +19,8 @@ back-to-then1 at =
 
 abbrev back-to-open-terms : tie.After-sets4 → tie.After-open-terms
 back-to-open-terms at =
-    let after-look-around-arg = at .before .before .before .before .before .before in
-    after-look-around-arg .before .before .before
+    let after-consequences-at-start-arg = at .before .before .before .before .before .before in
+    after-consequences-at-start-arg .before .before .before
 
 abbrev back-to-start : tie.After-opened3 → tie.Start
 back-to-start at =
@@ -30,8 +30,8 @@ back-to-start at =
 
 abbrev back-to-open-terms-2 : tie.After-sets6 → tie.After-open-terms
 back-to-open-terms-2 at =
-    let after-look-around = back-to-look-around (at .before .before .before .before) in
-    after-look-around .before .before .before .before .before .before
+    let after-consequences-at-start = back-to-consequences-at-start (at .before .before .before .before) in
+    after-consequences-at-start .before .before .before .before .before .before
 
 abbrev back-to-start-2 : tie.After-opened4 → tie.Start
 back-to-start-2 at =
@@ -48,14 +48,14 @@ slice-aggregate-open-terms-2 c = search needs
 open-terms-requires : tie.Need-open-terms-requires
 open-terms-requires c κs = tt
 
-slice-aggregate-look-around : tie.Need-slice-aggregate-look-around
-slice-aggregate-look-around c = search needs
+slice-aggregate-consequences-at-start : tie.Need-slice-aggregate-consequences-at-start
+slice-aggregate-consequences-at-start c = search needs
 
-slice-aggregate-look-around-2 : tie.Need-slice-aggregate-look-around-2
-slice-aggregate-look-around-2 c = search needs
+slice-aggregate-consequences-at-start-2 : tie.Need-slice-aggregate-consequences-at-start-2
+slice-aggregate-consequences-at-start-2 c = search needs
 
-look-around-requires : tie.Need-look-around-requires
-look-around-requires c κs =
+consequences-at-start-requires : tie.Need-consequences-at-start-requires
+consequences-at-start-requires c κs =
     let pre = (back-to-start c) .pre in (
       record {
         rows = pre .2;
@@ -76,14 +76,15 @@ slice-aggregate-solve-2 c = search needs
 
 solve-requires : tie.Need-solve-requires
 solve-requires c κs =
-    let look-around-call = (back-to-look-around c) .look-around in
+    let consequences-at-start-call = (back-to-consequences-at-start c) .consequences-at-start in
     let pre = (back-to-start-2 c) .pre in (
       record {
         rows = pre .2;
         entries = pre .3;
         coded = pre .4;
-        area = look-around-call .kept .1 .1 .1 .0 ∙ pre .7;
-        sets-lent = look-around-call .kept .1 .1 .1 .1 .0 ∙ (back-to-open-terms (c .before .before .before .before)) .open-terms .kept .1 .1 .1 .1 .1 .1 .1 .0;
+        area = consequences-at-start-call .kept .1 .1 .1 .0 ∙ pre .7;
+        sets-lent = consequences-at-start-call .kept .1 .1 .1 .1 .0 ∙
+            (back-to-open-terms (c .before .before .before .before)) .open-terms .kept .1 .1 .1 .1 .1 .1 .1 .0;
         index-lent = pre .5;
       },
       (pre .0, pre .6, (omega arith), pre .1, (omega arith)),
@@ -97,8 +98,9 @@ returns c =
     let open-terms-call = (back-to-open-terms-2 c) .open-terms in
     let given = (back-to-start-2 (c .before .before .before .before)) .args in
     let pre = (back-to-start-2 (c .before .before .before .before)) .pre in
-    λ tabled. start-searched (given .kinds .now) (given .splits .now) (given .codes .now) _ (given .memory .now) (given .side) (let p = pre in omega arith) _ _
-    _ _ _ ((back-to-look-around (c .before .before .before .before)) .look-around .ensures (tabled .indexed))
+    λ tabled. start-searched (given .kinds .now) (given .differences .now) (given .codes .now) _ (given .block .now) (given .side)
+    (let p = pre in omega arith) _ _
+    _ _ _ ((back-to-consequences-at-start (c .before .before .before .before)) .consequences-at-start .ensures (tabled .indexed))
     (λ universal coded. open-terms-call .ensures universal (pre .0, tabled .sized universal, pre .7, pre .2, open-terms-call .kept .1 .1 .1 .1 .1 .1 .0)
     coded (tabled .told universal)) (pre .0) _ _ _ ((back-to-then1 c) .if1 .taken) (c .before .before .before .solve .ensures (tabled .indexed))
 
@@ -110,8 +112,9 @@ returns-2 c =
     let open-terms-call = (back-to-open-terms (c .before)) .open-terms in
     let given = (back-to-start (c .before .before .before .before .before)) .args in
     let pre = (back-to-start (c .before .before .before .before .before)) .pre in
-    λ tabled. start-refuted (given .kinds .now) (given .splits .now) (given .codes .now) _ (given .memory .now) (given .side) (let p = pre in omega arith) _ _ _
-    _ _ (c .before .before .before .before .look-around .ensures (tabled .indexed))
+    λ tabled. start-refuted (given .kinds .now) (given .differences .now) (given .codes .now) _ (given .block .now) (given .side)
+    (let p = pre in omega arith) _ _ _
+    _ _ (c .before .before .before .before .consequences-at-start .ensures (tabled .indexed))
     (λ universal coded. open-terms-call .ensures universal (pre .0, tabled .sized universal, pre .7, pre .2, open-terms-call .kept .1 .1 .1 .1 .1 .1 .0)
     coded (tabled .told universal)) (pre .0) (c .if1 .left)
 
@@ -122,9 +125,9 @@ from-start-spec =
     slice-aggregate-open-terms
     slice-aggregate-open-terms-2
     open-terms-requires
-    slice-aggregate-look-around
-    slice-aggregate-look-around-2
-    look-around-requires
+    slice-aggregate-consequences-at-start
+    slice-aggregate-consequences-at-start-2
+    consequences-at-start-requires
     slice-aggregate-solve
     slice-aggregate-solve-2
     solve-requires

@@ -48,8 +48,8 @@ mul-loop c = omega arith
 look-requires : tie.Need-look-requires Inv-loop μ-loop
 look-requires c κs = (omega arith, omega arith, omega arith, omega arith, omega arith)
 
-visit-requires : tie.Need-visit-requires Inv-loop μ-loop
-visit-requires c κs = (omega arith, omega arith, omega arith, omega arith)
+fill-word-requires : tie.Need-fill-word-requires Inv-loop μ-loop
+fill-word-requires c κs = (omega arith, omega arith, omega arith, omega arith)
 
 add-w : tie.Need-add-w Inv-loop μ-loop
 add-w c = omega arith
@@ -64,7 +64,7 @@ loop-again c =
       omega arith,
       omega arith,
       λ m a b coded. filled-more coded (loop .inv .3 (64 * loop .w) (omega arith) (omega arith) coded)
-          ((back-to-look c) .look .ensures) (c .before .before .visit .ensures) m a b,
+          ((back-to-look c) .look .ensures) (c .before .before .fill-word .ensures) m a b,
     )
 
 same-length : tie.Need-same-length Inv-loop μ-loop
@@ -85,7 +85,7 @@ fill-spec =
     loop-holds
     mul-loop
     look-requires
-    visit-requires
+    fill-word-requires
     add-w
     loop-less
     loop-again
