@@ -9,12 +9,14 @@
 ghost use Rattle.engine.specs.Search.{Searched};
 ghost use Rattle.engine.specs.Private.Prepared.{Prepares, SearchedOver};
 ghost use Rattle.engine.specs.Private.Whole.{Ready, Accepting, Arranged, OverCells, OverPlaces, Finds, Answered};
+use super::causes;
 use formula::Check;
 use formula::Formula;
 
 mod cell;
 mod clauses;
 mod first_block;
+mod numbers;
 mod propagation;
 mod reasons;
 mod satisfied_rows;
@@ -23,7 +25,6 @@ mod shortening;
 mod solve;
 mod tables;
 mod term_table;
-mod width;
 
 pub enum Search {
     Found,
@@ -31,10 +32,9 @@ pub enum Search {
     Refused(u32),
 }
 
-// The number of places of the index that `prepare` fills.
+// The sizes of the tables that `prepare` fills: the index, and the table of terms.
 pub(crate) const INDEX: usize = index::SIZE;
 
-// .. and of the table of terms.
 pub(crate) const TERMS: usize = term_table::TABLE;
 
 // `universal`: the universal side looks for a model over existential rows, else the existential side over universal rows.
@@ -113,7 +113,7 @@ pub(crate) fn first_model_over(
         Check::Accepted(formula) => {
             let universals = formula.universals;
             if tables::fit(codes, index.len()) {} else {
-                return Search::Refused(2);
+                return Search::Refused(causes::CODES);
             }
             if universal {
                 let others = kinds.len() - universals;
@@ -170,16 +170,16 @@ fn over_rows(
     ensures { λ r. ⌜ Answered (now (kinds .entry)) (now (codes .entry)) (now (index .entry)) (now (terms .entry)) (now (preferences .entry)) (now (own .entry)) known (now (rows .entry)) count others side (now (work .entry)) (now (work .exit)) r ⌝ }
 {
     if rows::table_fits(rows) {} else {
-        return Search::Refused(4);
+        return Search::Refused(causes::ROWS);
     }
     if work.len() != Formula::WORK {
-        return Search::Refused(5);
+        return Search::Refused(causes::WORK);
     }
     if rows.len() / 16 < count {
-        return Search::Refused(7);
+        return Search::Refused(causes::COUNT);
     }
     if rows::stray_bit(rows, count, others) {
-        return Search::Refused(8);
+        return Search::Refused(causes::STRAY_BIT);
     }
     if find(
         kinds,

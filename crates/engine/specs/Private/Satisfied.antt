@@ -80,12 +80,12 @@ pub record TermMet (kinds codes w : List ℕ) (i start : ℕ) (s t : List ℕ) (
   pub grown : SetGrown max-unknowns s t
   pub met : r ≡ true → Some (OwnMet kinds w i s t) (clause-of (drop start codes))
 
--- .. the term p has one if it is open in row i.
+-- Only that set grows; if the answer is yes, the term p has such a literal if it is open in row i.
 pub record TermPassed (kinds codes opened w : List ℕ) (i p : ℕ) (s t : List ℕ) (r : Bool) : Type 0 where
   pub grown : SetGrown max-unknowns s t
   pub met : r ≡ true → is-open opened p i ≡ true → Some (OwnMet kinds w i s t) (clause-of (drop (name-of opened p) codes))
 
--- .. each term that is open in row i has one, and the place of the others is not open.
+-- Only that set grows; if the answer is yes, each term that is open in row i has such a literal, and the place of the others is not open.
 pub record TermsMet (kinds codes opened w : List ℕ) (i : ℕ) (s t : List ℕ) (r : Bool) : Type 0 where
   pub grown : SetGrown max-unknowns s t
   pub met : r ≡ true → (p : ℕ) → p < others → is-open opened p i ≡ true → Some (OwnMet kinds w i s t) (clause-of (drop (name-of opened p) codes))

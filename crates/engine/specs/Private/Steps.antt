@@ -48,7 +48,7 @@ pub record Viewed (P : Problem) (kinds differences codes opened : List ℕ) (sid
   pub shown : side ≡ 1 → (i start : ℕ) → i < P .count → start < length codes → Begins codes start
       → Some (GivenIn P kinds i) (clause-of (drop start codes)) ⊎ TermOpen kinds codes opened i start ⊎ (is-open opened others i ≡ true)
 
--- .. and an earlier search has left the values of the first block.
+-- Besides, an earlier search has left the values of the first block.
 pub record Known (P : Problem) (kinds differences codes opened block : List ℕ) (side : ℕ) : Type 0 where
   pub viewed : Viewed P kinds differences codes opened side
   pub remembered : Remembered P block
@@ -161,7 +161,7 @@ Listed codes index = (c at : ℕ) → c ≤ last-code → getD index c 0 ≤ at 
 abbrev pub Indexed : ℕ → List ℕ → List ℕ → Type 0
 Indexed side codes index = side ≡ 0 → index ≡ index-of codes
 
--- .. and the universal side finds its open clauses through a table of their terms.
+-- Besides, the universal side finds its open clauses through a table of their terms.
 pub record Tabled (side : ℕ) (kinds codes index terms : List ℕ) : Type 0 where
   pub indexed : Indexed side codes index
   pub sized : side ≡ 1 → length terms ≡ table-size

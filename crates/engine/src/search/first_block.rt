@@ -54,14 +54,14 @@ pub(crate) fn rules_out(block: &[u8], work: &[u8], i: usize, k: usize, value: bo
     true
 }
 
-// A value as a byte ..
+// A value as a byte.
 fn byte(value: bool) -> u8
     ensures { λ r. ⌜ eqb r 1 ≡ value ⌝ }
 {
     if value { 1 } else { 0 }
 }
 
-// .. and whether a byte says a value.
+// Whether a byte says a value.
 fn has(byte: u8, value: bool) -> bool
     ensures { λ r. ⌜ r ≡ Bool·beq (eqb byte 1) value ⌝ }
 {

@@ -14,13 +14,15 @@ ghost use Rattle.search_sets.specs.Private.Masks.{SetsKept};
 ghost use Rattle.search_evaluation.specs.Private.Looked.{Looked};
 ghost use Rattle.engine.specs.Private.Steps.{Propagates, Indexed, Lent, Starts};
 use super::cell;
-use super::clauses::position;
+use super::clauses::literal_position;
+use super::numbers::greatest;
+use super::numbers::least;
+use super::numbers::wide16;
 use super::reasons;
 use super::sets_table;
 use super::sets_table::CHANGED;
+use super::sets_table::CHANGED_ROWS;
 use super::sets_table::CONFLICT;
-use super::sets_table::HINTS;
-use super::width::wide16;
 use formula::Formula;
 
 // The code under which the index lists every clause.
@@ -189,8 +191,8 @@ fn propagate(
         if k < CONFLICT {} else {
             return true;
         }
-        let from = higher(sets[HINTS + 2 * k] as usize, lo);
-        let to = lower(sets[HINTS + 2 * k + 1] as usize, hi);
+        let from = greatest(sets[CHANGED_ROWS + 2 * k] as usize, lo);
+        let to = least(sets[CHANGED_ROWS + 2 * k + 1] as usize, hi);
         if propagate_occurrences(
             differences,
             codes,
@@ -271,7 +273,7 @@ fn list_end(index: &[u16], c: usize) -> usize
     requires { ⌜ (length (now index) ≡ index-size) × (c ≤ last-code) ⌝ }
     ensures { λ r. ⌜ (r ≤ length (now (index .entry))) × (r ≤ getD (now (index .entry)) (code-count + c) 0) ⌝ }
 {
-    lower(wide16(index[index::CODES + c]), index.len())
+    least(wide16(index[index::CODES + c]), index.len())
 }
 
 // Looks at the clauses of the list from `begin` to `end` in row i, but for those that repeat the row before it.
@@ -318,18 +320,6 @@ fn propagate_list(
         at += 1;
     }
     true
-}
-
-fn lower(a: usize, b: usize) -> usize
-    ensures { λ r. ⌜ (r ≤ a) × (r ≤ b) ⌝ }
-{
-    if a < b { a } else { b }
-}
-
-fn higher(a: usize, b: usize) -> usize
-    ensures { λ r. ⌜ (a ≤ r) × (b ≤ r) ⌝ }
-{
-    if a < b { b } else { a }
 }
 
 // Looks at the clause at `start` in row i. False: it is false there, and the set at CONFLICT says by which decisions.
@@ -394,7 +384,7 @@ fn assign(
     requires { ⌜ (lo ≤ i) × (i < hi) × (hi ≤ length (now differences)) × (2 ≤ c) × (position c < max-unknowns) ⌝ }
     ensures { λ _. ⌜ (Begins (now (codes .entry)) start → Looked (now (codes .entry)) (now (work .entry)) i start c → Propagates 0 (now (differences .entry)) (now (codes .entry)) lo hi level (now (work .entry)) (now (work .exit)) (now (sets .entry)) (now (sets .exit)) true) ⌝ }
 {
-    let k = position(c);
+    let k = literal_position(c);
     search_sets::add_reasons(codes, sets, start, k);
     let from = search_groups::copy_start(differences, k, lo, i);
     let to = search_groups::copy_end(differences, k, i, hi);
@@ -407,12 +397,12 @@ fn note(sets: &mut [u64], k: usize, lo: usize, hi: usize)
     requires { ⌜ (length (now sets) ≡ sets-size) × (k < max-unknowns) ⌝ }
     ensures { λ _. ⌜ SetsKept (now (sets .entry)) (now (sets .exit)) ⌝ }
 {
-    let at = HINTS + 2 * k;
+    let at = CHANGED_ROWS + 2 * k;
     let mut from = lo;
     let mut to = hi;
     if search_sets::has(sets, CHANGED, k) {
-        from = lower(sets[at] as usize, lo);
-        to = higher(sets[at + 1] as usize, hi);
+        from = least(sets[at] as usize, lo);
+        to = greatest(sets[at + 1] as usize, hi);
     }
     search_sets::add(sets, CHANGED, k);
     sets[at] = from as u64;

@@ -1,28 +1,19 @@
 // Now and then a shorter reason is looked for after a conflict, which leads further back. When, and for how long, is a hint: an account of the
-// conflicts and of the steps spent stands in the words behind the other hints.
+// conflicts and of the steps spent stands behind the sets: CONFLICTS there were so many, QUIET is the one up to which none is looked for, but for the fewest,
+// WAIT how many more than the fewest lay before the last look, SPENT how many steps were spent.
 ghost use mathlib.Core.Path.{_≡_};
 ghost use Prim.Native.Nat.{_-_};
 ghost use lib.ListN.{length};
 ghost use Rattle.search_sets.specs.Sets.{sets-size};
 ghost use Rattle.engine.specs.Private.Held.{Same};
 ghost use Rattle.engine.specs.Private.Steps.{Shortened};
+use super::numbers::wide8;
 use super::sets_table::CONFLICT;
-use super::sets_table::HINTS;
+use super::sets_table::CONFLICTS;
+use super::sets_table::QUIET;
+use super::sets_table::SPENT;
+use super::sets_table::WAIT;
 use super::shortening;
-use super::width::wide8;
-use formula::Formula;
-
-// How many conflicts there were.
-const CONFLICTS: usize = HINTS + Formula::ROWS;
-
-// The conflict up to which none is looked for, but for the fewest.
-const QUIET: usize = CONFLICTS + 1;
-
-// How many conflicts more than the fewest lay before the last look.
-const WAIT: usize = CONFLICTS + 2;
-
-// How many steps were spent.
-const SPENT: usize = CONFLICTS + 3;
 
 // Between two looks lie at least so many conflicts.
 const FEWEST: u64 = 64;

@@ -1,9 +1,18 @@
 // Rows on the universal side in which every clause is true, and with them no goal can be reached: each term that is open there has a true literal
-// (see `term_table`). Behind the sets stand hints: for each row the clause that it watches, one without a true literal, and the terms that are open
-// there; for each code the terms that have it; and for each position the terms that have a true literal by the decisions up to it.
+// (see `term_table`). The hints of this side stand behind the sets (`sets_table`): for each row the clause that it watches, one without a true literal, and the
+// terms that are open there; for each code the terms that have it; and for each position the terms that have a true literal by the decisions up to it.
 // Every public function is total. Promised is that a row that is found satisfied is satisfied by the decisions of the set at CONFLICT, if the open terms that are
 // lent are the row's, and that a clause that is found false is false; the sets of the positions stay. Which rows and clauses are looked at is not
 // promised: nothing rests on hints.
+use super::clauses::begins;
+use super::clauses::position;
+use super::numbers::wide16;
+use super::sets_table::CONFLICT;
+use super::sets_table::HOLDS;
+use super::sets_table::LAST_CONFLICT;
+use super::sets_table::OPEN;
+use super::sets_table::TRUE;
+use super::sets_table::WATCHED;
 use super::term_table;
 use super::term_table::OTHERS;
 use codes::LAST_CODE;
@@ -23,31 +32,11 @@ ghost use Rattle.search_sets.specs.Private.Masks.{SetsKept};
 ghost use Rattle.search_evaluation.specs.Evaluation.{look-at, satisfied-at};
 ghost use Rattle.engine.specs.Private.Satisfied.{given-place, IsGiven, IsOwn, OwnTrue, Checked, RowTold, RowLooked, RowReasons, TermsMet, TermPassed, TermMet, TakesIn, FalseFound};
 
-// The place behind the positions: its set has the decisions by which a row is satisfied.
-const CONFLICT: usize = Formula::UNKNOWNS;
-
 // In place of a position: the value is given.
 const GIVEN: usize = CONFLICT + 1;
 
-// The last position.
-const LAST: usize = Formula::UNKNOWNS - 1;
-
-// The first word behind the sets: word i from here names the clause that row i watches.
-const WATCHED: usize = 2 * search_sets::PLACES;
-
-// The row of the last conflict, plus 1.
-const LAST_CONFLICT: usize = WATCHED + Formula::ROWS + 4;
-
-// Word i from here has the terms that are open in row i, with the bit NO_TERM for the clauses of no term.
-const OPEN: usize = WATCHED + Formula::ROWS + 8;
-
+// In a word of a row's open terms: the bit of the clauses of no term.
 const NO_TERM: u64 = 9_223_372_036_854_775_808;
-
-// Word c from here has the terms with the literal of code c.
-const HOLDS: usize = OPEN + Formula::ROWS;
-
-// Word k + 1 from here has the terms that have a true literal by the decisions up to position k; word 0 has none.
-const TRUE: usize = HOLDS + LAST_CODE + 1;
 
 // The kind of an unknown whose value the rows do not give.
 const UNIVERSAL: u8 = 1;
@@ -340,7 +329,7 @@ fn earliest_own(kinds: &[u8], codes: &[u16], work: &[u8], i: usize, start: usize
     let mut best = CONFLICT;
     let mut e = start;
     while e < codes.len() {
-        let c = wide(codes[e]);
+        let c = wide16(codes[e]);
         e += 1;
         if c == 0 {
             return best;
@@ -485,7 +474,7 @@ fn lowest(word: u64) -> usize {
 fn own_code(kinds: &[u8], codes: &[u16], start: usize) -> usize {
     let mut e = start;
     while e < codes.len() {
-        let c = wide(codes[e]);
+        let c = wide16(codes[e]);
         e += 1;
         if c == 0 {
             return 0;
@@ -505,13 +494,13 @@ fn unsatisfied_with(codes: &[u16], work: &[u8], index: &[u16], i: usize, c: usiz
     if c > LAST_CODE {
         return codes.len();
     }
-    let end = wide(index[index::CODES + c]);
-    let mut at = wide(index[c]);
+    let end = wide16(index[index::CODES + c]);
+    let mut at = wide16(index[c]);
     while at < end {
         if at < index.len() {} else {
             return codes.len();
         }
-        let start = wide(index[at]);
+        let start = wide16(index[at]);
         if search_evaluation::unsatisfied(codes, work, i, start) {
             return start;
         }
@@ -531,19 +520,6 @@ fn is_false(codes: &[u16], work: &[u8], i: usize, start: usize) -> bool
     }
 }
 
-fn begins(codes: &[u16], start: usize) -> bool
-    ensures { λ r. ⌜ (r ≡ true → Begins (now (codes .entry)) start) ⌝ }
-{
-    if start == 0 {
-        return true;
-    }
-    if start <= codes.len() {
-        codes[start - 1] == 0
-    } else {
-        false
-    }
-}
-
 // Unites, at CONFLICT, for each clause without a given true literal in row i the set of its earliest true one. False: a clause has no true literal.
 fn add_reasons(kinds: &[u8], codes: &[u16], work: &[u8], sets: &mut [u64], i: usize) -> bool
     requires { ⌜ length (now sets) ≡ sets-size ⌝ }
@@ -552,7 +528,7 @@ fn add_reasons(kinds: &[u8], codes: &[u16], work: &[u8], sets: &mut [u64], i: us
     let mut best = CONFLICT;
     let mut e = 0;
     while e < codes.len() {
-        let c = wide(codes[e]);
+        let c = wide16(codes[e]);
         e += 1;
         if c == 0 {
             if best == CONFLICT {
@@ -628,17 +604,4 @@ fn is_given(kinds: &[u8], p: usize) -> bool
     } else {
         false
     }
-}
-
-// The position of a code's unknown: c / 2 - 1 for a literal, and inside the row for any number, so that no code needs a test.
-fn position(c: usize) -> usize
-    ensures { λ r. ⌜ (r ≡ row-position c) × (r < max-unknowns) ⌝ }
-{
-    (c / 2 + LAST) % Formula::UNKNOWNS
-}
-
-fn wide(x: u16) -> usize
-    ensures { λ r. ⌜ r ≡ x ⌝ }
-{
-    x as usize
 }

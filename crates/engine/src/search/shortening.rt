@@ -4,9 +4,21 @@
 // decision of its set round (unit propagation and backjumping). A number of steps bounds the work.
 // Promised is that a set that is found is a reason, for whatever is lent. When one is found is not: what is tried, and when it is given up, is
 // a hint, and so is the index. Which set the search goes on with is left to it.
+use super::cell;
+use super::clauses::begins;
+use super::clauses::position;
+use super::numbers::least;
+use super::numbers::wide8;
+use super::numbers::wide16;
+use super::sets_table::CONFLICT;
+use super::sets_table::DECISIONS;
+use super::sets_table::DEPTH;
+use super::sets_table::HIGH;
+use super::sets_table::LOW;
+use super::sets_table::QUEUE;
+use super::sets_table::QUEUED;
 use codes::LAST_CODE;
 use formula::Formula;
-use search_cells::FLAGS;
 ghost use mathlib.Core.Path.{_≡_};
 ghost use mathlib.Core.Logic.{_⊎_};
 ghost use mathlib.Core.Bool.{true, false};
@@ -32,31 +44,11 @@ pub struct Reason {
     pub left: usize,
 }
 
-// The place of the set by which the last clause was false.
-const CONFLICT: usize = Formula::UNKNOWNS;
-
-// The words of that set.
-const LOW: usize = 2 * CONFLICT;
-
-const HIGH: usize = LOW + 1;
-
-// Behind the sets: the positions whose clauses are to be looked at, in order, and how many there are; then the decisions, and how many.
-const QUEUE: usize = 2 * search_sets::PLACES;
-
-const QUEUED: usize = QUEUE + Formula::UNKNOWNS;
-
-const DECISIONS: usize = QUEUED + 1;
-
-const DEPTH: usize = DECISIONS + Formula::UNKNOWNS;
-
 // There are so many levels, as a number of that table.
 const LEVELS: u64 = Formula::UNKNOWNS as u64;
 
 // The code under which the index lists every clause.
 const ANY: usize = 1;
-
-// The last position.
-const LAST: usize = Formula::UNKNOWNS - 1;
 
 // How a search of the row ends, and the steps that are left.
 struct End {
@@ -237,7 +229,7 @@ fn assume(
 {
     if is_fixed(work, sets, i, p) {
         search_sets::empty(own, p);
-        set(line, p, 1, value(work, i, p));
+        set(line, p, 1, cell::value(work, i, p));
         return;
     }
     if p < k {
@@ -273,14 +265,7 @@ fn put(work: &[u8], line: &mut [u16], own: &mut [u64], i: usize, p: usize, level
 {
     search_sets::empty(own, p);
     search_sets::add(own, p, p);
-    set(line, p, level, value(work, i, p));
-}
-
-fn value(work: &[u8], i: usize, p: usize) -> bool
-    requires { ⌜ (length (now work) ≡ work-size) × (i < max-rows) × (p < max-unknowns) ⌝ }
-    ensures { λ r. ⌜ r ≡ cells (now (work .entry)) .value i p ⌝ }
-{
-    work[FLAGS + (Formula::UNKNOWNS * i + p)] % 2 == 1
+    set(line, p, level, cell::value(work, i, p));
 }
 
 // Looks at every clause, and at what follows. False: one is false, and the set at CONFLICT says by which decisions.
@@ -338,7 +323,7 @@ fn propagate_occurrences(
     requires { ⌜ (length (now index) ≡ index-size) × (length (now line) ≡ max-unknowns) × (length (now own) ≡ sets-size) × (c ≤ last-code) ⌝ }
     ensures { λ r. ⌜ Moves (now (codes .entry)) (now (line .entry)) (now (line .exit)) (now (own .entry)) (now (own .exit)) r ⌝ }
 {
-    let end = lower(wide16(index[index::CODES + c]), index.len());
+    let end = least(wide16(index[index::CODES + c]), index.len());
     let mut at = wide16(index[c]);
     while at < end {
         let start = wide16(index[at]);
@@ -348,12 +333,6 @@ fn propagate_occurrences(
         }
     }
     true
-}
-
-fn lower(a: usize, b: usize) -> usize
-    ensures { λ r. ⌜ r ≤ b ⌝ }
-{
-    if a < b { a } else { b }
 }
 
 // Looks at the clause at `start`, if one begins there. False: it is false, and the set at CONFLICT says by which decisions.
@@ -440,25 +419,6 @@ fn is_false_or(line: &[u16], c: usize, but: usize) -> bool
         return false;
     }
     x % 2 == c % 2
-}
-
-// The position of a code's unknown: c / 2 - 1 for a literal, and inside the line for any number.
-fn position(c: usize) -> usize
-    ensures { λ r. ⌜ (r ≡ row-position c) × (r < max-unknowns) ⌝ }
-{
-    (c / 2 + LAST) % Formula::UNKNOWNS
-}
-
-fn begins(codes: &[u16], start: usize) -> bool
-    ensures { λ r. ⌜ (r ≡ true → Begins (now (codes .entry)) start) ⌝ }
-{
-    if start == 0 {
-        return true;
-    }
-    if start <= codes.len() {
-        return codes[start - 1] == 0;
-    }
-    false
 }
 
 // Sets the one open literal, of code c, of the clause at `start`.
@@ -675,7 +635,7 @@ fn flip(
     let level = (own[DEPTH] % LEVELS) as u16 + 1;
     open_above(line, level);
     inherit(own, p);
-    set(line, p, level, !value(work, i, p));
+    set(line, p, level, !cell::value(work, i, p));
     enqueue_alone(own, p);
     propagate(codes, index, line, own, level)
 }
@@ -704,16 +664,4 @@ fn take(own: &mut [u64], p: usize, l: usize)
     if search_sets::has(own, CONFLICT, l) {
         search_sets::add(own, p, l);
     }
-}
-
-fn wide8(x: u8) -> usize
-    ensures { λ r. ⌜ r ≡ x ⌝ }
-{
-    x as usize
-}
-
-fn wide16(x: u16) -> usize
-    ensures { λ r. ⌜ r ≡ x ⌝ }
-{
-    x as usize
 }

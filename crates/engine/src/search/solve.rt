@@ -16,12 +16,9 @@ use super::propagation;
 use super::satisfied_rows;
 use super::sets_table;
 use super::sets_table::CONFLICT;
+use super::sets_table::HIGH;
+use super::sets_table::LOW;
 use super::term_table;
-
-// The words of the set at CONFLICT.
-const LOW: usize = 2 * CONFLICT;
-
-const HIGH: usize = LOW + 1;
 
 // The search over a filled table of at least one row. False: there is no model.
 pub(crate) fn from_start(

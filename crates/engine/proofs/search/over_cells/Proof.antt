@@ -13,8 +13,8 @@ use Rattle.engine.proofs.search.over_cells.Tie as tie
 -- Back along the path, to the place behind a call.
 abbrev back-to-read : tie.After-slice-known3 → tie.After-read
 back-to-read at =
-    let after-block2 = at .before .before .before .before .before .before in
-    after-block2 .before
+    let after-memory2 = at .before .before .before .before .before .before in
+    after-memory2 .before
 
 abbrev back-to-fill : tie.After-from-start-arg → tie.After-fill
 back-to-fill at =

@@ -24,26 +24,26 @@ add-at c = search needs
 has-requires : tie.Need-has-requires
 has-requires c κs = tt
 
-mul-lower : tie.Need-mul-lower
-mul-lower c = search needs
+mul-least : tie.Need-mul-least
+mul-least c = search needs
 
-slice-read-lower : tie.Need-slice-read-lower
-slice-read-lower c = search needs
+slice-read-least : tie.Need-slice-read-least
+slice-read-least c = search needs
 
-lower-requires : tie.Need-lower-requires
-lower-requires c κs = search needs
+least-requires : tie.Need-least-requires
+least-requires c κs = search needs
 
-add-higher : tie.Need-add-higher
-add-higher c = search needs
+add-greatest : tie.Need-add-greatest
+add-greatest c = search needs
 
-mul-higher : tie.Need-mul-higher
-mul-higher c = search needs
+mul-greatest : tie.Need-mul-greatest
+mul-greatest c = search needs
 
-slice-read-higher : tie.Need-slice-read-higher
-slice-read-higher c = search needs
+slice-read-greatest : tie.Need-slice-read-greatest
+slice-read-greatest c = search needs
 
-higher-requires : tie.Need-higher-requires
-higher-requires c κs = search needs
+greatest-requires : tie.Need-greatest-requires
+greatest-requires c κs = search needs
 
 add-requires : tie.Need-add-requires
 add-requires c κs = tt
@@ -77,13 +77,13 @@ note-spec =
     mul-at
     add-at
     has-requires
-    mul-lower
-    slice-read-lower
-    lower-requires
-    add-higher
-    mul-higher
-    slice-read-higher
-    higher-requires
+    mul-least
+    slice-read-least
+    least-requires
+    add-greatest
+    mul-greatest
+    slice-read-greatest
+    greatest-requires
     add-requires
     mul-sets
     slice-write-sets

@@ -49,44 +49,44 @@ returns c =
     let take-lowest-call = c .before .before .before .take-lowest in
     going-noted (c .before .before .before .before .before .before .loop .inv) (take-lowest-call .ensures) (take-lowest-call .kept .0) .propagates
 
-mul-higher : tie.Need-mul-higher Inv-loop μ-loop
-mul-higher c = omega (arith, c .before .before .before .take-lowest .kept .0)
+mul-greatest : tie.Need-mul-greatest Inv-loop μ-loop
+mul-greatest c = omega (arith, c .before .before .before .take-lowest .kept .0)
 
-add-higher : tie.Need-add-higher Inv-loop μ-loop
-add-higher c = omega (arith, c .before .before .before .take-lowest .kept .0)
+add-greatest : tie.Need-add-greatest Inv-loop μ-loop
+add-greatest c = omega (arith, c .before .before .before .take-lowest .kept .0)
 
-mul-higher-2 : tie.Need-mul-higher-2 Inv-loop μ-loop
-mul-higher-2 c = omega (arith, c .before .before .before .take-lowest .kept .0)
+mul-greatest-2 : tie.Need-mul-greatest-2 Inv-loop μ-loop
+mul-greatest-2 c = omega (arith, c .before .before .before .take-lowest .kept .0)
 
-slice-read-higher : tie.Need-slice-read-higher Inv-loop μ-loop
-slice-read-higher c =
+slice-read-greatest : tie.Need-slice-read-greatest Inv-loop μ-loop
+slice-read-greatest c =
     let p = (back-to-start c) .pre in
     let q = (back-to-at-loop c) .loop .inv .sets in
     omega (arith, c .before .before .before .before .take-lowest .kept .0)
 
-higher-requires : tie.Need-higher-requires Inv-loop μ-loop
-higher-requires c κs = tt
+greatest-requires : tie.Need-greatest-requires Inv-loop μ-loop
+greatest-requires c κs = tt
 
-mul-lower : tie.Need-mul-lower Inv-loop μ-loop
-mul-lower c = omega (arith, c .before .before .before .before .before .take-lowest .kept .0)
+mul-least : tie.Need-mul-least Inv-loop μ-loop
+mul-least c = omega (arith, c .before .before .before .before .before .take-lowest .kept .0)
 
-add-lower : tie.Need-add-lower Inv-loop μ-loop
-add-lower c = omega (arith, c .before .before .before .before .before .take-lowest .kept .0)
+add-least : tie.Need-add-least Inv-loop μ-loop
+add-least c = omega (arith, c .before .before .before .before .before .take-lowest .kept .0)
 
-add-lower-2 : tie.Need-add-lower-2 Inv-loop μ-loop
-add-lower-2 c = omega (arith, c .before .before .before .before .before .take-lowest .kept .0)
+add-least-2 : tie.Need-add-least-2 Inv-loop μ-loop
+add-least-2 c = omega (arith, c .before .before .before .before .before .take-lowest .kept .0)
 
-mul-lower-2 : tie.Need-mul-lower-2 Inv-loop μ-loop
-mul-lower-2 c = omega (arith, c .before .before .before .before .before .take-lowest .kept .0)
+mul-least-2 : tie.Need-mul-least-2 Inv-loop μ-loop
+mul-least-2 c = omega (arith, c .before .before .before .before .before .take-lowest .kept .0)
 
-slice-read-lower : tie.Need-slice-read-lower Inv-loop μ-loop
-slice-read-lower c =
+slice-read-least : tie.Need-slice-read-least Inv-loop μ-loop
+slice-read-least c =
     let p = (back-to-start (c .before .before)) .pre in
     let q = (back-to-at-loop (c .before .before)) .loop .inv .sets in
     omega (arith, c .before .before .before .before .before .before .take-lowest .kept .0)
 
-lower-requires : tie.Need-lower-requires Inv-loop μ-loop
-lower-requires c κs = tt
+least-requires : tie.Need-least-requires Inv-loop μ-loop
+least-requires c κs = tt
 
 propagate-occurrences-requires : tie.Need-propagate-occurrences-requires Inv-loop μ-loop
 propagate-occurrences-requires c κs =
@@ -147,17 +147,17 @@ propagate-spec =
     same-length
     same-length-2
     returns
-    mul-higher
-    add-higher
-    mul-higher-2
-    slice-read-higher
-    higher-requires
-    mul-lower
-    add-lower
-    add-lower-2
-    mul-lower-2
-    slice-read-lower
-    lower-requires
+    mul-greatest
+    add-greatest
+    mul-greatest-2
+    slice-read-greatest
+    greatest-requires
+    mul-least
+    add-least
+    add-least-2
+    mul-least-2
+    slice-read-least
+    least-requires
     propagate-occurrences-requires
     same-length-3
     same-length-4

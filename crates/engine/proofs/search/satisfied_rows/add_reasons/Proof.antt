@@ -18,10 +18,10 @@ abbrev μ-loop : tie.MeasureT-loop
 -- Back along the path, to the place behind a call.
 abbrev back-to-in-loop : tie.After-slice-known2 Inv-loop μ-loop → tie.In-loop Inv-loop μ-loop
 back-to-in-loop at =
-    let after-wide = at .before .before .before .before .before .before in
-    after-wide .before .before
+    let after-wide16 = at .before .before .before .before .before .before in
+    after-wide16 .before .before
 
-abbrev back-to-start : tie.After-wide Inv-loop μ-loop → tie.Start Inv-loop μ-loop
+abbrev back-to-start : tie.After-wide16 Inv-loop μ-loop → tie.Start Inv-loop μ-loop
 back-to-start at =
     let after-shared-slice-known2 = at .before .before .before .before .before .before in
     after-shared-slice-known2 .before .before
@@ -38,14 +38,14 @@ loop-holds c =
           (given .sets .now),
     )
 
-mul-wide : tie.Need-mul-wide Inv-loop μ-loop
-mul-wide c = omega arith
+mul-wide16 : tie.Need-mul-wide16 Inv-loop μ-loop
+mul-wide16 c = omega arith
 
-shared-slice-read-wide : tie.Need-shared-slice-read-wide Inv-loop μ-loop
-shared-slice-read-wide c = omega arith
+shared-slice-read-wide16 : tie.Need-shared-slice-read-wide16 Inv-loop μ-loop
+shared-slice-read-wide16 c = omega arith
 
-wide-requires : tie.Need-wide-requires Inv-loop μ-loop
-wide-requires c κs = tt
+wide16-requires : tie.Need-wide16-requires Inv-loop μ-loop
+wide16-requires c κs = tt
 
 add-e : tie.Need-add-e Inv-loop μ-loop
 add-e c = omega arith
@@ -73,7 +73,7 @@ loop-again c =
       omega arith,
       blaming-clause (given .kinds .now) (given .codes .now) (given .work .now) (given .i)
           (given .sets .now) (loop .e) (loop .best) (loop .sets) _ ((back-to-in-loop c) .loop-test .taken)
-          (sym (c .before .before .before .before .before .before .wide .ensures) ∙ c .before .before .before .before .before .if1 .taken)
+          (sym (c .before .before .before .before .before .before .wide16 .ensures) ∙ c .before .before .before .before .before .if1 .taken)
           (c .before .before .before .before .if2 .left) (loop .inv .2) (c .before .before .take-in .ensures),
     )
 
@@ -90,8 +90,8 @@ loop-again-2 c =
       loop .inv .0,
       omega arith,
       blaming-literal (given .kinds .now) (given .codes .now) (given .work .now) (given .i) (given .sets .now) (loop .e) (loop .best)
-          (c .before .before .wide .result) (c .better .result) (loop .sets) (c .before .before .before .before .loop-test .taken)
-          (c .before .before .wide .ensures) (c .before .if1 .left) (c .better .ensures) (loop .inv .2),
+          (c .before .before .wide16 .result) (c .better .result) (loop .sets) (c .before .before .before .before .loop-test .taken)
+          (c .before .before .wide16 .ensures) (c .before .if1 .left) (c .better .ensures) (loop .inv .2),
     )
 
 same-length-2 : tie.Need-same-length-2 Inv-loop μ-loop
@@ -111,9 +111,9 @@ add-reasons-spec =
     Inv-loop
     μ-loop
     loop-holds
-    mul-wide
-    shared-slice-read-wide
-    wide-requires
+    mul-wide16
+    shared-slice-read-wide16
+    wide16-requires
     add-e
     same-length
     returns

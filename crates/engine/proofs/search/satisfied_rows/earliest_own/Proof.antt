@@ -24,14 +24,14 @@ loop-holds c =
     let given = c .before .before .before .args in
     earliest-start (given .kinds .now) (given .codes .now) (given .work .now) (given .i) (given .start)
 
-mul-wide : tie.Need-mul-wide Inv-loop μ-loop
-mul-wide c = omega arith
+mul-wide16 : tie.Need-mul-wide16 Inv-loop μ-loop
+mul-wide16 c = omega arith
 
-shared-slice-read-wide : tie.Need-shared-slice-read-wide Inv-loop μ-loop
-shared-slice-read-wide c = omega arith
+shared-slice-read-wide16 : tie.Need-shared-slice-read-wide16 Inv-loop μ-loop
+shared-slice-read-wide16 c = omega arith
 
-wide-requires : tie.Need-wide-requires Inv-loop μ-loop
-wide-requires c κs = tt
+wide16-requires : tie.Need-wide16-requires Inv-loop μ-loop
+wide16-requires c κs = tt
 
 add-e : tie.Need-add-e Inv-loop μ-loop
 add-e c = omega arith
@@ -49,8 +49,8 @@ loop-again : tie.Need-loop-again Inv-loop μ-loop
 loop-again c =
     let loop = c .before .before .before .before .before .loop in
     let given = (back-to-start c) .args in
-    earliest-next (given .kinds .now) (given .codes .now) (given .work .now) (given .i) (given .start) (loop .e) (loop .best) (c .before .before .wide .result)
-    (c .earlier-own .result) (omega arith) (c .before .before .wide .ensures) (λ z. omega arith) (c .earlier-own .ensures) (loop .inv)
+    earliest-next (given .kinds .now) (given .codes .now) (given .work .now) (given .i) (given .start) (loop .e) (loop .best) (c .before .before .wide16 .result)
+    (c .earlier-own .result) (omega arith) (c .before .before .wide16 .ensures) (λ z. omega arith) (c .earlier-own .ensures) (loop .inv)
 
 returns-2 : tie.Need-returns-2 Inv-loop μ-loop
 returns-2 c = c .before .loop .inv .found
@@ -62,9 +62,9 @@ earliest-own-spec =
     Inv-loop
     μ-loop
     loop-holds
-    mul-wide
-    shared-slice-read-wide
-    wide-requires
+    mul-wide16
+    shared-slice-read-wide16
+    wide16-requires
     add-e
     returns
     earlier-own-requires

@@ -37,8 +37,8 @@ shared-slice-read-wide16 c = search needs
 wide16-requires : tie.Need-wide16-requires Inv-loop μ-loop
 wide16-requires c κs = tt
 
-lower-requires : tie.Need-lower-requires Inv-loop μ-loop
-lower-requires c κs = tt
+least-requires : tie.Need-least-requires Inv-loop μ-loop
+least-requires c κs = tt
 
 mul-wide16-2 : tie.Need-mul-wide16-2 Inv-loop μ-loop
 mul-wide16-2 c = search needs
@@ -50,7 +50,7 @@ wide16-requires-2 : tie.Need-wide16-requires-2 Inv-loop μ-loop
 wide16-requires-2 c κs = tt
 
 loop-holds : tie.Need-loop-holds Inv-loop μ-loop
-loop-holds c = (omega (arith, c .before .before .lower .ensures), omega arith, omega arith, moves-nothing _ _ _)
+loop-holds c = (omega (arith, c .before .before .least .ensures .1), omega arith, omega arith, moves-nothing _ _ _)
 
 mul-wide16-3 : tie.Need-mul-wide16-3 Inv-loop μ-loop
 mul-wide16-3 c = search needs
@@ -108,7 +108,7 @@ propagate-occurrences-spec =
     mul-wide16
     shared-slice-read-wide16
     wide16-requires
-    lower-requires
+    least-requires
     mul-wide16-2
     shared-slice-read-wide16-2
     wide16-requires-2

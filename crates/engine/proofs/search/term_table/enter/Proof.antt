@@ -6,17 +6,17 @@ use native.Mathlib.Omega.{arith}
 use Rattle.engine.proofs.search.term_table.enter.Statement.{statement}
 use Rattle.engine.proofs.search.term_table.enter.Tie as tie
 
-add-wide : tie.Need-add-wide
-add-wide c = omega arith
+add-wide16 : tie.Need-add-wide16
+add-wide16 c = omega arith
 
-mul-wide : tie.Need-mul-wide
-mul-wide c = omega arith
+mul-wide16 : tie.Need-mul-wide16
+mul-wide16 c = omega arith
 
-slice-reshared-read-wide : tie.Need-slice-reshared-read-wide
-slice-reshared-read-wide c = omega arith
+slice-reshared-read-wide16 : tie.Need-slice-reshared-read-wide16
+slice-reshared-read-wide16 c = omega arith
 
-wide-requires : tie.Need-wide-requires
-wide-requires c κs = tt
+wide16-requires : tie.Need-wide16-requires
+wide16-requires c κs = tt
 
 shown-requires : tie.Need-shown-requires
 shown-requires c κs = omega arith
@@ -55,10 +55,10 @@ pub enter-spec : {M : Type 1} → statement M
 enter-spec =
     tie.close
     (tie.spec
-    add-wide
-    mul-wide
-    slice-reshared-read-wide
-    wide-requires
+    add-wide16
+    mul-wide16
+    slice-reshared-read-wide16
+    wide16-requires
     shown-requires
     cast-terms
     mul-terms

@@ -21,19 +21,19 @@ back-to-start at =
     let after-shared-slice-known = at .before .before .before .before .before .before in
     after-shared-slice-known .before
 
-abbrev back-to-wide2 : tie.After-slice-known3 Inv-loop μ-loop → tie.After-wide2 Inv-loop μ-loop
-back-to-wide2 at =
+abbrev back-to-wide162 : tie.After-slice-known3 Inv-loop μ-loop → tie.After-wide162 Inv-loop μ-loop
+back-to-wide162 at =
     let after-unite-arg = at .before .before .before .before .before .before in
     after-unite-arg .before .before
 
 abbrev back-to-at-loop : tie.After-slice-known3 Inv-loop μ-loop → tie.At-loop Inv-loop μ-loop
-back-to-at-loop at = (back-to-wide2 at) .before .before .before
+back-to-at-loop at = (back-to-wide162 at) .before .before .before
 
-shared-slice-read-wide : tie.Need-shared-slice-read-wide Inv-loop μ-loop
-shared-slice-read-wide c = omega arith
+shared-slice-read-wide16 : tie.Need-shared-slice-read-wide16 Inv-loop μ-loop
+shared-slice-read-wide16 c = omega arith
 
-wide-requires : tie.Need-wide-requires Inv-loop μ-loop
-wide-requires c κs = tt
+wide16-requires : tie.Need-wide16-requires Inv-loop μ-loop
+wide16-requires c κs = tt
 
 least-requires : tie.Need-least-requires Inv-loop μ-loop
 least-requires c κs = tt
@@ -43,17 +43,17 @@ loop-holds c =
     let given = (back-to-start c) .args in
     (visiting-none (given .codes .now) (given .terms .now) (given .misses .now) (given .w) (given .all) (given .opened .now), omega arith, omega arith)
 
-add-wide : tie.Need-add-wide Inv-loop μ-loop
-add-wide c = omega arith
+add-wide16 : tie.Need-add-wide16 Inv-loop μ-loop
+add-wide16 c = omega arith
 
-mul-wide : tie.Need-mul-wide Inv-loop μ-loop
-mul-wide c = omega arith
+mul-wide16 : tie.Need-mul-wide16 Inv-loop μ-loop
+mul-wide16 c = omega arith
 
-shared-slice-read-wide-2 : tie.Need-shared-slice-read-wide-2 Inv-loop μ-loop
-shared-slice-read-wide-2 c = omega arith
+shared-slice-read-wide16-2 : tie.Need-shared-slice-read-wide16-2 Inv-loop μ-loop
+shared-slice-read-wide16-2 c = omega arith
 
-wide-requires-2 : tie.Need-wide-requires-2 Inv-loop μ-loop
-wide-requires-2 c κs = tt
+wide16-requires-2 : tie.Need-wide16-requires-2 Inv-loop μ-loop
+wide16-requires-2 c κs = tt
 
 add-t : tie.Need-add-t Inv-loop μ-loop
 add-t c = omega arith
@@ -73,14 +73,14 @@ mul-left-2 c = omega arith
 slice-read-left : tie.Need-slice-read-left Inv-loop μ-loop
 slice-read-left c = omega arith
 
-mul-wide-2 : tie.Need-mul-wide-2 Inv-loop μ-loop
-mul-wide-2 c = omega arith
+mul-wide16-2 : tie.Need-mul-wide16-2 Inv-loop μ-loop
+mul-wide16-2 c = omega arith
 
-shared-slice-read-wide-3 : tie.Need-shared-slice-read-wide-3 Inv-loop μ-loop
-shared-slice-read-wide-3 c = omega arith
+shared-slice-read-wide16-3 : tie.Need-shared-slice-read-wide16-3 Inv-loop μ-loop
+shared-slice-read-wide16-3 c = omega arith
 
-wide-requires-3 : tie.Need-wide-requires-3 Inv-loop μ-loop
-wide-requires-3 c κs = tt
+wide16-requires-3 : tie.Need-wide16-requires-3 Inv-loop μ-loop
+wide16-requires-3 c κs = tt
 
 remaining-requires : tie.Need-remaining-requires Inv-loop μ-loop
 remaining-requires c κs = omega arith
@@ -97,10 +97,10 @@ loop-less c = omega arith
 loop-again : tie.Need-loop-again Inv-loop μ-loop
 loop-again c =
     let remaining-call = c .before .before .before .remaining in
-    let wide3-call = c .before .before .before .before .wide3 in
-    let wide2-call = (back-to-wide2 c) .wide2 in (
-      visiting-more ((back-to-at-loop c) .loop .inv .0) (wide2-call .result % 64) (wide3-call .result) (remaining-call .result)
-          (ap (λ (x : ℕ). x % 64) (wide2-call .ensures)) (wide3-call .ensures) (remaining-call .ensures) (c .before .before .unite .ensures),
+    let wide163-call = c .before .before .before .before .wide163 in
+    let wide162-call = (back-to-wide162 c) .wide162 in (
+      visiting-more ((back-to-at-loop c) .loop .inv .0) (wide162-call .result % 64) (wide163-call .result) (remaining-call .result)
+          (ap (λ (x : ℕ). x % 64) (wide162-call .ensures)) (wide163-call .ensures) (remaining-call .ensures) (c .before .before .unite .ensures),
       omega arith,
       omega
           arith,
@@ -118,23 +118,23 @@ fill-word-spec =
     (tie.spec
     Inv-loop
     μ-loop
-    shared-slice-read-wide
-    wide-requires
+    shared-slice-read-wide16
+    wide16-requires
     least-requires
     loop-holds
-    add-wide
-    mul-wide
-    shared-slice-read-wide-2
-    wide-requires-2
+    add-wide16
+    mul-wide16
+    shared-slice-read-wide16-2
+    wide16-requires-2
     add-t
     rem-t
     mul-left
     add-left
     mul-left-2
     slice-read-left
-    mul-wide-2
-    shared-slice-read-wide-3
-    wide-requires-3
+    mul-wide16-2
+    shared-slice-read-wide16-3
+    wide16-requires-3
     remaining-requires
     unite-requires
     add-j

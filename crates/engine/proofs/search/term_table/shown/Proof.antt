@@ -13,17 +13,17 @@ back-to-start at =
     let then1 = at .before .before .before .before .before .before in
     then1 .before .before .before .before
 
-add-wide : tie.Need-add-wide
-add-wide c = omega arith
+add-wide16 : tie.Need-add-wide16
+add-wide16 c = omega arith
 
-mul-wide : tie.Need-mul-wide
-mul-wide c = omega arith
+mul-wide16 : tie.Need-mul-wide16
+mul-wide16 c = omega arith
 
-shared-slice-read-wide : tie.Need-shared-slice-read-wide
-shared-slice-read-wide c = omega arith
+shared-slice-read-wide16 : tie.Need-shared-slice-read-wide16
+shared-slice-read-wide16 c = omega arith
 
-wide-requires : tie.Need-wide-requires
-wide-requires c κs = tt
+wide16-requires : tie.Need-wide16-requires
+wide16-requires c κs = tt
 
 begins-requires : tie.Need-begins-requires
 begins-requires c κs = tt
@@ -38,7 +38,7 @@ returns c =
     inr (
       omega arith,
       subst (λ (first : ℕ). StandsFor (given .kinds .now) (given .codes .now) first (given .start))
-          (c .before .before .before .before .wide .ensures)
+          (c .before .before .before .before .wide16 .ensures)
           (record { inside = begun .0; begins = begun .1; within = c .before .within .ensures (c .if3 .taken) }),
     )
 
@@ -55,10 +55,10 @@ pub shown-spec : {M : Type 1} → statement M
 shown-spec =
     tie.close
     (tie.spec
-    add-wide
-    mul-wide
-    shared-slice-read-wide
-    wide-requires
+    add-wide16
+    mul-wide16
+    shared-slice-read-wide16
+    wide16-requires
     begins-requires
     within-requires
     returns

@@ -20,7 +20,7 @@ abbrev μ-loop : tie.MeasureT-loop
 μ-loop kinds codes a b e₀ e = length codes - e
 
 -- Back along the path, to the place behind a call.
-abbrev back-to-start : tie.After-wide Inv-loop μ-loop → tie.Start Inv-loop μ-loop
+abbrev back-to-start : tie.After-wide16 Inv-loop μ-loop → tie.Start Inv-loop μ-loop
 back-to-start at = at .before .before .before .before .before .before
 
 abbrev back-to-at-loop : tie.Then3 Inv-loop μ-loop → tie.At-loop Inv-loop μ-loop
@@ -31,14 +31,14 @@ back-to-at-loop at =
 loop-holds : tie.Need-loop-holds Inv-loop μ-loop
 loop-holds c = λ s. s
 
-mul-wide : tie.Need-mul-wide Inv-loop μ-loop
-mul-wide c = omega arith
+mul-wide16 : tie.Need-mul-wide16 Inv-loop μ-loop
+mul-wide16 c = omega arith
 
-shared-slice-read-wide : tie.Need-shared-slice-read-wide Inv-loop μ-loop
-shared-slice-read-wide c = omega arith
+shared-slice-read-wide16 : tie.Need-shared-slice-read-wide16 Inv-loop μ-loop
+shared-slice-read-wide16 c = omega arith
 
-wide-requires : tie.Need-wide-requires Inv-loop μ-loop
-wide-requires c κs = tt
+wide16-requires : tie.Need-wide16-requires Inv-loop μ-loop
+wide16-requires c κs = tt
 
 add-e : tie.Need-add-e Inv-loop μ-loop
 add-e c = omega arith
@@ -47,7 +47,7 @@ returns : tie.Need-returns Inv-loop μ-loop
 returns c =
     let loop = c .before .before .before .before .loop in
     let given = (back-to-start (c .before)) .args in
-    λ _. every-end (given .codes .now) (loop .e) (c .before .wide .result) (omega arith) (c .before .wide .ensures)
+    λ _. every-end (given .codes .now) (loop .e) (c .before .wide16 .result) (omega arith) (c .before .wide16 .ensures)
     (λ (x : ℕ). own (given .kinds .now) x ≡ true → Some (λ (d : ℕ). d ≡ x) (clause-of (drop (given .b) (given .codes .now)))) (omega arith) (loop .inv)
 
 is-own-requires : tie.Need-is-own-requires Inv-loop μ-loop
@@ -61,10 +61,10 @@ loop-less c = omega arith
 
 loop-again : tie.Need-loop-again Inv-loop μ-loop
 loop-again c =
-    let wide-call = c .before .before .before .before .before .wide in
+    let wide16-call = c .before .before .before .before .before .wide16 in
     let loop = (back-to-at-loop c) .loop in
     let given = (back-to-start (c .before .before .before .before .before)) .args in
-    every-later (given .codes .now) (loop .e) (wide-call .result) (omega arith) (wide-call .ensures)
+    every-later (given .codes .now) (loop .e) (wide16-call .result) (omega arith) (wide16-call .ensures)
     (λ (x : ℕ). own (given .kinds .now) x ≡ true → Some (λ (d : ℕ). d ≡ x) (clause-of (drop (given .b) (given .codes .now)))) (λ z. omega arith) (loop .inv)
     (λ _. c .before .names .ensures (c .if3 .taken))
 
@@ -76,10 +76,10 @@ loop-less-2 c = omega arith
 
 loop-again-2 : tie.Need-loop-again-2 Inv-loop μ-loop
 loop-again-2 c =
-    let wide-call = c .before .before .before .wide in
+    let wide16-call = c .before .before .before .wide16 in
     let loop = c .before .before .before .before .before .before .loop in
     let given = (back-to-start (c .before .before .before)) .args in
-    every-later (given .codes .now) (loop .e) (wide-call .result) (omega arith) (wide-call .ensures)
+    every-later (given .codes .now) (loop .e) (wide16-call .result) (omega arith) (wide16-call .ensures)
     (λ (x : ℕ). own (given .kinds .now) x ≡ true → Some (λ (d : ℕ). d ≡ x) (clause-of (drop (given .b) (given .codes .now)))) (λ z. omega arith) (loop .inv)
     (λ o. absurd (never-both o (sym (c .before .is-own .ensures) ∙ c .if2 .left)))
 
@@ -96,9 +96,9 @@ within-spec =
     Inv-loop
     μ-loop
     loop-holds
-    mul-wide
-    shared-slice-read-wide
-    wide-requires
+    mul-wide16
+    shared-slice-read-wide16
+    wide16-requires
     add-e
     returns
     is-own-requires

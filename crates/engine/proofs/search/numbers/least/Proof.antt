@@ -1,9 +1,9 @@
--- `search_terms::least` meets its contract. Assumes nothing.
+-- `numbers::least` meets its contract. Assumes nothing.
 use mathlib.Core.Logic.{inl, inr}
 use mathlib.Core.Path.{refl}
 use native.Mathlib.Omega.{arith}
-use Rattle.engine.proofs.search.term_table.least.Statement.{statement}
-use Rattle.engine.proofs.search.term_table.least.Tie as tie
+use Rattle.engine.proofs.search.numbers.least.Statement.{statement}
+use Rattle.engine.proofs.search.numbers.least.Tie as tie
 
 returns : tie.Need-returns
 returns c = (omega arith, omega arith, inl refl)

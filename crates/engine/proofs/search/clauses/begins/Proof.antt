@@ -1,15 +1,15 @@
--- `begins` meets its contract: a clause begins there if it says so. Assumes nothing.
-use Rattle.expansion.proofs.Booleans.{never-both}
-use mathlib.Core.Path.{refl}
+-- `clauses::begins` meets its contract. Assumes nothing.
+use Prim.Native.Nat.{_-_}
 use mathlib.Core.Logic.{inl, inr}
+use mathlib.Core.Bool.{false≢true}
 use borrow.Author.Tests.{eqb-true}
-use native.Mathlib.Omega.{arith}
+use lib.ListN.{getD}
 use borrow.Author.Needs.{needs}
-use Rattle.engine.proofs.search.shortening.begins.Statement.{statement}
-use Rattle.engine.proofs.search.shortening.begins.Tie as tie
+use Rattle.engine.proofs.search.clauses.begins.Statement.{statement}
+use Rattle.engine.proofs.search.clauses.begins.Tie as tie
 
 returns : tie.Need-returns
-returns c = λ e. inl (omega arith)
+returns c = λ e. inl (c .if1 .taken)
 
 sub-result : tie.Need-sub-result
 sub-result c = search needs
@@ -21,10 +21,12 @@ shared-slice-read-result : tie.Need-shared-slice-read-result
 shared-slice-read-result c = search needs
 
 returns-2 : tie.Need-returns-2
-returns-2 c = λ e. inr (eqb-true _ _ e)
+returns-2 c =
+    let given = c .before .before .before .args in
+    λ e. inr (eqb-true (getD (given .codes .now) (given .start - 1) 0) 0 e)
 
 returns-3 : tie.Need-returns-3
-returns-3 c = λ e. absurd (never-both e refl)
+returns-3 c = λ e. absurd (false≢true e)
 
 pub begins-spec : {M : Type 1} → statement M
 begins-spec =
