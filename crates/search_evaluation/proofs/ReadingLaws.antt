@@ -76,7 +76,8 @@ module _ {codes w : List ℕ} {i start shown e : ℕ} (so-far : Looking codes w 
       looking-literal : (s t : Bool) (n : ℕ) → is-set w i c ≡ s → is-true w i c ≡ t → shown-with s t shown c ≡ n → Looking codes w i start n (e + 1)
       looking-literal s t n is-s is-t is-n = record {
         left =
-            sym (ap (λ (m : ℕ). look-on (is-set w i) (is-true w i) m (drop (e + 1) codes)) (ap (λ (b : Bool). shown-with b (is-true w i c) shown c) is-s ∙ ap (λ (b : Bool). shown-with s b shown c) is-t ∙ is-n))
+            sym (ap (λ (m : ℕ). look-on (is-set w i) (is-true w i) m (drop (e + 1) codes)) (ap (λ (b : Bool). shown-with b (is-true w i c) shown c) is-s ∙ ap
+            (λ (b : Bool). shown-with s b shown c) is-t ∙ is-n))
             ∙ literal (look-on (is-set w i) (is-true w i) shown) codes e c inside is
             (λ x cs. look-on (is-set w i) (is-true w i) (shown-with (is-set w i x) (is-true w i x) shown x) cs) (λ x cs. refl) other
             ∙ so-far .left;
@@ -169,7 +170,8 @@ module _ {codes w : List ℕ} {i from start : ℕ} {dead : Bool} {e : ℕ} (so-f
             ∙ so-far .left;
       }
         where
-          by-dead : (d : Bool) (x : ℕ) (cs : List ℕ) → next-live-on (is-satisfied w i) start (d || is-satisfied w i (suc x)) (e + 1) cs ≡ next-live-on (is-satisfied w i) start d e (suc x ∷ cs)
+          by-dead : (d : Bool) (x : ℕ) (cs : List ℕ) →
+              next-live-on (is-satisfied w i) start (d || is-satisfied w i (suc x)) (e + 1) cs ≡ next-live-on (is-satisfied w i) start d e (suc x ∷ cs)
           by-dead true x cs = refl
           by-dead false x cs = refl
 

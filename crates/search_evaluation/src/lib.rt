@@ -9,7 +9,8 @@ ghost use mathlib.Core.Bool.{false};
 ghost use lib.ListN.{length, drop};
 ghost use Rattle.formula.specs.Formula.{max-unknowns, max-rows, work-size};
 ghost use Rattle.codes.specs.Codes.{row-position};
-ghost use Rattle.search_evaluation.specs.Evaluation.{has-row, is-set, is-true, is-satisfied, look-on, look-at, lives-on, lives-at, next-live-on, next-live-at, matrix-on, matrix-in, satisfied-at, level-in};
+ghost use Rattle.search_evaluation.specs.Evaluation.{has-row, is-set, is-true, is-satisfied, look-on, look-at, lives-on, lives-at, next-live-on};
+ghost use Rattle.search_evaluation.specs.Evaluation.{next-live-at, matrix-on, matrix-in, satisfied-at, level-in};
 
 // The last position.
 const LAST: usize = Formula::UNKNOWNS - 1;
