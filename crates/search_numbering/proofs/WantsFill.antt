@@ -132,7 +132,8 @@ module _ (kinds preferences place splits : List ℕ) (side : ℕ) (w : List ℕ)
         wanted i k h less o (yes e) = rw e (a .there i h)
         wanted i k h less o (no d) = a .elsewhere i k d .0 ∙ f .wanted i k h (omega arith) o
 
-module _ (kinds preferences place splits : List ℕ) (side : ℕ) (w : List ℕ) (short : length kinds ≤ max-unknowns) (few : length place ≤ max-rows) (onto : (i : ℕ) → i < length place → (r : ℕ) × (r < length place) × (getD place r 0 ≡ i)) where
+module _ (kinds preferences place splits : List ℕ) (side : ℕ) (w : List ℕ) (short : length kinds ≤ max-unknowns) (few : length place ≤ max-rows)
+    (onto : (i : ℕ) → i < length place → (r : ℕ) × (r < length place) × (getD place r 0 ≡ i)) where
   filled-at-is : (k number : ℕ) (u : List ℕ) → k < max-unknowns → length u ≡ work-size
       → FilledAt preferences place splits k number u (filled-at preferences place splits k number u)
   unfolding filled-at
@@ -145,7 +146,8 @@ module _ (kinds preferences place splits : List ℕ) (side : ℕ) (w : List ℕ)
     levels = all .levels;
   }
     where
-      all : Written (λ i. preferred preferences number (copies-at splits place k) (first-place splits k i)) k (length place) u (written (λ i. preferred preferences number (copies-at splits place k) (first-place splits k i)) k (length place) u)
+      all : Written (λ i. preferred preferences number (copies-at splits place k) (first-place splits k i)) k (length place) u
+          (written (λ i. preferred preferences number (copies-at splits place k) (first-place splits k i)) k (length place) u)
       all = written-all (λ i. preferred preferences number (copies-at splits place k) (first-place splits k i)) k u small area (length place) few
 
   -- Of the positions that are left k is the first; those before it are filled.

@@ -183,13 +183,15 @@ module _ (ts : List Bool) (rows : List Row) (place splits : List ℕ) (row : ℕ
     unfolding copies-at
     paired-copies =
         paired-new-ones Same same-agree [] [] tt (map (first-among splits k (length place)) place) (map (restriction ts k) rows)
-        (paired-map Same (first-among splits k (length place)) (restriction ts k) place rows (placed .many) (λ q h. (q, h, first-among-in splits k (length place) (getD place q 0) (placed .place-below q h), refl)))
+        (paired-map Same (first-among splits k (length place)) (restriction ts k) place rows (placed .many)
+        (λ q h. (q, h, first-among-in splits k (length place) (getD place q 0) (placed .place-below q h), refl)))
 
     length-copies : length (copies-at splits place k) ≡ length (fresh [] (map (restriction ts k) rows))
     length-copies = paired-length Same (copies-at splits place k) (fresh [] (map (restriction ts k) rows)) paired-copies
 
     number-at : (i : ℕ) → i < length place → (rest : List Copy)
-        → number (map (copy-at k) (fresh [] (map (restriction ts k) rows)) ++ rest) k (restricted k i) ≡ index-of (first-place splits k i) (copies-at splits place k)
+        → number (map (copy-at k) (fresh [] (map (restriction ts k) rows)) ++ rest) k (restricted k i) ≡ index-of (first-place splits k i)
+        (copies-at splits place k)
     number-at i h rest =
         number-here Same same-agree (first-place splits k i) k (restricted k i) (same-at i h) (copies-at splits place k)
         (fresh [] (map (restriction ts k) rows)) paired-copies rest
