@@ -12,9 +12,11 @@ use borrow.Author.Tests.{ltb-true, ltb-false, eqb-true, eqb-false}
 use Rattle.formula.specs.Formula.{work-size, max-rows, max-unknowns}
 use Rattle.search_cells.specs.Cells.{cells}
 use Rattle.search_cells.specs.Steps.{first-from}
-use Rattle.search_groups.specs.Groups.{differ-before, last-behind, copy-start, copy-end, parts-at, parted-at, earliest, parting-row, is-open, open-position}
+use Rattle.search_groups.specs.Groups.{differ-before, last-behind, copy-start, copy-end, parts-at, parted-at, earliest, parting-row, is-open}
+use Rattle.search_groups.specs.Groups.{open-position}
 use Rattle.search_groups.specs.Private.Parts.{CopyFrom, CopyTo, Parting, PartedAt, Stands}
-use Rattle.search_groups.proofs.ScanLaws.{both, copy-start-is, copy-end-is, parted-at-is, parting-row-is, open-position-is, parts-nowhere, parts-there, parts-earlier}
+use Rattle.search_groups.proofs.ScanLaws.{both, copy-start-is, copy-end-is, parted-at-is, parting-row-is, open-position-is, parts-nowhere, parts-there}
+use Rattle.search_groups.proofs.ScanLaws.{parts-earlier}
 
 -- ---- scans of numbers
 
@@ -212,7 +214,8 @@ module _ (splits : List ℕ) (lo : ℕ) where
       let x = earliest-is (hi - (lo + 1)) in
       let below = x .high in
       rw (parting-row-is splits lo hi low high)
-      (parting-end hi (lo + suc (hi - (lo + 1))) (earliest splits lo (hi - (lo + 1))) (parts-at splits lo (earliest splits lo (hi - (lo + 1))) 255) (omega arith) (omega arith) x)
+      (parting-end hi (lo + suc (hi - (lo + 1))) (earliest splits lo (hi - (lo + 1))) (parts-at splits lo (earliest splits lo (hi - (lo + 1))) 255)
+      (omega arith) (omega arith) x)
 
   pub parted-at-there : (mid n : ℕ) → mid < length splits → PartedAt splits lo mid n (parted-at splits lo mid n)
   parted-at-there mid n high = rw (parted-at-is splits lo mid n high) (go (decLt lo mid))
