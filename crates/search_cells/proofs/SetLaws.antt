@@ -45,8 +45,11 @@ module _ (k lo hi mark : ℕ) (value : Bool) (w : List ℕ) (area : length w ≡
     all-set =
         subst (SetBelow hi) (sym rows-set-inside)
         (steps-reach (λ i. with-cell i k mark value) SetBelow lo hi
-        (λ i u low less p.
-        (length-with-cell i k mark value u ∙ p .0, cells-set-more k lo i mark value w u (with-cell i k mark value u) low (p .1) (cells-set-one i k mark value u (omega arith) small (p .0))))
+        (λ i u low less p. (
+          length-with-cell i k mark value u ∙ p .0,
+          cells-set-more k lo i mark value w u (with-cell i k mark value u) low (p .1)
+              (cells-set-one i k mark value u (omega arith) small (p .0)),
+        ))
         w order (area, cells-set-none k lo mark value w))
 
     pub rows-are-set : CellsSet k lo hi mark value w (rows-set k lo hi mark value w)
