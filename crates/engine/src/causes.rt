@@ -1,5 +1,5 @@
-// The causes of a refusal that the search and the run find themselves, by name (01, 'Limits and refusals'; 02, C-16). 1 to 3 are found by `Formula::check`, which
-// hands on their numbers; CODES is 01's 2 too: what is lent for the clauses is none of a formula.
+// The causes of a refusal that the search and the run find themselves, by name; their numbers are 01's, and 02's (C-16) for COUNTS. 1 to 3 are found by
+// `Formula::check`, which hands on their numbers; CODES is 01's 2 too: what is lent for the clauses is none of a formula.
 pub(crate) const CODES: u32 = 2;
 
 pub(crate) const ROWS: u32 = 4;

@@ -144,11 +144,13 @@ module _ (i k : ℕ) (hi : i < max-rows) (hk : k < max-unknowns) (w : List ℕ) 
 
   flags-kept : (h j : ℕ) → ((h ≡ i) × (j ≡ k) → ⊥) → flags one-set h j ≡ flags w h j
   flags-kept h j other =
-      flags-elsewhere i k hi hk (level-stored w i k level) (getD (level-stored w i k level) (flags-from + (max-unknowns * i + k)) 0 / 2 * 2 + weight y) h j other
+      flags-elsewhere i k hi hk (level-stored w i k level) (getD (level-stored w i k level) (flags-from + (max-unknowns * i + k)) 0 / 2 * 2 + weight y) h j
+      other
       ∙ flags-after-level i k hi hk w level h j
 
   level-of-set : (h j : ℕ) → cells one-set .level h j ≡ cells (level-stored w i k level) .level h j
-  level-of-set h j = level-after-flags i k hi hk (level-stored w i k level) (getD (level-stored w i k level) (flags-from + (max-unknowns * i + k)) 0 / 2 * 2 + weight y) h j
+  level-of-set h j = level-after-flags i k hi hk (level-stored w i k level) (getD (level-stored w i k level) (flags-from + (max-unknowns * i + k))
+      0 / 2 * 2 + weight y) h j
 
   value-of-set : cells one-set .value i k ≡ y
   unfolding cells
@@ -186,8 +188,11 @@ module _ (i k : ℕ) (hi : i < max-rows) (hk : k < max-unknowns) (w : List ℕ) 
   want-set = record {
     there = wants-of-want;
     elsewhere = λ h j other.
-        let same = flags-elsewhere i k hi hk w (2 * weight wanted) h j other in
-        (wants-same w (set w (flags-from + (max-unknowns * i + k)) (2 * weight wanted)) h j same, value-same w (set w (flags-from + (max-unknowns * i + k)) (2 * weight wanted)) h j same);
+        let same = flags-elsewhere i k hi hk w (2 * weight wanted) h j other in (
+          wants-same w (set w (flags-from + (max-unknowns * i + k)) (2 * weight wanted)) h j same,
+          value-same w
+              (set w (flags-from + (max-unknowns * i + k)) (2 * weight wanted)) h j same,
+        );
     levels = λ h j. level-after-flags i k hi hk w (2 * weight wanted) h j;
   }
 

@@ -70,7 +70,8 @@ module _ (kinds : List ℕ) (side : ℕ) (w : List ℕ) (i : ℕ) where
       go : Dec (j ≡ k) → cells w .value i j ≡ cells w .value (i + 1) j
       go (yes q) =
           let here : eqb (getD kinds k 0) side ≡ false = sym (owned-at kinds side k inside) ∙ ap (λ (x : ℕ). getD (owned kinds side) x false) (sym q) ∙ other in
-          subst (λ (x : ℕ). cells w .value i x ≡ cells w .value (i + 1) x) (sym q) (alike (eqb (getD kinds k 0) side) (cells w .value i k) (cells w .value (i + 1) k) e here)
+          subst (λ (x : ℕ). cells w .value i x ≡ cells w .value (i + 1) x) (sym q)
+          (alike (eqb (getD kinds k 0) side) (cells w .value i k) (cells w .value (i + 1) k) e here)
       go (no d) = same j (omega arith) other
 
   found : (k : ℕ) → k < length kinds → SameBefore k → differ kinds side w i k ≡ true → FirstDifference kinds side w i k
@@ -99,7 +100,8 @@ module _ (kinds : List ℕ) (side : ℕ) (w : List ℕ) (i : ℕ) where
 
 -- ---- row by row
 
-module _ (kinds w : List ℕ) (count side : ℕ) (differences : List ℕ) (area : length w ≡ work-size) (few : length kinds ≤ max-unknowns) (most : count ≤ max-rows) (room : length differences ≡ max-rows) where
+module _ (kinds w : List ℕ) (count side : ℕ) (differences : List ℕ) (area : length w ≡ work-size) (few : length kinds ≤ max-unknowns) (most : count ≤ max-rows)
+    (room : length differences ≡ max-rows) where
   pub rows-compared-inside : rows-compared kinds w count side differences ≡ steps (with-split kinds side w) (count - 1) 0 differences
   unfolding rows-compared
   rows-compared-inside = rw (sizes-fit (length w) (length kinds) count area few most, eq-eqb (length differences) max-rows room)

@@ -45,7 +45,8 @@ bytes-bounded-more bound from at w u low-at inside b = record {
     there x low high (no n) = getD-set-other u at x (bounded bound (getD u at 0)) 0 n ∙ b .there x low (omega arith)
 
 -- The bytes of the rows lo to hi bounded: the cells with a level over the bound are open.
-module _ (bound lo hi : ℕ) (w u : List ℕ) (most : hi ≤ max-rows) (area : length w ≡ work-size) (b : BytesBounded bound (max-unknowns * lo) (max-unknowns * hi) w u) where
+module _ (bound lo hi : ℕ) (w u : List ℕ) (most : hi ≤ max-rows) (area : length w ≡ work-size) (b : BytesBounded bound (max-unknowns * lo) (max-unknowns * hi) w
+    u) where
   flags-stay : (i j : ℕ) → flags u i j ≡ flags w i j
   flags-stay i j = b .elsewhere (flags-from + spot i j) (λ t. let p = t .1 in omega arith)
 

@@ -45,8 +45,11 @@ module _ (k lo hi level : ℕ) (value : Bool) (w : List ℕ) (area : length w �
     all-set =
         subst (SetBelow hi) (sym rows-set-inside)
         (steps-reach (λ i. with-cell i k level value) SetBelow lo hi
-        (λ i u low less p.
-        (length-with-cell i k level value u ∙ p .0, cells-set-more k lo i level value w u (with-cell i k level value u) low (p .1) (cells-set-one i k level value u (omega arith) small (p .0))))
+        (λ i u low less p. (
+          length-with-cell i k level value u ∙ p .0,
+          cells-set-more k lo i level value w u (with-cell i k level value u) low (p .1)
+              (cells-set-one i k level value u (omega arith) small (p .0)),
+        ))
         w order (area, cells-set-none k lo level value w))
 
     pub rows-are-set : CellsSet k lo hi level value w (rows-set k lo hi level value w)

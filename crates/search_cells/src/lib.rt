@@ -12,7 +12,8 @@ ghost use Rattle.rows.specs.Access.{placed, bit-set};
 ghost use Rattle.expansion.specs.Play.{part};
 ghost use Rattle.expansion.specs.Cells.{tabulate};
 ghost use Rattle.search_cells.specs.Cells.{cells, owned};
-ghost use Rattle.search_cells.specs.Steps.{fits, with-cell, rows-set, bounded, rows-opened, with-given-row, rows-filled, first-difference, rows-compared, packed};
+ghost use Rattle.search_cells.specs.Steps.{fits, with-cell, rows-set, bounded, rows-opened, with-given-row, rows-filled, first-difference, rows-compared};
+ghost use Rattle.search_cells.specs.Steps.{packed};
 
 // The bytes of the cells' values and wanted values lie behind those of their levels.
 pub const FLAGS: usize = Formula::ROWS * Formula::UNKNOWNS;
@@ -185,7 +186,8 @@ fn value(work: &[u8], i: usize, k: usize) -> bool
 // Writes the own values of the sorted row i as lent row `row`.
 fn pack_row(kinds: &[u8], row: usize, i: usize, side: u8, work: &mut [u8])
     requires { ⌜ (length (now kinds) ≤ max-unknowns) × (row < max-rows) × (i < max-rows) × (length (now work) ≡ work-size) ⌝ }
-    ensures { λ _. ⌜ now (work .exit) ≡ placed (now (work .entry)) row (bytes-of (part (owned (now (kinds .entry)) side) (tabulate (length (now (kinds .entry))) (cells (now (work .entry)) .value i)))) ⌝ }
+    ensures { λ _. ⌜ now (work .exit) ≡ placed (now (work .entry)) row
+        (bytes-of (part (owned (now (kinds .entry)) side) (tabulate (length (now (kinds .entry))) (cells (now (work .entry)) .value i)))) ⌝ }
 {
     rows::clear(&mut work[BYTES * row..BYTES * row + BYTES]);
     let mut bit = 0;

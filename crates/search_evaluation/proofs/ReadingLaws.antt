@@ -76,7 +76,8 @@ module _ {codes w : List ℕ} {i start shown e : ℕ} (so-far : Looking codes w 
       looking-literal : (s t : Bool) (n : ℕ) → is-set w i c ≡ s → is-true w i c ≡ t → shown-with s t shown c ≡ n → Looking codes w i start n (e + 1)
       looking-literal s t n is-s is-t is-n = record {
         left =
-            sym (ap (λ (m : ℕ). look-on (is-set w i) (is-true w i) m (drop (e + 1) codes)) (ap (λ (b : Bool). shown-with b (is-true w i c) shown c) is-s ∙ ap (λ (b : Bool). shown-with s b shown c) is-t ∙ is-n))
+            sym (ap (λ (m : ℕ). look-on (is-set w i) (is-true w i) m (drop (e + 1) codes)) (ap (λ (b : Bool). shown-with b (is-true w i c) shown c) is-s ∙ ap
+            (λ (b : Bool). shown-with s b shown c) is-t ∙ is-n))
             ∙ literal (look-on (is-set w i) (is-true w i) shown) codes e c inside is
             (λ x cs. look-on (is-set w i) (is-true w i) (shown-with (is-set w i x) (is-true w i x) shown x) cs) (λ x cs. refl) other
             ∙ so-far .left;
@@ -117,7 +118,8 @@ module _ {codes w : List ℕ} {i start e : ℕ} (so-far : Living codes w i start
     unsatisfied-end z = end (unsatisfied-on (is-satisfied w i)) codes e c inside is z ∙ so-far .left
 
     module _ (other : c ≡ 0 → ⊥) where
-      living-literal : (b : Bool) → is-satisfied w i c ≡ b → (not b && unsatisfied-on (is-satisfied w i) (drop (e + 1) codes)) ≡ unsatisfied-whole codes w i start
+      living-literal : (b : Bool) → is-satisfied w i c ≡ b → (not b && unsatisfied-on (is-satisfied w i) (drop (e + 1) codes)) ≡ unsatisfied-whole codes w
+          i start
       living-literal b is-b =
           ap (λ (x : Bool). not x && unsatisfied-on (is-satisfied w i) (drop (e + 1) codes)) (sym is-b)
           ∙ literal (unsatisfied-on (is-satisfied w i)) codes e c inside is
@@ -169,7 +171,9 @@ module _ {codes w : List ℕ} {i from start : ℕ} {hit : Bool} {e : ℕ} (so-fa
             ∙ so-far .left;
       }
         where
-          by-hit : (d : Bool) (x : ℕ) (cs : List ℕ) → next-unsatisfied-on (is-satisfied w i) start (d || is-satisfied w i (suc x)) (e + 1) cs ≡ next-unsatisfied-on (is-satisfied w i) start d e (suc x ∷ cs)
+          by-hit : (d : Bool) (x : ℕ) (cs : List ℕ) →
+              next-unsatisfied-on (is-satisfied w i) start (d || is-satisfied w i (suc x)) (e + 1) cs ≡ next-unsatisfied-on (is-satisfied w i) start d e
+              (suc x ∷ cs)
           by-hit true x cs = refl
           by-hit false x cs = refl
 

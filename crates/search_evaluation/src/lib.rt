@@ -9,7 +9,9 @@ ghost use mathlib.Core.Bool.{false};
 ghost use lib.ListN.{length, drop};
 ghost use Rattle.formula.specs.Formula.{max-unknowns, max-rows, work-size};
 ghost use Rattle.codes.specs.Codes.{row-position};
-ghost use Rattle.search_evaluation.specs.Evaluation.{has-row, is-set, is-true, is-satisfied, look-on, look-at, unsatisfied-on, unsatisfied-at, next-unsatisfied-on, next-unsatisfied-at, matrix-on, matrix-in, satisfied-at, level-in};
+ghost use Rattle.search_evaluation.specs.Evaluation.{has-row, is-set, is-true, is-satisfied};
+ghost use Rattle.search_evaluation.specs.Evaluation.{look-on, look-at, unsatisfied-on, unsatisfied-at, next-unsatisfied-on};
+ghost use Rattle.search_evaluation.specs.Evaluation.{next-unsatisfied-at, matrix-on, matrix-in, satisfied-at, level-in};
 
 // The last position.
 const LAST: usize = Formula::UNKNOWNS - 1;

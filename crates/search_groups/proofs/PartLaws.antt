@@ -12,9 +12,12 @@ use borrow.Author.Tests.{ltb-true, ltb-false, eqb-true, eqb-false}
 use Rattle.formula.specs.Formula.{work-size, max-rows, max-unknowns}
 use Rattle.search_cells.specs.Cells.{cells}
 use Rattle.search_cells.specs.Steps.{first-from}
-use Rattle.search_groups.specs.Groups.{differ-before, last-behind, copy-start, copy-end, parts-at, split-position, earliest, split-row, is-open, open-position}
+use Rattle.search_groups.specs.Groups.{differ-before, last-behind, copy-start, copy-end, parts-at, split-position, earliest, split-row, is-open}
+use Rattle.search_groups.specs.Groups.{open-position}
 use Rattle.search_groups.specs.Private.Parts.{CopyFrom, CopyTo, SplitRow, SplitPosition, FirstOpen}
-use Rattle.search_groups.proofs.ScanLaws.{both, copy-start-is, copy-end-is, split-position-is, split-row-is, open-position-is, parts-nowhere, parts-there, parts-earlier}
+use Rattle.search_groups.proofs.ScanLaws.{both, copy-start-is, copy-end-is, split-position-is}
+use Rattle.search_groups.proofs.ScanLaws.{split-row-is, open-position-is, parts-nowhere, parts-there}
+use Rattle.search_groups.proofs.ScanLaws.{parts-earlier}
 
 -- ---- scans of numbers
 
@@ -144,7 +147,8 @@ module _ (differences : List ℕ) (lo : ℕ) where
     none = λ e. refl;
   }
 
-  split-row-earlier : (i mid least : ℕ) → lo < i → getD differences i 0 < least → SplitRowTo differences lo i mid least → SplitRowTo differences lo (i + 1) i (getD differences i 0)
+  split-row-earlier : (i mid least : ℕ) → lo < i → getD differences i 0 < least → SplitRowTo differences lo i mid least → SplitRowTo differences lo (i + 1)
+      i (getD differences i 0)
   split-row-earlier i mid least over less x = record {
     low = omega arith;
     high = omega arith;
@@ -192,7 +196,8 @@ module _ (differences : List ℕ) (lo : ℕ) where
 
   -- i is the row behind those passed
   split-row-more : (i mid : ℕ) (b : Bool) → lo < i → ltb (getD differences i 0) (parts-at differences lo mid 255) ≡ b
-      → SplitRowTo differences lo i mid (parts-at differences lo mid 255) → SplitRowTo differences lo (i + 1) (cond b i mid) (parts-at differences lo (cond b i mid) 255)
+      → SplitRowTo differences lo i mid (parts-at differences lo mid 255) → SplitRowTo differences lo (i + 1) (cond b i mid)
+      (parts-at differences lo (cond b i mid) 255)
   split-row-more i mid true over e x =
       let less = ltb-true (getD differences i 0) (parts-at differences lo mid 255) e in
       rw (parts-earlier differences lo mid i over less) (split-row-earlier i mid (parts-at differences lo mid 255) over less x)
@@ -212,7 +217,9 @@ module _ (differences : List ℕ) (lo : ℕ) where
       let x = earliest-is (hi - (lo + 1)) in
       let below = x .high in
       rw (split-row-is differences lo hi low high)
-      (split-row-end hi (lo + suc (hi - (lo + 1))) (earliest differences lo (hi - (lo + 1))) (parts-at differences lo (earliest differences lo (hi - (lo + 1))) 255) (omega arith) (omega arith) x)
+      (split-row-end hi (lo + suc (hi - (lo + 1))) (earliest differences lo (hi - (lo + 1)))
+      (parts-at differences lo (earliest differences lo (hi - (lo + 1))) 255)
+      (omega arith) (omega arith) x)
 
   pub split-position-there : (mid n : ℕ) → mid < length differences → SplitPosition differences lo mid n (split-position differences lo mid n)
   split-position-there mid n high = rw (split-position-is differences lo mid n high) (go (decLt lo mid))

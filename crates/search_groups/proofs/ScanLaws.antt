@@ -13,7 +13,8 @@ use Rattle.formula.specs.Formula.{work-size, max-rows, max-unknowns}
 use Rattle.expansion.proofs.Booleans.{never-both, false-if-not-true}
 use Rattle.search_cells.specs.Steps.{first-from}
 use Rattle.search_cells.proofs.CellLaws.{level-at}
-use Rattle.search_groups.specs.Groups.{differ-before, are-rows, last-behind, copy-start, copy-end, agreement-of, is-repeated, parts-at, split-position, earlier, earliest, split-row, is-open, have-cells, open-position}
+use Rattle.search_groups.specs.Groups.{differ-before, are-rows, last-behind, copy-start, copy-end, agreement-of, is-repeated, parts-at, split-position}
+use Rattle.search_groups.specs.Groups.{earlier, earliest, split-row, is-open, have-cells, open-position}
 
 -- ---- what is asked is in the tables, or not
 

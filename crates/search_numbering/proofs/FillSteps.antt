@@ -17,7 +17,8 @@ use Rattle.formula.specs.Formula.{work-size, max-rows, max-unknowns}
 use Rattle.preference.specs.Preference.{prefer}
 use Rattle.rows.specs.Row.{weight}
 use Rattle.expansion.proofs.Booleans.{true-or-false, never-both, false-if-not-true}
-use Rattle.search_numbering.specs.Numbering.{first-place, first-among, member, new-ones, copies-at, index-of, preferred, written, filled-at, filled-from, sized, filled}
+use Rattle.search_numbering.specs.Numbering.{first-place, first-among, member, new-ones, copies-at, index-of, preferred, written, filled-at, filled-from}
+use Rattle.search_numbering.specs.Numbering.{sized, filled}
 use Rattle.search_numbering.specs.Private.Wants.{Grouped, firsts, note, note-at, Numbered}
 use Rattle.search_numbering.proofs.NewOnes.{length-new-ones, member-new-ones, new-ones-met, new-ones-unmet}
 use Rattle.search_numbering.proofs.NewOnes.{index-of-end, member-end, index-of-append, member-append-other}
@@ -46,7 +47,8 @@ first-among-in differences k n i less = rw (lt-ltb i n less)
 pub grouped-none : (differences : List ℕ) (k : ℕ) (first : List ℕ) → ((x : ℕ) → getD first x 0 ≡ 0) → Grouped differences k 0 first
 grouped-none differences k first empty i = rw (le-ltb i 0 (omega arith)) (empty i)
 
-pub grouped-more : (differences : List ℕ) (k n : ℕ) (first : List ℕ) (s : ℕ) → n < length first → Grouped differences k n first → s ≡ first-place differences k n
+pub grouped-more : (differences : List ℕ) (k n : ℕ) (first : List ℕ) (s : ℕ) → n < length first → Grouped differences k n first → s ≡ first-place
+    differences k n
     → Grouped differences k (n + 1) (set first n s)
 grouped-more differences k n first s inside grouped is i = at-place (ℕ-discrete i n) (decLt i n)
   where
@@ -91,7 +93,8 @@ module _ (preferences : List ℕ) (number : ℕ) (met : List ℕ) (next : ℕ) (
   numbered-not-member : (x : ℕ) → getD notes x 0 ≡ 0 → member x met ≡ false
   numbered-not-member x none =
       false-if-not-true (member x met)
-      (λ p. let m : getD notes x 0 ≡ note (prefer preferences (number + index-of x met)) = rw p at (n .noted x) in omega (arith, note-positive (prefer preferences (number + index-of x met))))
+      (λ p. let m : getD notes x 0 ≡ note (prefer preferences (number + index-of x met)) = rw p at (n .noted x) in omega
+      (arith, note-positive (prefer preferences (number + index-of x met))))
 
   module _ (s : ℕ) (inside : s < length notes) (unmet : member s met ≡ false) where
     abbrev with-note : List ℕ
@@ -117,21 +120,23 @@ pub numbered-none : (preferences first place : List ℕ) (number : ℕ) (notes :
 numbered-none preferences first place number notes empty = record { count = omega arith; noted = λ x. empty x }
 
 -- A turn at a lent row whose copy has the first place s.
-module _ (preferences first place : List ℕ) (number row next : ℕ) (notes : List ℕ) (inside : row < length place) (n : Numbered preferences number (firsts first (take row place)) next notes) (i s : ℕ) (at-place : i ≡ getD place row 0) (at-start : s ≡ getD first i 0) where
-  start-is : s ≡ start first place row inside
-  start-is = at-start ∙ ap (λ (j : ℕ). getD first j 0) at-place
+module _ (preferences first place : List ℕ) (number row next : ℕ) (notes : List ℕ) (inside : row < length place)
+    (n : Numbered preferences number (firsts first (take row place)) next notes) (i s : ℕ) (at-place : i ≡ getD place row 0) (at-start : s ≡ getD first i 0)
+  where
+    start-is : s ≡ start first place row inside
+    start-is = at-start ∙ ap (λ (j : ℕ). getD first j 0) at-place
 
-  pub numbered-old : (getD notes s 0 ≡ 0 → ⊥) → Numbered preferences number (firsts first (take (row + 1) place)) next notes
-  numbered-old noted =
-      let met = numbered-member preferences number (firsts first (take row place)) next notes n s noted in
-      rw (firsts-met first place row inside (rw start-is at met)) n
+    pub numbered-old : (getD notes s 0 ≡ 0 → ⊥) → Numbered preferences number (firsts first (take (row + 1) place)) next notes
+    numbered-old noted =
+        let met = numbered-member preferences number (firsts first (take row place)) next notes n s noted in
+        rw (firsts-met first place row inside (rw start-is at met)) n
 
-  pub numbered-new : s < length notes → getD notes s 0 ≡ 0 → (m : ℕ) → m ≡ note (prefer preferences next)
-      → Numbered preferences number (firsts first (take (row + 1) place)) (next + 1) (set notes s m)
-  numbered-new fits none m is =
-      let unmet = numbered-not-member preferences number (firsts first (take row place)) next notes n s none in
-      rw (firsts-unmet first place row inside (rw start-is at unmet), ← start-is, is)
-      (numbered-more preferences number (firsts first (take row place)) next notes n s fits unmet)
+    pub numbered-new : s < length notes → getD notes s 0 ≡ 0 → (m : ℕ) → m ≡ note (prefer preferences next)
+        → Numbered preferences number (firsts first (take (row + 1) place)) (next + 1) (set notes s m)
+    numbered-new fits none m is =
+        let unmet = numbered-not-member preferences number (firsts first (take row place)) next notes n s none in
+        rw (firsts-unmet first place row inside (rw start-is at unmet), ← start-is, is)
+        (numbered-more preferences number (firsts first (take row place)) next notes n s fits unmet)
 
 -- ---- one position
 
@@ -162,7 +167,8 @@ note-preferred preferences number met x =
     (λ (p : member x met ≡ false). rw p)
     (true-or-false (member x met))
 
-module _ (preferences place differences : List ℕ) (k number : ℕ) (first notes : List ℕ) (next : ℕ) (grouped : Grouped differences k (length place) first) (numbered : Numbered preferences number (firsts first place) next notes) where
+module _ (preferences place differences : List ℕ) (k number : ℕ) (first notes : List ℕ) (next : ℕ) (grouped : Grouped differences k (length place) first)
+    (numbered : Numbered preferences number (firsts first place) next notes) where
   firsts-are-copies : firsts first place ≡ copies-at differences place k
   unfolding copies-at
   firsts-are-copies =
@@ -185,19 +191,27 @@ module _ (preferences place differences : List ℕ) (k number : ℕ) (first note
   unfolding filled-at
   notes-fill w u is =
       is
-      ∙ written-same (λ i. eqb (getD notes (getD first i 0) 0) 2) (λ i. preferred preferences number (copies-at differences place k) (first-place differences k i)) k (length place) w noted-preferred
+      ∙ written-same (λ i. eqb (getD notes (getD first i 0) 0) 2)
+      (λ i. preferred preferences number (copies-at differences place k) (first-place differences k i)) k
+      (length place) w noted-preferred
 
 -- ---- position by position
 
 pub copies-at-most : (differences place : List ℕ) (k : ℕ) → length (copies-at differences place k) ≤ length place
 unfolding copies-at
-copies-at-most differences place k = omega (arith, length-new-ones [] (map (first-among differences k (length place)) place), length-map place (first-among differences k (length place)))
+copies-at-most differences place k = omega (
+  arith,
+  length-new-ones [] (map (first-among differences k (length place)) place),
+  length-map place
+      (first-among differences k (length place)),
+)
 
 -- What the positions from k on make of the table, by what those behind k make of it.
 module _ (kinds preferences place differences : List ℕ) (side k number : ℕ) (w : List ℕ) (inside : k < length kinds) where
   pub filled-own : getD kinds k 0 ≡ side
       → filled-from preferences place differences side (drop k kinds) k number w
-      ≡ filled-from preferences place differences side (drop (k + 1) kinds) (k + 1) (number + length (copies-at differences place k)) (filled-at preferences place differences k number w)
+      ≡ filled-from preferences place differences side (drop (k + 1) kinds) (k + 1) (number + length (copies-at differences place k))
+      (filled-at preferences place differences k number w)
   filled-own same = rw (add-one k, drop-cons kinds k 0 inside, eq-eqb (getD kinds k 0) side same)
 
   pub filled-other : (getD kinds k 0 ≡ side → ⊥)

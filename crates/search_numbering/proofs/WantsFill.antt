@@ -132,7 +132,8 @@ module _ (kinds preferences place differences : List ℕ) (side : ℕ) (w : List
         wanted i k h less o (yes e) = rw e (a .there i h)
         wanted i k h less o (no d) = a .elsewhere i k d .0 ∙ f .wanted i k h (omega arith) o
 
-module _ (kinds preferences place differences : List ℕ) (side : ℕ) (w : List ℕ) (short : length kinds ≤ max-unknowns) (few : length place ≤ max-rows) (onto : (i : ℕ) → i < length place → (r : ℕ) × (r < length place) × (getD place r 0 ≡ i)) where
+module _ (kinds preferences place differences : List ℕ) (side : ℕ) (w : List ℕ) (short : length kinds ≤ max-unknowns) (few : length place ≤ max-rows)
+    (onto : (i : ℕ) → i < length place → (r : ℕ) × (r < length place) × (getD place r 0 ≡ i)) where
   filled-at-is : (k number : ℕ) (u : List ℕ) → k < max-unknowns → length u ≡ work-size
       → FilledAt preferences place differences k number u (filled-at preferences place differences k number u)
   unfolding filled-at
@@ -140,18 +141,21 @@ module _ (kinds preferences place differences : List ℕ) (side : ℕ) (w : List
     there = λ i h.
         let r = onto i h in
         all .there i h
-        ∙ met-preferred preferences number (copies-at differences place k) (first-place differences k i) (first-place-met differences place k i (r .0) h (r .1) (r .2));
+        ∙ met-preferred preferences number (copies-at differences place k) (first-place differences k i)
+        (first-place-met differences place k i (r .0) h (r .1) (r .2));
     elsewhere = all .elsewhere;
     levels = all .levels;
   }
     where
-      all : Written (λ i. preferred preferences number (copies-at differences place k) (first-place differences k i)) k (length place) u (written (λ i. preferred preferences number (copies-at differences place k) (first-place differences k i)) k (length place) u)
+      all : Written (λ i. preferred preferences number (copies-at differences place k) (first-place differences k i)) k (length place) u
+          (written (λ i. preferred preferences number (copies-at differences place k) (first-place differences k i)) k (length place) u)
       all = written-all (λ i. preferred preferences number (copies-at differences place k) (first-place differences k i)) k u small area (length place) few
 
   -- Of the positions that are left k is the first; those before it are filled.
   wants-from : (left : List ℕ) (k : ℕ) (u : List ℕ) → ((j : ℕ) → getD left j 0 ≡ getD kinds (k + j) 0) → k + length left ≡ length kinds
       → length u ≡ work-size → WantsFilledBelow kinds preferences place differences side k w u
-      → WantsFilled kinds preferences place differences side w (filled-from preferences place differences side left k (copies-before differences place (owned kinds side) k) u)
+      → WantsFilled kinds preferences place differences side w
+      (filled-from preferences place differences side left k (copies-before differences place (owned kinds side) k) u)
   wants-from [] k u here sum area f =
       let full : k ≡ length kinds = omega arith in
       wants-whole kinds preferences place differences side w u (rw full at f)
@@ -179,5 +183,11 @@ module _ (kinds preferences place differences : List ℕ) (side : ℕ) (w : List
       → WantsFilled kinds preferences place differences side w (filled kinds preferences place differences side w)
   unfolding filled
   wants-filled all area =
-      rw (le-leb (length kinds) max-unknowns short, le-leb (length place) max-rows few, eq-eqb (length differences) max-rows all, eq-eqb (length w) work-size area)
+      rw (
+        le-leb (length kinds) max-unknowns short,
+        le-leb (length place) max-rows few,
+        eq-eqb (length differences) max-rows all,
+        eq-eqb (length w)
+            work-size area,
+      )
       (wants-from kinds 0 w (λ j. ap (λ (n : ℕ). getD kinds n 0) (omega arith)) (omega arith) area (wants-none kinds preferences place differences side w))

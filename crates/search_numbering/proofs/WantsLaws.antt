@@ -150,7 +150,8 @@ module _ (ts : List Bool) (rows : List Row) (place differences : List ℕ) (row 
         rw (le-ltb (getD differences (suc g) 0) k low) (first-equal d i g (omega arith) (omega arith) near)
 
     -- Places have one first place exactly if their rows have one restriction.
-    first-iff : (i h : ℕ) → i < length place → h < length place → (first-place differences k i ≡ first-place differences k h) ↔ (restricted k i ≡ restricted k h)
+    first-iff : (i h : ℕ) → i < length place → h < length place → (first-place differences k i ≡ first-place differences k h) ↔
+        (restricted k i ≡ restricted k h)
     first-iff i h less fits = (
       λ e. first-same i less ∙ ap (restricted k) e ∙ sym (first-same h fits),
       λ e. back e (decLe i h),
@@ -183,13 +184,15 @@ module _ (ts : List Bool) (rows : List Row) (place differences : List ℕ) (row 
     unfolding copies-at
     paired-copies =
         paired-new-ones Same same-agree [] [] tt (map (first-among differences k (length place)) place) (map (restriction ts k) rows)
-        (paired-map Same (first-among differences k (length place)) (restriction ts k) place rows (placed .many) (λ q h. (q, h, first-among-in differences k (length place) (getD place q 0) (placed .place-below q h), refl)))
+        (paired-map Same (first-among differences k (length place)) (restriction ts k) place rows (placed .many)
+        (λ q h. (q, h, first-among-in differences k (length place) (getD place q 0) (placed .place-below q h), refl)))
 
     length-copies : length (copies-at differences place k) ≡ length (fresh [] (map (restriction ts k) rows))
     length-copies = paired-length Same (copies-at differences place k) (fresh [] (map (restriction ts k) rows)) paired-copies
 
     number-at : (i : ℕ) → i < length place → (rest : List Copy)
-        → number (map (copy-at k) (fresh [] (map (restriction ts k) rows)) ++ rest) k (restricted k i) ≡ index-of (first-place differences k i) (copies-at differences place k)
+        → number (map (copy-at k) (fresh [] (map (restriction ts k) rows)) ++ rest) k (restricted k i) ≡ index-of (first-place differences k i)
+        (copies-at differences place k)
     number-at i h rest =
         number-here Same same-agree (first-place differences k i) k (restricted k i) (same-at i h) (copies-at differences place k)
         (fresh [] (map (restriction ts k) rows)) paired-copies rest

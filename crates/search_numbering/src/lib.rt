@@ -26,7 +26,8 @@ pub fn fill(
     side: u8,
     work: &mut [u8],
 )
-    ensures { λ _. ⌜ now (work .exit) ≡ filled (now (kinds .entry)) (now (preferences .entry)) (now (place .entry)) (now (differences .entry)) side (now (work .entry)) ⌝ }
+    ensures { λ _. ⌜ now (work .exit) ≡ filled (now (kinds .entry)) (now (preferences .entry)) (now (place .entry)) (now (differences .entry)) side
+        (now (work .entry)) ⌝ }
 {
     if is_sized(kinds.len(), place.len(), differences.len(), work.len()) {} else {
         return;
@@ -58,7 +59,8 @@ fn fill_positions(
     work: &mut [u8],
 )
     requires { ⌜ (length (now kinds) ≤ max-unknowns) × (length (now place) ≤ max-rows) × (length (now differences) ≡ max-rows) × (length (now work) ≡ work-size) ⌝ }
-    ensures { λ _. ⌜ now (work .exit) ≡ filled-from (now (preferences .entry)) (now (place .entry)) (now (differences .entry)) side (now (kinds .entry)) 0 0 (now (work .entry)) ⌝ }
+    ensures { λ _. ⌜ now (work .exit) ≡ filled-from (now (preferences .entry)) (now (place .entry)) (now (differences .entry)) side (now (kinds .entry)) 0 0
+        (now (work .entry)) ⌝ }
 {
     let mut number = 0;
     let mut k = 0;

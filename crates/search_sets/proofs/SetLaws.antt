@@ -14,11 +14,14 @@ use Rattle.expansion.proofs.ClauseCuts.{Every, every-map}
 use Rattle.codes.specs.Private.Clauses.{position, clause-of, Coded}
 use Rattle.codes.proofs.CodeLaws.{clause-coded, row-position-is}
 use Rattle.codes.specs.Codes.{row-position}
-use Rattle.search_sets.specs.Sets.{set-places, sets-size, words-put, words-joined, words-met, set-joined, bit-added, bit-at, ones, each-from, cut-at, followed, code-joined, codes-joined, united, united-words, added, has, emptied, filled, trimmed, resolved, reasons-added}
+use Rattle.search_sets.specs.Sets.{set-places, sets-size, words-put, words-joined, words-met, set-joined, bit-added, bit-at, ones, each-from, cut-at}
+use Rattle.search_sets.specs.Sets.{followed, code-joined, codes-joined, united, united-words, added}
+use Rattle.search_sets.specs.Sets.{has, emptied, filled, trimmed, resolved, reasons-added}
 use Rattle.search_sets.specs.Private.Masks.{set-at, SetGrown, SetsKept, Put, United, WordsUnited, Trimmed, Resolved, ReasonsAdded}
 use Rattle.search_sets.proofs.TestLaws.{place-true, numbers-true}
 use Rattle.search_sets.proofs.LengthLaws.{length-met, length-followed, length-code-joined, length-each}
-use Rattle.search_sets.proofs.MaskLaws.{words-full, set-bit, store-put, kept-put, store-grown, store-added, put-united, set-grown-refl, set-grown-trans, set-grown-keeps, trimmed-refl, trimmed-more}
+use Rattle.search_sets.proofs.MaskLaws.{words-full, set-bit, store-put, kept-put, store-grown, store-added, put-united, set-grown-refl, set-grown-trans}
+use Rattle.search_sets.proofs.MaskLaws.{set-grown-keeps, trimmed-refl, trimmed-more}
 
 -- ---- sets at places that are there
 
@@ -137,7 +140,8 @@ module _ (s : List ℕ) (size : length s ≡ sets-size) where
 
   pub add-grows : (to p : ℕ) → to < set-places → p < max-unknowns → SetGrown to s (added s to p)
   unfolding added bit-added
-  add-grows to p place below = rw (numbers-true (length s) to p max-unknowns size place below) (store-grown s (2 * to + p / 64) (2 ^ (p % 64)) to (omega arith) (omega arith) (omega arith))
+  add-grows to p place below = rw (numbers-true (length s) to p max-unknowns size place below) (store-grown s (2 * to + p / 64) (2 ^ (p % 64)) to (omega arith)
+      (omega arith) (omega arith))
 
   pub add-adds : (to p : ℕ) → to < set-places → p < max-unknowns → set-at (added s to p) to p ≡ true
   unfolding added bit-added

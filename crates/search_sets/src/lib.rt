@@ -7,7 +7,8 @@ ghost use mathlib.Core.Path.{_≡_};
 ghost use Prim.Native.Nat.{_-_, _<_};
 ghost use lib.ListN.{length};
 ghost use Rattle.formula.specs.Formula.{max-unknowns};
-ghost use Rattle.search_sets.specs.Sets.{set-places, sets-size, has-place, numbers-fit, words-put, words-joined, words-met, set-joined, bit-added, bit-at, ones, united, united-words, added, has, emptied, filled, trimmed, resolved, reasons-added};
+ghost use Rattle.search_sets.specs.Sets.{set-places, sets-size, has-place, numbers-fit, words-put, words-joined, words-met, set-joined, bit-added, bit-at};
+ghost use Rattle.search_sets.specs.Sets.{ones, united, united-words, added, has, emptied, filled, trimmed, resolved, reasons-added};
 
 // A set for each position, and two behind them.
 pub const PLACES: usize = Formula::UNKNOWNS + 2;

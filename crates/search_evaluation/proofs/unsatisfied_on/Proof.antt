@@ -35,13 +35,15 @@ is-satisfied-requires : tie.Need-is-satisfied-requires Inv-loop μ-loop
 is-satisfied-requires c κs = (omega arith, omega arith)
 
 returns-2 : tie.Need-returns-2 Inv-loop μ-loop
-returns-2 c = unsatisfied-not (c .before .before .before .before .before .before .loop .inv) (omega arith) (c .before .before .before .wide .ensures) (λ z. omega arith) (sym (c .before .is-satisfied .ensures) ∙ c .if2 .taken)
+returns-2 c = unsatisfied-not (c .before .before .before .before .before .before .loop .inv) (omega arith) (c .before .before .before .wide .ensures)
+    (λ z. omega arith) (sym (c .before .is-satisfied .ensures) ∙ c .if2 .taken)
 
 loop-less : tie.Need-loop-less Inv-loop μ-loop
 loop-less c = omega arith
 
 loop-again : tie.Need-loop-again Inv-loop μ-loop
-loop-again c = living-next (c .before .before .before .before .before .before .loop .inv) (omega arith) (c .before .before .before .wide .ensures) (λ z. omega arith) (sym (c .before .is-satisfied .ensures) ∙ c .if2 .left)
+loop-again c = living-next (c .before .before .before .before .before .before .loop .inv) (omega arith) (c .before .before .before .wide .ensures)
+    (λ z. omega arith) (sym (c .before .is-satisfied .ensures) ∙ c .if2 .left)
 
 returns-3 : tie.Need-returns-3 Inv-loop μ-loop
 returns-3 c = unsatisfied-past (c .before .loop .inv) (omega arith)

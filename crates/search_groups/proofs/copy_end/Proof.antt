@@ -39,11 +39,13 @@ cast-if3 c = fits-8-64 (c .shared-slice-known .given _)
 
 returns-3 : tie.Need-returns-3 Inv-loop μ-loop
 returns-3 c =
+    let loop = c .before .before .before .loop in
     let given = c .before .before .before .before .before .before .args in
-    let to = c .before .before .before .loop .to in
+    let to = loop .to in
     sym
-    (c .before .before .before .loop .inv .1
-    ∙ first-from-step (differ-before (given .differences .now) (given .k)) to (given .hi) true (omega arith) (lt-ltb (getD (given .differences .now) to 0) (given .k) (omega arith)))
+    (loop .inv .1
+    ∙ first-from-step (differ-before (given .differences .now) (given .k)) to (given .hi) true (omega arith)
+    (lt-ltb (getD (given .differences .now) to 0) (given .k) (omega arith)))
 
 add-to-2 : tie.Need-add-to-2 Inv-loop μ-loop
 add-to-2 c = omega arith
@@ -53,11 +55,13 @@ loop-less c = omega arith
 
 loop-again : tie.Need-loop-again Inv-loop μ-loop
 loop-again c =
+    let loop = c .before .before .before .loop in
     let given = c .before .before .before .before .before .before .args in
-    let to = c .before .before .before .loop .to in (
+    let to = loop .to in (
       omega arith,
-      c .before .before .before .loop .inv .1
-          ∙ first-from-step (differ-before (given .differences .now) (given .k)) to (given .hi) false (omega arith) (le-ltb (getD (given .differences .now) to 0) (given .k) (omega arith)),
+      loop .inv .1
+          ∙ first-from-step (differ-before (given .differences .now) (given .k)) to (given .hi) false (omega arith)
+          (le-ltb (getD (given .differences .now) to 0) (given .k) (omega arith)),
     )
 
 returns-4 : tie.Need-returns-4 Inv-loop μ-loop

@@ -35,11 +35,13 @@ cast-if3 c = fits-8-64 (c .shared-slice-known .given _)
 
 returns-3 : tie.Need-returns-3 Inv-loop μ-loop
 returns-3 c =
+    let loop = c .before .before .before .loop in
     let given = c .before .before .before .before .before .before .args in
-    let from = c .before .before .before .loop .from in
+    let from = loop .from in
     sym
-    (c .before .before .before .loop .inv .2
-    ∙ last-behind-step (differ-before (given .differences .now) (given .k)) (given .lo) from true (omega arith) (lt-ltb (getD (given .differences .now) from 0) (given .k) (omega arith)))
+    (loop .inv .2
+    ∙ last-behind-step (differ-before (given .differences .now) (given .k)) (given .lo) from true (omega arith)
+    (lt-ltb (getD (given .differences .now) from 0) (given .k) (omega arith)))
 
 sub-from : tie.Need-sub-from Inv-loop μ-loop
 sub-from c = omega arith
@@ -49,12 +51,14 @@ loop-less c = omega arith
 
 loop-again : tie.Need-loop-again Inv-loop μ-loop
 loop-again c =
+    let loop = c .before .before .before .loop in
     let given = c .before .before .before .before .before .before .args in
-    let from = c .before .before .before .loop .from in (
+    let from = loop .from in (
       omega arith,
       omega arith,
-      c .before .before .before .loop .inv .2
-          ∙ last-behind-step (differ-before (given .differences .now) (given .k)) (given .lo) from false (omega arith) (le-ltb (getD (given .differences .now) from 0) (given .k) (omega arith)),
+      loop .inv .2
+          ∙ last-behind-step (differ-before (given .differences .now) (given .k)) (given .lo) from false (omega arith)
+          (le-ltb (getD (given .differences .now) from 0) (given .k) (omega arith)),
     )
 
 returns-4 : tie.Need-returns-4 Inv-loop μ-loop

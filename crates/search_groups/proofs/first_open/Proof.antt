@@ -17,6 +17,12 @@ Inv-loop kinds work side k lo until at₀ at =
 abbrev μ-loop : tie.MeasureT-loop
 μ-loop kinds work side k lo until at₀ at = until - at
 
+-- Back along the path, to the place behind a call.
+abbrev back-to-start : tie.At-loop Inv-loop μ-loop → tie.Start Inv-loop μ-loop
+back-to-start at =
+    let after-shared-slice-known = at .before .before .before .before .before .before in
+    after-shared-slice-known .before
+
 returns : tie.Need-returns Inv-loop μ-loop
 returns c = open-position-none _ _ _ _ _ _ (λ area few within row. omega arith)
 
@@ -37,10 +43,12 @@ is-open-requires c κs = (omega arith, omega arith, omega arith, omega arith)
 
 returns-5 : tie.Need-returns-5 Inv-loop μ-loop
 returns-5 c =
-    let given = c .before .before .before .before .before .before .before .before .before .before .args in
+    let loop = c .before .before .before .loop in
+    let given = (back-to-start (c .before .before .before)) .args in
     sym
-    (c .before .before .before .loop .inv
-    ∙ first-from-step (is-open (given .kinds .now) (given .work .now) (given .side) (given .lo)) (c .before .before .before .loop .at) (given .until) true (omega arith) (sym (c .before .is-open .ensures) ∙ c .if5 .taken))
+    (loop .inv
+    ∙ first-from-step (is-open (given .kinds .now) (given .work .now) (given .side) (given .lo)) (loop .at) (given .until) true (omega arith)
+    (sym (c .before .is-open .ensures) ∙ c .if5 .taken))
 
 add-at : tie.Need-add-at Inv-loop μ-loop
 add-at c = omega arith
@@ -50,13 +58,15 @@ loop-less c = omega arith
 
 loop-again : tie.Need-loop-again Inv-loop μ-loop
 loop-again c =
-    let given = c .before .before .before .before .before .before .before .before .before .before .args in
-    c .before .before .before .loop .inv
-    ∙ first-from-step (is-open (given .kinds .now) (given .work .now) (given .side) (given .lo)) (c .before .before .before .loop .at) (given .until) false (omega arith) (sym (c .before .is-open .ensures) ∙ c .if5 .left)
+    let loop = c .before .before .before .loop in
+    let given = (back-to-start (c .before .before .before)) .args in
+    loop .inv
+    ∙ first-from-step (is-open (given .kinds .now) (given .work .now) (given .side) (given .lo)) (loop .at) (given .until) false (omega arith)
+    (sym (c .before .is-open .ensures) ∙ c .if5 .left)
 
 returns-6 : tie.Need-returns-6 Inv-loop μ-loop
 returns-6 c =
-    let given = c .before .before .before .before .before .before .before .before .args in
+    let given = (back-to-start (c .before)) .args in
     sym
     (c .before .loop .inv
     ∙ first-from-end (is-open (given .kinds .now) (given .work .now) (given .side) (given .lo)) (c .before .loop .at) (given .until) (omega arith))

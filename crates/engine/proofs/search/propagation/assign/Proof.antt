@@ -64,8 +64,10 @@ returns c =
     propagates-assign-at differences (given .codes .now) (pre .0 .coded) (given .lo) (given .hi) (given .level) (given .work .now) (given .sets .now) i
     (given .start)
     (pre .1 .0) (pre .1 .1) begins
-    (literal-position-call .result) (given .c) (literal-position-call .ensures) (pre .1 .3) looked (add-reasons-call .last .1 .0) (c .before .before .note .last .0)
-    (adds-reasons _ (pre .0 .sets-lent) (given .codes .now) (given .start) (literal-position-call .result) (omega arith) (pre .0 .coded) (add-reasons-call .ensures))
+    (literal-position-call .result) (given .c) (literal-position-call .ensures) (pre .1 .3) looked (add-reasons-call .last .1 .0)
+    (c .before .before .note .last .0)
+    (adds-reasons _ (pre .0 .sets-lent) (given .codes .now) (given .start) (literal-position-call .result) (omega arith) (pre .0 .coded)
+    (add-reasons-call .ensures))
     (c .before .before .note .ensures) (set-rows-call .last .0) (copy-start-call .result) (copy-end-call .result) copied-from copied-to
     (sets-rows (pre .0 .area) (literal-position-call .result) (copy-start-call .result) (copy-end-call .result) (given .level) _ (omega arith) (omega arith)
     (omega arith) (set-rows-call .ensures))

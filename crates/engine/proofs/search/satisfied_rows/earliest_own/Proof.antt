@@ -49,7 +49,8 @@ loop-again : tie.Need-loop-again Inv-loop μ-loop
 loop-again c =
     let loop = c .before .before .before .before .before .loop in
     let given = (back-to-start c) .args in
-    earliest-next (given .kinds .now) (given .codes .now) (given .work .now) (given .i) (given .start) (loop .e) (loop .best) (c .before .before .wide16 .result)
+    earliest-next (given .kinds .now) (given .codes .now) (given .work .now) (given .i) (given .start) (loop .e) (loop .best)
+    (c .before .before .wide16 .result)
     (c .earlier-own .result) (omega arith) (c .before .before .wide16 .ensures) (λ z. omega arith) (c .earlier-own .ensures) (loop .inv)
 
 returns-2 : tie.Need-returns-2 Inv-loop μ-loop

@@ -23,7 +23,8 @@ returns-2 : tie.Need-returns-2
 unfolding own
 returns-2 c =
     let given = c .before .before .before .args in
-    sym (ap (λ (x : ℕ). eqb x 1) (ap (λ (k : ℕ). getD (given .kinds .now) k 0) (sym (c .before .position .ensures .0)) ∙ List·getD-eq-default (given .kinds .now) 0
+    sym (ap (λ (x : ℕ). eqb x 1) (ap (λ (k : ℕ). getD (given .kinds .now) k 0) (sym (c .before .position .ensures .0)) ∙ List·getD-eq-default
+    (given .kinds .now) 0
     (omega arith)))
 
 pub is-own-spec : {M : Type 1} → statement M

@@ -42,7 +42,8 @@ returns-2 : tie.Need-returns-2 Inv-loop μ-loop
 returns-2 c =
     let loop = c .before .before .before .before .before .loop in
     let given = (back-to-start (c .before)) .args in
-    λ _. some-here (given .codes .now) (loop .e) (c .before .before .wide16 .result) (omega arith) (c .before .before .wide16 .ensures) (λ (d : ℕ). d ≡ given .c)
+    λ _. some-here (given .codes .now) (loop .e) (c .before .before .wide16 .result) (omega arith) (c .before .before .wide16 .ensures)
+    (λ (d : ℕ). d ≡ given .c)
     (λ z. omega arith) (loop .inv) (omega arith)
 
 loop-less : tie.Need-loop-less Inv-loop μ-loop
