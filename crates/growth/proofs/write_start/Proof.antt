@@ -20,20 +20,6 @@ Inv-loop preferences universals rows marks row₀ k₀ row k = (row ≡ with-pre
 abbrev μ-loop : tie.MeasureT-loop
 μ-loop preferences universals rows marks row₀ k₀ row k = universals - k
 
--- Back along the path, to the place behind a call.
-abbrev back-to-start : tie.Joined1 Inv-loop μ-loop → tie.Start Inv-loop μ-loop
-back-to-start at =
-    let after-shared-slice-known = at .before .before .before .before .before .before in
-    after-shared-slice-known .before
-
-abbrev back-to-at-loop : tie.After-slice-known4 Inv-loop μ-loop → tie.At-loop Inv-loop μ-loop
-back-to-at-loop at =
-    let after-write-arg2 = at .before .before .before .before .before .before in
-    after-write-arg2 .before .before .before
-
-abbrev back-to-start-2 : tie.After-slice-known4 Inv-loop μ-loop → tie.Start Inv-loop μ-loop
-back-to-start-2 at = (back-to-at-loop at) .before .before .before .before
-
 loop-holds : tie.Need-loop-holds Inv-loop μ-loop
 loop-holds c = (refl, omega arith, refl)
 
@@ -54,12 +40,11 @@ loop-less c = omega arith
 
 loop-again : tie.Need-loop-again Inv-loop μ-loop
 loop-again c =
-    let loop = c .before .before .before .loop in
-    let f : ℕ → Bool = prefer ((back-to-start c) .args .preferences .now) in
-    let k = loop .k in
-    let row = loop .row in
-    let so-far = loop .inv .0 in
-    let long = loop .inv .2 in
+    let f : ℕ → Bool = prefer (c .before .before .before .before .before .before .before .args .preferences .now) in
+    let k = c .before .before .before .loop .k in
+    let row = c .before .before .before .loop .row in
+    let so-far = c .before .before .before .loop .inv .0 in
+    let long = c .before .before .before .loop .inv .2 in
     ⊎-elim
     (λ w. (
       w .4 ∙ w .2 .ensures ∙ ap (λ (r : List ℕ). bit-set r 0 k) so-far
@@ -88,16 +73,14 @@ same-length-2 c = search needs
 
 returns : tie.Need-returns Inv-loop μ-loop
 returns c =
-    let write-call = c .before .before .before .before .write in
-    let loop = (back-to-at-loop c) .loop in
-    let given = (back-to-start-2 c) .args in
-    let row = loop .row in
-    let end : loop .k ≡ given .universals = omega arith in
+    let given = c .before .before .before .before .before .before .before .before .before .before .before .before .before .args in
+    let row = c .before .before .before .before .before .before .before .before .before .loop .row in
+    let end : c .before .before .before .before .before .before .before .before .before .loop .k ≡ given .universals = omega arith in
     let whole : row ≡ with-preferred (prefer (given .preferences .now)) (given .universals) (replicate 16 0) =
-    loop .inv .0 ∙ ap (λ (n : ℕ). with-preferred (prefer (given .preferences .now)) n
+    c .before .before .before .before .before .before .before .before .before .loop .inv .0 ∙ ap (λ (n : ℕ). with-preferred (prefer (given .preferences .now)) n
     (replicate 16 0)) end in (
-      write-call .ensures .0 ∙ ap (λ (r : List ℕ). rows-written (given .rows .now) (given .marks .now) 0 r 0) whole,
-      write-call .ensures .1 ∙ ap (λ (r : List ℕ). marks-written (given .rows .now) (given .marks .now) 0 r 0 0) whole,
+      c .before .before .before .before .write .ensures .0 ∙ ap (λ (r : List ℕ). rows-written (given .rows .now) (given .marks .now) 0 r 0) whole,
+      c .before .before .before .before .write .ensures .1 ∙ ap (λ (r : List ℕ). marks-written (given .rows .now) (given .marks .now) 0 r 0 0) whole,
     )
 
 pub write-start-spec : {M : Type 1} → statement M

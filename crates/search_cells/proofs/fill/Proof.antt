@@ -23,12 +23,6 @@ Inv-loop kinds rows place side work₀ row₀ work row =
 abbrev μ-loop : tie.MeasureT-loop
 μ-loop kinds rows place side work₀ row₀ work row = length place - row
 
--- Back along the path, to the place behind a call.
-abbrev back-to-start : tie.After-loop Inv-loop μ-loop → tie.Start Inv-loop μ-loop
-back-to-start at =
-    let after-shared-slice-known2 = at .before .before .before .before .before .before in
-    after-shared-slice-known2 .before .before
-
 is-table-requires : tie.Need-is-table-requires Inv-loop μ-loop
 is-table-requires c κs = search needs
 
@@ -39,16 +33,8 @@ returns c = rw (sym (c .before .is-table .ensures) ∙ c .if1 .left)
 loop-holds : tie.Need-loop-holds Inv-loop μ-loop
 loop-holds c =
     let given = c .before .before .before .before .before .before .args in
-    let sizes = fitting-sizes (length (given .work .now)) (length (given .kinds .now)) (length (given .place .now))
-    (sym (c .before .is-table .ensures) ∙ c .if1 .taken) in (
-      sizes .0,
-      sizes .1,
-      sizes .2,
-      omega arith,
-      sizes .0,
-      steps-all (row-step (given .kinds .now) (given .rows .now) (given .place .now) (given .side))
-          (length (given .place .now)) (given .work .now),
-    )
+    let sizes = fitting-sizes (length (given .work .now)) (length (given .kinds .now)) (length (given .place .now)) (sym (c .before .is-table .ensures) ∙ c .if1 .taken) in
+    (sizes .0, sizes .1, sizes .2, omega arith, sizes .0, steps-all (row-step (given .kinds .now) (given .rows .now) (given .place .now) (given .side)) (length (given .place .now)) (given .work .now))
 
 shared-slice-read-wide : tie.Need-shared-slice-read-wide Inv-loop μ-loop
 shared-slice-read-wide c = omega arith
@@ -67,20 +53,16 @@ loop-less c = omega arith
 
 loop-again : tie.Need-loop-again Inv-loop μ-loop
 loop-again c =
-    let after-wide = c .before .before .before .before in
-    let at-loop = after-wide .before .before .before in
-    let after-shared-slice-known = at-loop .before .before .before .before .before .before in
-    let given = after-shared-slice-known .before .args in
-    let loop = at-loop .loop in (
+    let given = c .before .before .before .before .before .before .before .before .before .before .before .before .before .before .args in
+    let loop = c .before .before .before .before .before .before .before .loop in (
       loop .inv .0,
       loop .inv .1,
       loop .inv .2,
       omega arith,
       omega arith,
       loop .inv .5
-          ∙ steps-next (row-step (given .kinds .now) (given .rows .now) (given .place .now) (given .side)) (length (given .place .now)) (loop .row) (loop .work)
-          (omega arith)
-          ∙ rw (c .before .before .fill-row .ensures, after-wide .wide .ensures),
+          ∙ steps-next (row-step (given .kinds .now) (given .rows .now) (given .place .now) (given .side)) (length (given .place .now)) (loop .row) (loop .work) (omega arith)
+          ∙ rw (c .before .before .fill-row .ensures, c .before .before .before .before .wide .ensures),
     )
 
 same-length : tie.Need-same-length Inv-loop μ-loop
@@ -88,13 +70,11 @@ same-length c = omega arith
 
 returns-2 : tie.Need-returns-2 Inv-loop μ-loop
 returns-2 c =
-    let given = (back-to-start c) .args in
+    let given = c .before .before .before .before .before .before .before .before .args in
     let loop = c .before .loop in
-    sym (steps-none (row-step (given .kinds .now) (given .rows .now) (given .place .now) (given .side)) (length (given .place .now)) (loop .row) (loop .work)
-    (omega arith))
+    sym (steps-none (row-step (given .kinds .now) (given .rows .now) (given .place .now) (given .side)) (length (given .place .now)) (loop .row) (loop .work) (omega arith))
     ∙ sym (loop .inv .5)
-    ∙ sym (rows-filled-inside (given .kinds .now) (given .rows .now) (given .place .now) (given .side) (given .work .now) (loop .inv .0) (loop .inv .1)
-    (loop .inv .2))
+    ∙ sym (rows-filled-inside (given .kinds .now) (given .rows .now) (given .place .now) (given .side) (given .work .now) (loop .inv .0) (loop .inv .1) (loop .inv .2))
 
 pub fill-spec : {M : Type 1} → statement M
 fill-spec =

@@ -31,16 +31,11 @@ returns c = rw (sym (c .before .is-table .ensures) ∙ c .if1 .left)
 
 returns-2 : tie.Need-returns-2 Inv-loop μ-loop
 unfolding rows-set
-returns-2 c = rw (
-  sym (c .before .before .is-table .ensures) ∙ c .before .if1 .taken,
-  le-ltb (c .before .before .before .before .args .k) max-unknowns
-      (c .if2 .taken),
-)
+returns-2 c = rw (sym (c .before .before .is-table .ensures) ∙ c .before .if1 .taken, le-ltb (c .before .before .before .before .args .k) max-unknowns (c .if2 .taken))
 
 loop-holds : tie.Need-loop-holds Inv-loop μ-loop
 loop-holds c =
-    let given = c .before .before .before .before .args in
-    let sizes = fitting-sizes (length (given .work .now)) 0 (given .hi) (sym (c .before .before .is-table .ensures) ∙ c .before .if1 .taken) in
+    let sizes = fitting-sizes (length (c .before .before .before .before .args .work .now)) 0 (c .before .before .before .before .args .hi) (sym (c .before .before .is-table .ensures) ∙ c .before .if1 .taken) in
     (sizes .2, sizes .0, sizes .0, refl)
 
 set-requires : tie.Need-set-requires Inv-loop μ-loop
@@ -54,9 +49,8 @@ loop-less c = omega arith
 
 loop-again : tie.Need-loop-again Inv-loop μ-loop
 loop-again c =
-    let at-loop = c .before .before .before .before .before in
-    let given = at-loop .before .before .before .before .before .args in
-    let loop = at-loop .loop in (
+    let given = c .before .before .before .before .before .before .before .before .before .before .args in
+    let loop = c .before .before .before .before .before .loop in (
       loop .inv .0,
       loop .inv .1,
       omega arith,

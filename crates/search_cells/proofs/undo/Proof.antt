@@ -16,8 +16,7 @@ Inv-loop work₀ lo hi bound at₀ work at =
     (hi ≤ max-rows)
     × (length work₀ ≡ work-size)
     × (length work ≡ work-size)
-    × (steps (with-bounded bound) (max-unknowns * hi - max-unknowns * lo) (max-unknowns * lo) work₀ ≡ steps (with-bounded bound) (max-unknowns * hi - at) at
-    work)
+    × (steps (with-bounded bound) (max-unknowns * hi - max-unknowns * lo) (max-unknowns * lo) work₀ ≡ steps (with-bounded bound) (max-unknowns * hi - at) at work)
 
 abbrev μ-loop : tie.MeasureT-loop
 μ-loop work₀ lo hi bound at₀ work at = max-unknowns * hi - at
@@ -37,14 +36,11 @@ returns-2 c =
     (sym (steps-none (with-bounded (given .bound)) (max-unknowns * given .hi) (max-unknowns * given .lo) (given .work .now) (omega arith)))
 
 mul-at : tie.Need-mul-at Inv-loop μ-loop
-mul-at c =
-    let given = c .before .before .before .before .args in
-    omega (arith, fitting-sizes (length (given .work .now)) 0 (given .hi) (sym (c .before .before .is-table .ensures) ∙ c .before .if1 .taken))
+mul-at c = omega (arith, fitting-sizes (length (c .before .before .before .before .args .work .now)) 0 (c .before .before .before .before .args .hi) (sym (c .before .before .is-table .ensures) ∙ c .before .if1 .taken))
 
 loop-holds : tie.Need-loop-holds Inv-loop μ-loop
 loop-holds c =
-    let given = c .before .before .before .before .args in
-    let sizes = fitting-sizes (length (given .work .now)) 0 (given .hi) (sym (c .before .before .is-table .ensures) ∙ c .before .if1 .taken) in
+    let sizes = fitting-sizes (length (c .before .before .before .before .args .work .now)) 0 (c .before .before .before .before .args .hi) (sym (c .before .before .is-table .ensures) ∙ c .before .if1 .taken) in
     (sizes .2, sizes .0, sizes .0, refl)
 
 mul-loop : tie.Need-mul-loop Inv-loop μ-loop
@@ -67,9 +63,8 @@ loop-less c = omega arith
 
 loop-again : tie.Need-loop-again Inv-loop μ-loop
 loop-again c =
-    let at-loop = c .before .before .before in
-    let given = at-loop .before .before .before .before .before .args in
-    let loop = at-loop .loop in (
+    let given = c .before .before .before .before .before .before .before .before .args in
+    let loop = c .before .before .before .loop in (
       loop .inv .0,
       loop .inv .1,
       simp length-set (omega arith),
