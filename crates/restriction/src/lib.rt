@@ -46,7 +46,7 @@ pub fn set_first(kinds: &[u8], literals: &[i32], values: &[u8], output: &mut [i3
 }
 
 // Whether there are more values than unknowns, or a value other than 0 and 1.
-fn are_wrong(unknowns: usize, values: &[u8]) -> bool
+pub fn are_wrong(unknowns: usize, values: &[u8]) -> bool
     ensures { λ r. ⌜ r ≡ wrong-values unknowns (now (values .entry)) ⌝ }
 {
     if values.len() > unknowns {
