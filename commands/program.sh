@@ -38,7 +38,9 @@ program_of() {
     season) crate=sheet ;;
     esac
     case $1/$2 in
-    decide/gates | study/gates | witness/gates | judge/gates | study-witness/gates) crate=${crate}_gates ;;
+    decide/gates | study/gates | witness/gates | study-witness/gates) crate=${crate}_gates ;;
+    judge/clauses) front='\000' ;;
+    judge/gates) front='\001' ;;
     account/gates) beside=g ;;
     trim/gates) form=clauses ;; # as which it is refused
     esac

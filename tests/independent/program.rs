@@ -10,22 +10,23 @@ use std::process::{Command, Output, Stdio};
 /// The command that calls the programs.
 const SCRIPT: &str = "./vulzhenn";
 
-/// A program, and the words with which the command calls it.
+/// A program, and the words with which the command calls it; what the program is told in front of a text.
 pub struct Program {
     built: &'static str,
     options: &'static [&'static str],
+    told: &'static [u8],
 }
 
-pub const VULZHENN: Program = Program { built: "target/bin/vulzhenn", options: &[] };
-pub const GATES: Program = Program { built: "target/bin/vulzhenn_gates", options: &["gates"] };
-pub const SHEET: Program = Program { built: "target/bin/sheet", options: &["sheet"] };
-pub const WITNESS: Program = Program { built: "target/bin/vulzhenn_witness", options: &["witness"] };
-pub const JUDGE: Program = Program { built: "target/bin/vulzhenn_judge", options: &["judge"] };
-pub const WITNESS_GATES: Program = Program { built: "target/bin/vulzhenn_witness_gates", options: &["witness", "--gates"] };
-pub const STUDY_WITNESS: Program = Program { built: "target/bin/vulzhenn_study_witness", options: &["study", "--witness"] };
+pub const VULZHENN: Program = Program { built: "target/bin/vulzhenn", options: &[], told: &[] };
+pub const GATES: Program = Program { built: "target/bin/vulzhenn_gates", options: &["gates"], told: &[] };
+pub const SHEET: Program = Program { built: "target/bin/sheet", options: &["sheet"], told: &[] };
+pub const WITNESS: Program = Program { built: "target/bin/vulzhenn_witness", options: &["witness"], told: &[] };
+pub const JUDGE: Program = Program { built: "target/bin/vulzhenn_judge", options: &["judge"], told: &[2] };
+pub const WITNESS_GATES: Program = Program { built: "target/bin/vulzhenn_witness_gates", options: &["witness", "--gates"], told: &[] };
+pub const STUDY_WITNESS: Program = Program { built: "target/bin/vulzhenn_study_witness", options: &["study", "--witness"], told: &[] };
 pub const STUDY_WITNESS_GATES: Program =
-    Program { built: "target/bin/vulzhenn_study_witness_gates", options: &["study", "--gates", "--witness"] };
-pub const JUDGE_GATES: Program = Program { built: "target/bin/vulzhenn_judge_gates", options: &["judge", "--gates"] };
+    Program { built: "target/bin/vulzhenn_study_witness_gates", options: &["study", "--gates", "--witness"], told: &[] };
+pub const JUDGE_GATES: Program = Program { built: "target/bin/vulzhenn_judge", options: &["judge", "--gates"], told: &[1] };
 
 /// Runs it and says what is not as wanted, if anything. Returned with the wanted lines.
 pub fn compare(program: &Program, random: &mut Random, text: &[u8], read: &Result<Read, Refusal>, looks: usize) -> Result<(String, Option<String>), TooLong> {
@@ -124,7 +125,7 @@ fn from_a_pipe(program: &Program, random: &mut Random, text: &[u8], second: Opti
     let mut child = command.stdin(Stdio::piped()).stdout(Stdio::piped()).stderr(Stdio::piped()).spawn()?;
     let mut input = child.stdin.take().unwrap();
     let size = random.pick(&[7, 100, 4_096, 65_536, 1 << 20]).max(text.len() / 50);
-    for piece in text.chunks(size) {
+    for piece in std::iter::once(program.told).chain(text.chunks(size)) {
         // A program that has read enough may have ended.
         if input.write_all(piece).is_err() {
             break;
