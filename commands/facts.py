@@ -63,7 +63,7 @@ class Account:
     """The lines of an account, taken apart."""
 
     def __init__(self, printed):
-        self.refused = None
+        self.refused, self.by_study = None, False
         self.kinds, self.names, self.opening = [], [], []
         self.rows = {"universal": [], "existential": []}
         lines = printed.decode("ascii").split("\n")
@@ -112,6 +112,14 @@ class Account:
         words = (len(self.kinds), self.clauses, len(self.rows[side]))
         file = bytes([27 if self.truth == 1 else 23, self.truth]) + b"".join(n.to_bytes(2, "little") for n in words)
         return file + rows + self.rounds.to_bytes(2, "little")
+
+    def settle(self, file):
+        """Takes verdict, rows and rounds of a witness file that another run left, where this one had no room: which round a row came in is not told there."""
+        self.truth = self.answer = file[1]
+        side, kind = ("existential", "e") if self.truth == 1 else ("universal", "a")
+        rows = [int.from_bytes(file[8 + 16 * i : 24 + 16 * i], "little") for i in range(int.from_bytes(file[6:8], "little"))]
+        self.rows = {side: [(None, None, "".join(str(row >> k & 1) for k in range(self.kinds.count(kind)))) for row in rows]}
+        self.rounds, self.opening, self.by_study = int.from_bytes(file[-2:], "little"), [], True
 
     def after(self, side, r):
         """How many rows a side had after round r."""

@@ -4,7 +4,7 @@ usage: page.py VULZHENN NAME VERSION [OUT]      the text on standard input
 
 VULZHENN is the command, NAME the text's name, empty if it has none, VERSION the engine's; the page goes to OUT, or to standard output.
 Everything on it that concerns the formula is read from the account's lines; here it is set out as HTML and as a witness file, which the judge has
-to accept, and the rows of a round are counted. What is said of a refused text are the command's sentences.
+to accept, and the rows of a round are counted; where that run had no room and a study has rows, verdict and rows are those of its file. What is said of a refused text are the command's sentences.
 Exit status: 0 for the page of a decision, 3 for that of a refused text; 2 with a sentence on standard error if there is no page.
 """
 import base64
@@ -251,8 +251,8 @@ class Page:
         else:
             why = "These choices settle it. No way of setting the existential unknowns, each in view of the values before it, meets all of these rows."
         caption = (
-            f"{many(len(rows), side + ' row')} over {many(len(columns), side + ' unknown')}: the value of each unknown, 1 for true and 0 for false; "
-            "the round in which the row came, and how many searches came back to it."
+            f"{many(len(rows), side + ' row')} over {many(len(columns), side + ' unknown')}: the value of each unknown, 1 for true and 0 for false"
+            + ("." if account.by_study else "; the round in which the row came, and how many searches came back to it.")
         )
         order = [b for b, places in enumerate(account.blocks()) if places[0] == kind]
         groups = "".join(
@@ -263,8 +263,9 @@ class Page:
             label = self.given.get(account.names[i])
             both = f"{account.names[i]}" + (f" {shown(label[:60])}" if label else "")
             names.append(f'<th scope="col" class="name{" first" if i in starts else ""}"><span>{both}</span></th>')
+        counts = "" if account.by_study else '<th scope="col" rowspan="2">round</th><th scope="col" rowspan="2">came back</th>'
         head = (
-            '<thead><tr><th scope="col" rowspan="2">row</th><th scope="col" rowspan="2">round</th><th scope="col" rowspan="2">came back</th>'
+            f'<thead><tr><th scope="col" rowspan="2">row</th>{counts}'
             f"{groups}</tr>\n<tr>{''.join(names)}</tr></thead>"
         )
         edges = [i in starts for i in columns]
@@ -272,7 +273,8 @@ class Page:
         body = []
         for i, (mark, count, bits) in enumerate(rows):
             values = "".join(cell[v, edge] for v, edge in zip(bits, edges))
-            body.append(f'<tr><th scope="row">{i + 1}<td class=n>{mark}<td class=n>{count}{values}')
+            counts = "" if account.by_study else f"<td class=n>{mark}<td class=n>{count}"
+            body.append(f'<tr><th scope="row">{i + 1}{counts}{values}')
         size = "few" if len(columns) <= 24 else "dense"
         place = " landscape" if len(columns) > 24 else ""
         return (
@@ -351,7 +353,10 @@ class Page:
 
     def decision(self, account, witness):
         kind, mark, sentence = SENTENCES[account.answer]
-        body = self.head(kind, mark, sentence, EXACTLY[account.answer])
+        more = EXACTLY[account.answer]
+        if account.by_study:
+            more += " One run had no room; a study, of runs with other settings, settled it."
+        body = self.head(kind, mark, sentence, more)
         universal, existential = account.kinds.count("a"), account.kinds.count("e")
         body += self.facts(
             [
@@ -359,11 +364,11 @@ class Page:
                 ("Existential unknowns", "existentials", existential),
                 ("Clauses made" if self.gates else "Clauses", "clauses", number(account.clauses)),
                 ("Rounds", "rounds", number(account.rounds)),
-                ("Universal rows", "universal-rows", len(account.rows["universal"])),
-                ("Existential rows", "existential-rows", len(account.rows["existential"])),
+                *((f"{side.capitalize()} rows", f"{side}-rows", len(rows)) for side, rows in account.rows.items()),
             ]
         )
-        body += "\n".join([self.prefix(account), self.opening(account), self.table(account), self.growth(account), self.check(account, witness)])
+        growth = "" if account.by_study else self.growth(account)
+        body += "\n".join([self.prefix(account), self.opening(account), self.table(account), growth, self.check(account, witness)])
         return self.whole(f"{shown(self.name)}: {mark[2:].lower()}", body)
 
 
@@ -381,7 +386,9 @@ def main(words):
     if account.refused:
         made, status = page.refusal(*account.refused, said), 3
     else:
-        witness = account.witness() if account.truth >= 0 else b""
+        witness = account.witness() if account.truth >= 0 else facts.ask(command, ["study", "--witness"], text.start)[0]
+        if witness and account.truth < 0:
+            account.settle(witness)
         if witness and facts.ask(command, ["judge"], text.start, witness)[0] != b"accepted %d\n" % account.truth:
             raise Trouble("the judge does not accept the rows that the run has left")
         made, status = page.decision(account, witness), 0
