@@ -7,23 +7,26 @@ use super::reader::{Read, Refusal};
 use std::io::{self, Write};
 use std::process::{Command, Output, Stdio};
 
-/// A program, and the script of the repository that calls it, with its options.
+/// The command that calls the programs.
+const SCRIPT: &str = "./vulzhenn";
+
+/// A program, and the words with which the command calls it; what the program is told in front of a text.
 pub struct Program {
     built: &'static str,
-    script: &'static str,
     options: &'static [&'static str],
+    told: &'static [u8],
 }
 
-pub const VULZHENN: Program = Program { built: "target/bin/vulzhenn", script: "./vulzhenn", options: &[] };
-pub const GATES: Program = Program { built: "target/bin/vulzhenn_gates", script: "./gates", options: &[] };
-pub const SHEET: Program = Program { built: "target/bin/sheet", script: "./sheet", options: &[] };
-pub const WITNESS: Program = Program { built: "target/bin/vulzhenn_witness", script: "./witness", options: &[] };
-pub const JUDGE: Program = Program { built: "target/bin/vulzhenn_judge", script: "./judge", options: &[] };
-pub const WITNESS_GATES: Program = Program { built: "target/bin/vulzhenn_witness_gates", script: "./witness", options: &["--gates"] };
-pub const STUDY_WITNESS: Program = Program { built: "target/bin/vulzhenn_study_witness", script: "./study", options: &["--witness"] };
+pub const VULZHENN: Program = Program { built: "target/bin/vulzhenn", options: &[], told: &[] };
+pub const GATES: Program = Program { built: "target/bin/vulzhenn_gates", options: &["gates"], told: &[] };
+pub const SHEET: Program = Program { built: "target/bin/sheet", options: &["sheet"], told: &[] };
+pub const WITNESS: Program = Program { built: "target/bin/vulzhenn_witness", options: &["witness"], told: &[] };
+pub const JUDGE: Program = Program { built: "target/bin/vulzhenn_judge", options: &["judge"], told: &[2] };
+pub const WITNESS_GATES: Program = Program { built: "target/bin/vulzhenn_witness_gates", options: &["witness", "--gates"], told: &[] };
+pub const STUDY_WITNESS: Program = Program { built: "target/bin/vulzhenn_study_witness", options: &["study", "--witness"], told: &[] };
 pub const STUDY_WITNESS_GATES: Program =
-    Program { built: "target/bin/vulzhenn_study_witness_gates", script: "./study", options: &["--gates", "--witness"] };
-pub const JUDGE_GATES: Program = Program { built: "target/bin/vulzhenn_judge_gates", script: "./judge", options: &["--gates"] };
+    Program { built: "target/bin/vulzhenn_study_witness_gates", options: &["study", "--gates", "--witness"], told: &[] };
+pub const JUDGE_GATES: Program = Program { built: "target/bin/vulzhenn_judge", options: &["judge", "--gates"], told: &[1] };
 
 /// Runs it and says what is not as wanted, if anything. Returned with the wanted lines.
 pub fn compare(program: &Program, random: &mut Random, text: &[u8], read: &Result<Read, Refusal>, looks: usize) -> Result<(String, Option<String>), TooLong> {
@@ -44,7 +47,7 @@ pub fn run(program: &Program, random: &mut Random, text: &[u8]) -> Result<String
     let output = output.map_err(|error| error.to_string())?;
     let printed = String::from_utf8(output.stdout).map_err(|error| error.to_string())?;
     let wanted = if by_script { status(program, &printed) } else { 0 };
-    if !output.stderr.is_empty() || output.status.code() != Some(wanted) {
+    if !said_by_program(&output.stderr).is_empty() || output.status.code() != Some(wanted) {
         return Err(format!("ended with {}, {:?}", output.status, String::from_utf8_lossy(&output.stderr)));
     }
     Ok(printed)
@@ -60,10 +63,10 @@ pub fn wrong_run(program: &Program, random: &mut Random, text: &[u8], second: Op
         Err(error) => return Some(error.to_string()),
     };
     let wanted = if by_script { status } else { 0 };
-    if (output.status.code(), output.stdout.as_slice(), output.stderr.as_slice()) == (Some(wanted), out, said.as_bytes()) {
+    if (output.status.code(), output.stdout.as_slice(), said_by_program(&output.stderr).as_slice()) == (Some(wanted), out, said.as_bytes()) {
         return None;
     }
-    Some(format!("{} gave {:?}, wanted status {}, {:02x?} and {:?}", program.script, output, wanted, out, said))
+    Some(format!("{:?} gave {:?}, wanted status {}, {:02x?} and {:?}", program.options, output, wanted, out, said))
 }
 
 /// Of a script that decides 10 for true, 20 for false, 0 for undecided, 1 for a refusal; of one that prints a page 0, and 3 for a refusal.
@@ -72,7 +75,7 @@ fn status(program: &Program, printed: &str) -> i32 {
     match () {
         _ if begins("s cnf 1 ") => 10,
         _ if begins("s cnf 0 ") => 20,
-        _ if begins("c refused ") && program.script == SHEET.script => 3,
+        _ if begins("c refused ") && program.options == SHEET.options => 3,
         _ if begins("c refused ") => 1,
         _ => 0,
     }
@@ -88,6 +91,11 @@ pub fn status_of_file(printed: &str) -> i32 {
     }
 }
 
+/// What a program says on standard error, without the sentences of the command, which begin with its name.
+fn said_by_program(said: &[u8]) -> Vec<u8> {
+    said.split_inclusive(|&byte| byte == b'\n').filter(|line| !line.starts_with(b"vulzhenn")).flatten().copied().collect()
+}
+
 /// A file with these bytes.
 fn stored(random: &mut Random, bytes: &[u8]) -> io::Result<String> {
     let path = format!("target/texts-{:x}", random.next());
@@ -100,7 +108,7 @@ fn from_files(program: &Program, random: &mut Random, text: &[u8], second: Optio
     if let Some(bytes) = second {
         paths.push(stored(random, bytes)?);
     }
-    let output = Command::new(program.script).args(program.options).args(&paths).output();
+    let output = Command::new(SCRIPT).args(program.options).args(&paths).output();
     for path in paths {
         std::fs::remove_file(path)?;
     }
@@ -117,7 +125,7 @@ fn from_a_pipe(program: &Program, random: &mut Random, text: &[u8], second: Opti
     let mut child = command.stdin(Stdio::piped()).stdout(Stdio::piped()).stderr(Stdio::piped()).spawn()?;
     let mut input = child.stdin.take().unwrap();
     let size = random.pick(&[7, 100, 4_096, 65_536, 1 << 20]).max(text.len() / 50);
-    for piece in text.chunks(size) {
+    for piece in std::iter::once(program.told).chain(text.chunks(size)) {
         // A program that has read enough may have ended.
         if input.write_all(piece).is_err() {
             break;

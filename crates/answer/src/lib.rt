@@ -107,7 +107,7 @@ fn decided(
     requires { ⌜ (checked (now kinds) (now literals) ≡ Accepted (sizes (now kinds) (now literals))) × (length (now work) ≡ work-size) ⌝ }
     ensures { λ r. ⌜ Puts (result-of (now (kinds .entry)) (now (literals .entry)) variables clauses) (replicate work-size 0) (now (out .entry)) r (now (out .exit)) (now (work .exit)) ⌝ }
 {
-    let end = decision::decide(kinds, literals, work, ROUNDS);
+    let end = decision::decide_formula(kinds, literals, work, ROUNDS);
     let answer = end.answer;
     report::result(
         out,

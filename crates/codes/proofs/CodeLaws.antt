@@ -58,16 +58,19 @@ from-first codes end =
     subst (λ (xs : List (List ℕ)). Some (λ x. x ≡ clause-of codes) xs) (sym (first-clause codes end .1)) (inl refl)
 
 -- a clause behind a zero is not the first
-from-later : (codes : List ℕ) (e : ℕ) → getD codes e 0 ≡ 0 → HasEnd (drop (suc e) codes) → Some (λ x. x ≡ clause-of (drop (suc e) codes)) (behind-first (code-clauses codes))
+from-later : (codes : List ℕ) (e : ℕ) → getD codes e 0 ≡ 0 → HasEnd (drop (suc e) codes) →
+    Some (λ x. x ≡ clause-of (drop (suc e) codes)) (behind-first (code-clauses codes))
 from-later [] e z end = absurd end
 from-later (zero ∷ codes) zero z end = from-first codes end
 from-later (zero ∷ codes) (suc e) z end = some-behind (λ x. x ≡ clause-of (drop (suc e) codes)) (code-clauses codes) (from-later codes e z end)
 from-later (suc c ∷ codes) zero z end = absurd (omega arith)
 from-later (suc c ∷ codes) (suc e) z end =
-    subst (λ (xs : List (List ℕ)). Some (λ x. x ≡ clause-of (drop (suc e) codes)) xs) (sym (behind-onto (suc c) (code-clauses codes))) (from-later codes e z end)
+    subst (λ (xs : List (List ℕ)). Some (λ x. x ≡ clause-of (drop (suc e) codes)) xs) (sym (behind-onto (suc c) (code-clauses codes)))
+    (from-later codes e z end)
 
 -- the clause that begins at an entry is one of the clauses
-pub clause-among : (codes : List ℕ) (start : ℕ) → Begins codes start → HasEnd (drop start codes) → Some (λ x. x ≡ clause-of (drop start codes)) (code-clauses codes)
+pub clause-among : (codes : List ℕ) (start : ℕ) → Begins codes start → HasEnd (drop start codes) →
+    Some (λ x. x ≡ clause-of (drop start codes)) (code-clauses codes)
 clause-among codes zero b end = from-first codes end
 clause-among codes (suc e) b end = some-behind (λ x. x ≡ clause-of (drop (suc e) codes)) (code-clauses codes) (from-later codes e (behind b) end)
   where
@@ -103,7 +106,8 @@ clause-coded n codes start coded =
     clause-coded-all n (drop start codes)
     (λ e lt p.
     subst (λ (x : ℕ). (2 ≤ x) × (position x < n)) (sym (getD-drop start codes e 0))
-    (coded (start + e) (let l : length (drop start codes) ≡ length codes - start = length-drop start codes in omega arith) (subst (λ (x : ℕ). 0 < x) (getD-drop start codes e 0) p)))
+    (coded (start + e) (let l : length (drop start codes) ≡ length codes - start = length-drop start codes in omega arith)
+    (subst (λ (x : ℕ). 0 < x) (getD-drop start codes e 0) p)))
 
 -- ---- all and some of a list
 

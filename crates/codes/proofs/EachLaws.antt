@@ -27,10 +27,12 @@ module _ (literals : List ℤ) (codes₀ : List ℕ) (room : length literals ≤
   map-one [] z = refl
   map-one (y ∷ zs) z = ap (λ (l : List ℕ). code-of y ∷ l) (map-one zs z)
 
-  pub each-more : (i : ℕ) (codes : List ℕ) (v : ℕ) → i < length literals → Each literals codes₀ i codes → v ≡ code-of (getD literals i (pos 0)) → Each literals codes₀ (i + 1) (set codes i v)
+  pub each-more : (i : ℕ) (codes : List ℕ) (v : ℕ) → i < length literals → Each literals codes₀ i codes → v ≡ code-of (getD literals i (pos 0)) →
+      Each literals codes₀ (i + 1) (set codes i v)
   each-more i codes v inside e by =
       ap (λ (l : List ℕ). set l i v) (e ∙ ap (λ (l : List ℕ). map code-of (take i literals) ++ l) (drop-front codes₀ i 0 (omega arith)))
-      ∙ set-at (map code-of (take i literals)) (getD codes₀ i 0) (drop (i + 1) codes₀) v i (length-map (take i literals) code-of ∙ length-take-le i literals (omega arith))
+      ∙ set-at (map code-of (take i literals)) (getD codes₀ i 0) (drop (i + 1) codes₀) v i (length-map (take i literals) code-of ∙ length-take-le i literals
+      (omega arith))
       ∙ ap (λ (x : ℕ). map code-of (take i literals) ++ (x ∷ drop (i + 1) codes₀)) by
       ∙ sym (append-snoc (map code-of (take i literals)) (code-of (getD literals i (pos 0))) (drop (i + 1) codes₀))
       ∙ ap (λ (l : List ℕ). l ++ drop (i + 1) codes₀)
@@ -39,7 +41,8 @@ module _ (literals : List ℤ) (codes₀ : List ℕ) (room : length literals ≤
       ∙ ap (map code-of) (take-suc literals i (pos 0) inside)
       ∙ map-one (take i literals) (getD literals i (pos 0))))
 
-  pub each-all : (i : ℕ) (codes : List ℕ) → length literals ≤ i → i ≤ length literals → Each literals codes₀ i codes → codes ≡ map code-of literals ++ drop (length literals) codes₀
+  pub each-all : (i : ℕ) (codes : List ℕ) → length literals ≤ i → i ≤ length literals → Each literals codes₀ i codes →
+      codes ≡ map code-of literals ++ drop (length literals) codes₀
   each-all i codes past inside e =
       let same : i ≡ length literals = omega arith in
       e ∙ ap (λ (l : List ℤ). map code-of l ++ drop i codes₀) (take-all i literals past) ∙ ap (λ (n : ℕ). map code-of literals ++ drop n codes₀) same

@@ -18,7 +18,8 @@ use Rattle.formula.specs.Causes.{any, beyond, ended}
 use Rattle.formula.proofs.Any.{or-none}
 use Rattle.expansion.proofs.ClauseCuts.{Every, every-map, clause-at, matrix-at}
 use Rattle.expansion.proofs.Engine.{literal-at}
-use Rattle.codes.specs.Codes.{code-of, opposite, has, with-code, Reading, so-far, always-true, read-code, closed, encoding-from, encoding, refused, used, filled}
+use Rattle.codes.specs.Codes.{code-of, opposite, has, with-code, Reading, so-far, always-true, read-code, closed, encoding-from, encoding, refused, used}
+use Rattle.codes.specs.Codes.{filled}
 use Rattle.codes.specs.Private.Clauses.{position, code-true, code-onto, code-clauses, HasEnd, Ended, Encoded, Names}
 
 -- ---- a code and its literal
@@ -71,7 +72,8 @@ module _ (f : ℕ → Bool) where
 -- ---- a clause with one code more
 
 -- What holds of both ways to place the code holds of the clause.
-pub with-code-cases : (P : List ℕ → Type 0) (c x : ℕ) (xs : List ℕ) → (ltb x c ≡ true → P (c ∷ xs ++ (x ∷ []))) → (ltb x c ≡ false → P (x ∷ xs ++ (c ∷ []))) → P (with-code c (x ∷ xs))
+pub with-code-cases : (P : List ℕ → Type 0) (c x : ℕ) (xs : List ℕ) → (ltb x c ≡ true → P (c ∷ xs ++ (x ∷ []))) → (ltb x c ≡ false → P (x ∷ xs ++ (c ∷ []))) →
+    P (with-code c (x ∷ xs))
 unfolding with-code
 with-code-cases P c x xs larger other = go (ltb x c) refl
   where
@@ -132,7 +134,8 @@ size (so-far clause) = length clause
 size always-true = 0
 
 -- What holds of a clause that is always true, of the same one, and of the one with the code, holds of the clause after it.
-read-cases : (P : Reading → Type 0) (c : ℕ) (clause : List ℕ) → (has (opposite c) clause ≡ true → P always-true) → (has c clause ≡ true → P (so-far clause)) → P (so-far (with-code c clause)) → P (read-code c (so-far clause))
+read-cases : (P : Reading → Type 0) (c : ℕ) (clause : List ℕ) → (has (opposite c) clause ≡ true → P always-true) → (has c clause ≡ true → P (so-far clause)) →
+    P (so-far (with-code c clause)) → P (read-code c (so-far clause))
 read-cases P c clause opposed seen new = go (has (opposite c) clause) (has c clause) refl refl
   where
     go : (b d : Bool) → has (opposite c) clause ≡ b → has c clause ≡ d → P (cond b always-true (cond d (so-far clause) (so-far (with-code c clause))))
@@ -144,7 +147,8 @@ has-true : (f : ℕ → Bool) (x : ℕ) (xs : List ℕ) → has x xs ≡ true �
 has-true f x [] h t = absurd (false≢true h)
 has-true f x (y ∷ xs) h t = go (eqb x y) refl h (λ s. has-true f x xs s t)
   where
-    go : (b : Bool) → eqb x y ≡ b → (b || has x xs) ≡ true → (has x xs ≡ true → clause-at code-true f xs ≡ true) → (code-true f y || clause-at code-true f xs) ≡ true
+    go : (b : Bool) → eqb x y ≡ b → (b || has x xs) ≡ true → (has x xs ≡ true → clause-at code-true f xs ≡ true) →
+        (code-true f y || clause-at code-true f xs) ≡ true
     go true e s later = rw (sym (ap (code-true f) (eqb-true x y e)) ∙ t)
     go false e s later = rw (later s) (or-true (code-true f y))
 
@@ -236,11 +240,15 @@ module _ (n : ℕ) where
   coded-from : (r : Reading) (zs : List ℤ) → All (IsLiteral n) r → Names n zs → Every ZeroOrLiteral (encoding-from r zs)
   coded-from r [] all names = tt
   coded-from r (pos zero ∷ zs) all names =
-      every-append ZeroOrLiteral (closed r) (encoding-from (so-far []) zs) (closed-coded r all) (coded-from (so-far []) zs tt (λ i below. names (suc i) (omega arith)))
+      every-append ZeroOrLiteral (closed r) (encoding-from (so-far []) zs) (closed-coded r all)
+      (coded-from (so-far []) zs tt (λ i below. names (suc i) (omega arith)))
   coded-from r (pos (suc v) ∷ zs) all names =
-      coded-from (read-code (2 * suc v) r) zs (read-all (IsLiteral n) (2 * suc v) r (code-literal n (pos (suc v)) (λ e. omega arith) (names 0 (omega arith))) all) (λ i below. names (suc i) (omega arith))
+      coded-from (read-code (2 * suc v) r) zs (read-all (IsLiteral n) (2 * suc v) r (code-literal n (pos (suc v)) (λ e. omega arith) (names 0 (omega arith)))
+      all) (λ i below. names (suc i) (omega arith))
   coded-from r (negsuc v ∷ zs) all names =
-      coded-from (read-code (2 * suc v + 1) r) zs (read-all (IsLiteral n) (2 * suc v + 1) r (code-literal n (negsuc v) (λ e. omega arith) (names 0 (omega arith))) all) (λ i below. names (suc i) (omega arith))
+      coded-from (read-code (2 * suc v + 1) r) zs
+      (read-all (IsLiteral n) (2 * suc v + 1) r (code-literal n (negsuc v) (λ e. omega arith) (names 0 (omega arith))) all)
+      (λ i below. names (suc i) (omega arith))
 
 every-at : {A : Type 0} (Q : A → Type 0) (d : A) (xs : List A) → Every Q xs → (i : ℕ) → i < length xs → Q (getD xs i d)
 every-at Q d [] e i below = absurd (omega arith)
@@ -296,16 +304,19 @@ no-zero [] two = refl
 no-zero (c ∷ clause) two = rw (ne-eqb 0 c (λ e. let above : 2 ≤ c = two .0 in omega arith)) (no-zero clause (two .1))
 
 module _ (f : ℕ → Bool) where
-  closed-value : (r : Reading) (codes : List ℕ) → All (λ c. 2 ≤ c) r → (value f r && matrix-at code-true (code-clauses codes) f) ≡ matrix-at code-true (code-clauses (closed r ++ codes)) f
+  closed-value : (r : Reading) (codes : List ℕ) → All (λ c. 2 ≤ c) r →
+      (value f r && matrix-at code-true (code-clauses codes) f) ≡ matrix-at code-true (code-clauses (closed r ++ codes)) f
   closed-value (so-far clause) codes two = ap (λ (xss : List (List ℕ)). matrix-at code-true xss f) (sym (clauses-closed clause codes (no-zero clause two)))
   closed-value always-true codes two = refl
 
-  literal-value : (r : Reading) (z : ℤ) (zs : List ℤ) → (code-of z ≡ 0 → ⊥) → 2 ≤ code-of z → ended (z ∷ zs) ≡ true → begun f (value f r) (onto z (clauses zs)) ≡ begun f (value f (read-code (code-of z) r)) (clauses zs)
+  literal-value : (r : Reading) (z : ℤ) (zs : List ℤ) → (code-of z ≡ 0 → ⊥) → 2 ≤ code-of z → ended (z ∷ zs) ≡ true →
+      begun f (value f r) (onto z (clauses zs)) ≡ begun f (value f (read-code (code-of z) r)) (clauses zs)
   literal-value r z zs other two e =
       begun-onto f (value f r) z (clauses zs) (clauses-behind z zs other e)
       ∙ ap (λ (b : Bool). begun f b (clauses zs)) (ap (λ (b : Bool). value f r || b) (sym (code-value f z other)) ∙ sym (read-value f (code-of z) r two))
 
-  value-from : (r : Reading) (zs : List ℤ) → All (λ c. 2 ≤ c) r → ended zs ≡ true → begun f (value f r) (clauses zs) ≡ matrix-at code-true (code-clauses (encoding-from r zs)) f
+  value-from : (r : Reading) (zs : List ℤ) → All (λ c. 2 ≤ c) r → ended zs ≡ true →
+      begun f (value f r) (clauses zs) ≡ matrix-at code-true (code-clauses (encoding-from r zs)) f
   value-from r [] two e = refl
   value-from r (pos zero ∷ zs) two e =
       ap (λ (b : Bool). b && matrix-at literal-at (clauses zs) f) (or-false (value f r))
@@ -348,10 +359,12 @@ refused-neither literals places room none = rw (le-ltb places (length literals) 
 pub accepted : (literals : List ℤ) (places : ℕ) → length literals ≤ places → Names max-unknowns literals → refused literals places ≡ false
 accepted literals places room names = refused-neither literals places room (none-beyond max-unknowns literals names)
 
-pub nothing-made : (literals : List ℤ) (codes : List ℕ) → refused literals (length codes) ≡ true → (0 ≡ used literals (length codes)) × (codes ≡ filled literals codes)
+pub nothing-made : (literals : List ℤ) (codes : List ℕ) → refused literals (length codes) ≡ true → (0 ≡ used literals (length codes)) ×
+    (codes ≡ filled literals codes)
 nothing-made literals codes refuse = rw refuse (refl, refl)
 
-pub all-made : (literals : List ℤ) (codes written cleared : List ℕ) (end : ℕ) → refused literals (length codes) ≡ false → end ≡ length (encoding literals) → take end written ≡ encoding literals → length written ≡ length codes
+pub all-made : (literals : List ℤ) (codes written cleared : List ℕ) (end : ℕ) → refused literals (length codes) ≡ false → end ≡ length (encoding literals) →
+    take end written ≡ encoding literals → length written ≡ length codes
     → cleared ≡ take end written ++ replicate (length written - end) 0 → (end ≡ used literals (length codes)) × (cleared ≡ filled literals codes)
 all-made literals codes written cleared end accept counted is sized made =
     rw accept (

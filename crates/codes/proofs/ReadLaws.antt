@@ -103,7 +103,8 @@ module _ (start to code : ℕ) (w : List ℕ) (below : to < length w) where
       (λ e.
       take-set-lt (to + 1) (set w to (getD w start 0)) start code (omega arith)
       ∙ ap (λ (l : List ℕ). set l start code)
-      (take-more w to (getD w start 0) below ∙ ap (λ (l : List ℕ). l ++ (getD w start 0 ∷ [])) split ∙ ap (λ (y : ℕ). kept ++ (x ∷ xs) ++ (y ∷ [])) first ∙ append-assoc kept (x ∷ xs) (x ∷ []))
+      (take-more w to (getD w start 0) below ∙ ap (λ (l : List ℕ). l ++ (getD w start 0 ∷ [])) split ∙ ap (λ (y : ℕ). kept ++ (x ∷ xs) ++ (y ∷ [])) first ∙
+      append-assoc kept (x ∷ xs) (x ∷ []))
       ∙ set-at kept x (xs ++ (x ∷ [])) code start sized)
       (λ e. absurd (omega (arith, ltb-false x code e, first)))
 
@@ -143,7 +144,8 @@ one-marked seen clause c m small =
   where
     told : (x : ℕ) → x < last-code + 1 → Dec (x ≡ c) → eqb (getD (set seen c 1) x 0) 1 ≡ (eqb x c || has x clause)
     told x below (yes e) =
-        rw (eq-eqb x c e) (eq-eqb (getD (set seen c 1) x 0) 1 (ap (λ (k : ℕ). getD (set seen c 1) k 0) e ∙ getD-set-same seen c 1 0 (let s = m .sized in omega arith)))
+        rw (eq-eqb x c e) (eq-eqb (getD (set seen c 1) x 0) 1 (ap (λ (k : ℕ). getD (set seen c 1) k 0) e ∙ getD-set-same seen c 1 0
+        (let s = m .sized in omega arith)))
     told x below (no e) = rw (ne-eqb x c e, getD-set-other seen c x 1 0 e) (m .tells x below)
 
 -- ---- a clause is read entry by entry
@@ -160,7 +162,8 @@ pub record SoFar (literals : List ℤ) (from i start to : ℕ) (w u seen : List 
   pub same : encoding-from (so-far []) (drop from literals) ≡ encoding-from (so-far new) (drop i literals)
   pub marked : Marked seen new
 
-pub none-so-far : (literals : List ℤ) (from start : ℕ) (w : List ℕ) → start ≤ from → from < length literals → SoFar literals from from start start w w (replicate (last-code + 1) 0)
+pub none-so-far : (literals : List ℤ) (from start : ℕ) (w : List ℕ) → start ≤ from → from < length literals →
+    SoFar literals from from start start w w (replicate (last-code + 1) 0)
 none-so-far literals from start w low below =
     record {
       reached = omega arith;
@@ -181,7 +184,8 @@ kept-part start to w u new low room written =
 
 module _ {literals : List ℤ} {from i start to : ℕ} {w u seen : List ℕ} (s : SoFar literals from i start to w u seen) (room : start ≤ length w) where
   -- The clause is left out.
-  left-out : (next : ℕ) → i ≤ next → from < next → next ≤ length literals → encoding-from (so-far (s .new)) (drop i literals) ≡ encoding-from (so-far []) (drop next literals) → ClauseEncoded literals from next start start w u
+  left-out : (next : ℕ) → i ≤ next → from < next → next ≤ length literals →
+      encoding-from (so-far (s .new)) (drop i literals) ≡ encoding-from (so-far []) (drop next literals) → ClauseEncoded literals from next start start w u
   left-out next later ahead inside same =
       let low : start ≤ to = omega (arith, s .sized) in
       record {
@@ -219,7 +223,8 @@ module _ {literals : List ℤ} {from i start to : ℕ} {w u seen : List ℕ} (s 
           new = s .new ++ (0 ∷ []);
           sized = omega (arith, s .sized, length-append (s .new) (0 ∷ []));
           written = take-more u to 0 fitting ∙ ap (λ (l : List ℕ). l ++ (0 ∷ [])) (s .written) ∙ append-assoc (take start w) (s .new) (0 ∷ []);
-          same = s .same ∙ ap (encoding-from (so-far (s .new))) rest ∙ encoding-end (so-far (s .new)) (getD literals i (pos 0)) (drop (i + 1) literals) (sym is ∙ zero-here);
+          same = s .same ∙ ap (encoding-from (so-far (s .new))) rest ∙ encoding-end (so-far (s .new)) (getD literals i (pos 0)) (drop (i + 1) literals)
+              (sym is ∙ zero-here);
         }
 
     module _ (other : c ≡ 0 → ⊥) (small : c < last-code + 1) (o : ℕ) (is-opposite : o ≡ opposite c) where
@@ -230,7 +235,8 @@ module _ {literals : List ℤ} {from i start to : ℕ} {w u seen : List ℕ} (s 
       pub clause-true : getD seen o 0 ≡ 1 → (next : ℕ) → PastClause literals i next → ClauseEncoded literals from next start start w u
       clause-true one next past =
           left-out next (omega (arith, past .ahead)) (omega (arith, s .reached, past .ahead)) (past .inside)
-          (next-entry (so-far (s .new)) other ∙ ap (λ (r : Reading). encoding-from r (drop (i + 1) literals)) opposed ∙ sym (next-entry always-true other) ∙ past .same)
+          (next-entry (so-far (s .new)) other ∙ ap (λ (r : Reading). encoding-from r (drop (i + 1) literals)) opposed ∙ sym (next-entry always-true other) ∙
+          past .same)
         where
           opposed : read-code c (so-far (s .new)) ≡ always-true
           opposed = rw (sym told ∙ eq-eqb (getD seen o 0) 1 one)
@@ -257,7 +263,8 @@ module _ {literals : List ℤ} {from i start to : ℕ} {w u seen : List ℕ} (s 
             again : read-code c (so-far (s .new)) ≡ so-far (s .new)
             again = rw (unopposed, sym (s .marked .tells c small) ∙ eq-eqb (getD seen c 0) 1 one)
 
-        pub more-added : (getD seen c 0 ≡ 1 → ⊥) → (v : List ℕ) → length v ≡ length u → Added start to c u v → SoFar literals from (i + 1) start (to + 1) w v (set seen c 1)
+        pub more-added : (getD seen c 0 ≡ 1 → ⊥) → (v : List ℕ) → length v ≡ length u → Added start to c u v →
+            SoFar literals from (i + 1) start (to + 1) w v (set seen c 1)
         more-added new v kept added =
             record {
               reached = omega (arith, s .reached);
@@ -285,10 +292,12 @@ pub none-encoded : (literals : List ℤ) (codes : List ℕ) → EncodedTo litera
 unfolding encoding
 none-encoded literals codes = record { sized = refl; same = refl }
 
-pub more-encoded : {literals : List ℤ} {from next start to : ℕ} {w u : List ℕ} → EncodedTo literals from start w → ClauseEncoded literals from next start to w u → EncodedTo literals next to u
+pub more-encoded : {literals : List ℤ} {from next start to : ℕ} {w u : List ℕ} → EncodedTo literals from start w →
+    ClauseEncoded literals from next start to w u → EncodedTo literals next to u
 more-encoded {literals} {from} {next} {start} {to} {w} {u} e clause =
     record {
-      sized = ap length (clause .written) ∙ length-append (take start w) (clause .new) ∙ ap (λ (n : ℕ). n + length (clause .new)) (e .sized) ∙ sym (clause .sized);
+      sized = ap length (clause .written) ∙ length-append (take start w) (clause .new) ∙ ap (λ (n : ℕ). n + length (clause .new)) (e .sized) ∙ sym
+          (clause .sized);
       same = e .same ∙ ap (λ (l : List ℕ). take start w ++ l) (clause .same)
           ∙ sym (append-assoc (take start w) (clause .new) (encoding-from (so-far []) (drop next literals)))
           ∙ ap (λ (l : List ℕ). l ++ encoding-from (so-far []) (drop next literals)) (sym (clause .written));

@@ -16,12 +16,14 @@ counted-up-there came zero l = refl
 counted-up-there came (suc n) [] = refl
 counted-up-there came (suc n) (x ∷ l) = counted-up-there (λ i. came (suc i)) n l
 
-counted-up-suc : (came : ℕ → Bool) (n : ℕ) (l : List ℕ) → n < length l → set (counted-up came n l) n (one-more (came n) (getD l n 0)) ≡ counted-up came (suc n) l
+counted-up-suc : (came : ℕ → Bool) (n : ℕ) (l : List ℕ) → n < length l →
+    set (counted-up came n l) n (one-more (came n) (getD l n 0)) ≡ counted-up came (suc n) l
 counted-up-suc came n [] h = absurd (omega arith)
 counted-up-suc came zero (x ∷ l) h = refl
 counted-up-suc came (suc n) (x ∷ l) h = ap (λ (r : List ℕ). one-more (came zero) x ∷ r) (counted-up-suc (λ i. came (suc i)) n l (omega arith))
 
-pub counted-up-next : (came : ℕ → Bool) (n : ℕ) (l : List ℕ) → n < length l → set (counted-up came n l) n (one-more (came n) (getD l n 0)) ≡ counted-up came (n + 1) l
+pub counted-up-next : (came : ℕ → Bool) (n : ℕ) (l : List ℕ) → n < length l →
+    set (counted-up came n l) n (one-more (came n) (getD l n 0)) ≡ counted-up came (n + 1) l
 counted-up-next came n l h = counted-up-suc came n l h ∙ ap (λ (m : ℕ). counted-up came m l) (sym (add-one n))
 
 -- There are no more counts than the table has.
@@ -58,5 +60,7 @@ filled-most from zero i value l low most high = filled-none from i value l (omeg
 filled-most from (suc to) zero value [] low most high = refl
 filled-most from (suc to) (suc i) value [] low most high = refl
 filled-most from (suc to) zero value (x ∷ l) low most high = absurd (omega arith)
-filled-most zero (suc to) (suc i) value (x ∷ l) low most high = ap (λ (r : List ℕ). value ∷ r) (filled-most zero to i value l (omega arith) (omega arith) (omega arith))
-filled-most (suc from) (suc to) (suc i) value (x ∷ l) low most high = ap (λ (r : List ℕ). x ∷ r) (filled-most from to i value l (omega arith) (omega arith) (omega arith))
+filled-most zero (suc to) (suc i) value (x ∷ l) low most high = ap (λ (r : List ℕ). value ∷ r)
+    (filled-most zero to i value l (omega arith) (omega arith) (omega arith))
+filled-most (suc from) (suc to) (suc i) value (x ∷ l) low most high = ap (λ (r : List ℕ). x ∷ r)
+    (filled-most from to i value l (omega arith) (omega arith) (omega arith))

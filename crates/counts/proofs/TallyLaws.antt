@@ -98,7 +98,8 @@ module _ {A : Type 0} (g : A → ℕ) where
         let old-long : length (map h t) ≡ length t = length-map t h in
         ap (filled (length u) (length t) 0) (filled-entries 1 u before added (omega arith))
         ∙ filled-zero (length u) (length t) (map g u ++ drop (length u) before)
-        ∙ subst (λ (n : ℕ). zeroed-from n (length t) (map g u ++ drop n before) ≡ map g u ++ drop n (zeroed (length t) before)) new-long (given-up-behind (map g u) before (length t))
+        ∙ subst (λ (n : ℕ). zeroed-from n (length t) (map g u ++ drop n before) ≡ map g u ++ drop n (zeroed (length t) before)) new-long
+        (given-up-behind (map g u) before (length t))
         ∙ ap (λ (r : List ℕ). map g u ++ drop (length u) r) (all-zero old-long)
       where
         all-zero : length (map h t) ≡ length t → zeroed (length t) (map h t ++ drop (length t) base) ≡ base

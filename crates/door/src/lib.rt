@@ -81,7 +81,7 @@ fn decide(kinds: &[u8], literals: &[i32], work: &mut [u8], limit: u32) -> u32
     ensures { λ r. ⌜ r ≡ run-number (handed-on (now (kinds .entry)) (now (literals .entry)) (now (work .entry)) limit) ⌝ }
     ensures { λ _. ⌜ now (work .exit) ≡ left (handed-on (now (kinds .entry)) (now (literals .entry)) (now (work .entry)) limit) .work ⌝ }
 {
-    let end = decision::decide(kinds, literals, work, limit);
+    let end = decision::decide_formula(kinds, literals, work, limit);
     let answer = end.answer;
     engine::run::one_number(answer) as u32
 }

@@ -10,5 +10,5 @@ pub mod CountingLaws
 pub mod RoundCounts
 pub mod ByRounds
 pub mod OpeningLaws
-pub mod MemoryLaws
+pub mod FirstBlockLaws
 pub mod OutcomeLaws

@@ -2,11 +2,11 @@
 pub mod TermTables
 pub mod Terms
 pub mod TermSteps
-pub mod Live
+pub mod Satisfied
 pub mod Reasons
 pub mod Held
 pub mod Prepared
-pub mod Memory
+pub mod FirstBlock
 pub mod Steps
 pub mod Whole
 pub mod Growing

@@ -49,25 +49,25 @@ abbrev pub left : Option (List Row) → List ℕ
 left none = replicate work-size 0
 left (some yielded) = table-of yielded ++ replicate (work-size - length (table-of yielded)) 0
 
--- The answer, or the cause ..
+-- The answer, or the cause.
 unfoldable pub outcome : List ℕ → List ℤ → List ℕ → List ℕ → ℕ → Bool → List ℕ → Search
 outcome kinds literals preferences rows lent universal? work =
     let answered = answer (found kinds literals preferences rows lent universal?) in
     cond (eqb (cause kinds literals rows lent universal? work) 0) answered (Refused (cause kinds literals rows lent universal? work))
 
--- .. and the work area at exit: as found after a refusal.
+-- The work area at exit: as found after a refusal.
 unfoldable pub work-after : List ℕ → List ℤ → List ℕ → List ℕ → ℕ → Bool → List ℕ → List ℕ
 work-after kinds literals preferences rows lent universal? work =
     let answered = left (found kinds literals preferences rows lent universal?) in
     cond (eqb (cause kinds literals rows lent universal? work) 0) answered work
 
--- The number of each case: 0 for no model, 1 for found; a refusal has its cause's ..
+-- The number of each case: 0 for no model, 1 for found; a refusal has its cause's.
 abbrev pub number : Search → ℕ
 number NoModel = 0
 number Found = 1
 number (Refused cause) = cause
 
--- .. and the number of the outcome.
+-- The number of the outcome.
 unfoldable pub outcome-number : List ℕ → List ℤ → List ℕ → List ℕ → ℕ → Bool → List ℕ → ℕ
 outcome-number kinds literals preferences rows lent universal? work =
     let answered = number (answer (found kinds literals preferences rows lent universal?)) in

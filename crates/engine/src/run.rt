@@ -4,6 +4,7 @@
 // counts say (specs/Ended.antt).
 // The model search belongs to `search`, adding rows to a table to `growth`, the return counts to `counts`, the opening's bytes to `opening`.
 // A round costs one search a side, and what the growth of the two tables and their counts cost. The formula is checked and its tables are made once a run.
+use super::causes;
 use super::search;
 use super::search::Search;
 use formula::Check;
@@ -253,7 +254,7 @@ fn check(
                 existential_marks,
             ) {} else {
                 return Checked {
-                    cause: 4,
+                    cause: causes::ROWS,
                     universals,
                 };
             }
@@ -264,19 +265,19 @@ fn check(
                 existential_counts,
             ) {} else {
                 return Checked {
-                    cause: 16,
+                    cause: causes::COUNTS,
                     universals,
                 };
             }
             if work.len() != Formula::WORK {
                 return Checked {
-                    cause: 5,
+                    cause: causes::WORK,
                     universals,
                 };
             }
             if limit == 0 {
                 return Checked {
-                    cause: 6,
+                    cause: causes::LIMIT,
                     universals,
                 };
             }
@@ -288,7 +289,7 @@ fn check(
     }
 }
 
-// Cause 4.
+// Whether cause ROWS does not apply.
 fn fits(
     universal_rows: &[u8],
     universal_marks: &[u16],
@@ -314,7 +315,7 @@ fn side_fits(rows: &[u8], marks: &[u16]) -> bool
     }
 }
 
-// Cause 16.
+// Whether cause COUNTS does not apply.
 fn counted(
     universal_rows: &[u8],
     universal_counts: &[u32],
@@ -372,6 +373,7 @@ fn rounds(
         let mark = number as u16;
         // What led the existential side's models leads them over more universal rows; where the round before dropped these, it tells nothing.
         let known = kept_rows(clear_every, made, existential);
+        // steps 1 and 2
         let step = existential_half(
             kinds,
             &codes[..used], // the entries in use
@@ -393,6 +395,7 @@ fn rounds(
         if end != GROWN {
             return existential_stop(end, number, universal, existential);
         }
+        // steps 3 and 4
         let back = universal_half(
             kinds,
             &codes[..used],
@@ -414,6 +417,7 @@ fn rounds(
         if back_end != GROWN {
             return universal_stop(back_end, number, universal, grown);
         }
+        // step 5
         made = number;
         universal = back.count;
         existential = grown;
@@ -732,6 +736,6 @@ fn finds(
     ) {
         Search::Found => true,
         Search::NoModel => false,
-        Search::Refused(_) => false,
+        Search::Refused(_) => false, // does not come: the run has checked what it lends
     }
 }

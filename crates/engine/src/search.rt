@@ -4,26 +4,27 @@
 // (`first_model_over`).
 // The crates below sort the rows (order), keep a table of cells in the work area (cells), number the copies (numbering), write the clauses
 // as codes (codes) and look them up (index, evaluation), keep groups of rows and sets of positions (groups, sets), and look for shorter reasons of
-// failures (reasons) and for rows that are lost on the universal side (live). Here stand the steps of the search: force (the existential side's
+// conflicts (reasons) and for rows that are satisfied on the universal side (satisfied_rows). Here stand the steps of the search: propagation (the existential side's
 // consequences of a value), reasons (when a shorter one is looked for), and solve.
 ghost use Rattle.engine.specs.Search.{Searched};
 ghost use Rattle.engine.specs.Private.Prepared.{Prepares, SearchedOver};
-ghost use Rattle.engine.specs.Private.Whole.{Ready, Accepting, Arranged, Decided, OverPlaces, Finds, Answered};
+ghost use Rattle.engine.specs.Private.Whole.{Ready, Accepting, Arranged, OverCells, OverPlaces, Finds, Answered};
+use super::causes;
 use formula::Check;
 use formula::Formula;
 
+mod cell;
 mod clauses;
-mod force;
-mod hints;
-mod live_rows;
-mod memory;
+mod first_block;
+mod numbers;
+mod propagation;
 mod reasons;
+mod satisfied_rows;
+mod sets_table;
 mod shortening;
 mod solve;
-mod table;
 mod tables;
 mod term_table;
-mod width;
 
 pub enum Search {
     Found,
@@ -31,10 +32,9 @@ pub enum Search {
     Refused(u32),
 }
 
-// The number of places of the index that `prepare` fills.
+// The sizes of the tables that `prepare` fills: the index, and the table of terms.
 pub(crate) const INDEX: usize = index::SIZE;
 
-// .. and of the table of terms.
 pub(crate) const TERMS: usize = term_table::TABLE;
 
 // `universal`: the universal side looks for a model over existential rows, else the existential side over universal rows.
@@ -113,7 +113,7 @@ pub(crate) fn first_model_over(
         Check::Accepted(formula) => {
             let universals = formula.universals;
             if tables::fit(codes, index.len()) {} else {
-                return Search::Refused(2);
+                return Search::Refused(causes::CODES);
             }
             if universal {
                 let others = kinds.len() - universals;
@@ -170,16 +170,16 @@ fn over_rows(
     ensures { λ r. ⌜ Answered (now (kinds .entry)) (now (codes .entry)) (now (index .entry)) (now (terms .entry)) (now (preferences .entry)) (now (own .entry)) known (now (rows .entry)) count others side (now (work .entry)) (now (work .exit)) r ⌝ }
 {
     if rows::table_fits(rows) {} else {
-        return Search::Refused(4);
+        return Search::Refused(causes::ROWS);
     }
     if work.len() != Formula::WORK {
-        return Search::Refused(5);
+        return Search::Refused(causes::WORK);
     }
     if rows.len() / 16 < count {
-        return Search::Refused(7);
+        return Search::Refused(causes::COUNT);
     }
     if rows::stray_bit(rows, count, others) {
-        return Search::Refused(8);
+        return Search::Refused(causes::STRAY_BIT);
     }
     if find(
         kinds,
@@ -258,7 +258,7 @@ fn over_places(
     ensures { λ r. ⌜ OverPlaces (now (kinds .entry)) (now (codes .entry)) (now (index .entry)) (now (terms .entry)) (now (preferences .entry)) (now (own .entry)) known (now (rows .entry)) (now (place .entry)) side (now (work .entry)) (now (work .exit)) r ⌝ }
 {
     search_cells::fill(kinds, rows, place, side, work);
-    if decide(
+    if over_cells(
         kinds,
         codes,
         index,
@@ -279,7 +279,7 @@ fn over_places(
 }
 
 // The search over a filled table.
-fn decide(
+fn over_cells(
     kinds: &[u8],
     codes: &[u16],
     index: &[u16],
@@ -292,21 +292,21 @@ fn decide(
     work: &mut [u8],
 ) -> bool
     requires { ⌜ Arranged (now kinds) (now codes) (now index) (now place) side (now work) ⌝ }
-    ensures { λ r. ⌜ Decided (now (kinds .entry)) (now (codes .entry)) (now (index .entry)) (now (terms .entry)) (now (preferences .entry)) (now (own .entry)) known (now (place .entry)) side (now (work .entry)) (now (work .exit)) r ⌝ }
+    ensures { λ r. ⌜ OverCells (now (kinds .entry)) (now (codes .entry)) (now (index .entry)) (now (terms .entry)) (now (preferences .entry)) (now (own .entry)) known (now (place .entry)) side (now (work .entry)) (now (work .exit)) r ⌝ }
 {
     let count = place.len();
-    let mut splits = [0u8; Formula::ROWS];
-    search_cells::compare(kinds, work, count, side, &mut splits);
-    search_numbering::fill(kinds, preferences, place, &splits, side, work);
-    let mut memory = [0u8; Formula::UNKNOWNS];
-    let block = memory::read(kinds, own, known, side, &mut memory);
+    let mut differences = [0u8; Formula::ROWS];
+    search_cells::compare(kinds, work, count, side, &mut differences);
+    search_numbering::fill(kinds, preferences, place, &differences, side, work);
+    let mut block = [0u8; Formula::UNKNOWNS];
+    let used = first_block::read(kinds, own, known, side, &mut block);
     solve::from_start(
         kinds,
-        &splits[..count],
+        &differences[..count],
         codes,
         index,
         terms,
-        &memory[..block],
+        &block[..used],
         side,
         work,
     )

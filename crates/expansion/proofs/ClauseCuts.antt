@@ -49,7 +49,8 @@ module _ {L : Type 0} (true-at : (ℕ → Bool) → L → Bool) where
       (true-or-false (true-at f x))
 
   pub true-clause : (f : ℕ → Bool) (cs : List (List L)) (c : List L) → matrix-at true-at cs f ≡ true → Some (λ x. x ≡ c) cs → clause-at true-at f c ≡ true
-  true-clause f (x ∷ cs) c e (inl q) = subst (λ (y : List L). clause-at true-at f y ≡ true) q (and-eq-true-iff (clause-at true-at f x) (matrix-at true-at cs f) .0 e .0)
+  true-clause f (x ∷ cs) c e (inl q) = subst (λ (y : List L). clause-at true-at f y ≡ true) q
+      (and-eq-true-iff (clause-at true-at f x) (matrix-at true-at cs f) .0 e .0)
   true-clause f (x ∷ cs) c e (inr s) = true-clause f cs c (and-eq-true-iff (clause-at true-at f x) (matrix-at true-at cs f) .0 e .1) s
 
   -- ---- over a node
@@ -62,7 +63,8 @@ module _ {L : Type 0} (true-at : (ℕ → Bool) → L → Bool) where
       pub is : true-at (T .value i) z ≡ y
       pub masked : Within k (M (place z)) D
 
-    module _ (local : (z : L) (f g : ℕ → Bool) → f (place z) ≡ g (place z) → true-at f z ≡ true-at g z) (P : Problem) (k lo hi : ℕ) (v : ℕ → Bool) (T : Cells) (M : ℕ → Mask) (D : Mask)
+    module _ (local : (z : L) (f g : ℕ → Bool) → f (place z) ≡ g (place z) → true-at f z ≡ true-at g z) (P : Problem) (k lo hi : ℕ) (v : ℕ → Bool) (T : Cells)
+        (M : ℕ → Mask) (D : Mask)
         (A : Node P k lo hi v T M) (i : ℕ) (il : lo ≤ i) (ih : i < hi) where
       below : i < P .count
       below = let z : hi ≤ P .count = A .rows in omega arith
@@ -73,23 +75,31 @@ module _ {L : Type 0} (true-at : (ℕ → Bool) → L → Bool) where
           local z (m i) (T .value i) (A .implied i (place z) il ih (r .named) (r .set) m Mm (λ l lt d. heeds l lt (r .masked l lt d))) ∙ r .is
 
       -- a false clause
-      pub dead-clause : (cs : List (List L)) (c : List L) → ((f : ℕ → Bool) → P .goal f ≡ matrix-at true-at cs f) → Some (λ x. x ≡ c) cs → Every (Rests (P .n) k T M D i false) c → Refuted P k v D i
+      pub dead-clause : (cs : List (List L)) (c : List L) → ((f : ℕ → Bool) → P .goal f ≡ matrix-at true-at cs f) → Some (λ x. x ≡ c) cs →
+          Every (Rests (P .n) k T M D i false) c → Refuted P k v D i
       dead-clause cs c is-matrix mem every m Mm heeds =
           never-both
           (true-clause (m i) cs c (sym (is-matrix (m i)) ∙ Mm .reaches i below) mem)
           (clause-false (m i) c (every-map (Rests (P .n) k T M D i false) (λ z. true-at (m i) z ≡ false) (λ z r. rests-in-model m Mm heeds false z r) c every))
 
       -- a clause that is false but for the literal z: z is true
-      pub unit-clause : (cs : List (List L)) (c : List L) (z : L) (y : Bool) → ((f : ℕ → Bool) → true-at f z ≡ true → f (place z) ≡ y) → ((f : ℕ → Bool) → P .goal f ≡ matrix-at true-at cs f) → Some (λ x. x ≡ c) cs → Every (λ x. (x ≡ z) ⊎ Rests (P .n) k T M D i false x) c → Implied P k v D i (place z) y
+      pub unit-clause : (cs : List (List L)) (c : List L) (z : L) (y : Bool) → ((f : ℕ → Bool) → true-at f z ≡ true → f (place z) ≡ y) →
+          ((f : ℕ → Bool) → P .goal f ≡ matrix-at true-at cs f) → Some (λ x. x ≡ c) cs → Every (λ x. (x ≡ z) ⊎ Rests (P .n) k T M D i false x) c →
+          Implied P k v D i (place z) y
       unit-clause cs c z y sign is-matrix mem every m Mm heeds =
           sign (m i)
           (unit-true (m i) z c
           (true-clause (m i) cs c (sym (is-matrix (m i)) ∙ Mm .reaches i below) mem)
-          (every-map (λ x. (x ≡ z) ⊎ Rests (P .n) k T M D i false x) (λ x. (x ≡ z) ⊎ (true-at (m i) x ≡ false)) (λ x r. ⊎-elim (λ e. inl e) (λ s. inr (rests-in-model m Mm heeds false x s)) r) c every))
+          (every-map (λ x. (x ≡ z) ⊎ Rests (P .n) k T M D i false x) (λ x. (x ≡ z) ⊎ (true-at (m i) x ≡ false))
+          (λ x r. ⊎-elim (λ e. inl e) (λ s. inr (rests-in-model m Mm heeds false x s)) r) c every))
 
       -- every clause has a true literal in the row
-      pub dead-row : (cs : List (List L)) → ((f : ℕ → Bool) → P .goal f ≡ not (matrix-at true-at cs f)) → Every (Some (Rests (P .n) k T M D i true)) cs → Refuted P k v D i
+      pub dead-row : (cs : List (List L)) → ((f : ℕ → Bool) → P .goal f ≡ not (matrix-at true-at cs f)) → Every (Some (Rests (P .n) k T M D i true)) cs →
+          Refuted P k v D i
       dead-row cs is-not-matrix every m Mm heeds =
           never-both
           (Mm .reaches i below)
-          (is-not-matrix (m i) ∙ ap not (matrix-true (m i) cs (every-map (Some (Rests (P .n) k T M D i true)) (λ c. clause-at true-at (m i) c ≡ true) (λ c s. clause-true (m i) c (some-map (Rests (P .n) k T M D i true) (λ z. true-at (m i) z ≡ true) (λ z q. rests-in-model m Mm heeds true z q) c s)) cs every)))
+          (is-not-matrix (m i) ∙ ap not
+          (matrix-true (m i) cs (every-map (Some (Rests (P .n) k T M D i true)) (λ c. clause-at true-at (m i) c ≡ true)
+          (λ c s. clause-true (m i) c (some-map (Rests (P .n) k T M D i true) (λ z. true-at (m i) z ≡ true) (λ z q. rests-in-model m Mm heeds true z q) c
+          s)) cs every)))

@@ -57,14 +57,16 @@ module _ (P : Problem) where
       (λ o. M .follows i l hi (omega arith) o ∙ a l lt o ∙ sym (M .follows h l hh (omega arith) o))
       (true-or-false (P .own l))
 
-  pub heeds-row : (m : Values) → Model P m → (i h k : ℕ) (v : ℕ → Bool) (D : Mask) → i < P .count → h < P .count → k ≤ P .n → Agree P i h k → Heeds m i k v D → Heeds m h k v D
+  pub heeds-row : (m : Values) → Model P m → (i h k : ℕ) (v : ℕ → Bool) (D : Mask) → i < P .count → h < P .count → k ≤ P .n → Agree P i h k → Heeds m i k v D →
+      Heeds m h k v D
   heeds-row m M i h k v D hi hh hk a e l lt d = sym (models-agree m M i h k hi hh hk a l lt) ∙ e l lt d
 
   -- what is refuted, or implied, in one row is so in every row that agrees with it
   pub refuted-row : (i h k : ℕ) (v : ℕ → Bool) (D : Mask) → i < P .count → h < P .count → k ≤ P .n → Agree P i h k → Refuted P k v D i → Refuted P k v D h
   refuted-row i h k v D hi hh hk a r m M e = r m M (heeds-row m M h i k v D hh hi hk (agree-sym i h k a) e)
 
-  pub implied-row : (i h k j : ℕ) (v : ℕ → Bool) (D : Mask) (y : Bool) → i < P .count → h < P .count → k ≤ P .n → j < P .n → Agree P i h k → P .own j ≡ true → Agree P i h j → Implied P k v D i j y → Implied P k v D h j y
+  pub implied-row : (i h k j : ℕ) (v : ℕ → Bool) (D : Mask) (y : Bool) → i < P .count → h < P .count → k ≤ P .n → j < P .n → Agree P i h k → P .own j ≡ true →
+      Agree P i h j → Implied P k v D i j y → Implied P k v D h j y
   implied-row i h k j v D y hi hh hk hj a o b r m M e =
       sym (M .uniform i h j hi hh hj o b) ∙ r m M (heeds-row m M h i k v D hh hi hk (agree-sym i h k a) e)
 
@@ -95,11 +97,13 @@ module _ (P : Problem) where
       r m M (heeds-next m i k v w D same (λ d. absurd (never-both d lacks)) e)
 
   -- a failure at a value that the row gives is a failure without it
-  pub refuted-given : (k : ℕ) (v w : ℕ → Bool) (D : Mask) (i : ℕ) → i < P .count → k < P .n → P .own k ≡ false → w k ≡ P .given i k → SameBelow k v w → Refuted P (k + 1) w D i → Refuted P k v D i
+  pub refuted-given : (k : ℕ) (v w : ℕ → Bool) (D : Mask) (i : ℕ) → i < P .count → k < P .n → P .own k ≡ false → w k ≡ P .given i k → SameBelow k v w →
+      Refuted P (k + 1) w D i → Refuted P k v D i
   refuted-given k v w D i hi hk o g same r m M e = r m M (heeds-next m i k v w D same (λ d. M .follows i k hi hk o ∙ sym g) e)
 
   -- both values fail
-  pub refuted-both : (k : ℕ) (v w u : ℕ → Bool) (D E F : Mask) (i : ℕ) → SameBelow k v w → SameBelow k v u → u k ≡ not (w k) → Within k D F → Within k E F → Refuted P (k + 1) w D i → Refuted P (k + 1) u E i → Refuted P k v F i
+  pub refuted-both : (k : ℕ) (v w u : ℕ → Bool) (D E F : Mask) (i : ℕ) → SameBelow k v w → SameBelow k v u → u k ≡ not (w k) → Within k D F → Within k E F →
+      Refuted P (k + 1) w D i → Refuted P (k + 1) u E i → Refuted P k v F i
   refuted-both k v w u D E F i samew sameu opposite inD inE r s m M e =
       s m M
       (heeds-next m i k v u E sameu

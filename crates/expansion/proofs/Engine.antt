@@ -33,13 +33,18 @@ use Rattle.expansion.proofs.ClauseCuts.{Every, clause-at, matrix-at}
 abbrev pub row-value : List Bool → Row → ℕ → Bool
 row-value ts row l = getD row (others-before ts l) false
 
-pub restriction-of-values : (ts : List Bool) (k : ℕ) (a b : Row) → ((l : ℕ) → l < k → getD ts l false ≡ false → row-value ts a l ≡ row-value ts b l) → restriction ts k a ≡ restriction ts k b
+pub restriction-of-values : (ts : List Bool) (k : ℕ) (a b : Row) → ((l : ℕ) → l < k → getD ts l false ≡ false → row-value ts a l ≡ row-value ts b l) →
+    restriction ts k a ≡ restriction ts k b
 restriction-of-values ts zero a b h = refl
 restriction-of-values [] (suc k) a b h = refl
 restriction-of-values (true ∷ ts) (suc k) a b h = restriction-of-values ts k a b (λ l lt o. h (suc l) (omega arith) o)
 restriction-of-values (false ∷ ts) (suc k) a b h =
     let front : first-value a ≡ first-value b = sym (first-at a) ∙ h zero (omega arith) refl ∙ first-at b in
-    rw (front, restriction-of-values ts k (later-values a) (later-values b) (λ l lt o. sym (later-at a (others-before ts l)) ∙ h (suc l) (omega arith) o ∙ later-at b (others-before ts l)))
+    rw (
+      front,
+      restriction-of-values ts k (later-values a) (later-values b) (λ l lt o. sym (later-at a (others-before ts l)) ∙ h (suc l) (omega arith) o ∙
+          later-at b (others-before ts l)),
+    )
 
 head-same : (x y : Bool) (xs ys : List Bool) → _≡_ {A = List Bool} (x ∷ xs) (y ∷ ys) → x ≡ y
 head-same x y xs ys e = cc
@@ -47,7 +52,8 @@ head-same x y xs ys e = cc
 tail-same : (x y : Bool) (xs ys : List Bool) → _≡_ {A = List Bool} (x ∷ xs) (y ∷ ys) → xs ≡ ys
 tail-same x y xs ys e = cc
 
-pub values-of-restriction : (ts : List Bool) (k : ℕ) (a b : Row) → restriction ts k a ≡ restriction ts k b → (l : ℕ) → l < k → l < length ts → getD ts l false ≡ false → row-value ts a l ≡ row-value ts b l
+pub values-of-restriction : (ts : List Bool) (k : ℕ) (a b : Row) → restriction ts k a ≡ restriction ts k b → (l : ℕ) → l < k → l < length ts →
+    getD ts l false ≡ false → row-value ts a l ≡ row-value ts b l
 values-of-restriction ts zero a b e l lt ll o = absurd (omega arith)
 values-of-restriction [] (suc k) a b e l lt ll o = absurd (omega arith)
 values-of-restriction (true ∷ ts) (suc k) a b e zero lt ll o = absurd (never-both refl o)
@@ -56,7 +62,8 @@ values-of-restriction (false ∷ ts) (suc k) a b e zero lt ll o =
     first-at a ∙ head-same (first-value a) (first-value b) (restriction ts k (later-values a)) (restriction ts k (later-values b)) e ∙ sym (first-at b)
 values-of-restriction (false ∷ ts) (suc k) a b e (suc l) lt ll o =
     later-at a (others-before ts l)
-    ∙ values-of-restriction ts k (later-values a) (later-values b) (tail-same (first-value a) (first-value b) (restriction ts k (later-values a)) (restriction ts k (later-values b)) e) l (omega arith) (omega arith) o
+    ∙ values-of-restriction ts k (later-values a) (later-values b) (tail-same (first-value a) (first-value b) (restriction ts k (later-values a))
+    (restriction ts k (later-values b)) e) l (omega arith) (omega arith) o
     ∙ sym (later-at b (others-before ts l))
 
 -- ---- values as a list
@@ -108,7 +115,8 @@ module _ (n : ℕ) (f g : ℕ → Bool) (same : (j : ℕ) → j < n → f j ≡ 
   matrix-same [] h = refl
   matrix-same (c ∷ cs) h = rw (clause-same c (h .0), matrix-same cs (h .1))
 
-pub goal-same : (side : Kind) (n : ℕ) (cs : List Clause) → Every (Every (Names n)) cs → (f g : ℕ → Bool) → ((j : ℕ) → j < n → f j ≡ g j) → goal-at side cs f ≡ goal-at side cs g
+pub goal-same : (side : Kind) (n : ℕ) (cs : List Clause) → Every (Every (Names n)) cs → (f g : ℕ → Bool) → ((j : ℕ) → j < n → f j ≡ g j) →
+    goal-at side cs f ≡ goal-at side cs g
 goal-same existential n cs named f g same = matrix-same n f g same cs named
 goal-same universal n cs named f g same = ap not (matrix-same n f g same cs named)
 
@@ -139,24 +147,28 @@ module _ (prefer : ℕ → Bool) (side : Kind) (ks : List Kind) (cs : List Claus
   problem-sound =
       record {
         goal-of-values = λ f g same e. sym (goal-same side (length ks) cs named f g same) ∙ e;
-        wanted-alike = λ i h j hi hh hj o ag. ap (wanted prefer (flags side ks) rows j) (restriction-of-values (flags side ks) j (getD rows (row i) []) (getD rows (row h) []) ag);
+        wanted-alike = λ i h j hi hh hj o ag. ap (wanted prefer (flags side ks) rows j) (restriction-of-values (flags side ks) j (getD rows (row i) [])
+            (getD rows (row h) []) ag);
       }
 
-  all-wins : (σ : Strategy) (xs : List Row) → wins (flags side ks) (goal side (matrix cs)) σ xs ≡ true → (i : ℕ) → i < length xs → goal side (matrix cs) (play (flags side ks) σ (getD xs i [])) ≡ true
+  all-wins : (σ : Strategy) (xs : List Row) → wins (flags side ks) (goal side (matrix cs)) σ xs ≡ true → (i : ℕ) → i < length xs →
+      goal side (matrix cs) (play (flags side ks) σ (getD xs i [])) ≡ true
   all-wins σ [] w i lt = absurd (omega arith)
   all-wins σ (x ∷ xs) w zero lt = left (goal side (matrix cs) (play (flags side ks) σ x)) (wins (flags side ks) (goal side (matrix cs)) σ xs) w
     where
       left : (a b : Bool) → (a && b) ≡ true → a ≡ true
       left true b e = refl
       left false b e = e
-  all-wins σ (x ∷ xs) w (suc i) lt = all-wins σ xs (right (goal side (matrix cs) (play (flags side ks) σ x)) (wins (flags side ks) (goal side (matrix cs)) σ xs) w) i (omega arith)
+  all-wins σ (x ∷ xs) w (suc i) lt = all-wins σ xs (right (goal side (matrix cs) (play (flags side ks) σ x)) (wins (flags side ks) (goal side (matrix cs)) σ xs)
+      w) i (omega arith)
     where
       right : (a b : Bool) → (a && b) ≡ true → b ≡ true
       right true b e = e
       right false b e = absurd (false≢true e)
 
   -- a winning strategy is a model of the problem
-  pub model-of-strategy : (σ : Strategy) → wins (flags side ks) (goal side (matrix cs)) σ rows ≡ true → Model (problem prefer side ks cs rows row) (λ i j. getD (play (flags side ks) σ (getD rows (row i) [])) j false)
+  pub model-of-strategy : (σ : Strategy) → wins (flags side ks) (goal side (matrix cs)) σ rows ≡ true →
+      Model (problem prefer side ks cs rows row) (λ i j. getD (play (flags side ks) σ (getD rows (row i) [])) j false)
   unfolding problem
   model-of-strategy σ w =
       record {
@@ -169,12 +181,14 @@ module _ (prefer : ℕ → Bool) (side : Kind) (ks : List Kind) (cs : List Claus
       }
 
   -- nothing is left to rest on: no model
-  pub refuted-is-none : (v : ℕ → Bool) (D : Mask) → 0 < length rows → Refuted (problem prefer side ks cs rows row) 0 v D 0 → search prefer side ks (matrix cs) rows ≡ none
+  pub refuted-is-none : (v : ℕ → Bool) (D : Mask) → 0 < length rows → Refuted (problem prefer side ks cs rows row) 0 v D 0 →
+      search prefer side ks (matrix cs) rows ≡ none
   unfolding search
   refuted-is-none v D some-row refuted =
       ap (yielded (flags side ks) rows)
       (none-if-no-strategy prefer (flags side ks) (goal side (matrix cs)) rows
-      (λ σ. ⊎-elim (λ w. absurd (refuted (λ i j. getD (play (flags side ks) σ (getD rows (row i) [])) j false) (model-of-strategy σ w) (λ l lt d. absurd (omega arith)))) (λ w. w) (true-or-false (wins (flags side ks) (goal side (matrix cs)) σ rows))))
+      (λ σ. ⊎-elim (λ w. absurd (refuted (λ i j. getD (play (flags side ks) σ (getD rows (row i) [])) j false) (model-of-strategy σ w)
+      (λ l lt d. absurd (omega arith)))) (λ w. w) (true-or-false (wins (flags side ks) (goal side (matrix cs)) σ rows))))
 
   -- the plays of a table of values, in the rows' order
   abbrev pub plays : Values → List (List Bool)
@@ -192,11 +206,14 @@ module _ (prefer : ℕ → Bool) (side : Kind) (ks : List Kind) (cs : List Claus
   row-back : (i : ℕ) → i < length rows → getD rows (row (place-of i)) [] ≡ getD rows i []
   row-back i lt = ap (λ (x : ℕ). getD rows x []) (places .row-of-place i lt)
 
-  agree-of-restriction : (i h j : ℕ) → i < length rows → h < length rows → j ≤ length ks → restriction (flags side ks) j (getD rows i []) ≡ restriction (flags side ks) j (getD rows h []) → Agree (problem prefer side ks cs rows row) (place-of i) (place-of h) j
+  agree-of-restriction : (i h j : ℕ) → i < length rows → h < length rows → j ≤ length ks →
+      restriction (flags side ks) j (getD rows i []) ≡ restriction (flags side ks) j (getD rows h []) →
+      Agree (problem prefer side ks cs rows row) (place-of i) (place-of h) j
   unfolding problem
   agree-of-restriction i h j li lh lj e l lt o =
       ap (λ (r : Row). row-value (flags side ks) r l) (row-back i li)
-      ∙ values-of-restriction (flags side ks) j (getD rows i []) (getD rows h []) e l lt (subst (λ (x : ℕ). l < x) (sym (length-map ks (own side))) (omega arith)) o
+      ∙ values-of-restriction (flags side ks) j (getD rows i []) (getD rows h []) e l lt
+      (subst (λ (x : ℕ). l < x) (sym (length-map ks (own side))) (omega arith)) o
       ∙ sym (ap (λ (r : Row). row-value (flags side ks) r l) (row-back h lh))
 
   -- a model's plays are those of a strategy, which wins
@@ -216,7 +233,8 @@ module _ (prefer : ℕ → Bool) (side : Kind) (ks : List Kind) (cs : List Claus
             };
         uniform = λ i h k li lh o e.
             value-at m i k li (own-below k o)
-            ∙ M .uniform (place-of i) (place-of h) k (places .place-below i li) (places .place-below h lh) (own-below k o) o (agree-of-restriction i h k li lh (le-of-lt (own-below k o)) e)
+            ∙ M .uniform (place-of i) (place-of h) k (places .place-below i li) (places .place-below h lh) (own-below k o) o
+            (agree-of-restriction i h k li lh (le-of-lt (own-below k o)) e)
             ∙ sym (value-at m h k lh (own-below k o));
       }
 
@@ -250,7 +268,8 @@ module _ (prefer : ℕ → Bool) (side : Kind) (ks : List Kind) (cs : List Claus
         reaches = λ i li. W .reaches i (omega arith) li;
       }
 
-  won-leading : (T : Cells) → Won (problem prefer side ks cs rows row) 0 0 (length rows) T → Leading prefer (flags side ks) (goal side (matrix cs)) rows (plays (T .value))
+  won-leading : (T : Cells) → Won (problem prefer side ks cs rows row) 0 0 (length rows) T →
+      Leading prefer (flags side ks) (goal side (matrix cs)) rows (plays (T .value))
   unfolding problem
   won-leading T W =
       record {
@@ -259,16 +278,20 @@ module _ (prefer : ℕ → Bool) (side : Kind) (ks : List Kind) (cs : List Claus
         lead = λ σ w i li k o before.
             ⊎-elim
             (λ e. inl (value-at (T .value) i k li (own-below k o) ∙ sym e ∙ model-at σ i k li))
-            (λ e. inr (value-at (T .value) i k li (own-below k o) ∙ e ∙ ap (λ (r : Row). wanted prefer (flags side ks) rows k (restriction (flags side ks) k r)) (row-back i li)))
-            (W .leads (λ h j. getD (play (flags side ks) σ (getD rows (row h) [])) j false) (model-of-strategy σ w) (place-of i) k (omega arith) (places .place-below i li) (omega arith) (own-below k o) o
+            (λ e. inr (value-at (T .value) i k li (own-below k o) ∙ e ∙ ap (λ (r : Row). wanted prefer (flags side ks) rows k (restriction (flags side ks) k r))
+            (row-back i li)))
+            (W .leads (λ h j. getD (play (flags side ks) σ (getD rows (row h) [])) j false) (model-of-strategy σ w) (place-of i) k (omega arith)
+            (places .place-below i li) (omega arith) (own-below k o) o
             (λ l lk. model-at σ i l li ∙ sym (before l lk) ∙ value-at (T .value) i l li (let z : k < length ks = own-below k o in omega arith)));
       }
     where
-      model-at : (σ : Strategy) (i l : ℕ) → i < length rows → getD (play (flags side ks) σ (getD rows (row (place-of i)) [])) l false ≡ getD (play (flags side ks) σ (getD rows i [])) l false
+      model-at : (σ : Strategy) (i l : ℕ) → i < length rows →
+          getD (play (flags side ks) σ (getD rows (row (place-of i)) [])) l false ≡ getD (play (flags side ks) σ (getD rows i [])) l false
       model-at σ i l li = ap (λ (r : Row). getD (play (flags side ks) σ r) l false) (row-back i li)
 
   -- a success over all rows is the first model, and yields its rows
-  pub won-is-first : (T : Cells) → Won (problem prefer side ks cs rows row) 0 0 (length rows) T → search prefer side ks (matrix cs) rows ≡ some (tabulate (length rows) (λ i. part (flags side ks) (tabulate (length ks) (T .value (place-of i)))))
+  pub won-is-first : (T : Cells) → Won (problem prefer side ks cs rows row) 0 0 (length rows) T →
+      search prefer side ks (matrix cs) rows ≡ some (tabulate (length rows) (λ i. part (flags side ks) (tabulate (length ks) (T .value (place-of i)))))
   unfolding search
   won-is-first T W =
       leading-is-first (won-leading T W)

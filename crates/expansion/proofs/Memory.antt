@@ -74,10 +74,12 @@ module _ (ts : List Bool) (row : Row) (rows : List Row) where
   one-copy k own = rw (nothing-restricted ts k row own, one-restriction k own rows)
 
   -- Of the positions that are left p is the first, and k is the i-th of them.
-  next-copy : (left : List Bool) (p k : ℕ) → p ≤ k → InBlock ts k → copies-from ts (row ∷ rows) p (true ∷ left) ≡ (copy-at p [] ∷ copies-from ts (row ∷ rows) (suc p) left)
+  next-copy : (left : List Bool) (p k : ℕ) → p ≤ k → InBlock ts k →
+      copies-from ts (row ∷ rows) p (true ∷ left) ≡ (copy-at p [] ∷ copies-from ts (row ∷ rows) (suc p) left)
   next-copy left p k le own = ap (λ (cs : List Copy). cs ++ copies-from ts (row ∷ rows) (suc p) left) (one-copy p (λ j l. own j (omega arith)))
 
-  value-from : (σ : Strategy) (left : List Bool) (p i k : ℕ) → p + i ≡ k → InBlock left i → InBlock ts k → getD (values-at (copies-from ts (row ∷ rows) p left) σ) i false ≡ σ k []
+  value-from : (σ : Strategy) (left : List Bool) (p i k : ℕ) → p + i ≡ k → InBlock left i → InBlock ts k →
+      getD (values-at (copies-from ts (row ∷ rows) p left) σ) i false ≡ σ k []
   value-from σ [] p i k e here own = absurd (false≢true (here i (omega arith)))
   value-from σ (false ∷ left) p i k e here own = absurd (false≢true (here zero (omega arith)))
   value-from σ (true ∷ left) p zero k e here own =
@@ -176,9 +178,11 @@ module _ (prefer : ℕ → Bool) (side : Kind) (ks : List Kind) (cs : List Claus
       let value : (j : ℕ) → j ≤ k → σ j [] ≡ m 0 j =
       λ j l. ap (σ j) (sym (nothing-restricted ts j (getD rows 0 []) (λ i n. own i (omega arith))))
       ∙ played .2 0 j some-row (own j l)
-      ∙ M .uniform (place-of 0) 0 j (places .place-below 0 some-row) some-row (subst (λ (x : ℕ). j < x) (length-map ks _) (own-within ts j (own j l))) (own j l) (agree-in-block (place-of 0) 0 j (here j l)) in
+      ∙ M .uniform (place-of 0) 0 j (places .place-below 0 some-row) some-row (subst (λ (x : ℕ). j < x) (length-map ks _) (own-within ts j (own j l))) (own j l)
+      (agree-in-block (place-of 0) 0 j (here j l)) in
       let wants : prefer k ≡ prefer (number (copies ts rows) k (restriction ts k (getD rows (row 0) []))) =
-      ap prefer (sym (ap (number (copies ts rows) k) (nothing-restricted ts k (getD rows (row 0) []) (λ j l. own j (le-of-lt l))) ∙ number-in-block ts rows some-row k own)) in
+      ap prefer (sym (ap (number (copies ts rows) k) (nothing-restricted ts k (getD rows (row 0) []) (λ j l. own j (le-of-lt l))) ∙ number-in-block ts rows
+      some-row k own)) in
       ⊎-map
       (λ e. e ∙ value k (omega arith))
       (λ e. e ∙ wants)

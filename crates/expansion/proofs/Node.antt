@@ -25,7 +25,13 @@ grown-outside b lo hi T U g i j out = ⊎-elim (λ s. s) (λ o. absurd (out (o .
 
 pub grown-wider : (b c lo hi a e : ℕ) (T U : Cells) → c ≤ b → a ≤ lo → hi ≤ e → Grown b lo hi T U → Grown c a e T U
 grown-wider b c lo hi a e T U cb al he g i j =
-    ⊎-elim (λ s. inl s) (λ o. inr (let p : lo ≤ i = o .0 in omega arith, let q : i < hi = o .1 in omega arith, o .2, let r : b ≤ U .level i j = o .3 in omega arith)) (g i j)
+    ⊎-elim (λ s. inl s) (λ o. inr (
+      let p : lo ≤ i = o .0 in omega arith,
+      let q : i < hi = o .1 in omega arith,
+      o .2,
+      let r : b ≤ U .level i j = o .3 in omega
+          arith,
+    )) (g i j)
 
 pub grown-trans : (b lo hi : ℕ) (T U X : Cells) → 0 < b → Grown b lo hi T U → Grown b lo hi U X → Grown b lo hi T X
 grown-trans b lo hi T U X pos g h i j = ⊎-elim same new (g i j)
@@ -44,7 +50,8 @@ grown-trans b lo hi T U X pos g h i j = ⊎-elim same new (g i j)
         (λ o′. inr (o .0, o .1, o .2, o′ .3))
         (h i j)
 
-pub grown-stored : (b lo hi s e p : ℕ) (y : Bool) (T U : Cells) → lo ≤ s → e ≤ hi → ((i : ℕ) → s ≤ i → i < e → T .level i p ≡ 0) → Stored s e p b y T U → Grown b lo hi T U
+pub grown-stored : (b lo hi s e p : ℕ) (y : Bool) (T U : Cells) → lo ≤ s → e ≤ hi → ((i : ℕ) → s ≤ i → i < e → T .level i p ≡ 0) → Stored s e p b y T U →
+    Grown b lo hi T U
 grown-stored b lo hi s e p y T U ls eh open-at st i j = go (decLe s i) (decLt i e) (ℕ-discrete j p)
   where
     out : ((s ≤ i) × (i < e) × (j ≡ p) → ⊥) → SameCell T U i j ⊎ ((lo ≤ i) × (i < hi) × (T .level i j ≡ 0) × (b ≤ U .level i j))
@@ -63,12 +70,15 @@ grown-stored b lo hi s e p y T U ls eh open-at st i j = go (decLe s i) (decLt i 
     go (no a) c d = out (λ t. a (t .0))
 
 -- clearing what has been set from level b on gives back the cells before, if those were all below b
-pub cleared-back : (b lo hi : ℕ) (T U X : Cells) → ((i j : ℕ) → lo ≤ i → i < hi → T .level i j < b) → Grown b lo hi T U → Cleared b lo hi U X → (i j : ℕ) → SameCell T X i j
+pub cleared-back : (b lo hi : ℕ) (T U X : Cells) → ((i j : ℕ) → lo ≤ i → i < hi → T .level i j < b) → Grown b lo hi T U → Cleared b lo hi U X → (i j : ℕ) →
+    SameCell T X i j
 cleared-back b lo hi T U X below g c i j = ⊎-elim same new (g i j)
   where
     same : SameCell T U i j → SameCell T X i j
     same s =
-        let kept : (X .level i j ≡ U .level i j) × (X .value i j ≡ U .value i j) = c .low i j (λ t. let z : T .level i j < b = below i j (t .0) (t .1) in let y : b ≤ U .level i j = t .2 in let x : U .level i j ≡ T .level i j = s .0 in omega arith) in
+        let kept : (X .level i j ≡ U .level i j) × (X .value i j ≡ U .value i j) = c .low i j
+        (λ t. let z : T .level i j < b = below i j (t .0) (t .1) in let y : b ≤ U .level i j = t .2 in let x : U .level i j ≡ T .level i j = s .0 in omega
+        arith) in
         (kept .0 ∙ s .0, λ q. kept .1 ∙ s .1 q)
 
     new : (lo ≤ i) × (i < hi) × (T .level i j ≡ 0) × (b ≤ U .level i j) → SameCell T X i j

@@ -25,8 +25,10 @@ module _ (P : Problem) (k at lo hi : ℕ) (v : ℕ → Bool) (T : Cells) (M : �
   stand-value : (i j : ℕ) → lo ≤ i → i < hi → k ≤ j → j < at → T .value i j ≡ T .value lo j
   stand-value i j p q kj ja =
       ⊎-elim
-      (λ o. A .alike lo i j (omega arith) (omega arith) p q (omega arith) o (agree-shorter P lo i at j (omega arith) (agree lo i (omega arith) (omega arith) p q)) (stands lo j (omega arith) (omega arith) kj ja) .1)
-      (λ o. A .given i j p q (omega arith) o .1 ∙ agree i lo p q (omega arith) (omega arith) j ja o ∙ sym (A .given lo j (omega arith) (omega arith) (omega arith) o .1))
+      (λ o. A .alike lo i j (omega arith) (omega arith) p q (omega arith) o
+      (agree-shorter P lo i at j (omega arith) (agree lo i (omega arith) (omega arith) p q)) (stands lo j (omega arith) (omega arith) kj ja) .1)
+      (λ o. A .given i j p q (omega arith) o .1 ∙ agree i lo p q (omega arith) (omega arith) j ja o ∙ sym
+      (A .given lo j (omega arith) (omega arith) (omega arith) o .1))
       (true-or-false (P .own j))
 
   stand-same : SameBelow k v (T .value lo)
@@ -64,8 +66,11 @@ module _ (P : Problem) (k at lo hi : ℕ) (v : ℕ → Bool) (T : Cells) (M : �
           ∙ sym (grown-keeps b a e T U g i j (stands i j p q kj ja) .1)
 
   -- a failure that rests on a position that stands rests on what that position rests on
-  pub refuted-stand : (D F : Mask) → Within k D F → ((l : ℕ) → k ≤ l → l < at → D l ≡ true → Within k (M l) F) → Refuted P at (T .value lo) D lo → Refuted P k v F lo
-  refuted-stand D F inF why refuted m Mm heeds = refuted m Mm (λ l la d. ⊎-elim (λ lk. heeds l lk (inF l lk d) ∙ stand-same l lk) (λ kl. forced l kl la d) (below-or-not l k))
+  pub refuted-stand : (D F : Mask) → Within k D F → ((l : ℕ) → k ≤ l → l < at → D l ≡ true → Within k (M l) F) → Refuted P at (T .value lo) D lo →
+      Refuted P k v F lo
+  refuted-stand D F inF why refuted m Mm heeds = refuted m Mm (λ l la d. ⊎-elim (λ lk. heeds l lk (inF l lk d) ∙ stand-same l lk) (λ kl. forced l kl la d)
+      (below-or-not l k))
     where
       forced : (l : ℕ) → k ≤ l → l < at → D l ≡ true → m lo l ≡ T .value lo l
-      forced l kl la d = A .implied lo l (omega arith) (omega arith) (omega arith) (stands lo l (omega arith) (omega arith) kl la) m Mm (heeds-smaller P m lo k v (M l) F (why l kl la d) heeds)
+      forced l kl la d = A .implied lo l (omega arith) (omega arith) (omega arith) (stands lo l (omega arith) (omega arith) kl la) m Mm
+          (heeds-smaller P m lo k v (M l) F (why l kl la d) heeds)

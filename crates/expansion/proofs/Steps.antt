@@ -29,7 +29,8 @@ module _ (P : Problem) where
       }
 
   -- the same cells in the group and larger masks: the same node
-  pub node-same : (k lo hi : ℕ) (v : ℕ → Bool) (T U : Cells) (M N : ℕ → Mask) → ((i j : ℕ) → lo ≤ i → i < hi → SameCell T U i j) → MasksWithin k M N → Node P k lo hi v T M → Node P k lo hi v U N
+  pub node-same : (k lo hi : ℕ) (v : ℕ → Bool) (T U : Cells) (M N : ℕ → Mask) → ((i j : ℕ) → lo ≤ i → i < hi → SameCell T U i j) → MasksWithin k M N →
+      Node P k lo hi v T M → Node P k lo hi v U N
   node-same k lo hi v T U M N same larger A =
       record {
         some = A .some;
@@ -37,7 +38,8 @@ module _ (P : Problem) where
         depth = A .depth;
         agree = A .agree;
         past = λ i j p q lt. let a : (0 < T .level i j) × (T .value i j ≡ v j) = A .past i j p q lt in (forth i j p q (a .0), same i j p q .1 (a .0) ∙ a .1);
-        given = λ i j p q lt o. let a : (0 < T .level i j) × (T .value i j ≡ P .given i j) = A .given i j p q lt o in (forth i j p q (a .0), same i j p q .1 (a .0) ∙ a .1);
+        given = λ i j p q lt o. let a : (0 < T .level i j) × (T .value i j ≡ P .given i j) = A .given i j p q lt o in
+            (forth i j p q (a .0), same i j p q .1 (a .0) ∙ a .1);
         alike = λ i h j p q r s lt o ag z.
             let a : (0 < T .level h j) × (T .value h j ≡ T .value i j) = A .alike i h j p q r s lt o ag (back i j p q z) in
             (forth h j r s (a .0), same h j r s .1 (a .0) ∙ a .1 ∙ sym (same i j p q .1 (back i j p q z)));
@@ -54,7 +56,9 @@ module _ (P : Problem) where
       forth i j p q z = let e : U .level i j ≡ T .level i j = same i j p q .0 in omega arith
 
   -- past a position that is set in all rows of the group, at which they have one value
-  pub node-next : (k lo hi : ℕ) (v w : ℕ → Bool) (T : Cells) (M : ℕ → Mask) → k < P .n → SameBelow k v w → ((i : ℕ) → lo ≤ i → i < hi → (0 < T .level i k) × (T .value i k ≡ w k)) → ((i h : ℕ) → lo ≤ i → i < hi → lo ≤ h → h < hi → Agree P i h (k + 1)) → Node P k lo hi v T M → Node P (k + 1) lo hi w T M
+  pub node-next : (k lo hi : ℕ) (v w : ℕ → Bool) (T : Cells) (M : ℕ → Mask) → k < P .n → SameBelow k v w →
+      ((i : ℕ) → lo ≤ i → i < hi → (0 < T .level i k) × (T .value i k ≡ w k)) → ((i h : ℕ) → lo ≤ i → i < hi → lo ≤ h → h < hi → Agree P i h (k + 1)) →
+      Node P k lo hi v T M → Node P (k + 1) lo hi w T M
   node-next k lo hi v w T M kn same at-k ag A =
       record {
         some = A .some;
@@ -94,7 +98,8 @@ module _ (P : Problem) where
         st .elsewhere i j (λ t. never-both (ap (P .own) (t .2) ∙ po) o) in
         (positive (U .level i j) (T .level i j) (kept .0) (A .given i j q r lt o .0), kept .1 ∙ A .given i j q r lt o .1)
 
-    pub stored-alike : (i h j : ℕ) → lo ≤ i → i < hi → lo ≤ h → h < hi → j < P .n → P .own j ≡ true → Agree P i h j → 0 < U .level i j → (0 < U .level h j) × (U .value h j ≡ U .value i j)
+    pub stored-alike : (i h j : ℕ) → lo ≤ i → i < hi → lo ≤ h → h < hi → j < P .n → P .own j ≡ true → Agree P i h j → 0 < U .level i j → (0 < U .level h j) ×
+        (U .value h j ≡ U .value i j)
     stored-alike i h j q r q′ r′ lt o ag z = ⊎-elim new old (stored-or-kept i j)
       where
         new : (s ≤ i) × (i < e) × (j ≡ p) → (0 < U .level h j) × (U .value h j ≡ U .value i j)
@@ -107,12 +112,15 @@ module _ (P : Problem) where
         old n =
             let kept : (U .level i j ≡ T .level i j) × (U .value i j ≡ T .value i j) = st .elsewhere i j n in
             let other : (U .level h j ≡ T .level h j) × (U .value h j ≡ T .value h j) =
-            st .elsewhere h j (λ t. let c : (s ≤ i) × (i < e) = closed h i q′ r′ q r (subst (λ (x : ℕ). Agree P h i x) (t .2) (agree-sym P i h j ag)) (t .0) (t .1) in n (c .0, c .1, t .2)) in
-            let a : (0 < T .level h j) × (T .value h j ≡ T .value i j) = A .alike i h j q r q′ r′ lt o ag (positive (T .level i j) (U .level i j) (sym (kept .0)) z) in
+            st .elsewhere h j (λ t. let c : (s ≤ i) × (i < e) = closed h i q′ r′ q r (subst (λ (x : ℕ). Agree P h i x) (t .2) (agree-sym P i h j ag)) (t .0)
+            (t .1) in n (c .0, c .1, t .2)) in
+            let a : (0 < T .level h j) × (T .value h j ≡ T .value i j) = A .alike i h j q r q′ r′ lt o ag
+            (positive (T .level i j) (U .level i j) (sym (kept .0)) z) in
             (positive (U .level h j) (T .level h j) (other .0) (a .0), other .1 ∙ a .1 ∙ sym (kept .1))
 
     -- a forced value, stored in all rows of its copy
-    pub node-store : (N : ℕ → Mask) → MasksWithin k M N → b ≤ k + 1 → k ≤ p → ((i : ℕ) → lo ≤ i → i < hi → s ≤ i → i < e → Implied P k v (N p) i p y) → Node P k lo hi v U N
+    pub node-store : (N : ℕ → Mask) → MasksWithin k M N → b ≤ k + 1 → k ≤ p → ((i : ℕ) → lo ≤ i → i < hi → s ≤ i → i < e → Implied P k v (N p) i p y) →
+        Node P k lo hi v U N
     node-store N larger bk kp forced =
         record {
           some = A .some;
@@ -144,14 +152,16 @@ module _ (P : Problem) where
             (implied-larger P k v (M j) (N j) i j (T .value i j) (larger j) (A .implied i j q r lt (positive (T .level i j) (U .level i j) (sym (kept .0)) z)))
 
   -- a choice at position k: the value y in all rows of the group, resting on k itself
-  pub node-decide : (k lo hi b : ℕ) (v w : ℕ → Bool) (y : Bool) (T U : Cells) (M N : ℕ → Mask) → Node P k lo hi v T M → k < P .n → P .own k ≡ true → 0 < b → b ≤ k + 2 → Stored lo hi k b y T U → SameBelow k v w → w k ≡ y → MasksWithin k M N → N k k ≡ true → Node P (k + 1) lo hi w U N
+  pub node-decide : (k lo hi b : ℕ) (v w : ℕ → Bool) (y : Bool) (T U : Cells) (M N : ℕ → Mask) → Node P k lo hi v T M → k < P .n → P .own k ≡ true → 0 < b →
+      b ≤ k + 2 → Stored lo hi k b y T U → SameBelow k v w → w k ≡ y → MasksWithin k M N → N k k ≡ true → Node P (k + 1) lo hi w U N
   node-decide k lo hi b v w y T U M N A kn ko pos bk st same wk larger names =
       record {
         some = A .some;
         rows = A .rows;
         depth = omega arith;
         agree = λ i h p q r s. agree-own P i h k ko (A .agree i h p q r s);
-        past = λ i j p q lt. ⊎-elim (λ lk. early i j p q lk) (λ e. subst (λ (x : ℕ). (0 < U .level i x) × (U .value i x ≡ w x)) (sym e) (chosen i p q)) (below-or-last j k lt);
+        past = λ i j p q lt. ⊎-elim (λ lk. early i j p q lk) (λ e. subst (λ (x : ℕ). (0 < U .level i x) × (U .value i x ≡ w x)) (sym e) (chosen i p q))
+            (below-or-last j k lt);
         given = stored-given k lo hi v T U M lo hi k b y A st kn ko pos (λ i h p q r s ag a c. (r, s));
         alike = stored-alike k lo hi v T U M lo hi k b y A st kn ko pos (λ i h p q r s ag a c. (r, s));
         implied = λ i j p q lt z. implied-at i j p q lt z (ℕ-discrete j k);

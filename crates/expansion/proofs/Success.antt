@@ -13,17 +13,20 @@ use Rattle.expansion.proofs.Node.{Node, Won, Grown, positive, grown-kee
 
 module _ (P : Problem) where
   -- the values of a node's rows before its position, also after the table has grown
-  pub past-kept : (k lo hi b a e : ℕ) (v : ℕ → Bool) (T U : Cells) (M : ℕ → Mask) → Node P k lo hi v T M → Grown b a e T U → (i j : ℕ) → lo ≤ i → i < hi → j < k → U .value i j ≡ v j
+  pub past-kept : (k lo hi b a e : ℕ) (v : ℕ → Bool) (T U : Cells) (M : ℕ → Mask) → Node P k lo hi v T M → Grown b a e T U → (i j : ℕ) → lo ≤ i → i < hi →
+      j < k → U .value i j ≡ v j
   past-kept k lo hi b a e v T U M A g i j p q lt = grown-keeps b a e T U g i j (A .past i j p q lt .0) .1 ∙ A .past i j p q lt .1
 
   -- past the last position: the goal of the first row's values is the goal of all
-  pub won-leaf : (lo hi : ℕ) (v : ℕ → Bool) (T : Cells) (M : ℕ → Mask) → Sound P → Node P (P .n) lo hi v T M → P .goal (T .value lo) ≡ true → Won P (P .n) lo hi T
+  pub won-leaf : (lo hi : ℕ) (v : ℕ → Bool) (T : Cells) (M : ℕ → Mask) → Sound P → Node P (P .n) lo hi v T M → P .goal (T .value lo) ≡ true →
+      Won P (P .n) lo hi T
   won-leaf lo hi v T M S A win =
       record {
         complete = λ i j p q lt. A .past i j p q lt .0;
         given = λ i j p q lt o. A .given i j p q lt o .1;
         alike = λ i h j p q r s lt o ag. A .alike i h j p q r s lt o ag (A .past i j p q lt .0) .1;
-        reaches = λ i p q. S .goal-of-values (T .value lo) (T .value i) (λ j lt. A .past lo j (omega arith) (let z : lo < hi = A .some in omega arith) lt .1 ∙ sym (A .past i j p q lt .1)) win;
+        reaches = λ i p q. S .goal-of-values (T .value lo) (T .value i) (λ j lt. A .past lo j (omega arith) (let z : lo < hi = A .some in omega arith) lt .1 ∙
+            sym (A .past i j p q lt .1)) win;
         leads = λ m Mm i j p q kj lt o same. absurd (omega arith);
       }
 
@@ -43,14 +46,17 @@ module _ (P : Problem) where
       }
 
   -- past a position at which the rows have the other value, the first being refuted
-  pub won-other : (k lo hi : ℕ) (v w : ℕ → Bool) (D : Mask) (U : Cells) → k < P .n → ((i : ℕ) → lo ≤ i → i < hi → Refuted P (k + 1) w D i) → SameBelow k v w → ((i j : ℕ) → lo ≤ i → i < hi → j < k → U .value i j ≡ v j) → ((i : ℕ) → lo ≤ i → i < hi → U .value i k ≡ not (w k)) → Won P (k + 1) lo hi U → Won P k lo hi U
+  pub won-other : (k lo hi : ℕ) (v w : ℕ → Bool) (D : Mask) (U : Cells) → k < P .n → ((i : ℕ) → lo ≤ i → i < hi → Refuted P (k + 1) w D i) → SameBelow k v w →
+      ((i j : ℕ) → lo ≤ i → i < hi → j < k → U .value i j ≡ v j) → ((i : ℕ) → lo ≤ i → i < hi → U .value i k ≡ not (w k)) → Won P (k + 1) lo hi U →
+      Won P k lo hi U
   won-other k lo hi v w D U kn refuted same past other W =
       record {
         complete = W .complete;
         given = W .given;
         alike = W .alike;
         reaches = W .reaches;
-        leads = λ m Mm i j p q kj lt o below. ⊎-elim (λ eq. inl (at-k m Mm i j p q below (sym eq))) (λ later. W .leads m Mm i j p q (omega arith) lt o below) (eq-or-lt-of-le kj);
+        leads = λ m Mm i j p q kj lt o below. ⊎-elim (λ eq. inl (at-k m Mm i j p q below (sym eq))) (λ later. W .leads m Mm i j p q (omega arith) lt o below)
+            (eq-or-lt-of-le kj);
       }
     where
       at-k : (m : Values) → Model P m → (i j : ℕ) → lo ≤ i → i < hi → SameBelow j (m i) (U .value i) → j ≡ k → m i j ≡ U .value i j
@@ -64,7 +70,8 @@ module _ (P : Problem) where
           ∙ sym (other i p q))
 
   -- past a position of the rows: the rows that differ there share no copy behind it
-  pub won-parts : (k lo mid hi : ℕ) (v : ℕ → Bool) (U : Cells) → k < P .n → P .own k ≡ false → ((i j : ℕ) → lo ≤ i → i < hi → j < k → U .value i j ≡ v j) → ((i h : ℕ) → lo ≤ i → i < mid → mid ≤ h → h < hi → P .given i k ≡ P .given h k → ⊥) → Won P (k + 1) lo mid U → Won P (k + 1) mid hi U → Won P k lo hi U
+  pub won-parts : (k lo mid hi : ℕ) (v : ℕ → Bool) (U : Cells) → k < P .n → P .own k ≡ false → ((i j : ℕ) → lo ≤ i → i < hi → j < k → U .value i j ≡ v j) →
+      ((i h : ℕ) → lo ≤ i → i < mid → mid ≤ h → h < hi → P .given i k ≡ P .given h k → ⊥) → Won P (k + 1) lo mid U → Won P (k + 1) mid hi U → Won P k lo hi U
   won-parts k lo mid hi v U kn ko past differ A B =
       record {
         complete = λ i j p q lt. ⊎-elim (λ c. A .complete i j p c lt) (λ c. B .complete i j c q lt) (side i);

@@ -71,10 +71,16 @@ module _ (firsts prices kinds : List ℕ) (rounds : ℕ) {r : Charge} where
       → ChargedWith firsts prices kinds rounds r
   charged-with-so sum l sums e = answered-so (e ∙ ap (λ (s : ℕ). answer (cause kinds) (fee-on s kinds)) sums ∙ sym (rw (l .no-21, l .no-22)))
 
-pub charged-so : (kinds : List ℕ) (rounds sum : ℕ) {r : Charge} → sum ≡ total price rounds → r ≡ answer (cause kinds) (fee-on sum kinds) → Charged kinds rounds r
+pub charged-so : (kinds : List ℕ) (rounds sum : ℕ) {r : Charge} → sum ≡ total price rounds → r ≡ answer (cause kinds) (fee-on sum kinds) →
+    Charged kinds rounds r
 unfolding charged
 charged-so kinds rounds sum {r} sums e =
-    record { value = same; numbered = ap number same ∙ number-of-answer (cause kinds) (fee kinds rounds); amount = ap cents same ∙ cents-of-answer (cause-1 kinds) (fee kinds rounds) }
+    record {
+      value = same;
+      numbered = ap number same ∙ number-of-answer (cause kinds) (fee kinds rounds);
+      amount = ap cents same ∙ cents-of-answer
+          (cause-1 kinds) (fee kinds rounds);
+    }
   where
     same : r ≡ answer (cause kinds) (fee kinds rounds)
     same = e ∙ ap (λ (s : ℕ). answer (cause kinds) (fee-on s kinds)) sums

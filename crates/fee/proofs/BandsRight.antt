@@ -52,7 +52,8 @@ module _ (r : ℕ) where
       by-next : (b : Bool) → leb g r ≡ b
           → (g ≤ r → rises (g ∷ gs) ≡ true → length gs ≡ length xs → LastBegun (g ∷ gs) (x ∷ xs) r (last-price p (g ∷ gs) (x ∷ xs) r))
           → LastBegun (f ∷ g ∷ gs) (p ∷ x ∷ xs) r (last-price so-far (f ∷ g ∷ gs) (p ∷ x ∷ xs) r)
-      by-next true h band = rw (le-leb f r begun) (behind f p (g ∷ gs) (x ∷ xs) (last-price p (g ∷ gs) (x ∷ xs) r) (band (leb-true _ _ h) (rise-later f g gs e) (suc-inj n)))
+      by-next true h band = rw (le-leb f r begun) (behind f p (g ∷ gs) (x ∷ xs) (last-price p (g ∷ gs) (x ∷ xs) r)
+          (band (leb-true _ _ h) (rise-later f g gs e) (suc-inj n)))
       by-next false h band =
           let m : r < g = leb-false _ _ h in
           at-first so-far f p (g ∷ gs) (x ∷ xs) begun

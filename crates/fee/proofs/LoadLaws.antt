@@ -51,7 +51,8 @@ module _ (firsts prices : List ℕ) where
 module _ {firsts prices : List ℕ} (l : Loads firsts prices) where
   pub are-even : length firsts ≡ length prices
   unfolding cause-21
-  are-even = eqb-true (length firsts) (length prices) (not-false (eqb (length firsts) (length prices)) (or-none (not (eqb (length firsts) (length prices))) _ (l .no-21) .0))
+  are-even = eqb-true (length firsts) (length prices)
+      (not-false (eqb (length firsts) (length prices)) (or-none (not (eqb (length firsts) (length prices))) _ (l .no-21) .0))
 
   after-even : (eqb (length firsts) 0 || (ltb max-bands (length firsts) || not (eqb (getD firsts 0 0) 1))) ≡ false
   unfolding cause-21

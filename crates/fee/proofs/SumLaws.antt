@@ -30,7 +30,8 @@ module _ (rounds : ℕ) (firsts : List ℕ) (i : ℕ) where
     all-added past = rw (drop-of-length-le firsts past)
 
 -- A band's cents: at most 2^32 rounds at the highest price.
-pub band-small : {here own price lent : ℕ} (next : ℕ) → own ≡ here - next → here ≤ 4294967296 → price ≡ lent → lent ≤ max-price → own * price ≤ 4294967296 * max-price
+pub band-small : {here own price lent : ℕ} (next : ℕ) → own ≡ here - next → here ≤ 4294967296 → price ≡ lent → lent ≤ max-price →
+    own * price ≤ 4294967296 * max-price
 band-small {here} {own} {price} {lent} next is-own few is-price cheap =
     let fewer : own ≤ 4294967296 = omega arith in
     let cheaper : price ≤ max-price = omega arith in

@@ -48,8 +48,10 @@ unfolding copies-over copies
 few-copies kind kinds table n =
     let ts = flags (other kind) (prefix kinds) in
     let few = few-copies-from ts (lent-rows kind kinds table n) zero ts in
-    subst (λ (rows : ℕ). length (copies-from ts (lent-rows kind kinds table n) zero ts) ≤ width (other kind) kinds * rows) (length-rows-of (width kind kinds) n table)
-    (subst (λ (own : ℕ). length (copies-from ts (lent-rows kind kinds table n) zero ts) ≤ own * length (lent-rows kind kinds table n)) (owns-flags (other kind) (prefix kinds)) few)
+    subst (λ (rows : ℕ). length (copies-from ts (lent-rows kind kinds table n) zero ts) ≤ width (other kind) kinds * rows)
+    (length-rows-of (width kind kinds) n table)
+    (subst (λ (own : ℕ). length (copies-from ts (lent-rows kind kinds table n) zero ts) ≤ own * length (lent-rows kind kinds table n))
+    (owns-flags (other kind) (prefix kinds)) few)
 
 pub bounded : (g : Given) → Bounded g
 bounded g = record {

@@ -107,7 +107,8 @@ module _ (g : Given) where
   right : cause g ≡ 0 → ForecastRight g
   unfolding cause
   right none =
-      let fit = fitting (g .universal-rows) (g .universals) (width universal (g .kinds)) (g .existential-rows) (g .existentials) (width existential (g .kinds)) (none-later (Causes.number checked) later _ refl none) in
+      let fit = fitting (g .universal-rows) (g .universals) (width universal (g .kinds)) (g .existential-rows) (g .existentials) (width existential (g .kinds))
+      (none-later (Causes.number checked) later _ refl none) in
       record { spared = spared g (fit .existential); bounded = bounded g }
 
   abbrev answer : Outlook
@@ -145,7 +146,8 @@ module _ (g : Given) where
 
     module _ (none : n ≡ 0) where
       pub tables-fit : Fitting (g .universal-rows) (g .universals) (g .existential-rows) (g .existentials)
-      tables-fit = fitting (g .universal-rows) (g .universals) (f .universals) (g .existential-rows) (g .existentials) (length (g .kinds) - f .universals) (sym found ∙ none)
+      tables-fit = fitting (g .universal-rows) (g .universals) (f .universals) (g .existential-rows) (g .existentials) (length (g .kinds) - f .universals)
+          (sym found ∙ none)
 
       -- .. and without a cause the numbers.
       pub answered : (over-A over-S : ℕ) (fit : Bool) → over-A ≡ copies-over universal (g .kinds) (g .universal-rows) (g .universals)

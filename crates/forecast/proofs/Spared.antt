@@ -17,7 +17,8 @@ use Rattle.expansion.specs.Copies.{fresh}
 use Rattle.expansion.specs.Model.{search}
 use Rattle.expansion.proofs.Progress.{search-answers}
 use Rattle.expansion.proofs.FreshLaws.{length-fresh}
-use Rattle.rounds.specs.Run.{Entry, Table, rows, under-mark, grown, if-fits, Answer, is-false, is-true, spent, no-room-universal, no-room-existential, number, Lent, step-1, step-2, step-3, step-4, round-of}
+use Rattle.rounds.specs.Run.{Entry, Table, rows, under-mark, grown, if-fits, Answer, is-false, is-true, spent, no-room-universal, no-room-existential, number}
+use Rattle.rounds.specs.Run.{Lent, step-1, step-2, step-3, step-4, round-of}
 use Rattle.rounds.proofs.GrowthLaws.{Fitted, fitted}
 use Rattle.forecast.specs.Outcome.{Given, width, fits}
 use Rattle.forecast.specs.Forecast.{Spared}
@@ -43,7 +44,8 @@ module _ (l : Lent) (r : ℕ) (A S : Table) (enough : length S + length A ≤ l 
   answers-3 S′ none = refl
   answers-3 S′ (some new) = rw answers-4
 
-  answers-2 : (new : List Row) → length new ≡ length A → (m : Option Table) → Fitted (l .room-S) (grown r S new) m → step-2 l r A S m .answer ≢ no-room-existential
+  answers-2 : (new : List Row) → length new ≡ length A → (m : Option Table) → Fitted (l .room-S) (grown r S new) m →
+      step-2 l r A S m .answer ≢ no-room-existential
   answers-2 new n none full e =
       let few = length-fresh (rows S) new in
       omega (arith, length-append S (map (under-mark r) (fresh (rows S) new)), length-map (fresh (rows S) new) (under-mark r))
@@ -65,4 +67,11 @@ unfolding fits
 spared g counted fit l over r A S holds =
     let free = leb-true (g .universals) _ fit in
     room-in-step-2 l r A S
-    (omega (arith, over .of-room, sym (length-rows A) ∙ ap length (holds .of-A) ∙ length-rows-of (width universal (g .kinds)) (g .universals) (g .universal-rows), sym (length-rows S) ∙ ap length (holds .of-S) ∙ length-rows-of (width existential (g .kinds)) (g .existentials) (g .existential-rows)))
+    (omega (
+      arith,
+      over .of-room,
+      sym (length-rows A) ∙ ap length (holds .of-A) ∙ length-rows-of (width universal (g .kinds)) (g .universals)
+          (g .universal-rows),
+      sym (length-rows S) ∙ ap length (holds .of-S) ∙ length-rows-of (width existential (g .kinds)) (g .existentials)
+          (g .existential-rows),
+    ))

@@ -64,7 +64,8 @@ module _ (t : List ℕ) (i j : ℕ) (hi : i < room t) (hj : j < room t) where
             go (yes h) = h
             go (no h) =
                 let most = bits .most in
-                absurd (differ (bits-determine 8 (getD t (16 * i + p) 0) (getD t (16 * j + p) 0) byte-i byte-j (λ s below. ap (λ (x : ℕ). eqb x 1) (bits .alike s (omega arith)))))
+                absurd (differ (bits-determine 8 (getD t (16 * i + p) 0) (getD t (16 * j + p) 0) byte-i byte-j
+                (λ s below. ap (λ (x : ℕ). eqb x 1) (bits .alike s (omega arith)))))
 
         alike : Alike (row-at t i) (row-at t j) (8 * p + r)
         alike k h = go (decLt (k / 8) p)

@@ -116,7 +116,8 @@ module _ (t numbers : List ℕ) (ts : List Bool) (m k : ℕ) (few : others-befor
       go before false e =
           let more = leb-false (getD numbers n 0) (others-before ts k) e in
           let (q, earlier, alike) = told n (omega arith) .fewest (others-before ts k) more in
-          ap length (fresh-old (next n) [] (seen n) (inr (in-seen n q earlier (omega arith) alike))) ∙ before ∙ sym (add-zero (within numbers (others-before ts k) n))
+          ap length (fresh-old (next n) [] (seen n) (inr (in-seen n q earlier (omega arith) alike))) ∙ before ∙ sym
+          (add-zero (within numbers (others-before ts k) n))
 
   pub told-copies-at : (n : ℕ) → n ≤ room t → Told t numbers n → length (copies-at ts (rows-of m n t) k) ≡ within numbers (others-before ts k) n
   told-copies-at n h told = length-map (fresh [] (seen n)) (copy-at k) ∙ told-fresh n h told
@@ -179,11 +180,13 @@ module _ (kinds t numbers : List ℕ) (n : ℕ) (few : length kinds ≤ max-unkn
   unfolding copies-over copies
   told-copies kind =
       summed-copies (flags (other kind) (prefix kinds)) (lent-rows kind kinds t n) (λ b. within numbers b n)
-      (λ k. told-copies-at t numbers (flags (other kind) (prefix kinds)) (width kind kinds) k (others-most kind (prefix kinds) k) (omega (arith, count-most kind (prefix kinds), length-map kinds kind-of)) n into told)
+      (λ k. told-copies-at t numbers (flags (other kind) (prefix kinds)) (width kind kinds) k (others-most kind (prefix kinds) k)
+      (omega (arith, count-most kind (prefix kinds), length-map kinds kind-of)) n into told)
       zero (flags (other kind) (prefix kinds)) refl
 
   -- As the code has it: the side whose copies they are by a flag.
-  pub copies-told : (universal? : Bool) → copies-over (other (side-of universal?)) kinds t n ≡ summed (λ b. within numbers b n) 0 (flags (side-of universal?) (prefix kinds))
+  pub copies-told : (universal? : Bool) →
+      copies-over (other (side-of universal?)) kinds t n ≡ summed (λ b. within numbers b n) 0 (flags (side-of universal?) (prefix kinds))
   copies-told true = told-copies existential
   copies-told false = told-copies universal
 
@@ -213,7 +216,8 @@ pub record Adding (kinds : List ℕ) (universal? : Bool) (numbers : List ℕ) (n
   pub inside : k ≤ length kinds
   pub fewer : before ≤ k
   pub small : total ≤ max-rows * k
-  pub left : total + summed (λ b. within numbers b n) before (drop k (flags (side-of universal?) (prefix kinds))) ≡ summed (λ b. within numbers b n) 0 (flags (side-of universal?) (prefix kinds))
+  pub left : total + summed (λ b. within numbers b n) before (drop k (flags (side-of universal?) (prefix kinds))) ≡ summed (λ b. within numbers b n) 0
+      (flags (side-of universal?) (prefix kinds))
 
 module _ (kinds : List ℕ) (universal? : Bool) (numbers : List ℕ) (n : ℕ) where
   abbrev ts : List Bool

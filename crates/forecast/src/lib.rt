@@ -37,7 +37,8 @@ pub fn forecast(
     existential_rows: &[u8],
     existential: usize,
 ) -> Outlook
-    ensures proved { λ r. ⌜ Foretold (given (now (kinds .entry)) (now (literals .entry)) (now («universal_rows» .entry)) universal (now («existential_rows» .entry)) existential) r ⌝ }
+    ensures proved { λ r. ⌜ Foretold (given (now (kinds .entry)) (now (literals .entry)) (now («universal_rows» .entry)) universal
+        (now («existential_rows» .entry)) existential) r ⌝ }
 {
     match Formula::check(kinds, literals) {
         Check::Refused(cause) => Outlook::Refused(cause),

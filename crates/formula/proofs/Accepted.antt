@@ -30,15 +30,18 @@ zero-known (pos zero) e = refl
 zero-known (pos (suc v)) e = absurd (false≢true e)
 zero-known (negsuc v) e = absurd (false≢true e)
 
-passed : (refused : Bool) (cause : ℕ) (otherwise : Check) (f : Formula) → refused-if refused cause otherwise ≡ Passed f → (refused ≡ false) × (otherwise ≡ Passed f)
+passed : (refused : Bool) (cause : ℕ) (otherwise : Check) (f : Formula) → refused-if refused cause otherwise ≡ Passed f → (refused ≡ false) ×
+    (otherwise ≡ Passed f)
 passed false cause otherwise f e = (refl, e)
 passed true cause otherwise f e = absurd (let z : _≡_ {A = ℕ} 0 1 = cc in omega arith)
 
 module _ (kinds : List ℕ) (literals : List ℤ) where
-  none-applies : (f : Formula) → checked kinds literals ≡ Passed f → (cause-1 kinds ≡ false) × (cause-2 literals ≡ false) × (cause-3 (length kinds) literals ≡ false) × (Passed (sizes kinds literals) ≡ Passed f)
+  none-applies : (f : Formula) → checked kinds literals ≡ Passed f → (cause-1 kinds ≡ false) × (cause-2 literals ≡ false) ×
+      (cause-3 (length kinds) literals ≡ false) × (Passed (sizes kinds literals) ≡ Passed f)
   unfolding checked
   none-applies f e =
-      let one = passed (cause-1 kinds) 1 (refused-if (cause-2 literals) 2 (refused-if (cause-3 (length kinds) literals) 3 (Passed (sizes kinds literals)))) f e in
+      let one = passed (cause-1 kinds) 1 (refused-if (cause-2 literals) 2 (refused-if (cause-3 (length kinds) literals) 3 (Passed (sizes kinds literals)))) f e
+      in
       let two = passed (cause-2 literals) 2 (refused-if (cause-3 (length kinds) literals) 3 (Passed (sizes kinds literals))) f (one .1) in
       let three = passed (cause-3 (length kinds) literals) 3 (Passed (sizes kinds literals)) f (two .1) in
       (one .0, two .0, three .0, three .1)
@@ -61,7 +64,8 @@ module _ (kinds : List ℕ) (literals : List ℤ) where
         few-clauses = ltb-false max-clauses (zeros literals) (rest .0);
         clauses-are-zeros = length-clauses literals end;
         last-is-zero = zero-known (getD literals (length literals - 1) (pos 0)) end;
-        within = λ i. ltb-false (length kinds) (natAbs (getD literals i (pos 0))) (any-none (beyond (length kinds)) (pos 0) (leb·suc-zero (length kinds)) literals (none .2) i);
+        within = λ i. ltb-false (length kinds) (natAbs (getD literals i (pos 0))) (any-none (beyond (length kinds)) (pos 0) (leb·suc-zero (length kinds))
+            literals (none .2) i);
       }
 
   -- And nothing else is asked.

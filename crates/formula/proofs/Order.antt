@@ -71,7 +71,8 @@ module _ (kinds : List ℕ) (literals : List ℤ) where
   unfolding checked
   refused-3 no-one no-two three = rw (no-one, no-two, three)
 
-  pub none-refused : cause-1 kinds ≡ false → cause-2 literals ≡ false → cause-3 (length kinds) literals ≡ false → Accepted (sizes kinds literals) ≡ checked kinds literals
+  pub none-refused : cause-1 kinds ≡ false → cause-2 literals ≡ false → cause-3 (length kinds) literals ≡ false →
+      Accepted (sizes kinds literals) ≡ checked kinds literals
   unfolding checked
   none-refused no-one no-two no-three = rw (no-one, no-two, no-three)
 
@@ -93,7 +94,8 @@ refused-from-1 kinds literals n = by (cause-1 kinds) (cause-2 literals) (cause-3
     by false false false e = absurd (let z : _≡_ {A = ℕ} 0 1 = cc in omega arith)
 
 -- What is answered has the number of the first cause.
-pub numbered : (kinds : List ℕ) (literals : List ℤ) {r : Check} → r ≡ checked kinds literals → (r ≡ checked kinds literals) × (number r ≡ first-cause kinds literals)
+pub numbered : (kinds : List ℕ) (literals : List ℤ) {r : Check} → r ≡ checked kinds literals → (r ≡ checked kinds literals) ×
+    (number r ≡ first-cause kinds literals)
 unfolding checked first-cause
 numbered kinds literals e =
     (e, ap number e ∙ number-refused-if (cause-1 kinds) (cause-2 literals) (cause-3 (length kinds) literals) (sizes kinds literals))

@@ -44,7 +44,8 @@ module _ (E : List ℤ) (to : ℕ) (first : ℤ) (turned : Bool) (is : List ℤ)
   front below = let e : suc i ≡ i + 1 = omega arith in drop-cons is i (pos 0) below ∙ ap (λ (k : ℕ). getD is i (pos 0) ∷ drop k is) e
 
   pub pairs-more : i < length is → (r : ℤ) → r ≡ turn turned (getD is i (pos 0))
-      → sets E to (pair-entries first turned (drop i is)) ≡ sets (set (set (set E to first) (to + 1) r) (to + 2) (pos 0)) (to + 3) (pair-entries first turned (drop (i + 1) is))
+      → sets E to (pair-entries first turned (drop i is)) ≡ sets (set (set (set E to first) (to + 1) r) (to + 2) (pos 0)) (to + 3)
+      (pair-entries first turned (drop (i + 1) is))
   unfolding pair-entries
   pairs-more below r e =
       let one : to + 1 ≡ suc to = omega arith in
@@ -115,7 +116,22 @@ four-put E₀ E₁ E₂ E₃ E₄ at g s t small-g small-s small-t one two three
     let a : at + 4 ≡ suc (suc (suc (suc at))) = omega arith in
     let b : at + 8 ≡ suc (suc (suc (suc (suc (suc (suc (suc at))))))) = omega arith in
     let c : at + 12 ≡ suc (suc (suc (suc (suc (suc (suc (suc (suc (suc (suc (suc at))))))))))) = omega arith in
-    rw (four, three, two, one, opposite-is g small-g, opposite-is s small-s, opposite-is t small-t, toZ-ofZ (small-fits g small-g), toZ-ofZ (small-fits s small-s), toZ-ofZ (small-fits t small-t), a, b, c) refl
+    rw (
+      four,
+      three,
+      two,
+      one,
+      opposite-is g small-g,
+      opposite-is s small-s,
+      opposite-is t small-t,
+      toZ-ofZ (small-fits g small-g),
+      toZ-ofZ
+          (small-fits s small-s),
+      toZ-ofZ (small-fits t small-t),
+      a,
+      b,
+      c,
+    ) refl
 
 pub length-four : (g : ℤ) (is : List ℤ) → length is ≡ 2 → length (parity-entries g is) ≡ 16
 unfolding parity-entries

@@ -62,7 +62,8 @@ and-false : (v : Bool) → v && false ≡ false
 and-false true = refl
 and-false false = refl
 
-bit-of-next : (row : List ℕ) (k q : ℕ) → length row ≡ 16 → k < row-bits → q < row-bits → (v : Bool) → bit-of (cond v (bit-set row 0 k) row) q ≡ bit-of row q || (v && eqb k q)
+bit-of-next : (row : List ℕ) (k q : ℕ) → length row ≡ 16 → k < row-bits → q < row-bits → (v : Bool) →
+    bit-of (cond v (bit-set row 0 k) row) q ≡ bit-of row q || (v && eqb k q)
 bit-of-next row k q long h hq true =
     let set-long : length (bit-set row 0 k) ≡ 16 = length-bit-set row 0 k ∙ long in
     ap (λ (b : List ℕ). bit-of b q) (sym (row-whole (bit-set row 0 k) set-long))

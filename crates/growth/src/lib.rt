@@ -7,7 +7,8 @@ ghost use mathlib.Core.Path.{_≡_};
 ghost use lib.ListN.{replicate};
 ghost use Rattle.preference.specs.Preference.{prefer};
 ghost use Rattle.rows.specs.Access.{first-place, rows-written, marks-written};
-ghost use Rattle.growth.specs.Growth.{is-absent, is-new, is-added, count-below, all-fit, bytes, with-new-row, with-new-rows, grown, growth, Numbered, with-preferred};
+ghost use Rattle.growth.specs.Growth.{is-absent, is-new, is-added, count-below, all-fit, bytes, with-new-row, with-new-rows, grown, growth, Numbered};
+ghost use Rattle.growth.specs.Growth.{with-preferred};
 
 const ROW: usize = 16;
 
@@ -40,8 +41,10 @@ pub fn grow(
 
 // The first universal row: bit k is preference k, mark 0.
 pub fn write_start(preferences: &[u8], universals: usize, rows: &mut [u8], marks: &mut [u16])
-    ensures { λ _. ⌜ now (rows .exit) ≡ rows-written (now (rows .entry)) (now (marks .entry)) 0 (with-preferred (prefer (now (preferences .entry))) universals (replicate 16 0)) 0 ⌝ }
-    ensures { λ _. ⌜ now (marks .exit) ≡ marks-written (now (rows .entry)) (now (marks .entry)) 0 (with-preferred (prefer (now (preferences .entry))) universals (replicate 16 0)) 0 0 ⌝ }
+    ensures { λ _. ⌜ now (rows .exit) ≡ rows-written (now (rows .entry)) (now (marks .entry)) 0 (with-preferred (prefer (now (preferences .entry))) universals
+        (replicate 16 0)) 0 ⌝ }
+    ensures { λ _. ⌜ now (marks .exit) ≡ marks-written (now (rows .entry)) (now (marks .entry)) 0 (with-preferred (prefer (now (preferences .entry))) universals
+        (replicate 16 0)) 0 0 ⌝ }
 {
     let mut row = [0u8; 16];
     for k in 0..universals {
@@ -86,7 +89,8 @@ fn append_new(
     number: usize,
     mark: u16,
 ) -> usize
-    ensures { λ r. ⌜ bytes (now (rows .exit)) (now (marks .exit)) r ≡ with-new-rows (now (yielded .entry)) mark number (bytes (now (rows .entry)) (now (marks .entry)) count) ⌝ }
+    ensures { λ r. ⌜ bytes (now (rows .exit)) (now (marks .exit)) r ≡ with-new-rows (now (yielded .entry)) mark number
+        (bytes (now (rows .entry)) (now (marks .entry)) count) ⌝ }
 {
     let mut end = count;
     for j in 0..number {
@@ -104,7 +108,8 @@ fn append_if_new(
     j: usize,
     mark: u16,
 ) -> usize
-    ensures { λ r. ⌜ bytes (now (rows .exit)) (now (marks .exit)) r ≡ with-new-row (now (yielded .entry)) mark j (bytes (now (rows .entry)) (now (marks .entry)) end) ⌝ }
+    ensures { λ r. ⌜ bytes (now (rows .exit)) (now (marks .exit)) r ≡ with-new-row (now (yielded .entry)) mark j
+        (bytes (now (rows .entry)) (now (marks .entry)) end) ⌝ }
 {
     if is_added(rows, end, yielded, j) {} else {
         return end;

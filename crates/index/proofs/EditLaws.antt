@@ -8,8 +8,10 @@ use mathlib.Core.Path.{_≡_, refl, sym, ap, ap₂, _∙_}
 use mathlib.Core.Bool.{Bool, true, false, cond, _&&_, _||_, and-eq-true-iff}
 use mathlib.Core.List.{List, [], _∷_, _++_, append-assoc}
 use lib.Dec.{eqb, leb, ltb}
-use lib.ListN.{length, getD, set, take, drop, replicate, length-append, length-drop, length-replicate, take-append-drop, replicate-append-replicate, drop-of-length-le}
-use lib.Seq.{slice, slice-empty, slice-cons, length-slice, length-take-le, take-all, take-take, take-add, take-suc, drop-cons, drop-at, drop-drop, drop-append-le, set-at, set-getD, getD-append-add, append-snoc}
+use lib.ListN.{length, getD, set, take, drop, replicate, length-append, length-drop, length-replicate, take-append-drop, replicate-append-replicate}
+use lib.ListN.{drop-of-length-le}
+use lib.Seq.{slice, slice-empty, slice-cons, length-slice, length-take-le, take-all, take-take, take-add, take-suc, drop-cons, drop-at, drop-drop}
+use lib.Seq.{drop-append-le, set-at, set-getD, getD-append-add, append-snoc}
 use borrow.Rule.Slice.PartMut.{midOf, putMid, post-is}
 use borrow.Author.Tests.{eqb-true, eqb-false, eq-eqb, ne-eqb, lt-ltb, le-ltb, ltb-true, leb-true, le-leb, lt-leb}
 use Rattle.formula.proofs.Any.{or-none}
@@ -25,7 +27,8 @@ module _ (t : List ℕ) (s at to : ℕ) (h : at < to) (inside : to ≤ length t)
 
   pub found-here : getD t at 0 ≡ s → at + before s (slice at to t) ≡ at
   found-here same =
-      ap (λ (n : ℕ). at + n) (before-cons ∙ ap (λ (b : Bool). cond b 0 (suc (before s (slice (suc at) to t)))) (eq-eqb s (getD t at 0) (sym same))) ∙ add-zero at
+      ap (λ (n : ℕ). at + n) (before-cons ∙ ap (λ (b : Bool). cond b 0 (suc (before s (slice (suc at) to t)))) (eq-eqb s (getD t at 0) (sym same))) ∙ add-zero
+      at
 
   pub found-later : (getD t at 0 ≡ s → ⊥) → at + before s (slice at to t) ≡ (at + 1) + before s (slice (at + 1) to t)
   found-later other =
@@ -34,7 +37,8 @@ module _ (t : List ℕ) (s at to : ℕ) (h : at < to) (inside : to ≤ length t)
       ∙ ap (λ (n : ℕ). at + 1 + before s (slice n to t)) (sym (add-one at))
 
 -- Places are passed at which the name doesn't stand.
-pub found-past : (t : List ℕ) (s to : ℕ) → to ≤ length t → (k at : ℕ) → at + k ≤ to → Absent t s at (at + k) → at + before s (slice at to t) ≡ at + k + before s (slice (at + k) to t)
+pub found-past : (t : List ℕ) (s to : ℕ) → to ≤ length t → (k at : ℕ) → at + k ≤ to → Absent t s at (at + k) →
+    at + before s (slice at to t) ≡ at + k + before s (slice (at + k) to t)
 found-past t s to inside zero at fits none = sym (ap (λ (n : ℕ). n + before s (slice n to t)) (add-zero at))
 found-past t s to inside (suc k) at fits none =
     found-later t s at to (omega arith) inside (none at (omega arith) (omega arith))
@@ -42,7 +46,8 @@ found-past t s to inside (suc k) at fits none =
     ∙ ap (λ (n : ℕ). n + before s (slice n to t)) (let on : at + 1 + k ≡ at + suc k = omega arith in on)
 
 -- One place more is compared.
-pub one-compared : (t : List ℕ) (s from i : ℕ) (found more : Bool) → (found ≡ false → Absent t s from i) → more ≡ (found || eqb (getD t i 0) s) → more ≡ false → Absent t s from (i + 1)
+pub one-compared : (t : List ℕ) (s from i : ℕ) (found more : Bool) → (found ≡ false → Absent t s from i) → more ≡ (found || eqb (getD t i 0) s) → more ≡ false →
+    Absent t s from (i + 1)
 one-compared t s from i found more before-it is none p low high =
     let neither = or-none found (eqb (getD t i 0) s) (sym is ∙ none) in
     elim (ℕ-discrete p i) [
@@ -93,7 +98,8 @@ module _ (t : List ℕ) (i : ℕ) (some : 0 < i) where
     pub read-shifted : getD (shifted t i) i 0 ≡ getD t i 0
     read-shifted =
         ap (λ (l : List ℕ). getD l i 0) (split (omega arith))
-        ∙ ap (λ (n : ℕ). getD (slice 1 i t ++ (getD t (i - 1) 0 ∷ drop i t)) n 0) (let there : i ≡ length (slice 1 i t) + 1 = omega (arith, front-length (omega arith)) in there)
+        ∙ ap (λ (n : ℕ). getD (slice 1 i t ++ (getD t (i - 1) 0 ∷ drop i t)) n 0)
+        (let there : i ≡ length (slice 1 i t) + 1 = omega (arith, front-length (omega arith)) in there)
         ∙ getD-append-add (slice 1 i t) (getD t (i - 1) 0 ∷ drop i t) 1 0
         ∙ ap (λ (l : List ℕ). getD l 0 0) (drop-cons t i 0 more)
 
@@ -167,8 +173,10 @@ pub record Listed (t : List ℕ) (c : ℕ) : Type 0 where
 pub has-is : (t : List ℕ) (c : ℕ) → has-list t c ≡ true → Listed t c
 unfolding has-list in-rooms
 has-is t c h =
-    let one = and-eq-true-iff (eqb (length t) index-size) (ltb c code-count && (leb first-room (begin-of t c) && (leb (begin-of t c) (end-of t c) && leb (end-of t c) index-size))) .0 h in
-    let two = and-eq-true-iff (ltb c code-count) (leb first-room (begin-of t c) && (leb (begin-of t c) (end-of t c) && leb (end-of t c) index-size)) .0 (one .1) in
+    let one = and-eq-true-iff (eqb (length t) index-size)
+    (ltb c code-count && (leb first-room (begin-of t c) && (leb (begin-of t c) (end-of t c) && leb (end-of t c) index-size))) .0 h in
+    let two = and-eq-true-iff (ltb c code-count) (leb first-room (begin-of t c) && (leb (begin-of t c) (end-of t c) && leb (end-of t c) index-size)) .0 (one .1)
+    in
     let three = and-eq-true-iff (leb first-room (begin-of t c)) (leb (begin-of t c) (end-of t c) && leb (end-of t c) index-size) .0 (two .1) in
     let four = and-eq-true-iff (leb (begin-of t c) (end-of t c)) (leb (end-of t c) index-size) .0 (three .1) in
     record {
@@ -264,7 +272,8 @@ module _ (t : List ℕ) (c : ℕ) (has : has-list t c ≡ true) where
   pub blank-cleared : set (blanked t from to) (code-count + c) from ≡ cleared t c
   unfolding blanked cleared with-list
   blank-cleared =
-      ap₂ (λ (n m : ℕ). set (take from t ++ (replicate n 0 ++ drop to t)) (code-count + c) m) (let a : to - from ≡ to - from - 0 = omega arith in a) (let a : from ≡ from + 0 = omega arith in a)
+      ap₂ (λ (n m : ℕ). set (take from t ++ (replicate n 0 ++ drop to t)) (code-count + c) m) (let a : to - from ≡ to - from - 0 = omega arith in a)
+      (let a : from ≡ from + 0 = omega arith in a)
       ∙ sym (ap (λ (b : Bool). cond b (with-list t c []) t) has)
 
   module _ (s : ℕ) where
@@ -278,7 +287,8 @@ module _ (t : List ℕ) (c : ℕ) (has : has-list t c ≡ true) where
         sym (ap (λ (b : Bool). cond b (with-list t c (without s (list-of t c))) t) has
         ∙ ap (with-list t c) (without-none s (list-of t c) (omega (arith, list-long)))
         ∙ ap₂ (λ (n m : ℕ). set (take from t ++ (list-of t c ++ (replicate n 0 ++ drop to t))) (code-count + c) m)
-        (let a : to - from - length (list-of t c) ≡ 0 = omega (arith, list-long) in a) (let a : from + length (list-of t c) ≡ getD t (code-count + c) 0 = omega (arith, list-long, is .order, end-is t c (is .small)) in a)
+        (let a : to - from - length (list-of t c) ≡ 0 = omega (arith, list-long) in a) (let a : from + length (list-of t c) ≡ getD t (code-count + c) 0 = omega
+        (arith, list-long, is .order, end-is t c (is .small)) in a)
         ∙ ap (λ (l : List ℕ). set l (code-count + c) (getD t (code-count + c) 0)) list-back
         ∙ set-getD t (code-count + c) 0)
 
@@ -301,14 +311,17 @@ module _ (t : List ℕ) (c : ℕ) (has : has-list t c ≡ true) where
           length-append (take j (list-of t c)) (drop (suc j) (list-of t c))
           ∙ omega (arith, length-take-le j (list-of t c) (omega (arith, there)), length-drop (suc j) (list-of t c), list-long, there)
 
-      pub one-removed : (at end : ℕ) (part : List ℕ) → at ≡ from + j → end ≡ to → part ≡ closed-up (midOf at (end - at) t) → set (putMid at (end - at) t part) (code-count + c) (end - 1) ≡ removed t c s
+      pub one-removed : (at end : ℕ) (part : List ℕ) → at ≡ from + j → end ≡ to → part ≡ closed-up (midOf at (end - at) t) →
+          set (putMid at (end - at) t part) (code-count + c) (end - 1) ≡ removed t c s
       unfolding removed with-list
       one-removed at end part at-is end-is is-part =
           ap₂ (λ (x y : ℕ). set (putMid x (y - x) t part) (code-count + c) (y - 1)) at-is end-is
           ∙ ap (λ (l : List ℕ). set l (code-count + c) (to - 1))
-          (ap₂ (λ (l m : List ℕ). take (from + j) t ++ (l ++ m)) (is-part ∙ ap₂ (λ (x y : ℕ). closed-up (midOf x (y - x) t)) at-is end-is) (post-is (from + j) to t (omega arith))
+          (ap₂ (λ (l m : List ℕ). take (from + j) t ++ (l ++ m)) (is-part ∙ ap₂ (λ (x y : ℕ). closed-up (midOf x (y - x) t)) at-is end-is)
+          (post-is (from + j) to t (omega arith))
           ∙ ap₂ (λ (l m : List ℕ). l ++ ((drop 1 m ++ (0 ∷ [])) ++ drop to t)) front-there back-there
-          ∙ ap (λ (m : List ℕ). (take from t ++ take j (list-of t c)) ++ ((m ++ (0 ∷ [])) ++ drop to t)) (drop-drop 1 j (list-of t c) ∙ ap (λ (n : ℕ). drop n (list-of t c)) (add-one j))
+          ∙ ap (λ (m : List ℕ). (take from t ++ take j (list-of t c)) ++ ((m ++ (0 ∷ [])) ++ drop to t))
+          (drop-drop 1 j (list-of t c) ∙ ap (λ (n : ℕ). drop n (list-of t c)) (add-one j))
           ∙ ap (λ (m : List ℕ). (take from t ++ take j (list-of t c)) ++ m) (append-assoc (drop (suc j) (list-of t c)) (0 ∷ []) (drop to t))
           ∙ append-assoc (take from t) (take j (list-of t c)) (drop (suc j) (list-of t c) ++ (0 ∷ drop to t))
           ∙ ap (λ (l : List ℕ). take from t ++ l) (sym (append-assoc (take j (list-of t c)) (drop (suc j) (list-of t c)) (0 ∷ drop to t))))

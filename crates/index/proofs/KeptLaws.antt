@@ -43,7 +43,8 @@ pub listed-append : (c : ℕ) (front : Bool) (e : ℕ) (pre rest : List ℕ) →
     → listed-from c front e (pre ++ rest) ≡ listed-from c front e pre ++ listed-from c true (e + length pre) rest
 listed-append c front e [] rest h = ap₂ (λ (b : Bool) (n : ℕ). listed-from c b n rest) h (sym (add-zero e))
 listed-append c front e (x ∷ pre) rest h =
-    ap (λ (l : List ℕ). cond (front && has-left c l) (e ∷ listed-from c (ends x) (e + 1) (pre ++ rest)) (listed-from c (ends x) (e + 1) (pre ++ rest))) (whole-front x pre rest h)
+    ap (λ (l : List ℕ). cond (front && has-left c l) (e ∷ listed-from c (ends x) (e + 1) (pre ++ rest)) (listed-from c (ends x) (e + 1) (pre ++ rest)))
+    (whole-front x pre rest h)
     ∙ (go (front && has-left c (whole-clause (x ∷ pre)))
     (listed-append c (ends x) (e + 1) pre rest h
     ∙ ap (λ (n : ℕ). listed-from c (ends x) (e + 1) pre ++ listed-from c true n rest) (let on : e + 1 + length pre ≡ e + suc (length pre) = omega arith in on)))
@@ -66,13 +67,15 @@ past-clause c e (x ∷ xs) post (inl w) =
     rw (w .0) (ap (λ (l : List ℕ). listed-from c true (e + 1) (l ++ post)) (w .1)
     ∙ ap (λ (n : ℕ). listed-from c true n post) (let on : e + 1 ≡ e + suc (length xs) = omega (arith, ap length (w .1)) in on))
 past-clause c e (x ∷ xs) post (inr w) =
-    rw (w .0) (past-clause c (e + 1) xs post (w .1) ∙ ap (λ (n : ℕ). listed-from c true n post) (let on : e + 1 + length xs ≡ e + suc (length xs) = omega arith in on))
+    rw (w .0) (past-clause c (e + 1) xs post (w .1) ∙ ap (λ (n : ℕ). listed-from c true n post) (let on : e + 1 + length xs ≡ e + suc (length xs) = omega arith
+    in on))
 
 front-clause : (c e : ℕ) (k post : List ℕ) → Whole k
     → listed-from c true e (k ++ post) ≡ cond (has-left c k) (e ∷ listed-from c true (e + length k) post) (listed-from c true (e + length k) post)
 front-clause c e [] post w = absurd w
 front-clause c e (x ∷ xs) post w =
-    ap (λ (l : List ℕ). cond (has-left c l) (e ∷ listed-from c false e ((x ∷ xs) ++ post)) (listed-from c false e ((x ∷ xs) ++ post))) (whole-of (x ∷ xs) post w)
+    ap (λ (l : List ℕ). cond (has-left c l) (e ∷ listed-from c false e ((x ∷ xs) ++ post)) (listed-from c false e ((x ∷ xs) ++ post)))
+    (whole-of (x ∷ xs) post w)
     ∙ ap (λ (l : List ℕ). cond (has-left c (x ∷ xs)) (e ∷ l) l) (past-clause c e (x ∷ xs) post w)
 
 -- ---- one clause
@@ -99,14 +102,16 @@ module _ (pre post : List ℕ) (closed : begins-after true pre ≡ true) where
   behind c n = listed-from c true (length pre + n) post
 
   -- What is listed: in front of the clause, the clause, and behind it.
-  pub listed-clause : (c : ℕ) (k : List ℕ) → Whole k → listed c (around k) ≡ before c ++ cond (has-left c k) (length pre ∷ behind c (length k)) (behind c (length k))
+  pub listed-clause : (c : ℕ) (k : List ℕ) → Whole k →
+      listed c (around k) ≡ before c ++ cond (has-left c k) (length pre ∷ behind c (length k)) (behind c (length k))
   listed-clause c k w =
       listed-append c true 0 pre (k ++ post) closed
       ∙ ap (λ (n : ℕ). before c ++ listed-from c true n (k ++ post)) (let z : 0 + length pre ≡ length pre = omega arith in z)
       ∙ ap (λ (l : List ℕ). before c ++ l) (front-clause c (length pre) k post w)
 
   -- The clause is another one, as long, that has the code still, or had not ..
-  pub clause-kept : (c : ℕ) (k k′ : List ℕ) → Whole k → Whole k′ → length k′ ≡ length k → has-left c k′ ≡ has-left c k → listed c (around k′) ≡ listed c (around k)
+  pub clause-kept : (c : ℕ) (k k′ : List ℕ) → Whole k → Whole k′ → length k′ ≡ length k → has-left c k′ ≡ has-left c k →
+      listed c (around k′) ≡ listed c (around k)
   clause-kept c k k′ w w′ long same =
       listed-clause c k′ w′
       ∙ ap₂ (λ (b : Bool) (n : ℕ). before c ++ cond b (length pre ∷ behind c n) (behind c n)) same long
@@ -121,9 +126,11 @@ module _ (pre post : List ℕ) (closed : begins-after true pre ≡ true) where
   clause-lost c k k′ w w′ long had lost =
       listed-clause c k′ w′
       ∙ ap₂ (λ (b : Bool) (n : ℕ). before c ++ cond b (length pre ∷ behind c n) (behind c n)) lost long
-      ∙ sym (ap (without (length pre)) (listed-clause c k w ∙ ap (λ (b : Bool). before c ++ cond b (length pre ∷ behind c (length k)) (behind c (length k))) had)
+      ∙ sym (ap (without (length pre)) (listed-clause c k w ∙ ap (λ (b : Bool). before c ++ cond b (length pre ∷ behind c (length k)) (behind c (length k)))
+      had)
       ∙ without-absent (length pre) (before c) (length pre ∷ behind c (length k)) (names-before c)
-      ∙ ap (λ (b : Bool). before c ++ cond b (behind c (length k)) (length pre ∷ without (length pre) (behind c (length k)))) (eq-eqb (length pre) (length pre) refl))
+      ∙ ap (λ (b : Bool). before c ++ cond b (behind c (length k)) (length pre ∷ without (length pre) (behind c (length k))))
+      (eq-eqb (length pre) (length pre) refl))
 
 -- ---- names taken out of the lists of some codes
 
@@ -169,7 +176,8 @@ pub record Out (s : ℕ) (xs : List ℕ) (names final : ℕ → List ℕ) : Type
   pub kept : (d : ℕ) → d < code-count → has-left d xs ≡ false → final d ≡ names d
   pub gone : (d : ℕ) → d < code-count → has-left d xs ≡ true → without s (final d) ≡ final d
 
-out-next : (s x : ℕ) (xs : List ℕ) (names final : ℕ → List ℕ) → Out s (x ∷ xs) names final → Out s xs (λ d. cond (eqb d (listed-under x)) (without s (names d)) (names d)) final
+out-next : (s x : ℕ) (xs : List ℕ) (names final : ℕ → List ℕ) → Out s (x ∷ xs) names final →
+    Out s xs (λ d. cond (eqb d (listed-under x)) (without s (names d)) (names d)) final
 out-next s x xs names final o =
     record {
       lost = λ d h has. lost-by d h has (eqb d (listed-under x)) refl;
@@ -181,7 +189,8 @@ out-next s x xs names final o =
     behind-front d has true = refl
     behind-front d has false = has
 
-    lost-by : (d : ℕ) → d < code-count → has-left d xs ≡ true → (b : Bool) → eqb d (listed-under x) ≡ b → final d ≡ without s (cond b (without s (names d)) (names d))
+    lost-by : (d : ℕ) → d < code-count → has-left d xs ≡ true → (b : Bool) → eqb d (listed-under x) ≡ b →
+        final d ≡ without s (cond b (without s (names d)) (names d))
     lost-by d h has true e =
         let first = o .lost d h (ap (λ (b : Bool). b || has-left d xs) e) in
         sym (o .gone d h (ap (λ (b : Bool). b || has-left d xs) e)) ∙ ap (without s) first
@@ -203,7 +212,8 @@ out-past s x xs names final above o =
     skip : (d : ℕ) → d < code-count → has-left d (x ∷ xs) ≡ has-left d xs
     skip d h = ap (λ (b : Bool). b || has-left d xs) (ne-eqb d (listed-under x) (λ e. omega arith))
 
-pub removed-laid : (size : ℕ → ℕ) (names final : ℕ → List ℕ) (index : List ℕ) (s : ℕ) (xs : List ℕ) → Fitting size names → LaidOut size names index → Out s xs names final
+pub removed-laid : (size : ℕ → ℕ) (names final : ℕ → List ℕ) (index : List ℕ) (s : ℕ) (xs : List ℕ) → Fitting size names → LaidOut size names index →
+    Out s xs names final
     → LaidOut size final (names-removed index s xs)
 removed-laid size names final index s [] fit laid o = laid-names size names final (λ d h. o .kept d h refl) index laid
 removed-laid size names final index s (x ∷ xs) fit laid o = by-code (decLt (listed-under x) code-count)
@@ -211,7 +221,8 @@ removed-laid size names final index s (x ∷ xs) fit laid o = by-code (decLt (li
     (fewer-fits size names fit index laid (listed-under x) s) (fewer-laid size names fit index laid (listed-under x) s small) (out-next s x xs names final o))
     (λ above. removed-laid size names final index s xs fit laid (out-past s x xs names final above o))
   where
-    by-code : Dec (listed-under x < code-count) → (listed-under x < code-count → LaidOut size final (names-removed (removed index (listed-under x) s) s xs)) → (code-count ≤ listed-under x → LaidOut size final (names-removed index s xs))
+    by-code : Dec (listed-under x < code-count) → (listed-under x < code-count → LaidOut size final (names-removed (removed index (listed-under x) s) s xs)) →
+        (code-count ≤ listed-under x → LaidOut size final (names-removed index s xs))
         → LaidOut size final (names-removed (removed index (listed-under x) s) s xs)
     by-code (yes small) there past = there small
     by-code (no above) there past =
@@ -219,7 +230,8 @@ removed-laid size names final index s (x ∷ xs) fit laid o = by-code (decLt (li
         subst (λ (t : List ℕ). LaidOut size final (names-removed t s xs)) (sym (no-list index (listed-under x) s h)) (past h)
 
 -- A clause k becomes k′: it has lost the codes of xs, and keeps the others. Its name goes out of their lists.
-module _ (pre post : List ℕ) (closed : begins-after true pre ≡ true) (k k′ : List ℕ) (w : Whole k) (w′ : Whole k′) (few : length (pre ++ (k ++ post)) ≤ max-entries) (codes : map (λ x. x % 512) k′ ≡ map (λ x. x % 512) k) where
+module _ (pre post : List ℕ) (closed : begins-after true pre ≡ true) (k k′ : List ℕ) (w : Whole k) (w′ : Whole k′)
+    (few : length (pre ++ (k ++ post)) ≤ max-entries) (codes : map (λ x. x % 512) k′ ≡ map (λ x. x % 512) k) where
   long : length k′ ≡ length k
   long = sym (length-map k′ (λ x. x % 512)) ∙ ap length codes ∙ length-map k (λ x. x % 512)
 
@@ -242,13 +254,17 @@ module _ (pre post : List ℕ) (closed : begins-after true pre ≡ true) (k k′
       ∙ ap (λ (l : List ℕ). map (λ x. x % 512) pre ++ l) (map-over k′ post ∙ ap (λ (l : List ℕ). l ++ map (λ x. x % 512) post) codes ∙ sym (map-over k post))
       ∙ sym (map-over pre (k ++ post))
 
-  pub entries-dropped : (xs : List ℕ) → ((d : ℕ) → d < code-count → has-left d xs ≡ true → has-left d k′ ≡ false) → ((d : ℕ) → d < code-count → has-left d xs ≡ false → has-left d k′ ≡ has-left d k)
+  pub entries-dropped : (xs : List ℕ) → ((d : ℕ) → d < code-count → has-left d xs ≡ true → has-left d k′ ≡ false) →
+      ((d : ℕ) → d < code-count → has-left d xs ≡ false → has-left d k′ ≡ has-left d k)
       → index-of (pre ++ (k′ ++ post)) ≡ names-removed (index-of (pre ++ (k ++ post))) (length pre) xs
   entries-dropped xs lost kept =
-      sym (index-is (pre ++ (k′ ++ post)) (few-after (pre ++ (k ++ post)) (pre ++ (k′ ++ post)) few long-table codes-table) (names-removed (index-of (pre ++ (k ++ post))) (length pre) xs)
-      (laid-sizes (λ c. tally c (pre ++ (k ++ post))) (λ c. tally c (pre ++ (k′ ++ post))) (sizes (pre ++ (k ++ post)) (pre ++ (k′ ++ post)) few long-table codes-table) (λ c. listed c (pre ++ (k′ ++ post)))
+      sym (index-is (pre ++ (k′ ++ post)) (few-after (pre ++ (k ++ post)) (pre ++ (k′ ++ post)) few long-table codes-table)
       (names-removed (index-of (pre ++ (k ++ post))) (length pre) xs)
-      (removed-laid (λ c. tally c (pre ++ (k ++ post))) (λ c. listed c (pre ++ (k ++ post))) (λ c. listed c (pre ++ (k′ ++ post))) (index-of (pre ++ (k ++ post))) (length pre) xs
+      (laid-sizes (λ c. tally c (pre ++ (k ++ post))) (λ c. tally c (pre ++ (k′ ++ post))) (sizes (pre ++ (k ++ post)) (pre ++ (k′ ++ post)) few long-table
+      codes-table) (λ c. listed c (pre ++ (k′ ++ post)))
+      (names-removed (index-of (pre ++ (k ++ post))) (length pre) xs)
+      (removed-laid (λ c. tally c (pre ++ (k ++ post))) (λ c. listed c (pre ++ (k ++ post))) (λ c. listed c (pre ++ (k′ ++ post)))
+      (index-of (pre ++ (k ++ post))) (length pre) xs
       (listed-fits (pre ++ (k ++ post)) few) (index-laid (pre ++ (k ++ post)) few) out)))
     where
       not-empty : (l : List ℕ) → Whole l → 1 ≤ length l
@@ -261,13 +277,16 @@ module _ (pre post : List ℕ) (closed : begins-after true pre ≡ true) (k k′
       -- the clause has not the code: its name is in no list of it
       not-named : (d : ℕ) → has-left d k′ ≡ false → without (length pre) (listed d (pre ++ (k′ ++ post))) ≡ listed d (pre ++ (k′ ++ post))
       not-named d none =
-          let parts = listed-clause pre post closed d k′ w′ ∙ ap (λ (b : Bool). before pre post closed d ++ cond b (length pre ∷ behind pre post closed d (length k′)) (behind pre post closed d (length k′))) none in
+          let parts = listed-clause pre post closed d k′ w′ ∙ ap
+          (λ (b : Bool). before pre post closed d ++ cond b (length pre ∷ behind pre post closed d (length k′)) (behind pre post closed d (length k′))) none
+          in
           ap (without (length pre)) parts
           ∙ without-absent (length pre) (before pre post closed d) (behind pre post closed d (length k′)) (names-before pre post closed d)
           ∙ ap (λ (l : List ℕ). before pre post closed d ++ l) (without-above (length pre) (behind pre post closed d (length k′)) (above d))
           ∙ sym parts
 
-      lost-by : (d : ℕ) → d < code-count → has-left d xs ≡ true → (b : Bool) → has-left d k ≡ b → listed d (pre ++ (k′ ++ post)) ≡ without (length pre) (listed d (pre ++ (k ++ post)))
+      lost-by : (d : ℕ) → d < code-count → has-left d xs ≡ true → (b : Bool) → has-left d k ≡ b →
+          listed d (pre ++ (k′ ++ post)) ≡ without (length pre) (listed d (pre ++ (k ++ post)))
       lost-by d h has true e = clause-lost pre post closed d k k′ w w′ long e (lost d h has)
       lost-by d h has false e =
           let same = clause-kept pre post closed d k k′ w w′ long (lost d h has ∙ sym e) in
@@ -300,7 +319,8 @@ has-append d (x ∷ a) b = go (eqb d (listed-under x)) (has-append d a b)
     go false h = h
 
 -- The entry x of a clause is dropped.
-module _ (pre post : List ℕ) (closed : begins-after true pre ≡ true) (a b : List ℕ) (x : ℕ) (w : Whole (a ++ (x ∷ b))) (few : length (pre ++ ((a ++ (x ∷ b)) ++ post)) ≤ max-entries) (left : x < 512) where
+module _ (pre post : List ℕ) (closed : begins-after true pre ≡ true) (a b : List ℕ) (x : ℕ) (w : Whole (a ++ (x ∷ b)))
+    (few : length (pre ++ ((a ++ (x ∷ b)) ++ post)) ≤ max-entries) (left : x < 512) where
   abbrev k₀ : List ℕ
   k₀ = a ++ (x ∷ b)
 
@@ -339,16 +359,20 @@ module _ (pre post : List ℕ) (closed : begins-after true pre ≡ true) (a b : 
   -- The clause has the code again: nothing changes.
   pub entry-again : has-left (listed-under x) k₁ ≡ true → index-of (pre ++ (k₁ ++ post)) ≡ index-of (pre ++ (k₀ ++ post))
   entry-again again =
-      entries-dropped pre post closed k₀ k₁ w (still-whole a w) few (same-codes a) [] (λ d h e. absurd (true≢false (sym e))) (λ d h e. by-code d h (eqb d (listed-under x)) refl)
+      entries-dropped pre post closed k₀ k₁ w (still-whole a w) few (same-codes a) [] (λ d h e. absurd (true≢false (sym e)))
+      (λ d h e. by-code d h (eqb d (listed-under x)) refl)
     where
       by-code : (d : ℕ) → d < code-count → (v : Bool) → eqb d (listed-under x) ≡ v → has-left d k₁ ≡ has-left d k₀
-      by-code d h true e = let same = eqb-true d (listed-under x) e in ap (λ (n : ℕ). has-left n k₁) same ∙ again ∙ sym (ap (λ (n : ℕ). has-left n k₀) same ∙ had)
+      by-code d h true e = let same = eqb-true d (listed-under x) e in ap (λ (n : ℕ). has-left n k₁) same ∙ again ∙ sym
+          (ap (λ (n : ℕ). has-left n k₀) same ∙ had)
       by-code d h false e = others d h (eqb-false d (listed-under x) e)
 
   -- It was the last of its code: the clause's name goes out of one list.
-  pub entry-dropped : has-left (listed-under x) k₁ ≡ false → index-of (pre ++ (k₁ ++ post)) ≡ removed (index-of (pre ++ (k₀ ++ post))) (listed-under x) (length pre)
+  pub entry-dropped : has-left (listed-under x) k₁ ≡ false →
+      index-of (pre ++ (k₁ ++ post)) ≡ removed (index-of (pre ++ (k₀ ++ post))) (listed-under x) (length pre)
   entry-dropped last =
-      entries-dropped pre post closed k₀ k₁ w (still-whole a w) few (same-codes a) (x ∷ []) (λ d h e. lost d h (eqb d (listed-under x)) refl e) (λ d h e. kept d h (eqb d (listed-under x)) refl e)
+      entries-dropped pre post closed k₀ k₁ w (still-whole a w) few (same-codes a) (x ∷ []) (λ d h e. lost d h (eqb d (listed-under x)) refl e)
+      (λ d h e. kept d h (eqb d (listed-under x)) refl e)
     where
       lost : (d : ℕ) → d < code-count → (v : Bool) → eqb d (listed-under x) ≡ v → (v || false) ≡ true → has-left d k₁ ≡ false
       lost d h true e t = ap (λ (n : ℕ). has-left n k₁) (eqb-true d (listed-under x) e) ∙ last
@@ -362,18 +386,22 @@ module _ (pre post : List ℕ) (closed : begins-after true pre ≡ true) (a b : 
 
 -- Entries are rewritten one by one, ends to ends.
 module _ (f : ℕ → ℕ) (stay : (x : ℕ) → ends (f x) ≡ ends x) (d : ℕ) where
-  has-map : ((x : ℕ) → eqb d (listed-under (f x)) ≡ eqb d (listed-under x)) → (xs : List ℕ) → has-left d (whole-clause (map f xs)) ≡ has-left d (whole-clause xs)
+  has-map : ((x : ℕ) → eqb d (listed-under (f x)) ≡ eqb d (listed-under x)) → (xs : List ℕ) →
+      has-left d (whole-clause (map f xs)) ≡ has-left d (whole-clause xs)
   has-map same [] = refl
   has-map same (x ∷ xs) = ap₂ _||_ (same x) (ap (λ (b : Bool). has-left d (cond b [] (whole-clause (map f xs)))) (stay x) ∙ go (ends x) (has-map same xs))
     where
-      go : (b : Bool) → has-left d (whole-clause (map f xs)) ≡ has-left d (whole-clause xs) → has-left d (cond b [] (whole-clause (map f xs))) ≡ has-left d (cond b [] (whole-clause xs))
+      go : (b : Bool) → has-left d (whole-clause (map f xs)) ≡ has-left d (whole-clause xs) →
+          has-left d (cond b [] (whole-clause (map f xs))) ≡ has-left d (cond b [] (whole-clause xs))
       go true h = refl
       go false h = h
 
-  listed-map : ((x : ℕ) → eqb d (listed-under (f x)) ≡ eqb d (listed-under x)) → (front : Bool) (e : ℕ) (xs : List ℕ) → listed-from d front e (map f xs) ≡ listed-from d front e xs
+  listed-map : ((x : ℕ) → eqb d (listed-under (f x)) ≡ eqb d (listed-under x)) → (front : Bool) (e : ℕ) (xs : List ℕ) →
+      listed-from d front e (map f xs) ≡ listed-from d front e xs
   listed-map same front e [] = refl
   listed-map same front e (x ∷ xs) =
-      ap₂ (λ (b : Bool) (r : List ℕ). cond (front && b) (e ∷ r) r) (has-map same (x ∷ xs)) (ap (λ (b : Bool). listed-from d b (e + 1) (map f xs)) (stay x) ∙ listed-map same (ends x) (e + 1) xs)
+      ap₂ (λ (b : Bool) (r : List ℕ). cond (front && b) (e ∷ r) r) (has-map same (x ∷ xs)) (ap (λ (b : Bool). listed-from d b (e + 1) (map f xs)) (stay x) ∙
+      listed-map same (ends x) (e + 1) xs)
 
   has-none : ((x : ℕ) → eqb d (listed-under (f x)) ≡ false) → (xs : List ℕ) → has-left d (whole-clause (map f xs)) ≡ false
   has-none none [] = refl

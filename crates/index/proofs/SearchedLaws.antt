@@ -78,15 +78,18 @@ module _ (q : List ℕ) (x : ℕ) where
       each [] h = absurd (false≢true h)
       each (y ∷ l) h = go (has (opposite y) q) refl h (each l)
         where
-          go : (b : Bool) → has (opposite y) q ≡ b → (b || any (λ y. has (opposite y) q) l) ≡ true → (any (λ y. has (opposite y) q) l ≡ true → any (λ y. has (opposite y) more) l ≡ true)
+          go : (b : Bool) → has (opposite y) q ≡ b → (b || any (λ y. has (opposite y) q) l) ≡ true →
+              (any (λ y. has (opposite y) q) l ≡ true → any (λ y. has (opposite y) more) l ≡ true)
               → (has (opposite y) more || any (λ y. has (opposite y) more) l) ≡ true
-          go true e t later = ap (λ (b : Bool). b || any (λ y. has (opposite y) more) l) (has-behind (opposite y) q x ∙ ap (λ (b : Bool). eqb (opposite y) x || b) e ∙ or-true (eqb (opposite y) x))
+          go true e t later = ap (λ (b : Bool). b || any (λ y. has (opposite y) more) l)
+              (has-behind (opposite y) q x ∙ ap (λ (b : Bool). eqb (opposite y) x || b) e ∙ or-true (eqb (opposite y) x))
           go false e t later = ap (λ (b : Bool). has (opposite y) more || b) (later t) ∙ or-true (has (opposite y) more)
 
   made-true : has (opposite x) q ≡ true → always-true more ≡ true
   made-true h =
       over q
-      ∙ ap (λ (b : Bool). b || any (λ y. has (opposite y) more) q) (has-behind (opposite x) q x ∙ ap (λ (b : Bool). eqb (opposite x) x || b) h ∙ or-true (eqb (opposite x) x))
+      ∙ ap (λ (b : Bool). b || any (λ y. has (opposite y) more) q) (has-behind (opposite x) q x ∙ ap (λ (b : Bool). eqb (opposite x) x || b) h ∙ or-true
+      (eqb (opposite x) x))
 
   stays-open : 2 ≤ x → always-true q ≡ false → has (opposite x) q ≡ false → always-true more ≡ false
   stays-open two clear none =
@@ -125,7 +128,8 @@ one-read q (so-far c) x two h = go (has (opposite x) c) refl (has x c) refl
     no-zero : has 0 (q ++ (x ∷ [])) ≡ false
     no-zero = has-behind 0 q x ∙ ap₂ _||_ (ne-eqb 0 x (λ e. omega arith)) (h .literals)
 
-    go : (a : Bool) → has (opposite x) c ≡ a → (b : Bool) → has x c ≡ b → Read (q ++ (x ∷ [])) (cond a Codes.always-true (cond b (so-far c) (so-far (with-code x c))))
+    go : (a : Bool) → has (opposite x) c ≡ a → (b : Bool) → has x c ≡ b →
+        Read (q ++ (x ∷ [])) (cond a Codes.always-true (cond b (so-far c) (so-far (with-code x c))))
     go true e b f = made-true q x (sym (h .same (opposite x)) ∙ e)
     go false e true f =
         record {
@@ -178,7 +182,8 @@ clause-closed p Codes.always-true ks codes h rest =
     subst (λ (b : Bool). Stand (cond b (looked-up ks) ((p ++ []) ∷ looked-up ks)) (code-clauses codes))
     (sym (ap (λ (l : Clause). always-true (map code-of l)) (append-nil p) ∙ h)) rest
 
-stands-from : (p : Clause) (r : Reading) (zs : List ℤ) → Read (map code-of p) r → ended zs ≡ true → Stand (looked-up (joined p (clauses zs))) (code-clauses (encoding-from r zs))
+stands-from : (p : Clause) (r : Reading) (zs : List ℤ) → Read (map code-of p) r → ended zs ≡ true →
+    Stand (looked-up (joined p (clauses zs))) (code-clauses (encoding-from r zs))
 stands-from p r [] h e = tt
 stands-from p r (pos zero ∷ zs) h e =
     clause-closed p r (clauses zs) (encoding-from (so-far []) zs) h
@@ -194,7 +199,8 @@ stands-from p r (negsuc v ∷ zs) h e =
     subst (λ (ks : List Clause). Stand (looked-up ks) (code-clauses (encoding-from (read-code (2 * suc v + 1) r) zs)))
     (sym (joined-onto p (negsuc v) (clauses zs) (clauses-behind (negsuc v) zs (λ z. omega arith) e)))
     (stands-from (p ++ (negsuc v ∷ [])) (read-code (2 * suc v + 1) r) zs
-    (subst (λ (q : List ℕ). Read q (read-code (2 * suc v + 1) r)) (sym (codes-behind p (negsuc v))) (one-read (map code-of p) r (2 * suc v + 1) (omega arith) h))
+    (subst (λ (q : List ℕ). Read q (read-code (2 * suc v + 1) r)) (sym (codes-behind p (negsuc v)))
+    (one-read (map code-of p) r (2 * suc v + 1) (omega arith) h))
     (ended-later (negsuc v) zs e))
 
 pub search-clauses : (literals : List ℤ) → ended literals ≡ true → Stand (looked-up (clauses literals)) (code-clauses (encoding literals))

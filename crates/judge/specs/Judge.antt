@@ -86,7 +86,8 @@ outcome-number kinds literals claim rows count work =
 
 -- All that the judge promises: what it returns and its number, the work area at exit, that an accepted claim is the verdict, and that the
 -- definition of 'accepted' is 01's, over the lent rows.
-pub record Judged (kinds : List ℕ) (literals : List ℤ) (claim : ℕ) (rows : List ℕ) (count : ℕ) (work : List ℕ) (result : Judgement) (work-then : List ℕ) : Type 0 where
+pub record Judged (kinds : List ℕ) (literals : List ℤ) (claim : ℕ) (rows : List ℕ) (count : ℕ) (work : List ℕ) (result : Judgement) (work-then : List ℕ) : Type
+    0 where
   pub returned : result ≡ outcome kinds literals claim rows count work
   pub numbered : number result ≡ outcome-number kinds literals claim rows count work
   pub area : work-then ≡ work-after kinds literals claim rows count work

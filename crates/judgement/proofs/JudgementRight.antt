@@ -20,7 +20,9 @@ use Rattle.judge.specs.declared.Judgement.{Judgement}
 use Rattle.judge.specs.declared.Judgement.the-variants as Judgement
 use Rattle.judge.specs.Judge.{other-claim, width, cause, borne-out, answer, outcome}
 use Rattle.judge.proofs.Verdict.{accepted-is-verdict}
-use Rattle.text.specs.Reading.{max-bytes, Result, taken, refused, read, read-gates, text-read, gates-read, read-as}
+use Rattle.text.specs.Reading.{max-bytes, Result, taken, refused, read-gates, text-read, read-as}
+use Rattle.text.specs.declared.Form.{Form}
+use Rattle.text.specs.Form.{has-gates, form-read}
 use Rattle.text.specs.GatesRight.{CircuitIs}
 use Rattle.text.proofs.TextLaws.{Results, Passes, read-passes}
 use Rattle.text.proofs.GatesRight.{gates-right}
@@ -33,7 +35,7 @@ use Rattle.judgement.specs.declared.Finding.{Finding}
 use Rattle.judgement.specs.declared.Finding.the-variants.{NotBorneOut, Accepted, OtherFormula, Refused}
 use Rattle.judgement.specs.Finding.{unjudged, judged, claimed-rows, on-claim, of-another, on-record, on-formula, on-text, finding-of, accepted-line, line-of, printed-of}
 use Rattle.judgement.proofs.NumberLaws.{numbers-so}
-use Rattle.judgement.specs.JudgementRight.{Has, IsVerdict, FoundRight, FindingRight, Prints, Differs, Other, Refusal, LineRight, JudgementRight, GatesJudgementRight}
+use Rattle.judgement.specs.JudgementRight.{Has, IsVerdict, FoundRight, FindingRight, Prints, Differs, Other, Refusal, LineRight, JudgementRight}
 
 -- The numbers of causes.
 formula-cause-small : (a b c : Bool) (f : Formula) → Causes.number (Causes.refused-if a 1 (Causes.refused-if b 2 (Causes.refused-if c 3 (Check.Accepted f)))) ≤ 18
@@ -285,22 +287,19 @@ module _ (reading : Result) (f : List ℕ) (bad : (n line : ℕ) → reading ≡
 of-form : (gates : Bool) (text : List ℕ) (n line : ℕ) → read-as gates text ≡ refused n line → (n ≤ 20) × (line ≤ 2 + max-bytes)
 of-form gates text n line e = (reading-number gates text n line e, reading-line gates text n line e)
 
-pub judgement-right : (text f : List ℕ) → JudgementRight text f
-unfolding read
-judgement-right text f = line-right (text-read text) f (of-form false text)
-
 -- The verdict of what was read of a gate list is the circuit's value.
-circuit-is : (text : List ℕ) (value : Bool) (r : Result) → gates-read text ≡ r → Has value r → CircuitIs text value
-circuit-is text value (taken s) e v g = sym (gates-right text s e g) ∙ v
-circuit-is text value (refused n line) e v g = absurd v
-
-pub gates-judgement-right : (text f : List ℕ) → GatesJudgementRight text f
+circuit-is : (text : List ℕ) (gates value : Bool) (r : Result) → gates ≡ true → read-as gates text ≡ r → Has value r → CircuitIs text value
 unfolding read-gates
-gates-judgement-right text f =
-    let right = line-right (gates-read text) f (of-form true text) in
+circuit-is text gates value (taken s) is e v g = sym (gates-right text s (subst (λ (b : Bool). read-as b text ≡ taken s) is e) g) ∙ v
+circuit-is text gates value (refused n line) is e v g = absurd v
+
+pub judgement-right : (form : Form) (text f : List ℕ) → JudgementRight form text f
+judgement-right form text f =
+    let gates = has-gates form text in
+    let right = line-right (form-read form text) f (of-form gates text) in
     record {
       line = right;
-      found = found-right (gates-read text) f 20 (omega arith) (reading-number true text);
-      only-true = λ b. circuit-is text true (gates-read text) refl (right .only-true b);
-      only-false = λ b. circuit-is text false (gates-read text) refl (right .only-false b);
+      found = found-right (form-read form text) f 20 (omega arith) (reading-number gates text);
+      only-true = λ is b. circuit-is text gates true (form-read form text) is refl (right .only-true b);
+      only-false = λ is b. circuit-is text gates false (form-read form text) is refl (right .only-false b);
     }

@@ -13,7 +13,9 @@ use Rattle.rows.specs.Table.{room}
 use Rattle.judge.specs.declared.Judgement.{Judgement}
 use Rattle.judge.specs.declared.Judgement.the-variants as Judgement
 use Rattle.judge.specs.Judge.{outcome, work-after}
-use Rattle.text.specs.Reading.{Result, taken, refused, text-read, gates-read}
+use Rattle.text.specs.Reading.{Result, taken, refused, text-read}
+use Rattle.text.specs.declared.Form.{Form}
+use Rattle.text.specs.Form.{form-read}
 use Rattle.witness.specs.declared.Record.{Record}
 use Rattle.witness.specs.File.{stands, file-cause, record-of, rows-back}
 use Rattle.report.specs.Report.{ascii, refusal-line}
@@ -96,12 +98,9 @@ line-of (Accepted claim) = accepted-line claim
 line-of OtherFormula = ascii "not of this formula\n"
 line-of (Refused number line) = refusal-line number line
 
--- What is printed, with a work area of zeros: of a text, and of a gate list.
+-- What is printed of a text that is read so, with a work area of zeros; and of a text of that form.
 unfoldable pub printed-of : Result → List ℕ → List ℕ
 printed-of reading f = line-of (finding-of reading f (replicate work-size 0))
 
-abbrev pub printed : List ℕ → List ℕ → List ℕ
-printed text f = printed-of (text-read text) f
-
-abbrev pub gates-printed : List ℕ → List ℕ → List ℕ
-gates-printed text f = printed-of (gates-read text) f
+abbrev pub printed : Form → List ℕ → List ℕ → List ℕ
+printed form text f = printed-of (form-read form text) f

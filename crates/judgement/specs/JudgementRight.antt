@@ -7,7 +7,9 @@ use mathlib.Core.List.{List}
 use mathlib.Core.Logic.{_⊎_}
 use lib.ListN.{length}
 use Rattle.formula.specs.Meaning.{verdict, bit}
-use Rattle.text.specs.Reading.{Result, taken, refused, text-read, gates-read}
+use Rattle.text.specs.Reading.{Result, taken, refused, text-read}
+use Rattle.text.specs.declared.Form.{Form}
+use Rattle.text.specs.Form.{has-gates, form-read}
 use Rattle.text.specs.GatesRight.{CircuitIs}
 use Rattle.witness.specs.File.{stands, file-cause, record-of}
 use Rattle.report.specs.Report.{ascii, refusal-line}
@@ -69,14 +71,10 @@ pub record LineRight (reading : Result) (f : List ℕ) : Type 0 where
   -- `not of this formula` only for a file whose n or clause count is not the text's.
   pub other : Prints reading f "not of this formula\n" → Other reading f
 
--- Of a text of clauses.
-abbrev pub JudgementRight : List ℕ → List ℕ → Type 0
-JudgementRight text f = LineRight (text-read text) f
-
--- Of a gate list: the line, and what is found, of the formula that is made of it; its causes go up to 20.
-pub record GatesJudgementRight (text f : List ℕ) : Type 0 where
-  pub line : LineRight (gates-read text) f
-  pub found : (work : List ℕ) → FoundRight 20 (gates-read text) f work
-  -- `accepted 1` only if the circuit that its own lines draw is true under the prefix, `accepted 0` only if it is false.
-  pub only-true : Prints (gates-read text) f "accepted 1\n" → CircuitIs text true
-  pub only-false : Prints (gates-read text) f "accepted 0\n" → CircuitIs text false
+-- Of a text of that form: the line, and what is found of the formula that is read; its causes go up to 20.
+pub record JudgementRight (form : Form) (text f : List ℕ) : Type 0 where
+  pub line : LineRight (form-read form text) f
+  pub found : (work : List ℕ) → FoundRight 20 (form-read form text) f work
+  -- Of a gate list `accepted 1` only if the circuit that its own lines draw is true under the prefix, `accepted 0` only if it is false.
+  pub only-true : has-gates form text ≡ true → Prints (form-read form text) f "accepted 1\n" → CircuitIs text true
+  pub only-false : has-gates form text ≡ true → Prints (form-read form text) f "accepted 0\n" → CircuitIs text false

@@ -1,18 +1,19 @@
 // The judge over a text or a gate list and a witness file: whether the file's rows bear out its claim about the formula that is read.
 // `find` promises, for every text, file and work area, the finding, its numbers and every byte of the work area that the definitions
-// (specs/Finding.antt, specs/Numbers.antt) give; `print` and `print_gates` the bytes of its line. What an accepted claim says of the formula, or
-// of the circuit, is stated in specs/JudgementRight.antt.
+// (specs/Finding.antt, specs/Numbers.antt) give; `print` the bytes of its line, for a text of either form. What an accepted claim says of the formula,
+// or of the circuit, is stated in specs/JudgementRight.antt.
 // Reading belongs to `text` and `witness`, judging to `judge`; here what one returns is handed to the next.
 use formula::Formula;
 use judge::Judgement;
+use text::Form;
 use text::Reading;
 use witness::Record;
 ghost use mathlib.Core.Path.{_≡_};
 ghost use Rattle.report.specs.Report.{put, put-count};
-ghost use Rattle.text.specs.Reading.{read-as};
+ghost use Rattle.text.specs.Form.{form-read};
 ghost use Rattle.text.specs.Offered.{offered};
-ghost use Rattle.judgement.specs.Finding.{of-another, Finds, on-text, on-formula, on-record, on-claim, finding, left, accepted-line, line-of, printed-of, printed, gates-printed};
-ghost use Rattle.judgement.specs.JudgementRight.{FindingRight, JudgementRight, GatesJudgementRight};
+ghost use Rattle.judgement.specs.Finding.{of-another, Finds, on-text, on-formula, on-record, on-claim, finding, left, accepted-line, line-of, printed};
+ghost use Rattle.judgement.specs.JudgementRight.{FindingRight, JudgementRight};
 
 // An accepted claim is 0 or 1. A refusal has its number and the text's line, 0 for the file's causes.
 pub enum Finding {
@@ -29,30 +30,13 @@ pub const LONGEST: usize = 64;
 pub const FILE: usize = 2_097_133;
 
 // Puts the finding's line at the start of `out`, if it fits: how many bytes it is. A buffer of `LONGEST` bytes is long enough for all.
-pub fn print(input: &[u8], length: usize, file: &[u8], out: &mut [u8]) -> usize
-    ensures counted { λ r. ⌜ r ≡ put-count (printed (offered (now (input .entry)) length) (now (file .entry))) (now (out .entry)) ⌝ }
-    ensures written { λ _. ⌜ now (out .exit) ≡ put (printed (offered (now (input .entry)) length) (now (file .entry))) (now (out .entry)) ⌝ }
-    ensures proved { λ _. ⌜ JudgementRight (offered (now (input .entry)) length) (now (file .entry)) ⌝ }
-{
-    print_as(input, length, false, file, out)
-}
-
-// The same for a gate list.
-pub fn print_gates(input: &[u8], length: usize, file: &[u8], out: &mut [u8]) -> usize
-    ensures counted { λ r. ⌜ r ≡ put-count (gates-printed (offered (now (input .entry)) length) (now (file .entry))) (now (out .entry)) ⌝ }
-    ensures written { λ _. ⌜ now (out .exit) ≡ put (gates-printed (offered (now (input .entry)) length) (now (file .entry))) (now (out .entry)) ⌝ }
-    ensures proved { λ _. ⌜ GatesJudgementRight (offered (now (input .entry)) length) (now (file .entry)) ⌝ }
-{
-    print_as(input, length, true, file, out)
-}
-
-// The line for a text of clauses or of gates.
-fn print_as(input: &[u8], length: usize, gates: bool, file: &[u8], out: &mut [u8]) -> usize
-    ensures { λ r. ⌜ r ≡ put-count (printed-of (read-as gates (offered (now (input .entry)) length)) (now (file .entry))) (now (out .entry)) ⌝ }
-    ensures { λ _. ⌜ now (out .exit) ≡ put (printed-of (read-as gates (offered (now (input .entry)) length)) (now (file .entry))) (now (out .entry)) ⌝ }
+pub fn print(input: &[u8], length: usize, form: Form, file: &[u8], out: &mut [u8]) -> usize
+    ensures counted { λ r. ⌜ r ≡ put-count (printed form (offered (now (input .entry)) length) (now (file .entry))) (now (out .entry)) ⌝ }
+    ensures written { λ _. ⌜ now (out .exit) ≡ put (printed form (offered (now (input .entry)) length) (now (file .entry))) (now (out .entry)) ⌝ }
+    ensures proved { λ _. ⌜ JudgementRight form (offered (now (input .entry)) length) (now (file .entry)) ⌝ }
 {
     let mut work = [0u8; Formula::WORK];
-    let finding = find_as(input, length, gates, file, &mut work);
+    let finding = find_as(input, length, form, file, &mut work);
     put_line(finding, out)
 }
 
@@ -86,17 +70,17 @@ pub fn find(text: &[u8], file: &[u8], work: &mut [u8]) -> Finding
     ensures left { λ _. ⌜ now (work .exit) ≡ left (now (text .entry)) (now (file .entry)) (now (work .entry)) ⌝ }
     ensures proved { λ _. ⌜ FindingRight (now (text .entry)) (now (file .entry)) (now (work .entry)) ⌝ }
 {
-    find_as(text, text.len(), false, file, work)
+    find_as(text, text.len(), Form::Clauses, file, work)
 }
 
-// The same for a text of clauses or of gates.
-fn find_as(input: &[u8], length: usize, gates: bool, file: &[u8], work: &mut [u8]) -> Finding
-    ensures { λ r. ⌜ Finds (on-text (read-as gates (offered (now (input .entry)) length)) (now (file .entry))) (now (work .entry)) r (now (work .exit)) ⌝ }
+// The same for a text of that form, in a buffer.
+fn find_as(input: &[u8], length: usize, form: Form, file: &[u8], work: &mut [u8]) -> Finding
+    ensures { λ r. ⌜ Finds (on-text (form-read form (offered (now (input .entry)) length)) (now (file .entry))) (now (work .entry)) r (now (work .exit)) ⌝ }
 {
     let mut kinds = [0u8; Formula::UNKNOWNS];
     let mut literals = [0i32; Formula::ENTRIES];
     let mut names = [0u16; Formula::UNKNOWNS];
-    match text::read_offered(input, length, gates, &mut kinds, &mut literals, &mut names) {
+    match text::read_form(input, length, form, &mut kinds, &mut literals, &mut names) {
         Reading::Refused { number, line } => Finding::Refused {
             number,
             line: line as u32,

@@ -104,7 +104,8 @@ longer-some (d ∷ ds) h e = go (leb (length (d ∷ ds)) max-digits) (eqb d 48) 
     go false b p q = omega (arith, number-long max-digits (d ∷ ds) (leb-false (length (d ∷ ds)) max-digits p))
     go true true p q = omega (arith, number-leading max-digits (d ∷ ds) (omega arith) (leb-true (length (d ∷ ds)) max-digits p) h (eqb-true d 48 q))
     go true false p q =
-        first-some d ds (eqb-false d 48 q) (sym (number-decimal max-digits (d ∷ ds) (omega arith) (leb-true (length (d ∷ ds)) max-digits p) h (eqb-false d 48 q)) ∙ e)
+        first-some d ds (eqb-false d 48 q)
+        (sym (number-decimal max-digits (d ∷ ds) (omega arith) (leb-true (length (d ∷ ds)) max-digits p) h (eqb-false d 48 q)) ∙ e)
 
 pub zero-longer : (w : Bytes) → (length w ≡ 1 → ⊥) → is-zero w ≡ false
 zero-longer w h = ne-eqb (number w) 0 (longer-some w h)

@@ -57,7 +57,8 @@ ends-problem true ws = is-literal (first ws) && is-empty (rest ws)
 unfoldable pub is-problem : Bool → Bytes → Bool
 is-problem gates line =
     let ws = words line in
-    is-trimmed line && same (first ws) p-word && same (second ws) (form-word gates) && ends-problem gates (rest (rest (rest (rest ws)))) && is-number (third ws) && is-number (fourth ws)
+    is-trimmed line && same (first ws) p-word && same (second ws) (form-word gates) && ends-problem gates (rest (rest (rest (rest ws)))) && is-number (third ws)
+    && is-number (fourth ws)
 
 -- The numbers of a p line, and its literal.
 pub record Problem-words (gates : Bool) (line : Bytes) (good : Bool) (variables lines output : ℕ) (minus : Bool) : Type 0 where

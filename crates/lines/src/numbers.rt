@@ -4,7 +4,8 @@ ghost use mathlib.Core.Bool.{cond};
 ghost use Prim.Native.Nat.{_≤_};
 ghost use lib.ListN.{length};
 ghost use Rattle.lines.specs.Lines.{same as same-bytes};
-ghost use Rattle.lines.specs.Numbers.{number as number-of, number-within, all-digits, value, no-number, is-zero as zero-shape, is-name as name-shape, is-literal as literal-shape, negative as has-minus, unsigned};
+ghost use Rattle.lines.specs.Numbers.{number as number-of, number-within, all-digits, value, no-number, is-zero as zero-shape, is-name as name-shape};
+ghost use Rattle.lines.specs.Numbers.{is-literal as literal-shape, negative as has-minus, unsigned};
 
 // What stands for the value of a word that is no number.
 pub const NO_NUMBER: usize = 1_000_000_000;

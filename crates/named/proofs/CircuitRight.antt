@@ -126,17 +126,23 @@ module _ (F : List ℕ) where
   more-known known n sub i v (inl e) = subst (λ (m : ℕ). In m F) e i
   more-known known n sub i v (inr j) = sub v j
 
-  list-in : (known : List ℕ) (gates : List Gate) (o : ℤ) → ((v : ℕ) → In v known → In v F) → ((v : ℕ) → In v (names-of gates) → In v F) → Ordered known gates → Here o
+  list-in : (known : List ℕ) (gates : List Gate) (o : ℤ) → ((v : ℕ) → In v known → In v F) → ((v : ℕ) → In v (names-of gates) → In v F) → Ordered known gates →
+      Here o
       → AllIn F (clauses-of gates o)
   list-in known [] o sub new ord h = (h, tt)
   list-in known (gate ∷ gates) o sub new ord h =
       append-in (gate-clauses (gate .function) (pos (gate .name)) (gate .inputs)) (clauses-of gates o)
-      (gate-in (gate .function) (pos (gate .name)) (gate .inputs) (name-here (gate .name) (ord .1) (new (gate .name) (inl refl))) (wider known sub (gate .inputs) (ord .2)))
+      (gate-in (gate .function) (pos (gate .name)) (gate .inputs) (name-here (gate .name) (ord .1) (new (gate .name) (inl refl)))
+      (wider known sub (gate .inputs) (ord .2)))
       (list-in (gate .name ∷ known) gates o (more-known known (gate .name) sub (new (gate .name) (inl refl))) (λ v i. new v (inr i)) (ord .4) h)
 
 gates-distinct : (known : List ℕ) (gates : List Gate) → Ordered known gates → Distinct (names-of gates)
 gates-distinct known [] ord = tt
-gates-distinct known (gate ∷ gates) ord = (λ i. later-new (gate .name ∷ known) gates (ord .4) (gate .name) i (inl refl), gates-distinct (gate .name ∷ known) gates (ord .4))
+gates-distinct known (gate ∷ gates) ord = (
+  λ i. later-new (gate .name ∷ known) gates (ord .4) (gate .name) i (inl refl),
+  gates-distinct (gate .name ∷ known)
+      gates (ord .4),
+)
 
 append-distinct : (xs ys : List ℕ) → Distinct xs → Distinct ys → ((v : ℕ) → In v ys → In v xs → ⊥) → Distinct (xs ++ ys)
 append-distinct [] ys d e apart = e
@@ -149,10 +155,13 @@ append-distinct (x ∷ xs) ys d e apart = (λ i. go (in-append x xs ys i), appen
 pub circuit-distinct : (xs : List ℕ) (gates : List Gate) → Distinct xs → Ordered xs gates → Distinct (circuit-names xs gates)
 circuit-distinct xs gates d ord = append-distinct xs (names-of gates) d (gates-distinct xs gates ord) (λ v i k. later-new xs gates ord v i k)
 
-circuit-in : (xs : List ℕ) (gates : List Gate) (o : ℤ) → Ordered xs gates → InAll (circuit-names xs gates) (o ∷ []) → AllIn (circuit-names xs gates) (clauses-of gates o)
-circuit-in xs gates o ord h = list-in (xs ++ names-of gates) xs gates o (λ v i. in-front v xs (names-of gates) i) (λ v i. in-behind v xs (names-of gates) i) ord h
+circuit-in : (xs : List ℕ) (gates : List Gate) (o : ℤ) → Ordered xs gates → InAll (circuit-names xs gates) (o ∷ []) →
+    AllIn (circuit-names xs gates) (clauses-of gates o)
+circuit-in xs gates o ord h = list-in (xs ++ names-of gates) xs gates o (λ v i. in-front v xs (names-of gates) i) (λ v i. in-behind v xs (names-of gates) i) ord
+    h
 
-pub circuit-known : (xs : List ℕ) (gates : List Gate) (o : ℤ) → Ordered xs gates → InAll (circuit-names xs gates) (o ∷ []) → Known (circuit-names xs gates) (flat (clauses-of gates o))
+pub circuit-known : (xs : List ℕ) (gates : List Gate) (o : ℤ) → Ordered xs gates → InAll (circuit-names xs gates) (o ∷ []) →
+    Known (circuit-names xs gates) (flat (clauses-of gates o))
 circuit-known xs gates o ord h = known-flat (xs ++ names-of gates) (clauses-of gates o) (circuit-in xs gates o ord h)
 
 length-last : (ks : List Kind) (xs ys : List ℕ) → length ks ≡ length xs → length (ks ++ existentials ys []) ≡ length (xs ++ ys)
@@ -163,7 +172,8 @@ length-last ks xs ys e = omega (arith, length-append ks (existentials ys []), le
     ends (y ∷ ys) = ap suc (ends ys)
 
 -- The verdict of what is written is the circuit's meaning, whatever values other names have.
-list-right : (ks : List Kind) (xs : List ℕ) (gates : List Gate) (o : ℤ) → length ks ≡ length xs → Distinct xs → Ordered xs gates → InAll (xs ++ names-of gates) (o ∷ []) → (g : Values)
+list-right : (ks : List Kind) (xs : List ℕ) (gates : List Gate) (o : ℤ) → length ks ≡ length xs → Distinct xs → Ordered xs gates →
+    InAll (xs ++ names-of gates) (o ∷ []) → (g : Values)
     → meaning (ks ++ existentials (names-of gates) []) (matrix (clauses (map (placed (xs ++ names-of gates)) (flat (clauses-of gates o)))))
     ≡ named-meaning ks xs (circuit gates o) g
 list-right ks xs gates o e d ord h g =

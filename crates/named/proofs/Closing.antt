@@ -54,7 +54,8 @@ module _ (all : List ℕ) (phi : Values → Bool) (looks : Looks all phi) where
   meaning-agrees (k ∷ ks) (x ∷ xs) e g h same =
       ap₂ (quantify k)
       (meaning-agrees ks xs (omega arith) (with-value x true g) (with-value x true h) (λ v i n. with-agree x v true g h (λ o. same v i (neither x v xs o n))))
-      (meaning-agrees ks xs (omega arith) (with-value x false g) (with-value x false h) (λ v i n. with-agree x v false g h (λ o. same v i (neither x v xs o n))))
+      (meaning-agrees ks xs (omega arith) (with-value x false g) (with-value x false h)
+      (λ v i n. with-agree x v false g h (λ o. same v i (neither x v xs o n))))
 
   some-value : (a b : Bool) → (a || b) ≡ true → (a ≡ true) ⊎ (b ≡ true)
   some-value true b e = inl refl
@@ -67,13 +68,16 @@ module _ (all : List ℕ) (phi : Values → Bool) (looks : Looks all phi) where
 
   module _ (ks : List Kind) (xs : List ℕ) (alike : length ks ≡ length xs) where
     -- From the closed formula to values of the free names.
-    pub opened : (free : List ℕ) (g : Values) → named-meaning (existentials free ks) (free ++ xs) phi g ≡ true → (h : Values) × (named-meaning ks xs phi h ≡ true)
+    pub opened : (free : List ℕ) (g : Values) → named-meaning (existentials free ks) (free ++ xs) phi g ≡ true → (h : Values) ×
+        (named-meaning ks xs phi h ≡ true)
     opened [] g e = (g, e)
     opened (x ∷ free) g e =
-        go (some-value (named-meaning (existentials free ks) (free ++ xs) phi (with-value x true g)) (named-meaning (existentials free ks) (free ++ xs) phi (with-value x false g)) e)
+        go (some-value (named-meaning (existentials free ks) (free ++ xs) phi (with-value x true g))
+        (named-meaning (existentials free ks) (free ++ xs) phi (with-value x false g)) e)
         (λ b e. opened free (with-value x b g) e)
       where
-        go : (named-meaning (existentials free ks) (free ++ xs) phi (with-value x true g) ≡ true) ⊎ (named-meaning (existentials free ks) (free ++ xs) phi (with-value x false g) ≡ true)
+        go : (named-meaning (existentials free ks) (free ++ xs) phi (with-value x true g) ≡ true) ⊎
+            (named-meaning (existentials free ks) (free ++ xs) phi (with-value x false g) ≡ true)
             → ((b : Bool) → named-meaning (existentials free ks) (free ++ xs) phi (with-value x b g) ≡ true → (h : Values) × (named-meaning ks xs phi h ≡ true))
             → (h : Values) × (named-meaning ks xs phi h ≡ true)
         go (inl e) more = more true e
@@ -84,7 +88,8 @@ module _ (all : List ℕ) (phi : Values → Bool) (looks : Looks all phi) where
         → ((v : ℕ) → In v all → (In v free → ⊥) → (In v xs → ⊥) → g v ≡ h v) → named-meaning (existentials free ks) (free ++ xs) phi g ≡ true
     closed [] g h e same = meaning-agrees ks xs alike g h (λ v i n. same v i (λ z. z) n) ∙ e
     closed (x ∷ free) g h e same =
-        by-value (h x) (named-meaning (existentials free ks) (free ++ xs) phi (with-value x true g)) (named-meaning (existentials free ks) (free ++ xs) phi (with-value x false g))
+        by-value (h x) (named-meaning (existentials free ks) (free ++ xs) phi (with-value x true g))
+        (named-meaning (existentials free ks) (free ++ xs) phi (with-value x false g))
         (pick (h x) (λ b. named-meaning (existentials free ks) (free ++ xs) phi (with-value x b g)) (closed free (with-value x (h x) g) h e agree))
       where
         pick : (c : Bool) (f : Bool → Bool) → f c ≡ true → cond c (f true) (f false) ≡ true

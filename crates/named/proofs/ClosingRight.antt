@@ -15,7 +15,8 @@ use Rattle.named.specs.ClosingRight.{ClosingRight}
 use Rattle.named.proofs.Positions.{positions-right, known-clauses}
 use Rattle.named.proofs.Closing.{existentials, Looks, matrix-alike, opened, closed}
 
-length-existentials : (free : List ℕ) (ks : List Kind) (names : List ℕ) → length ks ≡ length names → length (existentials free ks) ≡ length (closed-names free names)
+length-existentials : (free : List ℕ) (ks : List Kind) (names : List ℕ) → length ks ≡ length names →
+    length (existentials free ks) ≡ length (closed-names free names)
 length-existentials [] ks names e = e
 length-existentials (x ∷ free) ks names e = ap suc (length-existentials free ks names e)
 
@@ -28,7 +29,8 @@ prefix-closed : (free kinds : List ℕ) → prefix (closed-kinds free kinds) ≡
 prefix-closed [] kinds = refl
 prefix-closed (x ∷ free) kinds = ap (λ (ks : List Kind). existential ∷ ks) (prefix-closed free kinds)
 
-module _ (free kinds names : List ℕ) (entries : List ℤ) (as-many : length kinds ≡ length names) (distinct : Distinct (closed-names free names)) (known : Known (closed-names free names) entries) where
+module _ (free kinds names : List ℕ) (entries : List ℤ) (as-many : length kinds ≡ length names) (distinct : Distinct (closed-names free names))
+    (known : Known (closed-names free names) entries) where
   looks : Looks (closed-names free names) (named-matrix (clauses entries))
   looks g h same = matrix-alike (closed-names free names) g h same (clauses entries) (known-clauses (closed-names free names) entries known)
 
@@ -37,11 +39,13 @@ module _ (free kinds names : List ℕ) (entries : List ℤ) (as-many : length ki
 
   -- The formula by position has the meaning by name, whatever values other names have.
   by-names : (g : Values)
-      → verdict (closed-kinds free kinds) (closed-literals free names entries) ≡ named-meaning (existentials free (prefix kinds)) (closed-names free names) (named-matrix (clauses entries)) g
+      → verdict (closed-kinds free kinds) (closed-literals free names entries) ≡ named-meaning (existentials free (prefix kinds)) (closed-names free names)
+      (named-matrix (clauses entries)) g
   unfolding verdict
   by-names g =
       ap (λ (ks : List Kind). meaning ks (matrix (clauses (closed-literals free names entries)))) (prefix-closed free kinds)
-      ∙ positions-right (existentials free (prefix kinds)) (closed-names free names) entries g (length-existentials free (prefix kinds) names alike) distinct known
+      ∙ positions-right (existentials free (prefix kinds)) (closed-names free names) entries g (length-existentials free (prefix kinds) names alike) distinct
+      known
 
   pub closing-right : ClosingRight free kinds names entries
   closing-right =

@@ -42,7 +42,8 @@ opposites-some (i ∷ is) s = (opposite-some i (s .0), opposites-some is (s .1))
 
 pub matrix-append : (cs ds : List Clause) (g : Values) → named-matrix (cs ++ ds) g ≡ (named-matrix cs g && named-matrix ds g)
 matrix-append [] ds g = refl
-matrix-append (c ∷ cs) ds g = ap (λ (b : Bool). named-clause g c && b) (matrix-append cs ds g) ∙ and-assoc (named-clause g c) (named-matrix cs g) (named-matrix ds g)
+matrix-append (c ∷ cs) ds g = ap (λ (b : Bool). named-clause g c && b) (matrix-append cs ds g) ∙ and-assoc (named-clause g c) (named-matrix cs g)
+    (named-matrix ds g)
   where
     and-assoc : (a b c : Bool) → (a && (b && c)) ≡ ((a && b) && c)
     and-assoc true b c = refl
@@ -72,7 +73,8 @@ module _ (g : Values) where
       or-true : (a : Bool) → true ≡ (a || true)
       or-true true = refl
       or-true false = refl
-  each-holds z (i ∷ is) = ap (λ (b : Bool). (by-name g z || (by-name g i || false)) && b) (each-holds z is) ∙ table (by-name g z) (by-name g i) (all-of (map (by-name g) is))
+  each-holds z (i ∷ is) = ap (λ (b : Bool). (by-name g z || (by-name g i || false)) && b) (each-holds z is) ∙ table (by-name g z) (by-name g i)
+      (all-of (map (by-name g) is))
     where
       table : (a b c : Bool) → ((a || (b || false)) && (a || c)) ≡ (a || (b && c))
       table true b c = refl
@@ -130,7 +132,8 @@ module _ (g : Values) where
       rw (opposite g z s, opposite g a (all .0), opposite g b (all .1 .0)) (table (by-name g z) (by-name g a) (by-name g b))
     where
       table : (z a b : Bool)
-          → ((not z || (a || (b || false))) && ((not z || (not a || (not b || false))) && ((z || (not a || (b || false))) && ((z || (a || (not b || false))) && true))))
+          → ((not z || (a || (b || false))) &&
+          ((not z || (not a || (not b || false))) && ((z || (not a || (b || false))) && ((z || (a || (not b || false))) && true))))
           ≡ same z (differ a (differ b false))
       table true true true = refl
       table true true false = refl

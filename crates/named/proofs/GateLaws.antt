@@ -46,10 +46,12 @@ part-before all c psi looks (x ∷ xs) out g =
     ∙ table (c g) (named-meaning (existentials xs []) xs psi (with-value x true g)) (named-meaning (existentials xs []) xs psi (with-value x false g))
   where
     inner : (b : Bool)
-        → named-meaning (existentials xs []) xs (λ h. c h && psi h) (with-value x b g) ≡ (c (with-value x b g) && named-meaning (existentials xs []) xs psi (with-value x b g))
+        → named-meaning (existentials xs []) xs (λ h. c h && psi h) (with-value x b g) ≡ (c (with-value x b g) && named-meaning (existentials xs []) xs psi
+        (with-value x b g))
         → named-meaning (existentials xs []) xs (λ h. c h && psi h) (with-value x b g) ≡ (c g && named-meaning (existentials xs []) xs psi (with-value x b g))
     inner b e =
-        e ∙ ap (λ (t : Bool). t && named-meaning (existentials xs []) xs psi (with-value x b g)) (looks (with-value x b g) g (with-outside all x b g (out x (inl refl))))
+        e ∙ ap (λ (t : Bool). t && named-meaning (existentials xs []) xs psi (with-value x b g))
+        (looks (with-value x b g) g (with-outside all x b g (out x (inl refl))))
 
     table : (a b c : Bool) → ((a && b) || (a && c)) ≡ (a && (b || c))
     table true b c = refl
@@ -96,20 +98,25 @@ gates-right (gate ∷ gates) o known ord h =
     own : (x : ℕ) (b : Bool) → with-value x b h x ≡ b
     own x b = rw (eq-eqb x x refl) refl
 
-    first-value : (b : Bool) → named-matrix (gate-clauses (gate .function) (pos (gate .name)) (gate .inputs)) (with-value (gate .name) b h) ≡ same b (gate-value gate h)
+    first-value : (b : Bool) →
+        named-matrix (gate-clauses (gate .function) (pos (gate .name)) (gate .inputs)) (with-value (gate .name) b h) ≡ same b (gate-value gate h)
     first-value b =
         gate-holds (with-value (gate .name) b h) (gate .function) (pos (gate .name)) (gate .inputs) (ord .1) (some-of known (gate .inputs) (ord .2)) (ord .3)
         ∙ ap₂ same (own (gate .name) b)
         (ap (value-of (gate .function))
         (inputs-alike known (with-value (gate .name) b h) h (with-outside known (gate .name) b h (ord .0)) (gate .inputs) (ord .2)))
 
-    branch : (b : Bool) → named-meaning (existentials (names-of gates) []) (names-of gates) (named-matrix (clauses-of gates o)) (with-value (gate .name) b h) ≡ circuit gates o (with-value (gate .name) b h)
+    branch : (b : Bool) →
+        named-meaning (existentials (names-of gates) []) (names-of gates) (named-matrix (clauses-of gates o)) (with-value (gate .name) b h) ≡ circuit gates o
+        (with-value (gate .name) b h)
         → named-meaning (existentials (names-of gates) []) (names-of gates) (named-matrix (clauses-of (gate ∷ gates) o)) (with-value (gate .name) b h)
         ≡ (same b (gate-value gate h) && circuit gates o (with-value (gate .name) b h))
     branch b e =
-        meaning-equal (existentials (names-of gates) []) (names-of gates) (named-matrix (clauses-of (gate ∷ gates) o)) (λ g. named-matrix (gate-clauses (gate .function) (pos (gate .name)) (gate .inputs)) g && named-matrix (clauses-of gates o) g)
+        meaning-equal (existentials (names-of gates) []) (names-of gates) (named-matrix (clauses-of (gate ∷ gates) o))
+        (λ g. named-matrix (gate-clauses (gate .function) (pos (gate .name)) (gate .inputs)) g && named-matrix (clauses-of gates o) g)
         (λ g. matrix-append (gate-clauses (gate .function) (pos (gate .name)) (gate .inputs)) (clauses-of gates o) g) (with-value (gate .name) b h)
-        ∙ part-before (gate .name ∷ known) (named-matrix (gate-clauses (gate .function) (pos (gate .name)) (gate .inputs))) (named-matrix (clauses-of gates o)) (gate-looks known gate (ord .1) (ord .2) (ord .3)) (names-of gates)
+        ∙ part-before (gate .name ∷ known) (named-matrix (gate-clauses (gate .function) (pos (gate .name)) (gate .inputs))) (named-matrix (clauses-of gates o))
+        (gate-looks known gate (ord .1) (ord .2) (ord .3)) (names-of gates)
         (λ v i k. later-new (gate .name ∷ known) gates (ord .4) v i k) (with-value (gate .name) b h)
         ∙ ap₂ _&&_ (first-value b) e
 
@@ -123,7 +130,8 @@ gates-right (gate ∷ gates) o known ord h =
 
 -- Under the prefix: the verdict of the clauses, gates last, is the circuit's meaning.
 pub gate-list-right : (ks : List Kind) (xs : List ℕ) (gates : List Gate) (o : ℤ) → length ks ≡ length xs → Ordered xs gates → (g : Values)
-    → named-meaning (ks ++ existentials (names-of gates) []) (xs ++ names-of gates) (named-matrix (clauses-of gates o)) g ≡ named-meaning ks xs (circuit gates o) g
+    → named-meaning (ks ++ existentials (names-of gates) []) (xs ++ names-of gates) (named-matrix (clauses-of gates o)) g ≡ named-meaning ks xs
+    (circuit gates o) g
 gate-list-right ks xs gates o e ord g =
     meaning-append ks (existentials (names-of gates) []) xs (names-of gates) (named-matrix (clauses-of gates o)) g e
     ∙ meaning-equal ks xs (λ h. named-meaning (existentials (names-of gates) []) (names-of gates) (named-matrix (clauses-of gates o)) h) (circuit gates o)

@@ -45,5 +45,6 @@ placed-by names (pos zero) some = absurd (some refl)
 placed-by names (pos (suc v)) some = refl
 placed-by names (negsuc v) some = refl
 
-pub placed-some : (names : List ℕ) (z : ℤ) {r : ℤ} {p : ℕ} → (natAbs z ≡ 0 → ⊥) → p ≡ position (natAbs z) names → r ≡ signed (ltZ z (pos 0)) p → r ≡ placed names z
+pub placed-some : (names : List ℕ) (z : ℤ) {r : ℤ} {p : ℕ} → (natAbs z ≡ 0 → ⊥) → p ≡ position (natAbs z) names → r ≡ signed (ltZ z (pos 0)) p →
+    r ≡ placed names z
 placed-some names z some place is = is ∙ ap₂ signed (below-zero-negative z) place ∙ placed-by names z some

@@ -32,7 +32,8 @@ by-values (universal ∷ ks) (x ∷ xs) phi g e =
     ap₂ _&&_ (by-values ks xs phi (with-value x true g) (omega arith)) (by-values ks xs phi (with-value x false g) (omega arith))
 
 -- Matrices that are alike for as many values as there are unknowns have one meaning.
-pub meaning-alike : (ks : List Kind) (phi psi : List Bool → Bool) → ((vs : List Bool) → length vs ≡ length ks → phi vs ≡ psi vs) → meaning ks phi ≡ meaning ks psi
+pub meaning-alike : (ks : List Kind) (phi psi : List Bool → Bool) → ((vs : List Bool) → length vs ≡ length ks → phi vs ≡ psi vs) →
+    meaning ks phi ≡ meaning ks psi
 meaning-alike [] phi psi h = h [] refl
 meaning-alike (existential ∷ ks) phi psi h =
     ap₂ _||_ (meaning-alike ks (after true phi) (after true psi) (λ vs e. h (true ∷ vs) (ap suc e)))
@@ -118,7 +119,8 @@ module _ (names : List ℕ) where
   place-some k v [] i = absurd i
   place-some k v (x ∷ xs) i = go (eqb x v) refl i (λ there. place-some (suc k) v xs there)
     where
-      go : (t : Bool) → eqb x v ≡ t → In v (x ∷ xs) → (In v xs → (i : ℕ) × (place-from (suc (suc k)) v xs ≡ suc i)) → (i : ℕ) × (place-from (suc k) v (x ∷ xs) ≡ suc i)
+      go : (t : Bool) → eqb x v ≡ t → In v (x ∷ xs) → (In v xs → (i : ℕ) × (place-from (suc (suc k)) v xs ≡ suc i)) → (i : ℕ) ×
+          (place-from (suc k) v (x ∷ xs) ≡ suc i)
       go true q i more = (k, rw q refl)
       go false q (inl same) more = absurd (eqb-false x v q same)
       go false q (inr there) more = (more there .0, rw q (more there .1))

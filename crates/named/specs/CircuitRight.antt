@@ -30,7 +30,8 @@ Fits Xor is = length is ≡ 2
 abbrev pub Ordered : List ℕ → List Gate → Type 0
 Ordered known [] = Unit {0}
 Ordered known (gate ∷ gates) =
-    (In (gate .name) known → ⊥) × Some (pos (gate .name)) × InAll known (gate .inputs) × Fits (gate .function) (gate .inputs) × Ordered (gate .name ∷ known) gates
+    (In (gate .name) known → ⊥) × Some (pos (gate .name)) × InAll known (gate .inputs) × Fits (gate .function) (gate .inputs) × Ordered (gate .name ∷ known)
+    gates
 
 abbrev pub circuit-kinds : List ℕ → List Gate → List ℕ
 circuit-kinds kinds gates = kinds ++ replicate (length gates) 0
@@ -42,4 +43,5 @@ circuit-names names gates = names ++ names-of gates
 abbrev pub CircuitRight : List ℕ → List ℕ → List Gate → ℤ → Type 0
 CircuitRight kinds names gates o =
     length kinds ≡ length names → Distinct names → Ordered names gates → InAll (circuit-names names gates) (o ∷ []) → (g : Values)
-    → verdict (circuit-kinds kinds gates) (map (placed (circuit-names names gates)) (flat (clauses-of gates o))) ≡ named-meaning (prefix kinds) names (circuit gates o) g
+    → verdict (circuit-kinds kinds gates) (map (placed (circuit-names names gates)) (flat (clauses-of gates o))) ≡ named-meaning (prefix kinds) names
+    (circuit gates o) g

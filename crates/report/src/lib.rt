@@ -1,4 +1,5 @@
-// The lines that the programs print, as bytes in a lent buffer: two for a result, three for a study's, one for a refusal, four for a season's page. Each writer promises, for all
+// The lines that the programs print, as bytes in a lent buffer: two for a result, three for a study's, one for a refusal, one for a study's record, four
+// for a season's page. Each writer promises, for all
 // numbers and buffers, the definition's bytes at the start of the buffer, the bytes past them as found, and how many were written; a
 // buffer that is too short is left as found.
 ghost use mathlib.Core.Path.{_≡_};
@@ -7,6 +8,7 @@ ghost use Prim.Native.Nat.{_+_, _≤_};
 ghost use lib.ListN.{length, take, drop};
 ghost use Rattle.report.specs.Report.{ascii, decimal, truth as Report·truth, line-one, line-two, result-lines, pair-line, refusal-line, put, put-count};
 ghost use Rattle.report.specs.Studied.{setting-line, study-lines};
+ghost use Rattle.report.specs.Record.{record-line};
 ghost use Rattle.report.specs.Page.{answers-line, most-line, page-lines};
 
 // The two lines of a result: the answer's number and the text's V and C, then the rounds and the counts of A and S.
@@ -56,6 +58,17 @@ pub fn refusal(out: &mut [u8], number: u32, line: u32) -> usize
 {
     let mut text = [0u8; 64];
     let end = pair(&mut text, 0, b"c refused ", number as u64, line as u64);
+    deliver(out, &text[..end])
+}
+
+// The record of a study, which a season's sheet reads: the answer's number, the rounds and the fee.
+pub fn study_record(out: &mut [u8], answer: u32, rounds: u32, cents: u64) -> usize
+    ensures { λ r. ⌜ r ≡ put-count (record-line answer rounds cents) (now (out .entry)) ⌝ }
+    ensures { λ _. ⌜ now (out .exit) ≡ put (record-line answer rounds cents) (now (out .entry)) ⌝ }
+{
+    let mut text = [0u8; 64];
+    let next = field(&mut text, 0, b"", answer as u64);
+    let end = pair(&mut text, next, b" ", rounds as u64, cents);
     deliver(out, &text[..end])
 }
 

@@ -58,7 +58,8 @@ each-row : (v : Bool) (ts : List Bool) (psi : List Bool → Bool) (τ σ : Strat
     → psi (play (false ∷ ts) (joined v τ σ) r) ≡ true
 each-row v ts psi τ σ r inside outside = go v (first-value r) inside outside
   where
-    go : (v c : Bool) → (c ≡ v → psi (v ∷ play ts τ (later-values r)) ≡ true) → (Bool·beq v c ≡ false → psi (c ∷ play ts (past-row c σ) (later-values r)) ≡ true)
+    go : (v c : Bool) → (c ≡ v → psi (v ∷ play ts τ (later-values r)) ≡ true) →
+        (Bool·beq v c ≡ false → psi (c ∷ play ts (past-row c σ) (later-values r)) ≡ true)
         → psi (c ∷ play ts (past-row c (joined v τ σ)) (later-values r)) ≡ true
     go true true i o = i refl
     go true false i o = o refl
@@ -75,13 +76,17 @@ won-apart [] ts psi P σ b won apart =
 won-apart (v ∷ vs) [] psi P σ b won apart = absurd b
 won-apart (v ∷ vs) (true ∷ ts) psi P σ b won apart = absurd b
 won-apart (v ∷ vs) (false ∷ ts) psi P σ b won apart =
-    let behind = won-apart vs ts (after v psi) (λ q. (r : Row) × P r × (first-value r ≡ v) × (later-values r ≡ q)) (past-row v σ) b won outside in
-    (joined v (behind .0) σ, λ r h. each-row v ts psi (behind .0) σ r (λ p. behind .1 (later-values r) (r, h, p, refl)) (λ n. apart r h (and-false-left (Bool·beq v (first-value r)) (begins vs (later-values r)) n)))
+    let behind = won-apart vs ts (after v psi) (λ q. (r : Row) × P r × (first-value r ≡ v) × (later-values r ≡ q)) (past-row v σ) b won outside in (
+      joined v (behind .0) σ,
+      λ r h. each-row v ts psi (behind .0) σ r (λ p. behind .1 (later-values r) (r, h, p, refl))
+          (λ n. apart r h (and-false-left (Bool·beq v (first-value r)) (begins vs (later-values r)) n)),
+    )
   where
     outside : (q : Row) → ((r : Row) × P r × (first-value r ≡ v) × (later-values r ≡ q)) → begins vs q ≡ false → psi (v ∷ play ts (past-row v σ) q) ≡ true
     outside q (r, h, p, e) n =
         subst (λ (l : Row). psi (v ∷ play ts (past-row v σ) l) ≡ true) e
-        (subst (λ (c : Bool). psi (c ∷ play ts (past-row c σ) (later-values r)) ≡ true) p (apart r h (and-false-right (Bool·beq v (first-value r)) (begins vs (later-values r)) (subst (λ (l : Row). begins vs l ≡ false) (sym e) n))))
+        (subst (λ (c : Bool). psi (c ∷ play ts (past-row c σ) (later-values r)) ≡ true) p
+        (apart r h (and-false-right (Bool·beq v (first-value r)) (begins vs (later-values r)) (subst (λ (l : Row). begins vs l ≡ false) (sym e) n))))
 
 -- The flags behind the block are those of the prefix behind it.
 drop-flags : (side : Kind) (m : ℕ) (ks : List Kind) → drop m (flags side ks) ≡ flags side (drop m ks)
@@ -94,7 +99,8 @@ goal-set : (side : Kind) (vs : List Bool) (phi : List Bool → Bool) → set-to 
 goal-set existential vs phi = refl
 goal-set universal vs phi = refl
 
-wins-all : (ts : List Bool) (psi : List Bool → Bool) (σ : Strategy) (rows : List Row) → ((r : Row) → In r rows → psi (play ts σ r) ≡ true) → wins ts psi σ rows ≡ true
+wins-all : (ts : List Bool) (psi : List Bool → Bool) (σ : Strategy) (rows : List Row) → ((r : Row) → In r rows → psi (play ts σ r) ≡ true) →
+    wins ts psi σ rows ≡ true
 wins-all ts psi σ [] h = refl
 wins-all ts psi σ (x ∷ rows) h = and-eq-true-iff (psi (play ts σ x)) (wins ts psi σ rows) .1 (h x (inl refl), wins-all ts psi σ rows (λ r l. h r (inr l)))
 
@@ -115,7 +121,8 @@ set-not-reached prefer side ks phi rows σ vs b apart none-found = false-if-not-
         never-both (wins-all (flags side ks) (goal side phi) (τ .0) rows (τ .1)) (search-none prefer side ks phi rows .0 none-found (τ .0))
 
 -- What a strategy yields begins with the same values, whatever the row: the block's copies depend on nothing.
-pub same-start : (side : Kind) (ks : List Kind) (σ : Strategy) (r s : Row) → take (block side ks) (yield (flags side ks) σ r) ≡ take (block side ks) (yield (flags side ks) σ s)
+pub same-start : (side : Kind) (ks : List Kind) (σ : Strategy) (r s : Row) →
+    take (block side ks) (yield (flags side ks) σ r) ≡ take (block side ks) (yield (flags side ks) σ s)
 same-start side [] σ r s = refl
 same-start existential (existential ∷ ks) σ r s = ap (λ (vs : List Bool). σ zero [] ∷ vs) (same-start existential ks (past-own σ) r s)
 same-start existential (universal ∷ ks) σ r s = refl

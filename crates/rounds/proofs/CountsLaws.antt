@@ -15,7 +15,8 @@ use Rattle.expansion.specs.Play.{Row}
 use Rattle.expansion.specs.Copies.{among, fresh}
 use Rattle.expansion.specs.Model.{search}
 use Rattle.expansion.proofs.Membership.{In, in-among, not-in-among, in-append-cases, in-append-left, in-append-right, in-or-not, in-fresh, fresh-in}
-use Rattle.rounds.specs.Run.{Entry, Table, rows, grown, if-fits, clears, kept, Answer, is-false, is-true, spent, no-room-universal, no-room-existential, number, Outcome, Lent, step-1, step-2, step-3, step-4, round-of, run}
+use Rattle.rounds.specs.Run.{Entry, Table, rows, grown, if-fits, clears, kept, Answer, is-false, is-true, spent, no-room-universal, no-room-existential}
+use Rattle.rounds.specs.Run.{number, Outcome, Lent, step-1, step-2, step-3, step-4, round-of, run}
 use Rattle.rounds.specs.Claim.{table, Stands, Finished}
 use Rattle.rounds.specs.Counts.{rows-found, is-spent, came-to-3, searched, since, came, CountsRight}
 use Rattle.rounds.proofs.TableLaws.{rows-grown, stands-in}
@@ -106,10 +107,12 @@ abbrev pub second-search : Lent → Answer → Outcome → List Row
 second-search l a o = cond (came-to-3 a) (rows-found (search (l .prefer) universal (l .ks) (l .phi) (rows (o .S)))) []
 
 -- The universal side's, by the round's answer.
-pub searched-A : (l : Lent) (r : ℕ) (a : Answer) → run l r .answer ≡ spent → run l (suc r) .answer ≡ a → searched l universal r ≡ second-search l a (run l (suc r))
+pub searched-A : (l : Lent) (r : ℕ) (a : Answer) → run l r .answer ≡ spent → run l (suc r) .answer ≡ a →
+    searched l universal r ≡ second-search l a (run l (suc r))
 unfolding searched
 searched-A l r a e f =
-    ap (λ (b : Answer). cond (is-spent b && came-to-3 (run l (suc r) .answer)) (rows-found (search (l .prefer) universal (l .ks) (l .phi) (rows (run l (suc r) .S)))) []) e
+    ap (λ (b : Answer). cond (is-spent b && came-to-3 (run l (suc r) .answer))
+    (rows-found (search (l .prefer) universal (l .ks) (l .phi) (rows (run l (suc r) .S)))) []) e
     ∙ ap (λ (b : Answer). second-search l b (run l (suc r))) f
 
 searched-over : (l : Lent) (side : Kind) (r : ℕ) → Over (run l r .answer) → searched l side r ≡ []
@@ -124,7 +127,8 @@ searched-over l existential r = go (run l r .answer)
     go no-room-existential over = refl
 searched-over l universal r = go (run l r .answer)
   where
-    go : (a : Answer) → Over a → cond (is-spent a && came-to-3 (run l (suc r) .answer)) (rows-found (search (l .prefer) universal (l .ks) (l .phi) (rows (run l (suc r) .S)))) [] ≡ []
+    go : (a : Answer) → Over a →
+        cond (is-spent a && came-to-3 (run l (suc r) .answer)) (rows-found (search (l .prefer) universal (l .ks) (l .phi) (rows (run l (suc r) .S)))) [] ≡ []
     go is-false over = refl
     go is-true over = refl
     go spent over = absurd over
@@ -221,7 +225,8 @@ absent-zero l existential (suc r) x e out =
     let was : came l existential r x ≡ 0 =
     absent-zero l existential r x (spent-before l r (suc r) (omega arith) e) (λ h. stands (old-in-grown (suc r) (run l r .S) (p .new-S) x h)) in
     let not-now : bit (among x (searched l existential r)) ≡ 0 =
-    yielded-not x (searched l existential r) (λ h. stands (new-in-grown (suc r) (run l r .S) (p .new-S) x (subst (λ (ys : List Row). In x ys) (passed-S l r e) h))) in
+    yielded-not x (searched l existential r)
+    (λ h. stands (new-in-grown (suc r) (run l r .S) (p .new-S) x (subst (λ (ys : List Row). In x ys) (passed-S l r e) h))) in
     omega arith
 absent-zero l universal (suc r) x e out =
     let p = run-passed l r e in

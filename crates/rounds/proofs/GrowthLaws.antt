@@ -120,7 +120,8 @@ module _ (l : Lent) (side : Kind) (r : ℕ) (from : List Row) (q : Table) (held 
       let y : Row = last-row (rows q ++ fresh (rows q) new) in
       let is-y : last-row (rows (grown r q new)) ≡ y = ap last-row (rows-grown r q new) in
       ⊎-elim (λ o. o)
-      (λ f. absurd (never-both (subst (λ (z : Row). begins (take (block side (l .ks)) z) x ≡ true) (sym is-y) (starts-alike x y (fresh-in x (rows q) new f) (fresh-in y (rows q) new last))) otherwise))
+      (λ f. absurd (never-both (subst (λ (z : Row). begins (take (block side (l .ks)) z) x ≡ true) (sym is-y)
+      (starts-alike x y (fresh-in x (rows q) new f) (fresh-in y (rows q) new last))) otherwise))
       (in-append-cases x (rows q) (fresh (rows q) new) (subst (λ (n : List Row). In x n) (rows-grown r q new) h))
 
   led-grown : (fresh (rows q) new ≡ [] → ⊥) → LeadsModels (l .prefer) (flags side (l .ks)) (goal side (l .phi)) from (last-row (rows (grown r q new)))

@@ -21,7 +21,8 @@ use Rattle.expansion.proofs.Verdict.{none-is-verdict}
 use Rattle.expansion.proofs.Progress.{Answers}
 use Rattle.expansion.proofs.Counting.{Sized}
 use Rattle.expansion.proofs.Memory.{counted-in-block, more-led}
-use Rattle.rounds.specs.Run.{Entry, clears, kept, Table, rows, under-mark, Answer, is-false, is-true, spent, no-room-universal, no-room-existential, number, Outcome, outcome, grown, if-fits, Lent, start, step-1, step-2, step-3, step-4, round-of}
+use Rattle.rounds.specs.Run.{Entry, clears, kept, Table, rows, under-mark, Answer, is-false, is-true, spent, no-room-universal, no-room-existential}
+use Rattle.rounds.specs.Run.{number, Outcome, outcome, grown, if-fits, Lent, start, step-1, step-2, step-3, step-4, round-of}
 use Rattle.rounds.specs.Claim.{table, no-room, Stands, NewRow}
 use Rattle.rounds.specs.Opening.{block, last-row, first-values, opening, set-to, Opens}
 use Rattle.rounds.proofs.Blocks.{begins, begins-take, block-before, length-first-values, set-not-reached}
@@ -199,7 +200,8 @@ module _ (l : Lent) (r : ℕ) (b : Outcome) (before : Reached l r b) (ongoing : 
             each (λ side. (a ≡ spent → Keeps side l (suc r)) → Extends (table side b) (table side o)) (λ _. extends-itself (b .A)) (λ _. extends);
         new-row = λ e. absurd (over-not-spent a ends e);
         none-added = each (λ side. a ≡ no-room side → table side o ≡ table side b) (λ _. refl) unchanged;
-        marks = each (λ side. (i : ℕ) (x : Entry) → Stands (table side o) i x → Stands (table side b) i x ⊎ (x ≡ under-mark (suc r) (x .row))) (λ i x s. inl s) marks;
+        marks = each (λ side. (i : ℕ) (x : Entry) → Stands (table side o) i x → Stands (table side b) i x ⊎ (x ≡ under-mark (suc r) (x .row))) (λ i x s. inl s)
+            marks;
         all-marked = λ e. absurd (over-not-spent a ends e);
         latest = latest;
       }
@@ -287,7 +289,8 @@ module _ (l : Lent) (r : ℕ) (b : Outcome) (before : Reached l r b) (ongoing : 
       (fitted (l .room-A) (grown (suc r) (kept l (suc r) (b .A)) new))
 
   -- The steps, each by what it looks at.
-  made-4 : (S : Table) (new : List Row) → Growth l existential (suc r) (rows (b .A)) (b .S) (b .S) S → search (l .prefer) universal (l .ks) (l .phi) (rows S) ≡ some new
+  made-4 : (S : Table) (new : List Row) → Growth l existential (suc r) (rows (b .A)) (b .S) (b .S) S →
+      search (l .prefer) universal (l .ks) (l .phi) (rows S) ≡ some new
       → (m : Option Table) → Fitted (l .room-A) (grown (suc r) (kept l (suc r) (b .A)) new) m → Made l (suc r) b (step-4 (suc r) (b .A) S m)
   unfolding opening
   made-4 S new grown-S found none full =
@@ -342,7 +345,8 @@ module _ (l : Lent) (r : ℕ) (b : Outcome) (before : Reached l r b) (ongoing : 
   made-3 S grown-S none e =
       let right = right-3 S none e in
       over-later is-true S tt (λ q. omega (arith, ap number q)) right (opened-true S grown-S right e) grown-S
-  made-3 S grown-S (some new) e = made-4 S new grown-S e (if-fits (l .room-A) (grown (suc r) (kept l (suc r) (b .A)) new)) (fitted (l .room-A) (grown (suc r) (kept l (suc r) (b .A)) new))
+  made-3 S grown-S (some new) e = made-4 S new grown-S e (if-fits (l .room-A) (grown (suc r) (kept l (suc r) (b .A)) new))
+      (fitted (l .room-A) (grown (suc r) (kept l (suc r) (b .A)) new))
 
   made-2 : (new : List Row) → search (l .prefer) existential (l .ks) (l .phi) (rows (b .A)) ≡ some new
       → (m : Option Table) → Fitted (l .room-S) (grown (suc r) (b .S) new) m → Made l (suc r) b (step-2 l (suc r) (b .A) (b .S) m)

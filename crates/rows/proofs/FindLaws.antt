@@ -39,7 +39,8 @@ same-bytes-more : (b c : List ℕ) (x y : ℕ) → length b ≡ length c → sam
 same-bytes-more [] [] x y e = and-true (eqb x y)
 same-bytes-more [] (v ∷ c) x y e = absurd (omega arith)
 same-bytes-more (u ∷ b) [] x y e = absurd (omega arith)
-same-bytes-more (u ∷ b) (v ∷ c) x y e = ap (λ (w : Bool). eqb u v && w) (same-bytes-more b c x y (omega arith)) ∙ sym (and-assoc (eqb u v) (same-bytes b c) (eqb x y))
+same-bytes-more (u ∷ b) (v ∷ c) x y e = ap (λ (w : Bool). eqb u v && w) (same-bytes-more b c x y (omega arith)) ∙ sym
+    (and-assoc (eqb u v) (same-bytes b c) (eqb x y))
 
 take-more : (t : List ℕ) (x p : ℕ) → x + p < length t → take (p + 1) (drop x t) ≡ take p (drop x t) ++ (getD t (x + p) 0 ∷ [])
 take-more t x p h =
@@ -49,10 +50,12 @@ take-more t x p h =
 
 -- The bytes from x on and from y on, one more of each.
 pub same-parts-more : (t : List ℕ) (x : ℕ) (u : List ℕ) (y p : ℕ) → x + p < length t → y + p < length u
-    → (same-bytes (take p (drop x t)) (take p (drop y u)) && eqb (getD t (x + p) 0) (getD u (y + p) 0)) ≡ same-bytes (take (p + 1) (drop x t)) (take (p + 1) (drop y u))
+    → (same-bytes (take p (drop x t)) (take p (drop y u)) && eqb (getD t (x + p) 0) (getD u (y + p) 0)) ≡ same-bytes (take (p + 1) (drop x t))
+    (take (p + 1) (drop y u))
 same-parts-more t x u y p ht hu =
     let size = length-take-le p (drop x t) (omega (arith, length-drop x t)) ∙ sym (length-take-le p (drop y u) (omega (arith, length-drop y u))) in
-    sym (ap₂ same-bytes (take-more t x p ht) (take-more u y p hu) ∙ same-bytes-more (take p (drop x t)) (take p (drop y u)) (getD t (x + p) 0) (getD u (y + p) 0) size)
+    sym (ap₂ same-bytes (take-more t x p ht) (take-more u y p hu) ∙ same-bytes-more (take p (drop x t)) (take p (drop y u)) (getD t (x + p) 0)
+    (getD u (y + p) 0) size)
 
 pub equal-rows-inside : (t : List ℕ) (i : ℕ) (u : List ℕ) (j : ℕ) → i < room t → j < room u
     → equal-rows t i u j ≡ same-bytes (take 16 (drop (16 * i) t)) (take 16 (drop (16 * j) u))

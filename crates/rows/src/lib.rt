@@ -11,7 +11,8 @@ ghost use lib.Seq.{paste};
 ghost use Rattle.rows.specs.Row.{bit-of};
 ghost use Rattle.rows.specs.Stray.{stray, stray-rows};
 ghost use Rattle.rows.specs.Table.{row-at, room, table-fits, one-a-row};
-ghost use Rattle.rows.specs.Access.{zeroed-from, handed-back, handed-start, bit-set, same-bytes, first-place, rows-written, marks-written, places-below, rows-given-up, marks-given-up};
+ghost use Rattle.rows.specs.Access.{zeroed-from, handed-back, handed-start, bit-set, same-bytes, first-place, rows-written, marks-written, places-below};
+ghost use Rattle.rows.specs.Access.{rows-given-up, marks-given-up};
 
 // A row's bytes, and its bits.
 const BYTES: usize = 16;

@@ -124,31 +124,33 @@ half-twice false = refl
 -- ---- a cell is set by two stores, and what it wants by one
 
 abbrev pub level-stored : List ℕ → ℕ → ℕ → ℕ → List ℕ
-level-stored w i k mark = set w (max-unknowns * i + k) mark
+level-stored w i k level = set w (max-unknowns * i + k) level
 
 abbrev pub value-stored : List ℕ → ℕ → ℕ → Bool → List ℕ
 value-stored w i k y = set w (flags-from + (max-unknowns * i + k)) (getD w (flags-from + (max-unknowns * i + k)) 0 / 2 * 2 + weight y)
 
-module _ (i k : ℕ) (hi : i < max-rows) (hk : k < max-unknowns) (w : List ℕ) (area : length w ≡ work-size) (mark : ℕ) (y : Bool) where
+module _ (i k : ℕ) (hi : i < max-rows) (hk : k < max-unknowns) (w : List ℕ) (area : length w ≡ work-size) (level : ℕ) (y : Bool) where
   abbrev one-set : List ℕ
-  one-set = value-stored (level-stored w i k mark) i k y
+  one-set = value-stored (level-stored w i k level) i k y
 
-  area-kept : length (level-stored w i k mark) ≡ work-size
-  area-kept = length-set w (max-unknowns * i + k) mark ∙ area
+  area-kept : length (level-stored w i k level) ≡ work-size
+  area-kept = length-set w (max-unknowns * i + k) level ∙ area
 
   -- the flags as they were, but for the value
   flags-of-set : flags one-set i k ≡ flags w i k / 2 * 2 + weight y
   flags-of-set =
-      flags-there i k hi hk (level-stored w i k mark) area-kept (getD (level-stored w i k mark) (flags-from + (max-unknowns * i + k)) 0 / 2 * 2 + weight y)
-      ∙ ap (λ (x : ℕ). x / 2 * 2 + weight y) (sym (flags-at i k hi hk (level-stored w i k mark)) ∙ flags-after-level i k hi hk w mark i k)
+      flags-there i k hi hk (level-stored w i k level) area-kept (getD (level-stored w i k level) (flags-from + (max-unknowns * i + k)) 0 / 2 * 2 + weight y)
+      ∙ ap (λ (x : ℕ). x / 2 * 2 + weight y) (sym (flags-at i k hi hk (level-stored w i k level)) ∙ flags-after-level i k hi hk w level i k)
 
   flags-kept : (h j : ℕ) → ((h ≡ i) × (j ≡ k) → ⊥) → flags one-set h j ≡ flags w h j
   flags-kept h j other =
-      flags-elsewhere i k hi hk (level-stored w i k mark) (getD (level-stored w i k mark) (flags-from + (max-unknowns * i + k)) 0 / 2 * 2 + weight y) h j other
-      ∙ flags-after-level i k hi hk w mark h j
+      flags-elsewhere i k hi hk (level-stored w i k level) (getD (level-stored w i k level) (flags-from + (max-unknowns * i + k)) 0 / 2 * 2 + weight y) h j
+      other
+      ∙ flags-after-level i k hi hk w level h j
 
-  level-of-set : (h j : ℕ) → cells one-set .level h j ≡ cells (level-stored w i k mark) .level h j
-  level-of-set h j = level-after-flags i k hi hk (level-stored w i k mark) (getD (level-stored w i k mark) (flags-from + (max-unknowns * i + k)) 0 / 2 * 2 + weight y) h j
+  level-of-set : (h j : ℕ) → cells one-set .level h j ≡ cells (level-stored w i k level) .level h j
+  level-of-set h j = level-after-flags i k hi hk (level-stored w i k level) (getD (level-stored w i k level) (flags-from + (max-unknowns * i + k))
+      0 / 2 * 2 + weight y) h j
 
   value-of-set : cells one-set .value i k ≡ y
   unfolding cells
@@ -158,13 +160,13 @@ module _ (i k : ℕ) (hi : i < max-rows) (hk : k < max-unknowns) (w : List ℕ) 
   unfolding wants
   wants-of-set = ap (λ (x : ℕ). odd (x / 2)) flags-of-set ∙ ap odd (half-of y (flags w i k))
 
-  pub cell-set : CellsSet k i (i + 1) mark y w one-set
+  pub cell-set : CellsSet k i (i + 1) level y w one-set
   cell-set = record {
     stored = record {
-      there = λ h low high. let same : h ≡ i = omega arith in rw same (level-of-set i k ∙ level-there i k hi hk w area mark, value-of-set);
+      there = λ h low high. let same : h ≡ i = omega arith in rw same (level-of-set i k ∙ level-there i k hi hk w area level, value-of-set);
       elsewhere = λ h j out.
           let other : (h ≡ i) × (j ≡ k) → ⊥ = λ t. let same : h ≡ i = t .0 in out (omega arith, omega arith, t .1) in
-          (level-of-set h j ∙ level-elsewhere i k hi hk w mark h j other, value-same w one-set h j (flags-kept h j other));
+          (level-of-set h j ∙ level-elsewhere i k hi hk w level h j other, value-same w one-set h j (flags-kept h j other));
     };
     wanted = wanted;
   }
@@ -186,27 +188,30 @@ module _ (i k : ℕ) (hi : i < max-rows) (hk : k < max-unknowns) (w : List ℕ) 
   want-set = record {
     there = wants-of-want;
     elsewhere = λ h j other.
-        let same = flags-elsewhere i k hi hk w (2 * weight wanted) h j other in
-        (wants-same w (set w (flags-from + (max-unknowns * i + k)) (2 * weight wanted)) h j same, value-same w (set w (flags-from + (max-unknowns * i + k)) (2 * weight wanted)) h j same);
+        let same = flags-elsewhere i k hi hk w (2 * weight wanted) h j other in (
+          wants-same w (set w (flags-from + (max-unknowns * i + k)) (2 * weight wanted)) h j same,
+          value-same w
+              (set w (flags-from + (max-unknowns * i + k)) (2 * weight wanted)) h j same,
+        );
     levels = λ h j. level-after-flags i k hi hk w (2 * weight wanted) h j;
   }
 
 -- ---- the cells of neighbouring rows
 
-pub cells-set-none : (k lo mark : ℕ) (y : Bool) (w : List ℕ) → CellsSet k lo lo mark y w w
-cells-set-none k lo mark y w = record {
+pub cells-set-none : (k lo level : ℕ) (y : Bool) (w : List ℕ) → CellsSet k lo lo level y w w
+cells-set-none k lo level y w = record {
   stored = record { there = λ i low high. absurd (omega arith); elsewhere = λ i j out. (refl, refl) };
   wanted = λ i j. refl;
 }
 
-pub cells-set-more : (k lo i mark : ℕ) (y : Bool) (w u x : List ℕ) → lo ≤ i → CellsSet k lo i mark y w u → CellsSet k i (i + 1) mark y u x
-    → CellsSet k lo (i + 1) mark y w x
-cells-set-more k lo i mark y w u x from a b = record {
+pub cells-set-more : (k lo i level : ℕ) (y : Bool) (w u x : List ℕ) → lo ≤ i → CellsSet k lo i level y w u → CellsSet k i (i + 1) level y u x
+    → CellsSet k lo (i + 1) level y w x
+cells-set-more k lo i level y w u x from a b = record {
   stored = record { there = λ h low high. there h low high (decLt h i); elsewhere = elsewhere };
   wanted = λ h j. b .wanted h j ∙ a .wanted h j;
 }
   where
-    there : (h : ℕ) → lo ≤ h → h < i + 1 → Dec (h < i) → (cells x .level h k ≡ mark) × (cells x .value h k ≡ y)
+    there : (h : ℕ) → lo ≤ h → h < i + 1 → Dec (h < i) → (cells x .level h k ≡ level) × (cells x .value h k ≡ y)
     there h low high (yes p) =
         let kept = b .stored .elsewhere h k (λ t. let q = t .0 in omega arith) in
         let set-before = a .stored .there h low p in

@@ -70,7 +70,8 @@ module _ (kinds : List ℕ) (side : ℕ) (w : List ℕ) (i : ℕ) where
       go : Dec (j ≡ k) → cells w .value i j ≡ cells w .value (i + 1) j
       go (yes q) =
           let here : eqb (getD kinds k 0) side ≡ false = sym (owned-at kinds side k inside) ∙ ap (λ (x : ℕ). getD (owned kinds side) x false) (sym q) ∙ other in
-          subst (λ (x : ℕ). cells w .value i x ≡ cells w .value (i + 1) x) (sym q) (alike (eqb (getD kinds k 0) side) (cells w .value i k) (cells w .value (i + 1) k) e here)
+          subst (λ (x : ℕ). cells w .value i x ≡ cells w .value (i + 1) x) (sym q)
+          (alike (eqb (getD kinds k 0) side) (cells w .value i k) (cells w .value (i + 1) k) e here)
       go (no d) = same j (omega arith) other
 
   found : (k : ℕ) → k < length kinds → SameBefore k → differ kinds side w i k ≡ true → FirstDifference kinds side w i k
@@ -99,10 +100,11 @@ module _ (kinds : List ℕ) (side : ℕ) (w : List ℕ) (i : ℕ) where
 
 -- ---- row by row
 
-module _ (kinds w : List ℕ) (count side : ℕ) (splits : List ℕ) (area : length w ≡ work-size) (few : length kinds ≤ max-unknowns) (most : count ≤ max-rows) (room : length splits ≡ max-rows) where
-  pub rows-compared-inside : rows-compared kinds w count side splits ≡ steps (with-split kinds side w) (count - 1) 0 splits
+module _ (kinds w : List ℕ) (count side : ℕ) (differences : List ℕ) (area : length w ≡ work-size) (few : length kinds ≤ max-unknowns) (most : count ≤ max-rows)
+    (room : length differences ≡ max-rows) where
+  pub rows-compared-inside : rows-compared kinds w count side differences ≡ steps (with-split kinds side w) (count - 1) 0 differences
   unfolding rows-compared
-  rows-compared-inside = rw (sizes-fit (length w) (length kinds) count area few most, eq-eqb (length splits) max-rows room)
+  rows-compared-inside = rw (sizes-fit (length w) (length kinds) count area few most, eq-eqb (length differences) max-rows room)
 
   abbrev ComparedBelow : ℕ → List ℕ → Type 0
   ComparedBelow i u = (length u ≡ max-rows) × ((j : ℕ) → j < i → FirstDifference kinds side w j (getD u (j + 1) 0))
@@ -118,11 +120,11 @@ module _ (kinds w : List ℕ) (count side : ℕ) (splits : List ℕ) (area : len
           subst (FirstDifference kinds side w j) (sym (getD-set-other u (i + 1) (j + 1) (first-difference kinds side w i) 0 (omega arith)))
           (p .1 j (omega arith))
 
-  all-compared : ComparedBelow (count - 1) (rows-compared kinds w count side splits)
+  all-compared : ComparedBelow (count - 1) (rows-compared kinds w count side differences)
   all-compared =
-      subst (ComparedBelow (count - 1)) (sym (rows-compared-inside ∙ steps-all (with-split kinds side w) (count - 1) splits))
-      (steps-reach (with-split kinds side w) ComparedBelow 0 (count - 1) (λ i u low less p. compared-more i u less p) splits (omega arith)
+      subst (ComparedBelow (count - 1)) (sym (rows-compared-inside ∙ steps-all (with-split kinds side w) (count - 1) differences))
+      (steps-reach (with-split kinds side w) ComparedBelow 0 (count - 1) (λ i u low less p. compared-more i u less p) differences (omega arith)
       (room, λ j h. absurd (omega arith)))
 
-  pub rows-are-compared : (i : ℕ) → i + 1 < count → FirstDifference kinds side w i (getD (rows-compared kinds w count side splits) (i + 1) 0)
+  pub rows-are-compared : (i : ℕ) → i + 1 < count → FirstDifference kinds side w i (getD (rows-compared kinds w count side differences) (i + 1) 0)
   rows-are-compared i h = all-compared .1 i (omega arith)

@@ -201,27 +201,30 @@ module _ (kinds rows place : List ℕ) (side : ℕ) (w : List ℕ) where
 abbrev pub row-step : List ℕ → List ℕ → List ℕ → ℕ → ℕ → List ℕ → List ℕ
 row-step kinds rows place side r = with-given-row kinds rows side r (getD place r 0)
 
-module _ (kinds rows place : List ℕ) (side : ℕ) (w : List ℕ) (area : length w ≡ work-size) (few : length kinds ≤ max-unknowns) (most : length place ≤ max-rows) where
-  pub rows-filled-inside : rows-filled kinds rows place side w ≡ steps (row-step kinds rows place side) (length place) 0 w
-  unfolding rows-filled
-  rows-filled-inside = rw (sizes-fit (length w) (length kinds) (length place) area few most)
+module _ (kinds rows place : List ℕ) (side : ℕ) (w : List ℕ) (area : length w ≡ work-size) (few : length kinds ≤ max-unknowns) (most : length place ≤ max-rows)
+  where
+    pub rows-filled-inside : rows-filled kinds rows place side w ≡ steps (row-step kinds rows place side) (length place) 0 w
+    unfolding rows-filled
+    rows-filled-inside = rw (sizes-fit (length w) (length kinds) (length place) area few most)
 
-  module _ (bytes : (r : ℕ) → r < length place → getD place r 0 < 256) (apart : (r q : ℕ) → r < length place → q < length place → getD place r 0 ≡ getD place q 0 → r ≡ q) where
-    abbrev RowsBelow : ℕ → List ℕ → Type 0
-    RowsBelow n u = (length u ≡ work-size) × FilledBelow kinds rows place side n w u
+    module _ (bytes : (r : ℕ) → r < length place → getD place r 0 < 256) (apart : (r q : ℕ) → r < length place → q < length place → getD place r 0 ≡ getD place
+        q
+        0 → r ≡ q) where
+      abbrev RowsBelow : ℕ → List ℕ → Type 0
+      RowsBelow n u = (length u ≡ work-size) × FilledBelow kinds rows place side n w u
 
-    rows-more : (n : ℕ) (u : List ℕ) → n < length place → RowsBelow n u → RowsBelow (n + 1) (row-step kinds rows place side n u)
-    rows-more n u less p = (
-      length-given-row kinds rows side n (getD place n 0) few (bytes n less) u (p .0),
-      filled-more kinds rows place side w n u (row-step kinds rows place side n u) less apart (p .1)
-          (row-is-filled kinds rows side n (getD place n 0) few (bytes n less) u (p .0)),
-    )
+      rows-more : (n : ℕ) (u : List ℕ) → n < length place → RowsBelow n u → RowsBelow (n + 1) (row-step kinds rows place side n u)
+      rows-more n u less p = (
+        length-given-row kinds rows side n (getD place n 0) few (bytes n less) u (p .0),
+        filled-more kinds rows place side w n u (row-step kinds rows place side n u) less apart (p .1)
+            (row-is-filled kinds rows side n (getD place n 0) few (bytes n less) u (p .0)),
+      )
 
-    rows-given : RowsBelow (length place) (rows-filled kinds rows place side w)
-    rows-given =
-        subst (RowsBelow (length place)) (sym (rows-filled-inside ∙ steps-all (row-step kinds rows place side) (length place) w))
-        (steps-reach (row-step kinds rows place side) RowsBelow 0 (length place) (λ n u low less p. rows-more n u less p) w (omega arith)
-        (area, filled-none kinds rows place side w))
+      rows-given : RowsBelow (length place) (rows-filled kinds rows place side w)
+      rows-given =
+          subst (RowsBelow (length place)) (sym (rows-filled-inside ∙ steps-all (row-step kinds rows place side) (length place) w))
+          (steps-reach (row-step kinds rows place side) RowsBelow 0 (length place) (λ n u low less p. rows-more n u less p) w (omega arith)
+          (area, filled-none kinds rows place side w))
 
-    pub rows-are-filled : Filled kinds rows place side w (rows-filled kinds rows place side w)
-    rows-are-filled = filled-whole kinds rows place side w (rows-filled kinds rows place side w) (rows-given .1)
+      pub rows-are-filled : Filled kinds rows place side w (rows-filled kinds rows place side w)
+      rows-are-filled = filled-whole kinds rows place side w (rows-filled kinds rows place side w) (rows-given .1)

@@ -1,4 +1,4 @@
--- Cells opened byte by byte: marks over a bound become 0 in a run of bytes, which is the rows' run of cells.
+-- Cells opened byte by byte: levels over a bound become 0 in a run of bytes, which is the rows' run of cells.
 -- Assumes nothing.
 use Prim.Native.Nat.{ℕ, _+_, _-_, _*_, _≤_, _<_}
 use mathlib.Core.Path.{_≡_, refl, sym, ap, _∙_, subst}
@@ -16,11 +16,11 @@ use Rattle.search_cells.specs.Private.Changes.{CellsOpened}
 use Rattle.search_cells.proofs.CellLaws.{flags, spot-cases, value-same, wants-same}
 use Rattle.search_cells.proofs.StepLaws.{sizes-fit, steps-reach}
 
-bounded-low : (bound mark : ℕ) → mark ≤ bound → bounded bound mark ≡ mark
-bounded-low bound mark h = rw (le-leb mark bound h)
+bounded-low : (bound level : ℕ) → level ≤ bound → bounded bound level ≡ level
+bounded-low bound level h = rw (le-leb level bound h)
 
-bounded-high : (bound mark : ℕ) → bound < mark → bounded bound mark ≡ 0
-bounded-high bound mark h = rw (lt-leb mark bound h)
+bounded-high : (bound level : ℕ) → bound < level → bounded bound level ≡ 0
+bounded-high bound level h = rw (lt-leb level bound h)
 
 -- The bytes from `from` to `to` are bounded, the others stay.
 record BytesBounded (bound from to : ℕ) (w u : List ℕ) : Type 0 where
@@ -44,8 +44,9 @@ bytes-bounded-more bound from at w u low-at inside b = record {
         rw e (getD-set-same u at (bounded bound (getD u at 0)) 0 inside ∙ ap (bounded bound) (b .elsewhere at (λ t. let p = t .1 in omega arith)))
     there x low high (no n) = getD-set-other u at x (bounded bound (getD u at 0)) 0 n ∙ b .there x low (omega arith)
 
--- The bytes of the rows lo to hi bounded: the cells with a mark over the bound are open.
-module _ (bound lo hi : ℕ) (w u : List ℕ) (most : hi ≤ max-rows) (area : length w ≡ work-size) (b : BytesBounded bound (max-unknowns * lo) (max-unknowns * hi) w u) where
+-- The bytes of the rows lo to hi bounded: the cells with a level over the bound are open.
+module _ (bound lo hi : ℕ) (w u : List ℕ) (most : hi ≤ max-rows) (area : length w ≡ work-size) (b : BytesBounded bound (max-unknowns * lo) (max-unknowns * hi) w
+    u) where
   flags-stay : (i j : ℕ) → flags u i j ≡ flags w i j
   flags-stay i j = b .elsewhere (flags-from + spot i j) (λ t. let p = t .1 in omega arith)
 

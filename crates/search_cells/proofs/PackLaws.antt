@@ -11,7 +11,8 @@ use lib.Bits.{bitOr, or-lt}
 use lib.Dec.{eqb, eqb·zero-suc, eqb·suc-zero, eqb·suc-suc}
 use lib.ListN.{length, getD, set, take, drop, replicate, length-append, length-drop}
 use lib.Pow.{pow-lt}
-use lib.Seq.{ext-getD, getD-drop, take-at, drop-at, take-all, take-nil, take-append-le, drop-append-add, drop-drop, drop-length, length-take-le, set-append-left}
+use lib.Seq.{ext-getD, getD-drop, take-at, drop-at, take-all, take-nil, take-append-le, drop-append-add, drop-drop, drop-length, length-take-le}
+use lib.Seq.{set-append-left}
 use borrow.Author.Tests.{eq-eqb, ne-eqb}
 use borrow.Rule.Slice.PartMut.{midOf, postOf, putMid, post-is, mid-len}
 use Rattle.rows.specs.Stray.{row-bits}
@@ -199,7 +200,8 @@ module _ (w : List ℕ) (row : ℕ) (inside : row < room w) where
         ∙ ap (λ (l : List ℕ). getD l (k / 8) 0) (row-at-placed w row b inside width) in
         bit-set-inside (placed w row b) row k within own
         ∙ ap (λ (x : ℕ). set (placed w row b) (16 * row + k / 8) (bitOr x (2 ^ (k % 8)))) same
-        ∙ set-append-left (take (16 * row) w ++ b) (drop (16 * row + 16) w) (16 * row + k / 8) (bitOr (getD b (k / 8) 0) (2 ^ (k % 8))) (let f = front in omega arith)
+        ∙ set-append-left (take (16 * row) w ++ b) (drop (16 * row + 16) w) (16 * row + k / 8) (bitOr (getD b (k / 8) 0) (2 ^ (k % 8)))
+        (let f = front in omega arith)
         ∙ ap (λ (l : List ℕ). l ++ drop (16 * row + 16) w)
         (ap (λ (x : ℕ). set (take (16 * row) w ++ b) (x + k / 8) (bitOr (getD b (k / 8) 0) (2 ^ (k % 8)))) (sym start)
         ∙ set-append-add (take (16 * row) w) b (k / 8) (bitOr (getD b (k / 8) 0) (2 ^ (k % 8))))
@@ -386,6 +388,7 @@ module _ (kinds place : List ℕ) (side : ℕ) (w : List ℕ) (area : length w �
       ∙ ap (λ (m : ℕ). take (16 * n) u ++ replicate (m - 16 * n) 0) (ap length before ∙ length-rows-packed n few)
       ∙ ap (λ (l : List ℕ). l ++ replicate (work-size - 16 * n) 0) (ap (take (16 * n)) before ∙ take-at (table n) (drop (16 * n) w) (16 * n) (length-table n))
 
-  pub packed-inside : length kinds ≤ max-unknowns → length place ≤ max-rows → packed kinds place side w ≡ table (length place) ++ replicate (work-size - 16 * length place) 0
+  pub packed-inside : length kinds ≤ max-unknowns → length place ≤ max-rows →
+      packed kinds place side w ≡ table (length place) ++ replicate (work-size - 16 * length place) 0
   unfolding packed
   packed-inside few most = rw (sizes-fit (length w) (length kinds) (length place) area few most)

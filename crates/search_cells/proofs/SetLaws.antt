@@ -16,38 +16,41 @@ use Rattle.search_cells.proofs.StepLaws.{sizes-fit, steps-reach}
 
 -- ---- one cell
 
-module _ (i k mark : ℕ) (value : Bool) (w : List ℕ) where
-  pub length-with-cell : length (with-cell i k mark value w) ≡ length w
+module _ (i k level : ℕ) (value : Bool) (w : List ℕ) where
+  pub length-with-cell : length (with-cell i k level value w) ≡ length w
   unfolding with-cell
   length-with-cell = simp length-set
 
   module _ (hi : i < max-rows) (hk : k < max-unknowns) where
-    pub with-cell-stored : value-stored (level-stored w i k mark) i k value ≡ with-cell i k mark value w
+    pub with-cell-stored : value-stored (level-stored w i k level) i k value ≡ with-cell i k level value w
     unfolding with-cell
     with-cell-stored =
-        ap (λ (x : ℕ). set (set w x mark) (flags-from + x) (getD (set w x mark) (flags-from + x) 0 / 2 * 2 + weight value)) (sym (spot-in i k hi hk))
+        ap (λ (x : ℕ). set (set w x level) (flags-from + x) (getD (set w x level) (flags-from + x) 0 / 2 * 2 + weight value)) (sym (spot-in i k hi hk))
 
-    pub cells-set-one : length w ≡ work-size → CellsSet k i (i + 1) mark value w (with-cell i k mark value w)
-    cells-set-one area = subst (CellsSet k i (i + 1) mark value w) with-cell-stored (cell-set i k hi hk w area mark value)
+    pub cells-set-one : length w ≡ work-size → CellsSet k i (i + 1) level value w (with-cell i k level value w)
+    cells-set-one area = subst (CellsSet k i (i + 1) level value w) with-cell-stored (cell-set i k hi hk w area level value)
 
 -- ---- row by row
 
-module _ (k lo hi mark : ℕ) (value : Bool) (w : List ℕ) (area : length w ≡ work-size) (small : k < max-unknowns) (most : hi ≤ max-rows) where
-  pub rows-set-inside : rows-set k lo hi mark value w ≡ steps (λ i. with-cell i k mark value) (hi - lo) lo w
+module _ (k lo hi level : ℕ) (value : Bool) (w : List ℕ) (area : length w ≡ work-size) (small : k < max-unknowns) (most : hi ≤ max-rows) where
+  pub rows-set-inside : rows-set k lo hi level value w ≡ steps (λ i. with-cell i k level value) (hi - lo) lo w
   unfolding rows-set
   rows-set-inside = rw (sizes-fit (length w) 0 hi area (omega arith) most, lt-ltb k max-unknowns small)
 
   module _ (order : lo ≤ hi) where
     abbrev SetBelow : ℕ → List ℕ → Type 0
-    SetBelow i u = (length u ≡ work-size) × CellsSet k lo i mark value w u
+    SetBelow i u = (length u ≡ work-size) × CellsSet k lo i level value w u
 
-    all-set : SetBelow hi (rows-set k lo hi mark value w)
+    all-set : SetBelow hi (rows-set k lo hi level value w)
     all-set =
         subst (SetBelow hi) (sym rows-set-inside)
-        (steps-reach (λ i. with-cell i k mark value) SetBelow lo hi
-        (λ i u low less p.
-        (length-with-cell i k mark value u ∙ p .0, cells-set-more k lo i mark value w u (with-cell i k mark value u) low (p .1) (cells-set-one i k mark value u (omega arith) small (p .0))))
-        w order (area, cells-set-none k lo mark value w))
+        (steps-reach (λ i. with-cell i k level value) SetBelow lo hi
+        (λ i u low less p. (
+          length-with-cell i k level value u ∙ p .0,
+          cells-set-more k lo i level value w u (with-cell i k level value u) low (p .1)
+              (cells-set-one i k level value u (omega arith) small (p .0)),
+        ))
+        w order (area, cells-set-none k lo level value w))
 
-    pub rows-are-set : CellsSet k lo hi mark value w (rows-set k lo hi mark value w)
+    pub rows-are-set : CellsSet k lo hi level value w (rows-set k lo hi level value w)
     rows-are-set = all-set .1

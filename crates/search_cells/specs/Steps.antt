@@ -21,32 +21,32 @@ steps step (suc n) i w = steps step n (suc i) (step i w)
 unfoldable pub fits : ℕ → ℕ → ℕ → Bool
 fits area positions rows = eqb area work-size && leb positions max-unknowns && leb rows max-rows
 
--- A cell's level: the byte is a mark, 0 or the level plus 1.
+-- A cell's level: 0 if it is open, 1 if it is given or follows from the rows alone, k + 2 if by the decision at position k.
 abbrev pub with-level : ℕ → ℕ → ℕ → List ℕ → List ℕ
-with-level i k mark w = set w (spot i k) mark
+with-level i k level w = set w (spot i k) level
 
 -- A cell's value: the lowest bit of its byte. What the cell wants stays.
 abbrev pub with-value : ℕ → ℕ → Bool → List ℕ → List ℕ
 with-value i k value w = set w (flags + spot i k) (getD w (flags + spot i k) 0 / 2 * 2 + weight value)
 
--- A cell gets a mark and a value.
+-- A cell gets a level and a value.
 unfoldable pub with-cell : ℕ → ℕ → ℕ → Bool → List ℕ → List ℕ
-with-cell i k mark value w = with-value i k value (with-level i k mark w)
+with-cell i k level value w = with-value i k value (with-level i k level w)
 
--- The cells at position k of the rows from lo to hi get a mark and a value.
+-- The cells at position k of the rows from lo to hi get a level and a value.
 unfoldable pub rows-set : ℕ → ℕ → ℕ → ℕ → Bool → List ℕ → List ℕ
-rows-set k lo hi mark value w =
-    cond (fits (length w) 0 hi && ltb k max-unknowns) (steps (λ i. with-cell i k mark value) (hi - lo) lo w) w
+rows-set k lo hi level value w =
+    cond (fits (length w) 0 hi && ltb k max-unknowns) (steps (λ i. with-cell i k level value) (hi - lo) lo w) w
 
--- A mark that is at most the bound stays, another becomes 0.
+-- A level that is at most the bound stays, another becomes 0.
 abbrev pub bounded : ℕ → ℕ → ℕ
-bounded bound mark = cond (leb mark bound) mark 0
+bounded bound level = cond (leb level bound) level 0
 
 -- The byte `at` is bounded.
 abbrev pub with-bounded : ℕ → ℕ → List ℕ → List ℕ
 with-bounded bound at w = set w at (bounded bound (getD w at 0))
 
--- The cells of the rows from lo to hi whose mark is over the bound are opened: their levels are a run of bytes.
+-- The cells of the rows from lo to hi whose level is over the bound are opened: their levels are a run of bytes.
 unfoldable pub rows-opened : ℕ → ℕ → ℕ → List ℕ → List ℕ
 rows-opened lo hi bound w = cond (fits (length w) 0 hi) (steps (with-bounded bound) (max-unknowns * hi - max-unknowns * lo) (max-unknowns * lo) w) w
 
@@ -79,12 +79,12 @@ first-difference kinds side w i = first-from (differ kinds side w i) 0 (length k
 
 -- Row i + 1 gets it.
 abbrev pub with-split : List ℕ → ℕ → List ℕ → ℕ → List ℕ → List ℕ
-with-split kinds side w i splits = set splits (i + 1) (first-difference kinds side w i)
+with-split kinds side w i differences = set differences (i + 1) (first-difference kinds side w i)
 
 -- Each row below the count but the first gets the first position at which it differs from the row before it. The other entries stay.
 unfoldable pub rows-compared : List ℕ → List ℕ → ℕ → ℕ → List ℕ → List ℕ
-rows-compared kinds w count side splits =
-    cond (fits (length w) (length kinds) count && eqb (length splits) max-rows) (steps (with-split kinds side w) (count - 1) 0 splits) splits
+rows-compared kinds w count side differences =
+    cond (fits (length w) (length kinds) count && eqb (length differences) max-rows) (steps (with-split kinds side w) (count - 1) 0 differences) differences
 
 -- The own values of lent row r: those of its sorted row, place[r].
 abbrev pub yielded : List ℕ → List ℕ → ℕ → List ℕ → ℕ → List Bool

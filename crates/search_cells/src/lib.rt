@@ -12,7 +12,8 @@ ghost use Rattle.rows.specs.Access.{placed, bit-set};
 ghost use Rattle.expansion.specs.Play.{part};
 ghost use Rattle.expansion.specs.Cells.{tabulate};
 ghost use Rattle.search_cells.specs.Cells.{cells, owned};
-ghost use Rattle.search_cells.specs.Steps.{fits, with-cell, rows-set, bounded, rows-opened, with-given-row, rows-filled, first-difference, rows-compared, packed};
+ghost use Rattle.search_cells.specs.Steps.{fits, with-cell, rows-set, bounded, rows-opened, with-given-row, rows-filled, first-difference, rows-compared};
+ghost use Rattle.search_cells.specs.Steps.{packed};
 
 // The bytes of the cells' values and wanted values lie behind those of their levels.
 pub const FLAGS: usize = Formula::ROWS * Formula::UNKNOWNS;
@@ -20,9 +21,9 @@ pub const FLAGS: usize = Formula::ROWS * Formula::UNKNOWNS;
 // A packed row.
 const BYTES: usize = 16;
 
-// Sets the cells at position k of the rows from lo to hi. The mark is the level plus 1; what the cells want stays.
-pub fn set_rows(work: &mut [u8], k: usize, lo: usize, hi: usize, mark: u8, value: bool)
-    ensures { λ _. ⌜ now (work .exit) ≡ rows-set k lo hi mark value (now (work .entry)) ⌝ }
+// Sets the cells at position k of the rows from lo to hi. Level 0 is that of an open cell; what the cells want stays.
+pub fn set_rows(work: &mut [u8], k: usize, lo: usize, hi: usize, level: u8, value: bool)
+    ensures { λ _. ⌜ now (work .exit) ≡ rows-set k lo hi level value (now (work .entry)) ⌝ }
 {
     if is_table(work.len(), 0, hi) {} else {
         return;
@@ -32,12 +33,12 @@ pub fn set_rows(work: &mut [u8], k: usize, lo: usize, hi: usize, mark: u8, value
     }
     let mut i = lo;
     while i < hi {
-        set(work, i, k, mark, value);
+        set(work, i, k, level, value);
         i += 1;
     }
 }
 
-// Opens the cells of the rows from lo to hi whose mark is over the bound: a plain walk over their bytes, which the compiler makes wide.
+// Opens the cells of the rows from lo to hi whose level is over the bound: a plain walk over their bytes, which the compiler makes wide.
 pub fn undo(work: &mut [u8], lo: usize, hi: usize, bound: u8)
     ensures { λ _. ⌜ now (work .exit) ≡ rows-opened lo hi bound (now (work .entry)) ⌝ }
 {
@@ -70,18 +71,18 @@ pub fn fill(kinds: &[u8], rows: &[u8], place: &[u8], side: u8, work: &mut [u8])
 
 // Writes, for each sorted row but the first, the first position of the other side at which it differs from the row before it; the number of
 // kinds if there is none.
-pub fn compare(kinds: &[u8], work: &[u8], count: usize, side: u8, splits: &mut [u8])
-    ensures { λ _. ⌜ now (splits .exit) ≡ rows-compared (now (kinds .entry)) (now (work .entry)) count side (now (splits .entry)) ⌝ }
+pub fn compare(kinds: &[u8], work: &[u8], count: usize, side: u8, differences: &mut [u8])
+    ensures { λ _. ⌜ now (differences .exit) ≡ rows-compared (now (kinds .entry)) (now (work .entry)) count side (now (differences .entry)) ⌝ }
 {
     if is_table(work.len(), kinds.len(), count) {} else {
         return;
     }
-    if splits.len() != Formula::ROWS {
+    if differences.len() != Formula::ROWS {
         return;
     }
     let mut i = 0;
     while i + 1 < count {
-        splits[i + 1] = first_difference(kinds, work, i, side) as u8;
+        differences[i + 1] = first_difference(kinds, work, i, side) as u8;
         i += 1;
     }
 }
@@ -116,12 +117,12 @@ fn is_table(area: usize, positions: usize, rows: usize) -> bool
     rows <= Formula::ROWS
 }
 
-fn set(work: &mut [u8], i: usize, k: usize, mark: u8, value: bool)
+fn set(work: &mut [u8], i: usize, k: usize, level: u8, value: bool)
     requires { ⌜ (length (now work) ≡ work-size) × (i < max-rows) × (k < max-unknowns) ⌝ }
-    ensures { λ _. ⌜ now (work .exit) ≡ with-cell i k mark value (now (work .entry)) ⌝ }
+    ensures { λ _. ⌜ now (work .exit) ≡ with-cell i k level value (now (work .entry)) ⌝ }
 {
     let at = Formula::UNKNOWNS * i + k;
-    work[at] = mark;
+    work[at] = level;
     work[FLAGS + at] = work[FLAGS + at] / 2 * 2 + bit(value);
 }
 
@@ -131,10 +132,10 @@ fn bit(value: bool) -> u8
     if value { 1 } else { 0 }
 }
 
-fn within(mark: u8, bound: u8) -> u8
-    ensures { λ r. ⌜ r ≡ bounded bound mark ⌝ }
+fn within(level: u8, bound: u8) -> u8
+    ensures { λ r. ⌜ r ≡ bounded bound level ⌝ }
 {
-    if mark <= bound { mark } else { 0 }
+    if level <= bound { level } else { 0 }
 }
 
 fn fill_row(kinds: &[u8], rows: &[u8], row: usize, i: usize, side: u8, work: &mut [u8])
@@ -185,7 +186,8 @@ fn value(work: &[u8], i: usize, k: usize) -> bool
 // Writes the own values of the sorted row i as lent row `row`.
 fn pack_row(kinds: &[u8], row: usize, i: usize, side: u8, work: &mut [u8])
     requires { ⌜ (length (now kinds) ≤ max-unknowns) × (row < max-rows) × (i < max-rows) × (length (now work) ≡ work-size) ⌝ }
-    ensures { λ _. ⌜ now (work .exit) ≡ placed (now (work .entry)) row (bytes-of (part (owned (now (kinds .entry)) side) (tabulate (length (now (kinds .entry))) (cells (now (work .entry)) .value i)))) ⌝ }
+    ensures { λ _. ⌜ now (work .exit) ≡ placed (now (work .entry)) row
+        (bytes-of (part (owned (now (kinds .entry)) side) (tabulate (length (now (kinds .entry))) (cells (now (work .entry)) .value i)))) ⌝ }
 {
     rows::clear(&mut work[BYTES * row..BYTES * row + BYTES]);
     let mut bit = 0;

@@ -69,7 +69,8 @@ module _ (w : List ℕ) (i : ℕ) where
           (so .unset two));
     }
 
-  shows-literal : (c : ℕ) (cs : List ℕ) → IsLiteral (suc c) → ((n : ℕ) → Shows n cs (look n cs)) → (s t : Bool) → is-set w i (suc c) ≡ s → is-true w i (suc c) ≡ t → (shown : ℕ)
+  shows-literal : (c : ℕ) (cs : List ℕ) → IsLiteral (suc c) → ((n : ℕ) → Shows n cs (look n cs)) → (s t : Bool) → is-set w i (suc c) ≡ s →
+      is-true w i (suc c) ≡ t → (shown : ℕ)
       → Shows shown (suc c ∷ cs) (look (shown-with s t shown (suc c)) cs)
   shows-literal c cs literal later true true set truth shown = shows-nothing shown (suc c ∷ cs) (look 1 cs) (look-one (is-set w i) (is-true w i) cs)
   shows-literal c cs literal later true false set truth shown =
@@ -86,7 +87,8 @@ module _ (w : List ℕ) (i : ℕ) where
       shows-literal c cs (all .0) (λ n. shows-all n cs (all .1)) (is-set w i (suc c)) (is-true w i (suc c)) refl refl shown
 
 -- What `look` returns is what a look at the clause finds.
-pub look-looked : (codes w : List ℕ) (i start : ℕ) → length w ≡ work-size → i < max-rows → Coded max-unknowns codes → Looked codes w i start (look-at codes w i start)
+pub look-looked : (codes w : List ℕ) (i start : ℕ) → length w ≡ work-size → i < max-rows → Coded max-unknowns codes →
+    Looked codes w i start (look-at codes w i start)
 unfolding look-at
 look-looked codes w i start area row coded =
     rw (has-this-row w i area row) (record {

@@ -8,7 +8,7 @@ use native.Mathlib.Numerals.{add-one}
 use native.Mathlib.Omega.{arith}
 use lib.ListN.{length, getD, drop, drop-of-length-le}
 use lib.Seq.{drop-cons}
-use Rattle.search_evaluation.specs.Evaluation.{is-set, is-true, is-satisfied, shown-with, look-on, lives-on, next-live-on, matrix-on}
+use Rattle.search_evaluation.specs.Evaluation.{is-set, is-true, is-satisfied, shown-with, look-on, unsatisfied-on, next-unsatisfied-on, matrix-on}
 
 -- ---- the next code
 
@@ -76,7 +76,8 @@ module _ {codes w : List ℕ} {i start shown e : ℕ} (so-far : Looking codes w 
       looking-literal : (s t : Bool) (n : ℕ) → is-set w i c ≡ s → is-true w i c ≡ t → shown-with s t shown c ≡ n → Looking codes w i start n (e + 1)
       looking-literal s t n is-s is-t is-n = record {
         left =
-            sym (ap (λ (m : ℕ). look-on (is-set w i) (is-true w i) m (drop (e + 1) codes)) (ap (λ (b : Bool). shown-with b (is-true w i c) shown c) is-s ∙ ap (λ (b : Bool). shown-with s b shown c) is-t ∙ is-n))
+            sym (ap (λ (m : ℕ). look-on (is-set w i) (is-true w i) m (drop (e + 1) codes)) (ap (λ (b : Bool). shown-with b (is-true w i c) shown c) is-s ∙ ap
+            (λ (b : Bool). shown-with s b shown c) is-t ∙ is-n))
             ∙ literal (look-on (is-set w i) (is-true w i) shown) codes e c inside is
             (λ x cs. look-on (is-set w i) (is-true w i) (shown-with (is-set w i x) (is-true w i x) shown x) cs) (λ x cs. refl) other
             ∙ so-far .left;
@@ -99,33 +100,34 @@ module _ {codes w : List ℕ} {i start shown e : ℕ} (so-far : Looking codes w 
 
 -- ---- whether a clause lives
 
-abbrev lives-whole : List ℕ → List ℕ → ℕ → ℕ → Bool
-lives-whole codes w i start = lives-on (is-satisfied w i) (drop start codes)
+abbrev unsatisfied-whole : List ℕ → List ℕ → ℕ → ℕ → Bool
+unsatisfied-whole codes w i start = unsatisfied-on (is-satisfied w i) (drop start codes)
 
 pub record Living (codes w : List ℕ) (i start e : ℕ) : Type 0 where
-  pub left : lives-on (is-satisfied w i) (drop e codes) ≡ lives-whole codes w i start
+  pub left : unsatisfied-on (is-satisfied w i) (drop e codes) ≡ unsatisfied-whole codes w i start
 
 pub living-start : {codes w : List ℕ} {i start : ℕ} → Living codes w i start start
 living-start = record { left = refl }
 
 module _ {codes w : List ℕ} {i start e : ℕ} (so-far : Living codes w i start e) where
-  pub lived-past : length codes ≤ e → false ≡ lives-whole codes w i start
-  lived-past h = past (lives-on (is-satisfied w i)) codes e h ∙ so-far .left
+  pub unsatisfied-past : length codes ≤ e → false ≡ unsatisfied-whole codes w i start
+  unsatisfied-past h = past (unsatisfied-on (is-satisfied w i)) codes e h ∙ so-far .left
 
   module _ {c : ℕ} (inside : e < length codes) (is : c ≡ getD codes e 0) where
-    pub lived-end : c ≡ 0 → true ≡ lives-whole codes w i start
-    lived-end z = end (lives-on (is-satisfied w i)) codes e c inside is z ∙ so-far .left
+    pub unsatisfied-end : c ≡ 0 → true ≡ unsatisfied-whole codes w i start
+    unsatisfied-end z = end (unsatisfied-on (is-satisfied w i)) codes e c inside is z ∙ so-far .left
 
     module _ (other : c ≡ 0 → ⊥) where
-      living-literal : (b : Bool) → is-satisfied w i c ≡ b → (not b && lives-on (is-satisfied w i) (drop (e + 1) codes)) ≡ lives-whole codes w i start
+      living-literal : (b : Bool) → is-satisfied w i c ≡ b → (not b && unsatisfied-on (is-satisfied w i) (drop (e + 1) codes)) ≡ unsatisfied-whole codes w
+          i start
       living-literal b is-b =
-          ap (λ (x : Bool). not x && lives-on (is-satisfied w i) (drop (e + 1) codes)) (sym is-b)
-          ∙ literal (lives-on (is-satisfied w i)) codes e c inside is
-          (λ x cs. not (is-satisfied w i x) && lives-on (is-satisfied w i) cs) (λ x cs. refl) other
+          ap (λ (x : Bool). not x && unsatisfied-on (is-satisfied w i) (drop (e + 1) codes)) (sym is-b)
+          ∙ literal (unsatisfied-on (is-satisfied w i)) codes e c inside is
+          (λ x cs. not (is-satisfied w i x) && unsatisfied-on (is-satisfied w i) cs) (λ x cs. refl) other
           ∙ so-far .left
 
-      pub lived-satisfied : is-satisfied w i c ≡ true → false ≡ lives-whole codes w i start
-      lived-satisfied t = living-literal true t
+      pub unsatisfied-not : is-satisfied w i c ≡ true → false ≡ unsatisfied-whole codes w i start
+      unsatisfied-not t = living-literal true t
 
       pub living-next : is-satisfied w i c ≡ false → Living codes w i start (e + 1)
       living-next f = record { left = living-literal false f }
@@ -133,54 +135,56 @@ module _ {codes w : List ℕ} {i start e : ℕ} (so-far : Living codes w i start
 -- ---- the next clause that lives
 
 abbrev seek-whole : List ℕ → List ℕ → ℕ → ℕ → ℕ
-seek-whole codes w i from = next-live-on (is-satisfied w i) from false from (drop from codes)
+seek-whole codes w i from = next-unsatisfied-on (is-satisfied w i) from false from (drop from codes)
 
-pub record Seeking (codes w : List ℕ) (i from start : ℕ) (dead : Bool) (e : ℕ) : Type 0 where
-  pub left : next-live-on (is-satisfied w i) start dead e (drop e codes) ≡ seek-whole codes w i from
+pub record Seeking (codes w : List ℕ) (i from start : ℕ) (hit : Bool) (e : ℕ) : Type 0 where
+  pub left : next-unsatisfied-on (is-satisfied w i) start hit e (drop e codes) ≡ seek-whole codes w i from
 
 pub seeking-start : {codes w : List ℕ} {i from : ℕ} → Seeking codes w i from from false from
 seeking-start = record { left = refl }
 
-module _ {codes w : List ℕ} {i from start : ℕ} {dead : Bool} {e : ℕ} (so-far : Seeking codes w i from start dead e) where
+module _ {codes w : List ℕ} {i from start : ℕ} {hit : Bool} {e : ℕ} (so-far : Seeking codes w i from start hit e) where
   pub sought-past : length codes ≤ e → e ≡ seek-whole codes w i from
-  sought-past h = past (next-live-on (is-satisfied w i) start dead e) codes e h ∙ so-far .left
+  sought-past h = past (next-unsatisfied-on (is-satisfied w i) start hit e) codes e h ∙ so-far .left
 
   module _ {c : ℕ} (inside : e < length codes) (is : c ≡ getD codes e 0) where
     module _ (z : c ≡ 0) where
-      seeking-end : (b : Bool) → dead ≡ b → next-live-on (is-satisfied w i) start b e (0 ∷ drop (e + 1) codes) ≡ seek-whole codes w i from
+      seeking-end : (b : Bool) → hit ≡ b → next-unsatisfied-on (is-satisfied w i) start b e (0 ∷ drop (e + 1) codes) ≡ seek-whole codes w i from
       seeking-end b is-b =
-          ap (λ (x : Bool). next-live-on (is-satisfied w i) start x e (0 ∷ drop (e + 1) codes)) (sym is-b)
-          ∙ end (next-live-on (is-satisfied w i) start dead e) codes e c inside is z
+          ap (λ (x : Bool). next-unsatisfied-on (is-satisfied w i) start x e (0 ∷ drop (e + 1) codes)) (sym is-b)
+          ∙ end (next-unsatisfied-on (is-satisfied w i) start hit e) codes e c inside is z
           ∙ so-far .left
 
-      pub sought-live : dead ≡ false → start ≡ seek-whole codes w i from
+      pub sought-live : hit ≡ false → start ≡ seek-whole codes w i from
       sought-live f = seeking-end false f
 
-      pub seeking-behind : dead ≡ true → Seeking codes w i from (e + 1) false (e + 1)
+      pub seeking-behind : hit ≡ true → Seeking codes w i from (e + 1) false (e + 1)
       seeking-behind t = record { left = seeking-end true t }
 
     module _ (other : c ≡ 0 → ⊥) where
-      seeking-literal : (b : Bool) → (dead || is-satisfied w i c) ≡ b → Seeking codes w i from start b (e + 1)
+      seeking-literal : (b : Bool) → (hit || is-satisfied w i c) ≡ b → Seeking codes w i from start b (e + 1)
       seeking-literal b is-b = record {
         left =
-            ap (λ (x : Bool). next-live-on (is-satisfied w i) start x (e + 1) (drop (e + 1) codes)) (sym is-b)
-            ∙ literal (next-live-on (is-satisfied w i) start dead e) codes e c inside is
-            (λ x cs. next-live-on (is-satisfied w i) start (dead || is-satisfied w i x) (e + 1) cs) (λ x cs. by-dead dead x cs) other
+            ap (λ (x : Bool). next-unsatisfied-on (is-satisfied w i) start x (e + 1) (drop (e + 1) codes)) (sym is-b)
+            ∙ literal (next-unsatisfied-on (is-satisfied w i) start hit e) codes e c inside is
+            (λ x cs. next-unsatisfied-on (is-satisfied w i) start (hit || is-satisfied w i x) (e + 1) cs) (λ x cs. by-hit hit x cs) other
             ∙ so-far .left;
       }
         where
-          by-dead : (d : Bool) (x : ℕ) (cs : List ℕ) → next-live-on (is-satisfied w i) start (d || is-satisfied w i (suc x)) (e + 1) cs ≡ next-live-on (is-satisfied w i) start d e (suc x ∷ cs)
-          by-dead true x cs = refl
-          by-dead false x cs = refl
+          by-hit : (d : Bool) (x : ℕ) (cs : List ℕ) →
+              next-unsatisfied-on (is-satisfied w i) start (d || is-satisfied w i (suc x)) (e + 1) cs ≡ next-unsatisfied-on (is-satisfied w i) start d e
+              (suc x ∷ cs)
+          by-hit true x cs = refl
+          by-hit false x cs = refl
 
-      pub seeking-dead : dead ≡ true → Seeking codes w i from start dead (e + 1)
-      seeking-dead d = seeking-literal dead (ap (λ (b : Bool). b || is-satisfied w i c) d ∙ sym d)
+      pub seeking-hit : hit ≡ true → Seeking codes w i from start hit (e + 1)
+      seeking-hit d = seeking-literal hit (ap (λ (b : Bool). b || is-satisfied w i c) d ∙ sym d)
 
       pub seeking-satisfied : is-satisfied w i c ≡ true → Seeking codes w i from start true (e + 1)
-      seeking-satisfied t = seeking-literal true (ap (λ (b : Bool). dead || b) t ∙ or-true dead)
+      seeking-satisfied t = seeking-literal true (ap (λ (b : Bool). hit || b) t ∙ or-true hit)
 
-      pub seeking-next : is-satisfied w i c ≡ false → Seeking codes w i from start dead (e + 1)
-      seeking-next f = seeking-literal dead (ap (λ (b : Bool). dead || b) f ∙ or-false dead)
+      pub seeking-next : is-satisfied w i c ≡ false → Seeking codes w i from start hit (e + 1)
+      seeking-next f = seeking-literal hit (ap (λ (b : Bool). hit || b) f ∙ or-false hit)
 
 -- ---- the matrix
 

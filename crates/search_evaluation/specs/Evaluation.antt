@@ -44,26 +44,26 @@ unfoldable pub look-at : List ℕ → List ℕ → ℕ → ℕ → ℕ
 look-at codes w i start = cond (has-row w i) (look-on (is-set w i) (is-true w i) 0 (drop start codes)) 1
 
 -- No code up to the end of the clause is satisfied, and it has an end.
-abbrev pub lives-on : (ℕ → Bool) → List ℕ → Bool
-lives-on satisfied [] = false
-lives-on satisfied (zero ∷ cs) = true
-lives-on satisfied (suc c ∷ cs) = not (satisfied (suc c)) && lives-on satisfied cs
+abbrev pub unsatisfied-on : (ℕ → Bool) → List ℕ → Bool
+unsatisfied-on satisfied [] = false
+unsatisfied-on satisfied (zero ∷ cs) = true
+unsatisfied-on satisfied (suc c ∷ cs) = not (satisfied (suc c)) && unsatisfied-on satisfied cs
 
--- The clause at `start` is live in row i: none of its literals is set and true.
-unfoldable pub lives-at : List ℕ → List ℕ → ℕ → ℕ → Bool
-lives-at codes w i start = cond (has-row w i) (lives-on (is-satisfied w i) (drop start codes)) false
+-- The clause at `start` is not satisfied in row i: none of its literals is set and true.
+unfoldable pub unsatisfied-at : List ℕ → List ℕ → ℕ → ℕ → Bool
+unsatisfied-at codes w i start = cond (has-row w i) (unsatisfied-on (is-satisfied w i) (drop start codes)) false
 
--- The start of the first live clause, where the codes from entry e on are left, the clause being read began at `start`, and `dead` says
+-- The start of the first clause that is not satisfied, where the codes from entry e on are left, the clause being read began at `start`, and `hit` says
 -- whether a literal of it was satisfied; if there is none, the entry behind the last code.
-abbrev pub next-live-on : (ℕ → Bool) → ℕ → Bool → ℕ → List ℕ → ℕ
-next-live-on satisfied start dead e [] = e
-next-live-on satisfied start true e (zero ∷ cs) = next-live-on satisfied (e + 1) false (e + 1) cs
-next-live-on satisfied start false e (zero ∷ cs) = start
-next-live-on satisfied start dead e (suc c ∷ cs) = next-live-on satisfied start (dead || satisfied (suc c)) (e + 1) cs
+abbrev pub next-unsatisfied-on : (ℕ → Bool) → ℕ → Bool → ℕ → List ℕ → ℕ
+next-unsatisfied-on satisfied start hit e [] = e
+next-unsatisfied-on satisfied start true e (zero ∷ cs) = next-unsatisfied-on satisfied (e + 1) false (e + 1) cs
+next-unsatisfied-on satisfied start false e (zero ∷ cs) = start
+next-unsatisfied-on satisfied start hit e (suc c ∷ cs) = next-unsatisfied-on satisfied start (hit || satisfied (suc c)) (e + 1) cs
 
--- The start of the first live clause in row i from `from` on.
-unfoldable pub next-live-at : List ℕ → List ℕ → ℕ → ℕ → ℕ
-next-live-at codes w i from = cond (has-row w i) (next-live-on (is-satisfied w i) from false from (drop from codes)) (length codes)
+-- The start of the first clause that is not satisfied in row i from `from` on.
+unfoldable pub next-unsatisfied-at : List ℕ → List ℕ → ℕ → ℕ → ℕ
+next-unsatisfied-at codes w i from = cond (has-row w i) (next-unsatisfied-on (is-satisfied w i) from false from (drop from codes)) (length codes)
 
 -- Each clause has a true literal, where `met` says whether the one being read has met one. A clause without an end doesn't count.
 abbrev pub matrix-on : (ℕ → Bool) → Bool → List ℕ → Bool

@@ -1,4 +1,4 @@
-// What clauses and literals are worth in one row of the table of cells: which are false, unit, live or true.
+// What clauses and literals are worth in one row of the table of cells: which are false, unit, satisfied or true.
 // Every public function is total: it gives a fixed answer if the area is no table or has no such row, and a defined one for any codes.
 // Nothing is changed. What follows from the answers is left to the search.
 use formula::Formula;
@@ -9,7 +9,9 @@ ghost use mathlib.Core.Bool.{false};
 ghost use lib.ListN.{length, drop};
 ghost use Rattle.formula.specs.Formula.{max-unknowns, max-rows, work-size};
 ghost use Rattle.codes.specs.Codes.{row-position};
-ghost use Rattle.search_evaluation.specs.Evaluation.{has-row, is-set, is-true, is-satisfied, look-on, look-at, lives-on, lives-at, next-live-on, next-live-at, matrix-on, matrix-in, satisfied-at, level-in};
+ghost use Rattle.search_evaluation.specs.Evaluation.{has-row, is-set, is-true, is-satisfied};
+ghost use Rattle.search_evaluation.specs.Evaluation.{look-on, look-at, unsatisfied-on, unsatisfied-at, next-unsatisfied-on};
+ghost use Rattle.search_evaluation.specs.Evaluation.{next-unsatisfied-at, matrix-on, matrix-in, satisfied-at, level-in};
 
 // The last position.
 const LAST: usize = Formula::UNKNOWNS - 1;
@@ -25,23 +27,23 @@ pub fn look(codes: &[u16], work: &[u8], i: usize, start: usize) -> usize
 }
 
 // Whether the entries from `start` to the end of a clause have no literal that is set and true in row i.
-pub fn lives(codes: &[u16], work: &[u8], i: usize, start: usize) -> bool
-    ensures { λ r. ⌜ r ≡ lives-at (now (codes .entry)) (now (work .entry)) i start ⌝ }
+pub fn unsatisfied(codes: &[u16], work: &[u8], i: usize, start: usize) -> bool
+    ensures { λ r. ⌜ r ≡ unsatisfied-at (now (codes .entry)) (now (work .entry)) i start ⌝ }
 {
     if has_row(work, i) {} else {
         return false;
     }
-    lives_on(codes, work, i, start)
+    unsatisfied_on(codes, work, i, start)
 }
 
-// The start of the first clause from `from` on that lives in row i; at least the number of entries if there is none.
-pub fn next_live(codes: &[u16], work: &[u8], i: usize, from: usize) -> usize
-    ensures { λ r. ⌜ r ≡ next-live-at (now (codes .entry)) (now (work .entry)) i from ⌝ }
+// The start of the first clause from `from` on that is not satisfied in row i; at least the number of entries if there is none.
+pub fn next_unsatisfied(codes: &[u16], work: &[u8], i: usize, from: usize) -> usize
+    ensures { λ r. ⌜ r ≡ next-unsatisfied-at (now (codes .entry)) (now (work .entry)) i from ⌝ }
 {
     if has_row(work, i) {} else {
         return codes.len();
     }
-    next_live_on(codes, work, i, from)
+    next_unsatisfied_on(codes, work, i, from)
 }
 
 // Whether every clause has a true literal in row i, by the values of all cells, set or not.
@@ -113,9 +115,9 @@ fn look_on(codes: &[u16], work: &[u8], i: usize, start: usize) -> usize
     1
 }
 
-fn lives_on(codes: &[u16], work: &[u8], i: usize, start: usize) -> bool
+fn unsatisfied_on(codes: &[u16], work: &[u8], i: usize, start: usize) -> bool
     requires { ⌜ (length (now work) ≡ work-size) × (i < max-rows) ⌝ }
-    ensures { λ r. ⌜ r ≡ lives-on (is-satisfied (now (work .entry)) i) (drop start (now (codes .entry))) ⌝ }
+    ensures { λ r. ⌜ r ≡ unsatisfied-on (is-satisfied (now (work .entry)) i) (drop start (now (codes .entry))) ⌝ }
 {
     let mut e = start;
     while e < codes.len() {
@@ -131,25 +133,25 @@ fn lives_on(codes: &[u16], work: &[u8], i: usize, start: usize) -> bool
     false // no end
 }
 
-fn next_live_on(codes: &[u16], work: &[u8], i: usize, from: usize) -> usize
+fn next_unsatisfied_on(codes: &[u16], work: &[u8], i: usize, from: usize) -> usize
     requires { ⌜ (length (now work) ≡ work-size) × (i < max-rows) ⌝ }
-    ensures { λ r. ⌜ r ≡ next-live-on (is-satisfied (now (work .entry)) i) from false from (drop from (now (codes .entry))) ⌝ }
+    ensures { λ r. ⌜ r ≡ next-unsatisfied-on (is-satisfied (now (work .entry)) i) from false from (drop from (now (codes .entry))) ⌝ }
 {
     let mut start = from;
-    let mut dead = false;
+    let mut hit = false;
     let mut e = from;
     while e < codes.len() {
         let c = wide(codes[e]);
         e += 1;
         if c == 0 {
-            if dead {
+            if hit {
                 start = e;
-                dead = false;
+                hit = false;
             } else {
                 return start;
             }
-        } else if dead {} else if is_satisfied(work, i, c) {
-            dead = true;
+        } else if hit {} else if is_satisfied(work, i, c) {
+            hit = true;
         }
     }
     e

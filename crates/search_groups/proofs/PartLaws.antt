@@ -12,9 +12,12 @@ use borrow.Author.Tests.{ltb-true, ltb-false, eqb-true, eqb-false}
 use Rattle.formula.specs.Formula.{work-size, max-rows, max-unknowns}
 use Rattle.search_cells.specs.Cells.{cells}
 use Rattle.search_cells.specs.Steps.{first-from}
-use Rattle.search_groups.specs.Groups.{differ-before, last-behind, copy-start, copy-end, parts-at, parted-at, earliest, parting-row, is-open, open-position}
-use Rattle.search_groups.specs.Private.Parts.{CopyFrom, CopyTo, Parting, PartedAt, Stands}
-use Rattle.search_groups.proofs.ScanLaws.{both, copy-start-is, copy-end-is, parted-at-is, parting-row-is, open-position-is, parts-nowhere, parts-there, parts-earlier}
+use Rattle.search_groups.specs.Groups.{differ-before, last-behind, copy-start, copy-end, parts-at, split-position, earliest, split-row, is-open}
+use Rattle.search_groups.specs.Groups.{open-position}
+use Rattle.search_groups.specs.Private.Parts.{CopyFrom, CopyTo, SplitRow, SplitPosition, FirstOpen}
+use Rattle.search_groups.proofs.ScanLaws.{both, copy-start-is, copy-end-is, split-position-is}
+use Rattle.search_groups.proofs.ScanLaws.{split-row-is, open-position-is, parts-nowhere, parts-there}
+use Rattle.search_groups.proofs.ScanLaws.{parts-earlier}
 
 -- ---- scans of numbers
 
@@ -89,53 +92,53 @@ module _ (f : ℕ → Bool) where
 
 -- ---- copies
 
-module _ (splits : List ℕ) (k : ℕ) where
-  copies-from : (lo i from : ℕ) → Last (differ-before splits k) lo i from → CopyFrom splits k lo i from
+module _ (differences : List ℕ) (k : ℕ) where
+  copies-from : (lo i from : ℕ) → Last (differ-before differences k) lo i from → CopyFrom differences k lo i from
   copies-from lo i from x = record {
     low = x .above;
     high = x .within;
-    shared = λ h p q. ltb-false (getD splits h 0) k (x .passed h p q);
-    first = λ p. ltb-true (getD splits from 0) k (x .stops p);
+    shared = λ h p q. ltb-false (getD differences h 0) k (x .passed h p q);
+    first = λ p. ltb-true (getD differences from 0) k (x .stops p);
   }
 
-  pub copy-start-from : (lo i : ℕ) → lo ≤ i → i < length splits → CopyFrom splits k lo i (copy-start splits k lo i)
+  pub copy-start-from : (lo i : ℕ) → lo ≤ i → i < length differences → CopyFrom differences k lo i (copy-start differences k lo i)
   copy-start-from lo i low high =
       let end : lo + (i - lo) ≡ i = omega arith in
-      rw (copy-start-is splits k lo i low high)
-      (copies-from lo i (last-behind (differ-before splits k) lo (i - lo))
-      (subst (λ (x : ℕ). Last (differ-before splits k) lo x (last-behind (differ-before splits k) lo (i - lo))) end
-      (last-is (differ-before splits k) lo (i - lo))))
+      rw (copy-start-is differences k lo i low high)
+      (copies-from lo i (last-behind (differ-before differences k) lo (i - lo))
+      (subst (λ (x : ℕ). Last (differ-before differences k) lo x (last-behind (differ-before differences k) lo (i - lo))) end
+      (last-is (differ-before differences k) lo (i - lo))))
 
-  copies-to : (i hi to : ℕ) → First (differ-before splits k) (i + 1) hi to → CopyTo splits k i hi to
+  copies-to : (i hi to : ℕ) → First (differ-before differences k) (i + 1) hi to → CopyTo differences k i hi to
   copies-to i hi to x = let above = x .above in record {
     low = omega arith;
     high = x .within;
-    shared = λ h p q. ltb-false (getD splits h 0) k (x .passed h (omega arith) q);
-    last = λ p. ltb-true (getD splits to 0) k (x .stops p);
+    shared = λ h p q. ltb-false (getD differences h 0) k (x .passed h (omega arith) q);
+    last = λ p. ltb-true (getD differences to 0) k (x .stops p);
   }
 
-  pub copy-end-to : (i hi : ℕ) → i < hi → hi ≤ length splits → CopyTo splits k i hi (copy-end splits k i hi)
+  pub copy-end-to : (i hi : ℕ) → i < hi → hi ≤ length differences → CopyTo differences k i hi (copy-end differences k i hi)
   copy-end-to i hi low high =
       let end : i + 1 + (hi - (i + 1)) ≡ hi = omega arith in
-      rw (copy-end-is splits k i hi low high)
-      (copies-to i hi (first-from (differ-before splits k) (i + 1) (hi - (i + 1)))
-      (subst (λ (x : ℕ). First (differ-before splits k) (i + 1) x (first-from (differ-before splits k) (i + 1) (hi - (i + 1)))) end
-      (first-is (differ-before splits k) (hi - (i + 1)) (i + 1))))
+      rw (copy-end-is differences k i hi low high)
+      (copies-to i hi (first-from (differ-before differences k) (i + 1) (hi - (i + 1)))
+      (subst (λ (x : ℕ). First (differ-before differences k) (i + 1) x (first-from (differ-before differences k) (i + 1) (hi - (i + 1)))) end
+      (first-is (differ-before differences k) (hi - (i + 1)) (i + 1))))
 
 -- ---- rows, parted up to row i
 
 -- Of the rows from lo to i, mid is the first that parts earliest from the one before it, at `least`; lo if none parts before 255.
-record PartingTo (splits : List ℕ) (lo i mid least : ℕ) : Type 0 where
+record SplitRowTo (differences : List ℕ) (lo i mid least : ℕ) : Type 0 where
   low : lo ≤ mid
   high : mid < i
-  before : (h : ℕ) → lo < h → h < mid → least < getD splits h 0
-  all : (h : ℕ) → lo < h → h < i → least ≤ getD splits h 0
-  there : lo < mid → getD splits mid 0 ≡ least
+  before : (h : ℕ) → lo < h → h < mid → least < getD differences h 0
+  all : (h : ℕ) → lo < h → h < i → least ≤ getD differences h 0
+  there : lo < mid → getD differences mid 0 ≡ least
   none : mid ≡ lo → least ≡ 255
 
-module _ (splits : List ℕ) (lo : ℕ) where
-  parting-start : PartingTo splits lo (lo + 1) lo 255
-  parting-start = record {
+module _ (differences : List ℕ) (lo : ℕ) where
+  split-row-start : SplitRowTo differences lo (lo + 1) lo 255
+  split-row-start = record {
     low = omega arith;
     high = omega arith;
     before = λ h p q. absurd (omega arith);
@@ -144,22 +147,23 @@ module _ (splits : List ℕ) (lo : ℕ) where
     none = λ e. refl;
   }
 
-  parting-earlier : (i mid least : ℕ) → lo < i → getD splits i 0 < least → PartingTo splits lo i mid least → PartingTo splits lo (i + 1) i (getD splits i 0)
-  parting-earlier i mid least over less x = record {
+  split-row-earlier : (i mid least : ℕ) → lo < i → getD differences i 0 < least → SplitRowTo differences lo i mid least → SplitRowTo differences lo (i + 1)
+      i (getD differences i 0)
+  split-row-earlier i mid least over less x = record {
     low = omega arith;
     high = omega arith;
-    before = λ h p q. let z : least ≤ getD splits h 0 = x .all h p q in omega arith;
+    before = λ h p q. let z : least ≤ getD differences h 0 = x .all h p q in omega arith;
     all = λ h p q. go h p q (decLt h i);
     there = λ p. refl;
     none = λ e. absurd (omega arith);
   }
     where
-      go : (h : ℕ) → lo < h → h < i + 1 → Dec (h < i) → getD splits i 0 ≤ getD splits h 0
-      go h p q (yes lt) = let z : least ≤ getD splits h 0 = x .all h p lt in omega arith
-      go h p q (no n) = let same : i ≡ h = omega arith in subst (λ (y : ℕ). getD splits i 0 ≤ getD splits y 0) same (omega arith)
+      go : (h : ℕ) → lo < h → h < i + 1 → Dec (h < i) → getD differences i 0 ≤ getD differences h 0
+      go h p q (yes lt) = let z : least ≤ getD differences h 0 = x .all h p lt in omega arith
+      go h p q (no n) = let same : i ≡ h = omega arith in subst (λ (y : ℕ). getD differences i 0 ≤ getD differences y 0) same (omega arith)
 
-  parting-later : (i mid least : ℕ) → least ≤ getD splits i 0 → PartingTo splits lo i mid least → PartingTo splits lo (i + 1) mid least
-  parting-later i mid least more x = record {
+  split-row-later : (i mid least : ℕ) → least ≤ getD differences i 0 → SplitRowTo differences lo i mid least → SplitRowTo differences lo (i + 1) mid least
+  split-row-later i mid least more x = record {
     low = x .low;
     high = let z : mid < i = x .high in omega arith;
     before = x .before;
@@ -168,62 +172,65 @@ module _ (splits : List ℕ) (lo : ℕ) where
     none = x .none;
   }
     where
-      go : (h : ℕ) → lo < h → h < i + 1 → Dec (h < i) → least ≤ getD splits h 0
+      go : (h : ℕ) → lo < h → h < i + 1 → Dec (h < i) → least ≤ getD differences h 0
       go h p q (yes lt) = x .all h p lt
-      go h p q (no n) = let same : i ≡ h = omega arith in subst (λ (y : ℕ). least ≤ getD splits y 0) same more
+      go h p q (no n) = let same : i ≡ h = omega arith in subst (λ (y : ℕ). least ≤ getD differences y 0) same more
 
-  parting-end : (hi i mid least : ℕ) → hi ≤ i → mid < hi → PartingTo splits lo i mid least → Parting splits lo hi mid
-  parting-end hi i mid least past below x = record {
+  split-row-end : (hi i mid least : ℕ) → hi ≤ i → mid < hi → SplitRowTo differences lo i mid least → SplitRow differences lo hi mid
+  split-row-end hi i mid least past below x = record {
     low = x .low;
     high = below;
     before = λ h p q.
-        let z : least < getD splits h 0 = x .before h p q in
-        let y : getD splits mid 0 ≡ least = x .there (omega arith) in
+        let z : least < getD differences h 0 = x .before h p q in
+        let y : getD differences mid 0 ≡ least = x .there (omega arith) in
         omega arith;
     behind = λ over h p q.
-        let z : least ≤ getD splits h 0 = x .all h (omega arith) (omega arith) in
-        let y : getD splits mid 0 ≡ least = x .there over in
+        let z : least ≤ getD differences h 0 = x .all h (omega arith) (omega arith) in
+        let y : getD differences mid 0 ≡ least = x .there over in
         omega arith;
     alone = λ e h p q.
-        let z : least ≤ getD splits h 0 = x .all h p (omega arith) in
+        let z : least ≤ getD differences h 0 = x .all h p (omega arith) in
         let y : least ≡ 255 = x .none e in
         omega arith;
   }
 
   -- i is the row behind those passed
-  parting-more : (i mid : ℕ) (b : Bool) → lo < i → ltb (getD splits i 0) (parts-at splits lo mid 255) ≡ b
-      → PartingTo splits lo i mid (parts-at splits lo mid 255) → PartingTo splits lo (i + 1) (cond b i mid) (parts-at splits lo (cond b i mid) 255)
-  parting-more i mid true over e x =
-      let less = ltb-true (getD splits i 0) (parts-at splits lo mid 255) e in
-      rw (parts-earlier splits lo mid i over less) (parting-earlier i mid (parts-at splits lo mid 255) over less x)
-  parting-more i mid false over e x =
-      parting-later i mid (parts-at splits lo mid 255) (ltb-false (getD splits i 0) (parts-at splits lo mid 255) e) x
+  split-row-more : (i mid : ℕ) (b : Bool) → lo < i → ltb (getD differences i 0) (parts-at differences lo mid 255) ≡ b
+      → SplitRowTo differences lo i mid (parts-at differences lo mid 255) → SplitRowTo differences lo (i + 1) (cond b i mid)
+      (parts-at differences lo (cond b i mid) 255)
+  split-row-more i mid true over e x =
+      let less = ltb-true (getD differences i 0) (parts-at differences lo mid 255) e in
+      rw (parts-earlier differences lo mid i over less) (split-row-earlier i mid (parts-at differences lo mid 255) over less x)
+  split-row-more i mid false over e x =
+      split-row-later i mid (parts-at differences lo mid 255) (ltb-false (getD differences i 0) (parts-at differences lo mid 255) e) x
 
-  earliest-is : (n : ℕ) → PartingTo splits lo (lo + suc n) (earliest splits lo n) (parts-at splits lo (earliest splits lo n) 255)
-  earliest-is zero = rw (parts-nowhere splits lo lo 255 (omega arith)) parting-start
+  earliest-is : (n : ℕ) → SplitRowTo differences lo (lo + suc n) (earliest differences lo n) (parts-at differences lo (earliest differences lo n) 255)
+  earliest-is zero = rw (parts-nowhere differences lo lo 255 (omega arith)) split-row-start
   earliest-is (suc n) =
       let next : lo + suc n + 1 ≡ lo + suc (suc n) = omega arith in
-      subst (λ (i : ℕ). PartingTo splits lo i (earliest splits lo (suc n)) (parts-at splits lo (earliest splits lo (suc n)) 255)) next
-      (parting-more (lo + suc n) (earliest splits lo n) _ (omega arith) refl (earliest-is n))
+      subst (λ (i : ℕ). SplitRowTo differences lo i (earliest differences lo (suc n)) (parts-at differences lo (earliest differences lo (suc n)) 255)) next
+      (split-row-more (lo + suc n) (earliest differences lo n) _ (omega arith) refl (earliest-is n))
 
-  pub parting-row-parts : (hi : ℕ) → lo < hi → hi ≤ length splits → Parting splits lo hi (parting-row splits lo hi)
-  parting-row-parts hi low high =
+  pub split-row-parts : (hi : ℕ) → lo < hi → hi ≤ length differences → SplitRow differences lo hi (split-row differences lo hi)
+  split-row-parts hi low high =
       let end : lo + suc (hi - (lo + 1)) ≡ hi = omega arith in
       let x = earliest-is (hi - (lo + 1)) in
       let below = x .high in
-      rw (parting-row-is splits lo hi low high)
-      (parting-end hi (lo + suc (hi - (lo + 1))) (earliest splits lo (hi - (lo + 1))) (parts-at splits lo (earliest splits lo (hi - (lo + 1))) 255) (omega arith) (omega arith) x)
+      rw (split-row-is differences lo hi low high)
+      (split-row-end hi (lo + suc (hi - (lo + 1))) (earliest differences lo (hi - (lo + 1)))
+      (parts-at differences lo (earliest differences lo (hi - (lo + 1))) 255)
+      (omega arith) (omega arith) x)
 
-  pub parted-at-there : (mid n : ℕ) → mid < length splits → PartedAt splits lo mid n (parted-at splits lo mid n)
-  parted-at-there mid n high = rw (parted-at-is splits lo mid n high) (go (decLt lo mid))
+  pub split-position-there : (mid n : ℕ) → mid < length differences → SplitPosition differences lo mid n (split-position differences lo mid n)
+  split-position-there mid n high = rw (split-position-is differences lo mid n high) (go (decLt lo mid))
     where
-      go : Dec (lo < mid) → PartedAt splits lo mid n (parts-at splits lo mid n)
-      go (yes over) = rw (parts-there splits lo mid n over) (record {
+      go : Dec (lo < mid) → SplitPosition differences lo mid n (parts-at differences lo mid n)
+      go (yes over) = rw (parts-there differences lo mid n over) (record {
         most = omega arith;
         first = λ p. omega arith;
         there = λ p. (over, omega arith);
       })
-      go (no none) = rw (parts-nowhere splits lo mid n (omega arith)) (record {
+      go (no none) = rw (parts-nowhere differences lo mid n (omega arith)) (record {
         most = omega arith;
         first = λ p. absurd (omega arith);
         there = λ p. absurd (omega arith);
@@ -247,7 +254,7 @@ module _ (kinds w : List ℕ) (side lo : ℕ) where
       go false e = inl refl
 
   stands : (k until at : ℕ) → k ≤ length kinds → until ≤ length kinds → First (is-open kinds w side lo) k (k + (until - k)) at
-      → Stands kinds w side k lo until at
+      → FirstOpen kinds w side k lo until at
   stands k until at known within x = let above = x .above in let most = x .within in record {
     low = above;
     most = omega arith;
@@ -257,8 +264,8 @@ module _ (kinds w : List ℕ) (side lo : ℕ) where
   }
 
 module _ (kinds w : List ℕ) (side k lo until : ℕ) where
-  pub open-position-stands : length w ≡ work-size → length kinds ≤ max-unknowns → until ≤ length kinds → k ≤ length kinds → lo < max-rows
-      → Stands kinds w side k lo until (open-position kinds w side k lo until)
-  open-position-stands area few within known row =
+  pub open-position-is-first : length w ≡ work-size → length kinds ≤ max-unknowns → until ≤ length kinds → k ≤ length kinds → lo < max-rows
+      → FirstOpen kinds w side k lo until (open-position kinds w side k lo until)
+  open-position-is-first area few within known row =
       rw (open-position-is kinds w side k lo until area few within row)
       (stands kinds w side lo k until (first-from (is-open kinds w side lo) k (until - k)) known within (first-is (is-open kinds w side lo) (until - k) k))

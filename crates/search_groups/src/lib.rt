@@ -1,4 +1,4 @@
-// Groups of neighbouring sorted rows, told by the table `splits`: entry i is the first position at which the rows i - 1 and i have different
+// Groups of neighbouring sorted rows, told by the table `differences`: entry i is the first position at which the rows i - 1 and i have different
 // values, at least the number of unknowns if there is none. Nothing is written.
 // Every public function is total: asked about what is not in its tables, it answers what the definition says. Who sorts the rows and what
 // their values are is left to others.
@@ -7,21 +7,21 @@ ghost use mathlib.Core.Path.{_≡_};
 ghost use Prim.Native.Nat.{_<_};
 ghost use lib.ListN.{length};
 ghost use Rattle.formula.specs.Formula.{max-unknowns, max-rows, work-size};
-ghost use Rattle.search_groups.specs.Groups.{copy-start, copy-end, agreement-of, is-repeated, parting-row, parted-at, is-open, open-position};
+ghost use Rattle.search_groups.specs.Groups.{copy-start, copy-end, agreement-of, is-repeated, split-row, split-position, is-open, open-position};
 
 // The first row from lo on, up to i, that has row i's copy at position k; i if these are not rows of the table.
-pub fn copy_start(splits: &[u8], k: usize, lo: usize, i: usize) -> usize
-    ensures { λ r. ⌜ r ≡ copy-start (now (splits .entry)) k lo i ⌝ }
+pub fn copy_start(differences: &[u8], k: usize, lo: usize, i: usize) -> usize
+    ensures { λ r. ⌜ r ≡ copy-start (now (differences .entry)) k lo i ⌝ }
 {
     if i < lo {
         return i;
     }
-    if splits.len() <= i {
+    if differences.len() <= i {
         return i;
     }
     let mut from = i;
     while from > lo {
-        if (splits[from] as usize) < k {
+        if (differences[from] as usize) < k {
             return from;
         }
         from -= 1;
@@ -30,18 +30,18 @@ pub fn copy_start(splits: &[u8], k: usize, lo: usize, i: usize) -> usize
 }
 
 // The row behind the last one before hi that has row i's copy at position k; i if these are not rows of the table.
-pub fn copy_end(splits: &[u8], k: usize, i: usize, hi: usize) -> usize
-    ensures { λ r. ⌜ r ≡ copy-end (now (splits .entry)) k i hi ⌝ }
+pub fn copy_end(differences: &[u8], k: usize, i: usize, hi: usize) -> usize
+    ensures { λ r. ⌜ r ≡ copy-end (now (differences .entry)) k i hi ⌝ }
 {
     if hi <= i {
         return i;
     }
-    if splits.len() < hi {
+    if differences.len() < hi {
         return i;
     }
     let mut to = i + 1;
     while to < hi {
-        if (splits[to] as usize) < k {
+        if (differences[to] as usize) < k {
             return to;
         }
         to += 1;
@@ -50,16 +50,16 @@ pub fn copy_end(splits: &[u8], k: usize, i: usize, hi: usize) -> usize
 }
 
 // How many positions row i surely shares with the row before it, plus 1: 0 for `from`, the first row looked at, and for what is no row.
-pub fn agreement(splits: &[u8], from: usize, i: usize) -> usize
-    ensures { λ r. ⌜ r ≡ agreement-of (now (splits .entry)) from i ⌝ }
+pub fn agreement(differences: &[u8], from: usize, i: usize) -> usize
+    ensures { λ r. ⌜ r ≡ agreement-of (now (differences .entry)) from i ⌝ }
 {
-    if splits.len() <= i {
+    if differences.len() <= i {
         return 0;
     }
     if i == from {
         return 0;
     }
-    splits[i] as usize + 1
+    differences[i] as usize + 1
 }
 
 // Whether a row with that agreement has the same values and copies of the unknowns of the clause at `start` as the row before it. The clause's
@@ -73,15 +73,15 @@ pub fn repeats(codes: &[u16], start: usize, agreement: usize) -> bool
     codes[start] as usize / 2 < agreement
 }
 
-// The row behind lo at which the rows from lo to hi part first; lo if none parts from the one before it, or if these are not rows of the
+// The row behind lo at which the rows from lo to hi are split first; lo if none parts from the one before it, or if these are not rows of the
 // table.
-pub fn parting(splits: &[u8], lo: usize, hi: usize) -> usize
-    ensures { λ r. ⌜ r ≡ parting-row (now (splits .entry)) lo hi ⌝ }
+pub fn split_row(differences: &[u8], lo: usize, hi: usize) -> usize
+    ensures { λ r. ⌜ r ≡ split-row (now (differences .entry)) lo hi ⌝ }
 {
     if hi <= lo {
         return lo;
     }
-    if splits.len() < hi {
+    if differences.len() < hi {
         return lo;
     }
     let mut mid = lo;
@@ -89,7 +89,7 @@ pub fn parting(splits: &[u8], lo: usize, hi: usize) -> usize
     let mut i = lo + 1;
     while i < hi {
         let h = i;
-        let at = splits[h];
+        let at = differences[h];
         i += 1;
         if at < least {
             least = at;
@@ -100,22 +100,22 @@ pub fn parting(splits: &[u8], lo: usize, hi: usize) -> usize
 }
 
 // The position at which they part there; n if they do not part before that, or if mid is not in the table.
-pub fn parted_at(splits: &[u8], lo: usize, mid: usize, n: usize) -> usize
-    ensures { λ r. ⌜ r ≡ parted-at (now (splits .entry)) lo mid n ⌝ }
+pub fn split_position(differences: &[u8], lo: usize, mid: usize, n: usize) -> usize
+    ensures { λ r. ⌜ r ≡ split-position (now (differences .entry)) lo mid n ⌝ }
 {
-    if splits.len() <= mid {
+    if differences.len() <= mid {
         return n;
     }
     if mid <= lo {
         return n;
     }
-    let at = splits[mid] as usize;
+    let at = differences[mid] as usize;
     if at < n { at } else { n }
 }
 
 // The first position from k on, up to `until`, that is an own one and open in row lo; `until` if there is none, and k if there are no such
 // cells.
-pub fn stand(kinds: &[u8], work: &[u8], side: u8, k: usize, lo: usize, until: usize) -> usize
+pub fn first_open(kinds: &[u8], work: &[u8], side: u8, k: usize, lo: usize, until: usize) -> usize
     ensures { λ r. ⌜ r ≡ open-position (now (kinds .entry)) (now (work .entry)) side k lo until ⌝ }
 {
     if work.len() != Formula::WORK {

@@ -59,7 +59,8 @@ module _ (x : ℕ) where
   new-ones-met seen (y ∷ xs) h =
       ⊎-elim
       (λ (p : member y seen ≡ true). rw p (new-ones-met seen xs (⊎-elim inl (before p) h)))
-      (λ (p : member y seen ≡ false). rw p (ap (λ (l : List ℕ). y ∷ l) (new-ones-met (y ∷ seen) xs (⊎-elim (λ s. inl (or-true (eqb x y) (member x seen) s)) here h))))
+      (λ (p : member y seen ≡ false). rw p
+      (ap (λ (l : List ℕ). y ∷ l) (new-ones-met (y ∷ seen) xs (⊎-elim (λ s. inl (or-true (eqb x y) (member x seen) s)) here h))))
       (true-or-false (member y seen))
     where
       before : member y seen ≡ true → eqb x y || member x xs ≡ true → (member x seen ≡ true) ⊎ (member x xs ≡ true)

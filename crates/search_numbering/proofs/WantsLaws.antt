@@ -25,16 +25,16 @@ use Rattle.search_numbering.specs.Private.Wants.{copies-before, copy-num
 use Rattle.search_numbering.proofs.FillSteps.{first-among-in}
 use Rattle.search_numbering.proofs.WantsFill.{first-place-met}
 
--- The rows stand sorted: entry r of `place` is the place of row r, `row` is the row at a place; entry i + 1 of `splits` says up to which
+-- The rows stand sorted: entry r of `place` is the place of row r, `row` is the row at a place; entry i + 1 of `differences` says up to which
 -- position the rows at i and i + 1 have the same restriction; and rows with the same restriction stand together.
-pub record Placed (ts : List Bool) (rows : List Row) (place splits : List ℕ) (row : ℕ → ℕ) : Type 0 where
+pub record Placed (ts : List Bool) (rows : List Row) (place differences : List ℕ) (row : ℕ → ℕ) : Type 0 where
   pub many : length rows ≡ length place
   pub row-below : (i : ℕ) → i < length place → row i < length place
   pub place-below : (r : ℕ) → r < length place → getD place r 0 < length place
   pub row-of-place : (r : ℕ) → r < length place → row (getD place r 0) ≡ r
   pub place-of-row : (i : ℕ) → i < length place → getD place (row i) 0 ≡ i
   pub differ : (i k : ℕ) → i + 1 < length place → k ≤ length ts
-      → (k ≤ getD splits (i + 1) 0) ↔ (restriction ts k (getD rows (row i) []) ≡ restriction ts k (getD rows (row (i + 1)) []))
+      → (k ≤ getD differences (i + 1) 0) ↔ (restriction ts k (getD rows (row i) []) ≡ restriction ts k (getD rows (row (i + 1)) []))
   pub together : (i h g k : ℕ) → i ≤ h → h ≤ g → g < length place → k ≤ length ts
       → restriction ts k (getD rows (row i) []) ≡ restriction ts k (getD rows (row g) [])
       → restriction ts k (getD rows (row i) []) ≡ restriction ts k (getD rows (row h) [])
@@ -124,45 +124,46 @@ number-past j k r other (s ∷ rs) rest = rw (ne-eqb j k other) (let later = num
 
 -- ---- places with one copy
 
-module _ (ts : List Bool) (rows : List Row) (place splits : List ℕ) (row : ℕ → ℕ) (placed : Placed ts rows place splits row) where
+module _ (ts : List Bool) (rows : List Row) (place differences : List ℕ) (row : ℕ → ℕ) (placed : Placed ts rows place differences row) where
   abbrev restricted : ℕ → ℕ → Row
   restricted k i = restriction ts k (getD rows (row i) [])
 
   module _ (k : ℕ) (short : k ≤ length ts) where
-    differ-next : (i : ℕ) → suc i < length place → (k ≤ getD splits (suc i) 0) ↔ (restricted k i ≡ restricted k (suc i))
+    differ-next : (i : ℕ) → suc i < length place → (k ≤ getD differences (suc i) 0) ↔ (restricted k i ≡ restricted k (suc i))
     differ-next i h = rw (add-one i) at (placed .differ i k (omega arith) short)
 
-    first-same : (i : ℕ) → i < length place → restricted k i ≡ restricted k (first-place splits k i)
+    first-same : (i : ℕ) → i < length place → restricted k i ≡ restricted k (first-place differences k i)
     first-same zero h = refl
     first-same (suc i) h =
         ⊎-elim
-        (λ (p : ltb (getD splits (suc i) 0) k ≡ true). rw p)
-        (λ (p : ltb (getD splits (suc i) 0) k ≡ false).
-        rw p (sym (differ-next i h .0 (ltb-false (getD splits (suc i) 0) k p)) ∙ first-same i (omega arith)))
-        (true-or-false (ltb (getD splits (suc i) 0) k))
+        (λ (p : ltb (getD differences (suc i) 0) k ≡ true). rw p)
+        (λ (p : ltb (getD differences (suc i) 0) k ≡ false).
+        rw p (sym (differ-next i h .0 (ltb-false (getD differences (suc i) 0) k p)) ∙ first-same i (omega arith)))
+        (true-or-false (ltb (getD differences (suc i) 0) k))
 
-    first-equal : (d i g : ℕ) → i + d ≡ g → g < length place → restricted k i ≡ restricted k g → first-place splits k i ≡ first-place splits k g
-    first-equal zero i g sum h e = let here : i ≡ g = omega arith in ap (first-place splits k) here
+    first-equal : (d i g : ℕ) → i + d ≡ g → g < length place → restricted k i ≡ restricted k g → first-place differences k i ≡ first-place differences k g
+    first-equal zero i g sum h e = let here : i ≡ g = omega arith in ap (first-place differences k) here
     first-equal (suc d) i zero sum h e = absurd (omega arith)
     first-equal (suc d) i (suc g) sum h e =
         let near : restricted k i ≡ restricted k g = placed .together i g (suc g) k (omega arith) (omega arith) h short e in
-        let low : k ≤ getD splits (suc g) 0 = differ-next g h .1 (sym near ∙ e) in
-        rw (le-ltb (getD splits (suc g) 0) k low) (first-equal d i g (omega arith) (omega arith) near)
+        let low : k ≤ getD differences (suc g) 0 = differ-next g h .1 (sym near ∙ e) in
+        rw (le-ltb (getD differences (suc g) 0) k low) (first-equal d i g (omega arith) (omega arith) near)
 
     -- Places have one first place exactly if their rows have one restriction.
-    first-iff : (i h : ℕ) → i < length place → h < length place → (first-place splits k i ≡ first-place splits k h) ↔ (restricted k i ≡ restricted k h)
+    first-iff : (i h : ℕ) → i < length place → h < length place → (first-place differences k i ≡ first-place differences k h) ↔
+        (restricted k i ≡ restricted k h)
     first-iff i h less fits = (
       λ e. first-same i less ∙ ap (restricted k) e ∙ sym (first-same h fits),
       λ e. back e (decLe i h),
     )
       where
-        back : restricted k i ≡ restricted k h → Dec (i ≤ h) → first-place splits k i ≡ first-place splits k h
+        back : restricted k i ≡ restricted k h → Dec (i ≤ h) → first-place differences k i ≡ first-place differences k h
         back e (yes l) = first-equal (h - i) i h (omega arith) fits e
         back e (no l) = sym (first-equal (i - h) h i (omega arith) less (sym e))
 
     -- The first places of the lent rows and their restrictions run in step.
     abbrev Same : ℕ → Row → Type 0
-    Same x r = (q : ℕ) × (q < length place) × (x ≡ first-place splits k (getD place q 0)) × (r ≡ restriction ts k (getD rows q []))
+    Same x r = (q : ℕ) × (q < length place) × (x ≡ first-place differences k (getD place q 0)) × (r ≡ restriction ts k (getD rows q []))
 
     restricted-place : (q : ℕ) → q < length place → restricted k (getD place q 0) ≡ restriction ts k (getD rows q [])
     restricted-place q h = ap (λ (j : ℕ). restriction ts k (getD rows j [])) (placed .row-of-place q h)
@@ -176,24 +177,26 @@ module _ (ts : List Bool) (rows : List Row) (place splits : List ℕ) (row : ℕ
           λ e. a .2 ∙ iff .1 (at-a ∙ sym (a .3) ∙ e ∙ b .3 ∙ sym at-b) ∙ sym (b .2),
         )
 
-    same-at : (i : ℕ) → i < length place → Same (first-place splits k i) (restricted k i)
-    same-at i h = (row i, placed .row-below i h, ap (first-place splits k) (sym (placed .place-of-row i h)), refl)
+    same-at : (i : ℕ) → i < length place → Same (first-place differences k i) (restricted k i)
+    same-at i h = (row i, placed .row-below i h, ap (first-place differences k) (sym (placed .place-of-row i h)), refl)
 
-    paired-copies : Paired Same (copies-at splits place k) (fresh [] (map (restriction ts k) rows))
+    paired-copies : Paired Same (copies-at differences place k) (fresh [] (map (restriction ts k) rows))
     unfolding copies-at
     paired-copies =
-        paired-new-ones Same same-agree [] [] tt (map (first-among splits k (length place)) place) (map (restriction ts k) rows)
-        (paired-map Same (first-among splits k (length place)) (restriction ts k) place rows (placed .many) (λ q h. (q, h, first-among-in splits k (length place) (getD place q 0) (placed .place-below q h), refl)))
+        paired-new-ones Same same-agree [] [] tt (map (first-among differences k (length place)) place) (map (restriction ts k) rows)
+        (paired-map Same (first-among differences k (length place)) (restriction ts k) place rows (placed .many)
+        (λ q h. (q, h, first-among-in differences k (length place) (getD place q 0) (placed .place-below q h), refl)))
 
-    length-copies : length (copies-at splits place k) ≡ length (fresh [] (map (restriction ts k) rows))
-    length-copies = paired-length Same (copies-at splits place k) (fresh [] (map (restriction ts k) rows)) paired-copies
+    length-copies : length (copies-at differences place k) ≡ length (fresh [] (map (restriction ts k) rows))
+    length-copies = paired-length Same (copies-at differences place k) (fresh [] (map (restriction ts k) rows)) paired-copies
 
     number-at : (i : ℕ) → i < length place → (rest : List Copy)
-        → number (map (copy-at k) (fresh [] (map (restriction ts k) rows)) ++ rest) k (restricted k i) ≡ index-of (first-place splits k i) (copies-at splits place k)
+        → number (map (copy-at k) (fresh [] (map (restriction ts k) rows)) ++ rest) k (restricted k i) ≡ index-of (first-place differences k i)
+        (copies-at differences place k)
     number-at i h rest =
-        number-here Same same-agree (first-place splits k i) k (restricted k i) (same-at i h) (copies-at splits place k)
+        number-here Same same-agree (first-place differences k i) k (restricted k i) (same-at i h) (copies-at differences place k)
         (fresh [] (map (restriction ts k) rows)) paired-copies rest
-        (first-place-met splits place k i (row i) h (placed .row-below i h) (placed .place-of-row i h))
+        (first-place-met differences place k i (row i) h (placed .row-below i h) (placed .place-of-row i h))
 
   -- ---- all positions
 
@@ -206,14 +209,14 @@ module _ (ts : List Bool) (rows : List Row) (place splits : List ℕ) (row : ℕ
 
   -- Of the positions that are left k is the first, and the own one is the d-th of them, at position p.
   number-from : (i p : ℕ) → i < length place → Own ts p → (left : List Bool) (k d : ℕ) → ((j : ℕ) → getD left j false ≡ getD ts (k + j) false) → k + d ≡ p
-      → copies-before splits place ts k + number (copies-from ts rows k left) p (restricted p i)
-      ≡ copies-before splits place ts p + index-of (first-place splits p i) (copies-at splits place p)
+      → copies-before differences place ts k + number (copies-from ts rows k left) p (restricted p i)
+      ≡ copies-before differences place ts p + index-of (first-place differences p i) (copies-at differences place p)
   number-from i p h o [] k d here sum = absurd (false≢true (here d ∙ ap (λ (n : ℕ). getD ts n false) sum ∙ o))
   number-from i p h o (false ∷ left) k zero here sum =
       absurd (false≢true (here zero ∙ ap (λ (n : ℕ). getD ts n false) sum ∙ o))
   number-from i p h o (true ∷ left) k zero here sum =
       let now-at : k ≡ p = omega arith in
-      rw now-at (ap (λ (n : ℕ). copies-before splits place ts p + n) (number-at p (own-below p o) i h (copies-from ts rows (suc p) left)))
+      rw now-at (ap (λ (n : ℕ). copies-before differences place ts p + n) (number-at p (own-below p o) i h (copies-from ts rows (suc p) left)))
   number-from i p h o (false ∷ left) k (suc d) here sum =
       let other : getD ts k false ≡ false = ap (λ (n : ℕ). getD ts n false) (sym (add-zero k)) ∙ sym (here zero) in
       let behind = number-from i p h o left (suc k) d (λ j. here (suc j) ∙ ap (λ (n : ℕ). getD ts n false) (add-suc k j ∙ sym (suc-add k j))) (omega arith) in
@@ -227,17 +230,17 @@ module _ (ts : List Bool) (rows : List Row) (place splits : List ℕ) (row : ℕ
       omega arith
 
   pub copy-number-is-number : (i k : ℕ) → i < length place → Own ts k
-      → copy-number splits place ts i k ≡ number (copies ts rows) k (restriction ts k (getD rows (row i) []))
+      → copy-number differences place ts i k ≡ number (copies ts rows) k (restriction ts k (getD rows (row i) []))
   unfolding copy-number copies
   copy-number-is-number i k h o =
       let whole = number-from i k h o ts zero k (λ j. ap (λ (n : ℕ). getD ts n false) (omega arith)) (omega arith) in
       omega arith
 
 -- So each own cell of the filled table wants what its copy prefers.
-pub wants-of-copies : (kinds preferences place splits : List ℕ) (side : ℕ) (w u : List ℕ) (rows : List Row) (row : ℕ → ℕ)
-    → WantsFilled kinds preferences place splits side w u → Placed (owned kinds side) rows place splits row
+pub wants-of-copies : (kinds preferences place differences : List ℕ) (side : ℕ) (w u : List ℕ) (rows : List Row) (row : ℕ → ℕ)
+    → WantsFilled kinds preferences place differences side w u → Placed (owned kinds side) rows place differences row
     → (i k : ℕ) → i < length place → k < length kinds → Own (owned kinds side) k
     → wants u i k ≡ wanted (prefer preferences) (owned kinds side) rows k (restriction (owned kinds side) k (getD rows (row i) []))
 unfolding wanted
-wants-of-copies kinds preferences place splits side w u rows row filled placed i k h less own =
-    filled .wanted i k h less own ∙ ap (prefer preferences) (copy-number-is-number (owned kinds side) rows place splits row placed i k h own)
+wants-of-copies kinds preferences place differences side w u rows row filled placed i k h less own =
+    filled .wanted i k h less own ∙ ap (prefer preferences) (copy-number-is-number (owned kinds side) rows place differences row placed i k h own)

@@ -11,14 +11,14 @@ use Rattle.rows.specs.Row.{weight}
 use Rattle.search_cells.specs.Cells.{flags}
 
 -- Sorted rows that have the same copy (annotated variable) at position k stand together, so a copy is known by the first of them. Neighbours
--- that differ before k have different copies: entry i of `splits` says where sorted row i first differs from the one before it.
+-- that differ before k have different copies: entry i of `differences` says where sorted row i first differs from the one before it.
 abbrev pub first-place : List ℕ → ℕ → ℕ → ℕ
-first-place splits k zero = zero
-first-place splits k (suc i) = cond (ltb (getD splits (suc i) 0) k) (suc i) (first-place splits k i)
+first-place differences k zero = zero
+first-place differences k (suc i) = cond (ltb (getD differences (suc i) 0) k) (suc i) (first-place differences k i)
 
 -- The same among so many sorted rows; a place behind them counts as the first.
 abbrev pub first-among : List ℕ → ℕ → ℕ → ℕ → ℕ
-first-among splits k count i = cond (ltb i count) (first-place splits k i) 0
+first-among differences k count i = cond (ltb i count) (first-place differences k i) 0
 
 -- A number is in a list.
 abbrev pub member : ℕ → List ℕ → Bool
@@ -35,7 +35,7 @@ new-ones seen (x ∷ xs) =
 
 -- The copies at position k by their first sorted rows, in the order of the lent rows: entry r of `place` is the sorted place of lent row r.
 unfoldable pub copies-at : List ℕ → List ℕ → ℕ → List ℕ
-copies-at splits place k = new-ones [] (map (first-among splits k (length place)) place)
+copies-at differences place k = new-ones [] (map (first-among differences k (length place)) place)
 
 -- The index of a number in a list.
 abbrev pub index-of : ℕ → List ℕ → ℕ
@@ -56,25 +56,26 @@ written f k (suc i) w = set (written f k i w) (flags + (max-unknowns * i + k)) (
 
 -- The table with position k filled, whose copies are numbered from `number` on.
 unfoldable pub filled-at : List ℕ → List ℕ → List ℕ → ℕ → ℕ → List ℕ → List ℕ
-filled-at preferences place splits k number w =
-    written (λ i. preferred preferences number (copies-at splits place k) (first-place splits k i)) k (length place) w
+filled-at preferences place differences k number w =
+    written (λ i. preferred preferences number (copies-at differences place k) (first-place differences k i)) k (length place) w
 
 -- The table with the side's own of some positions filled, of which k is the first; its copies are numbered from `number` on.
 abbrev pub filled-from : List ℕ → List ℕ → List ℕ → ℕ → List ℕ → ℕ → ℕ → List ℕ → List ℕ
-filled-from preferences place splits side [] k number w = w
-filled-from preferences place splits side (kind ∷ kinds) k number w =
+filled-from preferences place differences side [] k number w = w
+filled-from preferences place differences side (kind ∷ kinds) k number w =
     let own =
-    filled-from preferences place splits side kinds (suc k) (number + length (copies-at splits place k)) (filled-at preferences place splits k number w) in
-    let other = filled-from preferences place splits side kinds (suc k) number w in
+    filled-from preferences place differences side kinds (suc k) (number + length (copies-at differences place k))
+    (filled-at preferences place differences k number w) in
+    let other = filled-from preferences place differences side kinds (suc k) number w in
     cond (eqb kind side) own other
 
 -- The lengths of what is lent are those of a table: no more kinds than unknowns and no more places than rows, a split for each row, and the area's
 -- bytes.
 abbrev pub sized : ℕ → ℕ → ℕ → ℕ → Bool
-sized kinds places splits bytes = leb kinds max-unknowns && leb places max-rows && eqb splits max-rows && eqb bytes work-size
+sized kinds places differences bytes = leb kinds max-unknowns && leb places max-rows && eqb differences max-rows && eqb bytes work-size
 
 -- The table with every position of the side filled; as it was where the lengths are others.
 unfoldable pub filled : List ℕ → List ℕ → List ℕ → List ℕ → ℕ → List ℕ → List ℕ
-filled kinds preferences place splits side w =
-    let all = filled-from preferences place splits side kinds 0 0 w in
-    cond (sized (length kinds) (length place) (length splits) (length w)) all w
+filled kinds preferences place differences side w =
+    let all = filled-from preferences place differences side kinds 0 0 w in
+    cond (sized (length kinds) (length place) (length differences) (length w)) all w

@@ -16,26 +16,27 @@ use formula::Formula;
 use preference::preference;
 use search_cells::FLAGS;
 
-// Entry r of `place` is the sorted place of lent row r, and entry i of `splits` the position where sorted row i first differs from the one
+// Entry r of `place` is the sorted place of lent row r, and entry i of `differences` the position where sorted row i first differs from the one
 // before it. The copies at the positions whose kind is `side` are numbered from 0.
 pub fn fill(
     kinds: &[u8],
     preferences: &[u8],
     place: &[u8],
-    splits: &[u8],
+    differences: &[u8],
     side: u8,
     work: &mut [u8],
 )
-    ensures { λ _. ⌜ now (work .exit) ≡ filled (now (kinds .entry)) (now (preferences .entry)) (now (place .entry)) (now (splits .entry)) side (now (work .entry)) ⌝ }
+    ensures { λ _. ⌜ now (work .exit) ≡ filled (now (kinds .entry)) (now (preferences .entry)) (now (place .entry)) (now (differences .entry)) side
+        (now (work .entry)) ⌝ }
 {
-    if is_sized(kinds.len(), place.len(), splits.len(), work.len()) {} else {
+    if is_sized(kinds.len(), place.len(), differences.len(), work.len()) {} else {
         return;
     }
-    fill_positions(kinds, preferences, place, splits, side, work);
+    fill_positions(kinds, preferences, place, differences, side, work);
 }
 
-fn is_sized(kinds: usize, places: usize, splits: usize, bytes: usize) -> bool
-    ensures { λ r. ⌜ r ≡ sized kinds places splits bytes ⌝ }
+fn is_sized(kinds: usize, places: usize, differences: usize, bytes: usize) -> bool
+    ensures { λ r. ⌜ r ≡ sized kinds places differences bytes ⌝ }
 {
     if kinds > Formula::UNKNOWNS {
         return false;
@@ -43,7 +44,7 @@ fn is_sized(kinds: usize, places: usize, splits: usize, bytes: usize) -> bool
     if places > Formula::ROWS {
         return false;
     }
-    if splits != Formula::ROWS {
+    if differences != Formula::ROWS {
         return false;
     }
     bytes == Formula::WORK
@@ -53,18 +54,19 @@ fn fill_positions(
     kinds: &[u8],
     preferences: &[u8],
     place: &[u8],
-    splits: &[u8],
+    differences: &[u8],
     side: u8,
     work: &mut [u8],
 )
-    requires { ⌜ (length (now kinds) ≤ max-unknowns) × (length (now place) ≤ max-rows) × (length (now splits) ≡ max-rows) × (length (now work) ≡ work-size) ⌝ }
-    ensures { λ _. ⌜ now (work .exit) ≡ filled-from (now (preferences .entry)) (now (place .entry)) (now (splits .entry)) side (now (kinds .entry)) 0 0 (now (work .entry)) ⌝ }
+    requires { ⌜ (length (now kinds) ≤ max-unknowns) × (length (now place) ≤ max-rows) × (length (now differences) ≡ max-rows) × (length (now work) ≡ work-size) ⌝ }
+    ensures { λ _. ⌜ now (work .exit) ≡ filled-from (now (preferences .entry)) (now (place .entry)) (now (differences .entry)) side (now (kinds .entry)) 0 0
+        (now (work .entry)) ⌝ }
 {
     let mut number = 0;
     let mut k = 0;
     while k < kinds.len() {
         if kinds[k] == side {
-            number = fill_at(preferences, place, splits, k, number, work);
+            number = fill_at(preferences, place, differences, k, number, work);
         }
         k += 1;
     }
@@ -74,18 +76,18 @@ fn fill_positions(
 fn fill_at(
     preferences: &[u8],
     place: &[u8],
-    splits: &[u8],
+    differences: &[u8],
     k: usize,
     number: usize,
     work: &mut [u8],
 ) -> usize
-    requires { ⌜ (length (now place) ≤ max-rows) × (length (now splits) ≡ max-rows) × (k < max-unknowns) × (number ≤ flags) × (length (now work) ≡ work-size) ⌝ }
-    ensures { λ r. ⌜ r ≡ number + length (copies-at (now (splits .entry)) (now (place .entry)) k) ⌝ }
-    ensures { λ _. ⌜ now (work .exit) ≡ filled-at (now (preferences .entry)) (now (place .entry)) (now (splits .entry)) k number (now (work .entry)) ⌝ }
+    requires { ⌜ (length (now place) ≤ max-rows) × (length (now differences) ≡ max-rows) × (k < max-unknowns) × (number ≤ flags) × (length (now work) ≡ work-size) ⌝ }
+    ensures { λ r. ⌜ r ≡ number + length (copies-at (now (differences .entry)) (now (place .entry)) k) ⌝ }
+    ensures { λ _. ⌜ now (work .exit) ≡ filled-at (now (preferences .entry)) (now (place .entry)) (now (differences .entry)) k number (now (work .entry)) ⌝ }
 {
     let count = place.len();
     let mut first = [0u8; Formula::ROWS];
-    group(splits, k, count, &mut first);
+    group(differences, k, count, &mut first);
     let mut notes = [0u8; Formula::ROWS];
     let next = number_copies(preferences, place, &first, number, &mut notes);
     write(&first, &notes, k, count, work);
@@ -93,15 +95,15 @@ fn fill_at(
 }
 
 // Writes for each of so many sorted rows the first row of its copy at position k.
-fn group(splits: &[u8], k: usize, count: usize, first: &mut [u8])
-    requires { ⌜ (count ≤ max-rows) × (length (now splits) ≡ max-rows) × (length (now first) ≡ max-rows) ⌝ }
+fn group(differences: &[u8], k: usize, count: usize, first: &mut [u8])
+    requires { ⌜ (count ≤ max-rows) × (length (now differences) ≡ max-rows) × (length (now first) ≡ max-rows) ⌝ }
     requires { ⌜ ((x : ℕ) → getD (now first) x 0 ≡ 0) ⌝ }
-    ensures { λ _. ⌜ Grouped (now (splits .entry)) k count (now (first .exit)) ⌝ }
+    ensures { λ _. ⌜ Grouped (now (differences .entry)) k count (now (first .exit)) ⌝ }
 {
     let mut start = 0;
     let mut i = 0;
     while i < count {
-        if wide(splits[i]) < k {
+        if wide(differences[i]) < k {
             start = i as u8;
         }
         first[i] = start;

@@ -14,11 +14,14 @@ use Rattle.expansion.proofs.ClauseCuts.{Every, every-map}
 use Rattle.codes.specs.Private.Clauses.{position, clause-of, Coded}
 use Rattle.codes.proofs.CodeLaws.{clause-coded, row-position-is}
 use Rattle.codes.specs.Codes.{row-position}
-use Rattle.search_sets.specs.Sets.{set-places, sets-size, words-put, words-joined, words-met, set-joined, bit-added, bit-at, ones, each-from, cut-at, followed, code-joined, codes-joined, united, united-words, added, has, emptied, filled, trimmed, excused, blamed}
-use Rattle.search_sets.specs.Private.Masks.{set-at, SetGrown, SetsKept, Put, United, WordsUnited, Trimmed, Excused, Blamed}
+use Rattle.search_sets.specs.Sets.{set-places, sets-size, words-put, words-joined, words-met, set-joined, bit-added, bit-at, ones, each-from, cut-at}
+use Rattle.search_sets.specs.Sets.{followed, code-joined, codes-joined, united, united-words, added}
+use Rattle.search_sets.specs.Sets.{has, emptied, filled, trimmed, resolved, reasons-added}
+use Rattle.search_sets.specs.Private.Masks.{set-at, SetGrown, SetsKept, Put, United, WordsUnited, Trimmed, Resolved, ReasonsAdded}
 use Rattle.search_sets.proofs.TestLaws.{place-true, numbers-true}
 use Rattle.search_sets.proofs.LengthLaws.{length-met, length-followed, length-code-joined, length-each}
-use Rattle.search_sets.proofs.MaskLaws.{words-full, set-bit, store-put, kept-put, store-grown, store-added, put-united, set-grown-refl, set-grown-trans, set-grown-keeps, trimmed-refl, trimmed-more}
+use Rattle.search_sets.proofs.MaskLaws.{words-full, set-bit, store-put, kept-put, store-grown, store-added, put-united, set-grown-refl, set-grown-trans}
+use Rattle.search_sets.proofs.MaskLaws.{set-grown-keeps, trimmed-refl, trimmed-more}
 
 -- ---- sets at places that are there
 
@@ -46,16 +49,16 @@ trimmed-each k (suc m) s size fits =
     trimmed-more k (k + m) (ones k) (ones (k - 64)) s t _ (omega arith) (omega arith) refl refl (trimmed-each k m s size (omega arith))
     (put-there t same (k + m) (omega arith) _ _)
 
-excused-none : (k : ℕ) (s : List ℕ) → Excused k k s s
-excused-none k s = record { grown = set-grown-refl; takes = λ p low high. absurd (omega arith) }
+resolved-none : (k : ℕ) (s : List ℕ) → Resolved k k s s
+resolved-none k s = record { grown = set-grown-refl; takes = λ p low high. absurd (omega arith) }
 
-excused-shorter : (k at p : ℕ) (s t : List ℕ) → at ≤ p → Excused k p s t → Excused k at s t
-excused-shorter k at p s t le x = record { grown = x .grown; takes = λ q low high. x .takes q low (omega arith) }
+resolved-shorter : (k at p : ℕ) (s t : List ℕ) → at ≤ p → Resolved k p s t → Resolved k at s t
+resolved-shorter k at p s t le x = record { grown = x .grown; takes = λ q low high. x .takes q low (omega arith) }
 
--- Position p: its set is taken in if the failure's set has it by now, so also if it had it at first.
-excused-more : (k p : ℕ) (s t u : List ℕ) → p < max-unknowns → Excused k p s t → SetGrown max-unknowns t u
-    → (set-at t max-unknowns p ≡ true → (l : ℕ) → set-at t p l ≡ true → set-at u max-unknowns l ≡ true) → Excused k (p + 1) s u
-excused-more k p s t u below x g here = record {
+-- Position p: its set is taken in if the conflict's set has it by now, so also if it had it at first.
+resolved-more : (k p : ℕ) (s t u : List ℕ) → p < max-unknowns → Resolved k p s t → SetGrown max-unknowns t u
+    → (set-at t max-unknowns p ≡ true → (l : ℕ) → set-at t p l ≡ true → set-at u max-unknowns l ≡ true) → Resolved k (p + 1) s u
+resolved-more k p s t u below x g here = record {
   grown = set-grown-trans (x .grown) g;
   takes = λ q low high named l h. go q low high named l h (decLt q p);
 }
@@ -67,22 +70,22 @@ excused-more k p s t u below x g here = record {
         here (set-grown-keeps (x .grown) max-unknowns p (subst (λ (y : ℕ). set-at s max-unknowns y ≡ true) same named)) l
         (set-grown-keeps (x .grown) p l (subst (λ (y : ℕ). set-at s y l ≡ true) same h))
 
-excused-step : (k p : ℕ) (s t : List ℕ) → length t ≡ sets-size → p < max-unknowns → Excused k p s t → (b : Bool) → bit-at t max-unknowns p ≡ b
-    → Excused k (p + 1) s (cond b (set-joined t max-unknowns p) t)
+resolved-step : (k p : ℕ) (s t : List ℕ) → length t ≡ sets-size → p < max-unknowns → Resolved k p s t → (b : Bool) → bit-at t max-unknowns p ≡ b
+    → Resolved k (p + 1) s (cond b (set-joined t max-unknowns p) t)
 unfolding bit-at
-excused-step k p s t size below x true e =
+resolved-step k p s t size below x true e =
     let joined = set-joined-united t size max-unknowns (omega arith) p in
-    excused-more k p s t (set-joined t max-unknowns p) below x (joined .grown) (λ named. joined .takes)
-excused-step k p s t size below x false e =
-    excused-more k p s t t below x set-grown-refl (λ named. absurd (never-both named (set-bit t max-unknowns p below ∙ e)))
+    resolved-more k p s t (set-joined t max-unknowns p) below x (joined .grown) (λ named. joined .takes)
+resolved-step k p s t size below x false e =
+    resolved-more k p s t t below x set-grown-refl (λ named. absurd (never-both named (set-bit t max-unknowns p below ∙ e)))
 
-excused-each : (k m : ℕ) (s : List ℕ) → length s ≡ sets-size → m ≤ max-unknowns - k → Excused k (k + m) s (each-from (followed max-unknowns) k m s)
-excused-each k zero s size fits = excused-shorter k (k + 0) k s s (omega arith) (excused-none k s)
-excused-each k (suc m) s size fits =
+resolved-each : (k m : ℕ) (s : List ℕ) → length s ≡ sets-size → m ≤ max-unknowns - k → Resolved k (k + m) s (each-from (followed max-unknowns) k m s)
+resolved-each k zero s size fits = resolved-shorter k (k + 0) k s s (omega arith) (resolved-none k s)
+resolved-each k (suc m) s size fits =
     let t = each-from (followed max-unknowns) k m s in
     let same : length t ≡ sets-size = length-each (followed max-unknowns) (length-followed max-unknowns) k m s ∙ size in
-    excused-shorter k (k + suc m) (k + m + 1) s _ (omega arith)
-    (excused-step k (k + m) s t same (omega arith) (excused-each k m s size (omega arith)) (bit-at t max-unknowns (k + m)) refl)
+    resolved-shorter k (k + suc m) (k + m + 1) s _ (omega arith)
+    (resolved-step k (k + m) s t same (omega arith) (resolved-each k m s size (omega arith)) (bit-at t max-unknowns (k + m)) refl)
 
 -- ---- a code after the other
 
@@ -105,14 +108,14 @@ code-taken s size to c place two below = go (ℕ-discrete (row-position c) to)
         rw (ne-eqb (row-position c) to other)
         (set-joined-united s size to place (row-position c) .takes l (subst (λ (p : ℕ). set-at s p l ≡ true) (sym (row-position-is c two below)) h)))
 
-blamed-all : (to : ℕ) → to < set-places → (cs : List ℕ) → Every (λ c. (2 ≤ c) × (position c < max-unknowns)) cs
-    → (s : List ℕ) → length s ≡ sets-size → Blamed cs to s (codes-joined to cs s)
-blamed-all to place [] coded s size = record { grown = set-grown-refl; takes = tt }
-blamed-all to place (c ∷ cs) coded s size =
+reasons-added-all : (to : ℕ) → to < set-places → (cs : List ℕ) → Every (λ c. (2 ≤ c) × (position c < max-unknowns)) cs
+    → (s : List ℕ) → length s ≡ sets-size → ReasonsAdded cs to s (codes-joined to cs s)
+reasons-added-all to place [] coded s size = record { grown = set-grown-refl; takes = tt }
+reasons-added-all to place (c ∷ cs) coded s size =
     let t = code-joined to s c in
     let u = codes-joined to cs t in
     let first = code-grown s size to c place in
-    let rest = blamed-all to place cs (coded .1) t (length-code-joined to s c ∙ size) in
+    let rest = reasons-added-all to place cs (coded .1) t (length-code-joined to s c ∙ size) in
     record {
       grown = set-grown-trans first (rest .grown);
       takes = (
@@ -137,7 +140,8 @@ module _ (s : List ℕ) (size : length s ≡ sets-size) where
 
   pub add-grows : (to p : ℕ) → to < set-places → p < max-unknowns → SetGrown to s (added s to p)
   unfolding added bit-added
-  add-grows to p place below = rw (numbers-true (length s) to p max-unknowns size place below) (store-grown s (2 * to + p / 64) (2 ^ (p % 64)) to (omega arith) (omega arith) (omega arith))
+  add-grows to p place below = rw (numbers-true (length s) to p max-unknowns size place below) (store-grown s (2 * to + p / 64) (2 ^ (p % 64)) to (omega arith)
+      (omega arith) (omega arith))
 
   pub add-adds : (to p : ℕ) → to < set-places → p < max-unknowns → set-at (added s to p) to p ≡ true
   unfolding added bit-added
@@ -168,14 +172,14 @@ module _ (s : List ℕ) (size : length s ≡ sets-size) where
   unfolding trimmed
   trim-trims k n low high = rw (numbers-true (length s) k n (max-unknowns + 1) size (omega arith) (omega arith)) (trimmed-each k (n - k) s size (omega arith))
 
-  pub excuse-excuses : (k at : ℕ) → at ≤ max-unknowns → Excused k at s (excused s max-unknowns k at)
-  unfolding excused
-  excuse-excuses k at high =
+  pub resolve-resolves : (k at : ℕ) → at ≤ max-unknowns → Resolved k at s (resolved s max-unknowns k at)
+  unfolding resolved
+  resolve-resolves k at high =
       rw (numbers-true (length s) max-unknowns at (max-unknowns + 1) size (omega arith) (omega arith))
-      (excused-shorter k at (k + (at - k)) s _ (omega arith) (excused-each k (at - k) s size (omega arith)))
+      (resolved-shorter k at (k + (at - k)) s _ (omega arith) (resolved-each k (at - k) s size (omega arith)))
 
-  pub blame-blames : (codes : List ℕ) (start to : ℕ) → to < set-places → Coded max-unknowns codes
-      → Blamed (clause-of (drop start codes)) to s (blamed codes s start to)
-  unfolding blamed
-  blame-blames codes start to place coded =
-      rw (place-true (length s) to size place) (blamed-all to place (clause-of (drop start codes)) (clause-coded max-unknowns codes start coded) s size)
+  pub add-reasons-adds : (codes : List ℕ) (start to : ℕ) → to < set-places → Coded max-unknowns codes
+      → ReasonsAdded (clause-of (drop start codes)) to s (reasons-added codes s start to)
+  unfolding reasons-added
+  add-reasons-adds codes start to place coded =
+      rw (place-true (length s) to size place) (reasons-added-all to place (clause-of (drop start codes)) (clause-coded max-unknowns codes start coded) s size)

@@ -110,9 +110,9 @@ unfoldable pub trimmed : List ℕ → ℕ → ℕ → List ℕ
 trimmed s k n = cond (numbers-fit (length s) k n (max-unknowns + 1)) (each-from (cut-at k) k (n - k) s) s
 
 -- For each position from k to `at`, in order, that the set at `of` has by then, it takes in the set at that place.
-unfoldable pub excused : List ℕ → ℕ → ℕ → ℕ → List ℕ
-excused s of k at = cond (numbers-fit (length s) of at (max-unknowns + 1)) (each-from (followed of) k (at - k) s) s
+unfoldable pub resolved : List ℕ → ℕ → ℕ → ℕ → List ℕ
+resolved s of k at = cond (numbers-fit (length s) of at (max-unknowns + 1)) (each-from (followed of) k (at - k) s) s
 
 -- The set at `to` takes in the sets of the positions, other than `to`, of the codes from `start` up to the first 0.
-unfoldable pub blamed : List ℕ → List ℕ → ℕ → ℕ → List ℕ
-blamed codes s start to = cond (has-place (length s) to) (codes-joined to (clause-of (drop start codes)) s) s
+unfoldable pub reasons-added : List ℕ → List ℕ → ℕ → ℕ → List ℕ
+reasons-added codes s start to = cond (has-place (length s) to) (codes-joined to (clause-of (drop start codes)) s) s

@@ -7,7 +7,8 @@ ghost use mathlib.Core.Path.{_≡_};
 ghost use Prim.Native.Nat.{_-_, _<_};
 ghost use lib.ListN.{length};
 ghost use Rattle.formula.specs.Formula.{max-unknowns};
-ghost use Rattle.search_sets.specs.Sets.{set-places, sets-size, has-place, numbers-fit, words-put, words-joined, words-met, set-joined, bit-added, bit-at, ones, united, united-words, added, has, emptied, filled, trimmed, excused, blamed};
+ghost use Rattle.search_sets.specs.Sets.{set-places, sets-size, has-place, numbers-fit, words-put, words-joined, words-met, set-joined, bit-added, bit-at};
+ghost use Rattle.search_sets.specs.Sets.{ones, united, united-words, added, has, emptied, filled, trimmed, resolved, reasons-added};
 
 // A set for each position, and two behind them.
 pub const PLACES: usize = Formula::UNKNOWNS + 2;
@@ -102,8 +103,8 @@ pub fn trim(sets: &mut [u64], k: usize, n: usize)
 }
 
 // For each position from k to `at`, in order, that the set at `of` has by then, it takes in the set at that place.
-pub fn excuse(sets: &mut [u64], of: usize, k: usize, at: usize)
-    ensures { λ _. ⌜ now (sets .exit) ≡ excused (now (sets .entry)) of k at ⌝ }
+pub fn resolve(sets: &mut [u64], of: usize, k: usize, at: usize)
+    ensures { λ _. ⌜ now (sets .exit) ≡ resolved (now (sets .entry)) of k at ⌝ }
 {
     if numbers_fit(sets.len(), of, at, ENDS) {} else {
         return;
@@ -119,8 +120,8 @@ pub fn excuse(sets: &mut [u64], of: usize, k: usize, at: usize)
 }
 
 // The set at `to` takes in the sets of the positions, other than `to`, of the codes from `start` up to the first 0.
-pub fn blame(codes: &[u16], sets: &mut [u64], start: usize, to: usize)
-    ensures { λ _. ⌜ now (sets .exit) ≡ blamed (now (codes .entry)) (now (sets .entry)) start to ⌝ }
+pub fn add_reasons(codes: &[u16], sets: &mut [u64], start: usize, to: usize)
+    ensures { λ _. ⌜ now (sets .exit) ≡ reasons-added (now (codes .entry)) (now (sets .entry)) start to ⌝ }
 {
     if has_place(sets.len(), to) {} else {
         return;

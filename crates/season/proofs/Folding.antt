@@ -81,7 +81,14 @@ module _ (t : Tally) (s : Study) (ss : List Study) (u : Tally) where
           let lt : s .rounds < most ss = ltb-true _ _ e in
           record {
             most-is = l .most-is ∙ rw (em, max-right (s .rounds) (most ss) (omega arith), max-right (t .most) (most ss) (omega arith));
-            first-is = l .first-is ∙ rw (em, e, max-right (s .rounds) (most ss) (omega arith), lt-ltb (t .most) (most ss) (omega arith), ne-eqb (s .rounds) (most ss) (λ q. omega arith)) (omega arith);
+            first-is = l .first-is ∙ rw (
+              em,
+              e,
+              max-right (s .rounds) (most ss) (omega arith),
+              lt-ltb (t .most) (most ss) (omega arith),
+              ne-eqb (s .rounds)
+                  (most ss) (λ q. omega arith),
+            ) (omega arith);
           }
       elim′ false e =
           let le : most ss ≤ s .rounds = ltb-false _ _ e in
@@ -99,7 +106,14 @@ module _ (t : Tally) (s : Study) (ss : List Study) (u : Tally) where
           let lt : t .most < most ss = ltb-true _ _ e in
           record {
             most-is = l .most-is ∙ rw (em, max-right (s .rounds) (most ss) (omega arith));
-            first-is = l .first-is ∙ rw (em, e, max-right (s .rounds) (most ss) (omega arith), lt-ltb (t .most) (most ss) lt, ne-eqb (s .rounds) (most ss) (λ q. omega arith)) (omega arith);
+            first-is = l .first-is ∙ rw (
+              em,
+              e,
+              max-right (s .rounds) (most ss) (omega arith),
+              lt-ltb (t .most) (most ss) lt,
+              ne-eqb (s .rounds) (most ss)
+                  (λ q. omega arith),
+            ) (omega arith);
           }
       elim′ false e =
           let le : most ss ≤ t .most = ltb-false _ _ e in
@@ -200,7 +214,16 @@ fold-summary ss = cases (ltb max-studies (length ss)) refl
 
 -- ---- room for the next study
 pub room-fresh : Room fresh
-room-fresh = record { answer-0 = omega arith; answer-1 = omega arith; answer-2 = omega arith; answer-3 = omega arith; answer-4 = omega arith; rounds = omega arith; fees = omega arith }
+room-fresh = record {
+  answer-0 = omega arith;
+  answer-1 = omega arith;
+  answer-2 = omega arith;
+  answer-3 = omega arith;
+  answer-4 = omega arith;
+  rounds = omega
+      arith;
+  fees = omega arith;
+}
 
 room-more : (t : Tally) (a r f : ℕ) → Room t → r < 2 ^ 32 → f < 2 ^ 32 → Room (one-more t a r f)
 room-more t a r f m hr hf = record {

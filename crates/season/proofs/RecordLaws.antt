@@ -55,13 +55,15 @@ module _ (line : Bytes) (a : ℕ) (ea : a ≡ 0 + before 32 (drop 0 line)) where
 
       ends : c ≡ length line → Parted line (eqb c (length line)) a b
       ends h =
-          let three : pieces 32 line ≡ take a line ∷ take (b - (a + 1)) (drop (a + 1) line) ∷ take (length line - (b + 1)) (drop (b + 1) line) ∷ [] = third-piece ∙ rw (after-end line c h, h) refl in
+          let three : pieces 32 line ≡ take a line ∷ take (b - (a + 1)) (drop (a + 1) line) ∷ take (length line - (b + 1)) (drop (b + 1) line) ∷
+          [] = third-piece ∙ rw (after-end line c h, h) refl in
           record { count = rw (three, eq-eqb c (length line) h) refl; ordered = λ _. omega arith; within = λ _. hb; parts = λ _. three }
 
       long : c < length line → eqb (length (pieces 32 line)) 3 ≡ false
       long h =
           let rest = drop (c + 1) line in
-          let four : length (pieces 32 line) ≡ 4 + length (after 32 (drop (before 32 rest) rest)) = rw (third-piece, after-more line c h, pieces-first 32 rest) (omega arith) in
+          let four : length (pieces 32 line) ≡ 4 + length (after 32 (drop (before 32 rest) rest)) = rw (third-piece, after-more line c h, pieces-first 32 rest)
+          (omega arith) in
           ne-eqb (length (pieces 32 line)) 3 (λ e. omega arith)
 
       goes-on : c < length line → Parted line (eqb c (length line)) a b
@@ -110,7 +112,8 @@ module _ (text : Bytes) (at end : ℕ) (e : end ≡ at + before 10 (drop at text
     unfolding is-record
     other-here k bad = rw (lines-line text at end e h, bad) refl
 
-    pub other-past : (k : ℕ) → three-numbers (pieces 32 (line-from text at end)) ≡ true → other-line k (lines (drop at text)) ≡ other-line (suc k) (lines (drop (end + 1) text))
+    pub other-past : (k : ℕ) → three-numbers (pieces 32 (line-from text at end)) ≡ true →
+        other-line k (lines (drop at text)) ≡ other-line (suc k) (lines (drop (end + 1) text))
     unfolding is-record
     other-past k good = rw (lines-line text at end e h, good) refl
 
@@ -160,14 +163,16 @@ module _ {text : Bytes} {rows : List Study} {at i : ℕ} (F : Filling text rows 
     pub row-free : length (lines text) ≤ max-studies → i < max-studies
     row-free h = omega (arith, F .counted, length-past text at end e line-ends)
 
-    pub row-filled : length (lines text) ≤ max-studies → (s : Study) → s ≡ study (pieces 32 (line-from text at end)) → Filling text (set rows i s) (end + 1) (i + 1)
+    pub row-filled : length (lines text) ≤ max-studies → (s : Study) → s ≡ study (pieces 32 (line-from text at end)) →
+        Filling text (set rows i s) (end + 1) (i + 1)
     row-filled h s q = record {
       size = length-set rows i s ∙ F .size;
       within = omega (arith, line-ends);
       none = ap (λ k. other-line k (lines (drop (end + 1) text))) (ap suc (add-one i)) ∙ sym (other-past text at end e line-ends (suc i) line-good) ∙ F .none;
       counted = omega (arith, F .counted, length-past text at end e line-ends);
       filled =
-          let more = ap (λ s. take i rows ++ (s ∷ records (lines (drop (end + 1) text)))) q ∙ ap (λ l. take i rows ++ l) (sym (records-past text at end e line-ends)) ∙ F .filled in
+          let more = ap (λ s. take i rows ++ (s ∷ records (lines (drop (end + 1) text)))) q ∙ ap (λ l. take i rows ++ l)
+          (sym (records-past text at end e line-ends)) ∙ F .filled in
           rw (add-one, take-suc-set rows i s (omega (arith, F .size, row-free h)), append-assoc) more;
     }
 

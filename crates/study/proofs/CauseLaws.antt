@@ -164,20 +164,20 @@ any-none test (x ∷ ss) (suc i) s e there = any-none test ss i s (second (test 
     second true b e = absurd (true≢false e)
     second false b e = e
 
--- Where no cause applies, what is lent passes, there is a setting, and every setting's run is accepted.
-module _ (kinds : List ℕ) (literals : List ℤ) (settings : List ℕ) (found : Areas) (none : cause kinds literals settings found ≡ 0) where
-  both : (run-cause (given kinds literals [] found 1 0) ≡ 0) × (list-cause settings ≡ 0)
-  unfolding cause
-  both = parts (run-cause (given kinds literals [] found 1 0)) (list-cause settings) none
+pub any-there : (test : Setting → Bool) (ss : List Setting) (i : ℕ) (s : Setting) → getElem? ss i ≡ some s → test s ≡ true → any test ss ≡ true
+any-there test ss i s there passed = by-test (any test ss) refl
+  where
+    by-test : (b : Bool) → any test ss ≡ b → b ≡ true
+    by-test true e = refl
+    by-test false e = absurd (true≢false (sym passed ∙ any-none test ss i s e there))
 
-  pub passes : Passes kinds literals found
-  passes = passes-if-none (given kinds literals [] found 1 0) (both .0)
-
+-- A list without a cause has a setting, and each permits a round.
+module _ (settings : List ℕ) (none : list-cause settings ≡ 0) where
   list-told : (eqb (length settings) 0 ≡ false) × (eqb (length settings % 4) 0 ≡ true) × (any no-round (settings-of settings) ≡ false)
   unfolding list-cause cause-26
   list-told =
       none-of-list (eqb (length settings) 0) (ltb 32 (length settings)) (eqb (length settings % 4) 0) (any unknown (settings-of settings))
-      (any no-round (settings-of settings)) (both .1)
+      (any no-round (settings-of settings)) none
 
   pub some-setting : 1 ≤ length settings / 4
   some-setting =
@@ -188,6 +188,43 @@ module _ (kinds : List ℕ) (literals : List ℤ) (settings : List ℕ) (found :
       by-length : (n : ℕ) → (n ≡ 0 → ⊥) → n % 4 ≡ 0 → 1 ≤ n / 4
       by-length zero h e = absurd (h refl)
       by-length (suc n) h e = omega arith
+
+  pub some-round : (i : ℕ) (s : Setting) → getElem? (settings-of settings) i ≡ some s → eqb (s .limit) 0 ≡ false
+  some-round i s there = any-none no-round (settings-of settings) i s (list-told .2) there
+
+  abbrev run-of : List ℕ → List ℤ → Areas → Bool → ℕ
+  run-of kinds literals found unlimited =
+      by-tests (cause-number (checked kinds literals))
+      (tables-fit (found .universal-rows) (found .universal-marks) (found .existential-rows) (found .existential-marks))
+      (tables-counted (found .universal-rows) (found .universal-counts) (found .existential-rows) (found .existential-counts))
+      (eqb (length (found .work)) work-size) unlimited
+
+  -- The study's cause is then that of a run over what is lent, whatever its preferences and its limit, if that is not 0.
+  pub cause-of-run : (kinds : List ℕ) (literals : List ℤ) (found : Areas) (preferences : List ℕ) (limit clearing : ℕ) → eqb limit 0 ≡ false
+      → run-cause (given kinds literals preferences found limit clearing) ≡ cause kinds literals settings found
+  unfolding cause run-cause
+  cause-of-run kinds literals found preferences limit clearing some-limit =
+      let of-run = run-of kinds literals found false in
+      (λ d. run-of kinds literals found (some-limit d)) ∙ sym (ap (λ (n : ℕ). cond (eqb of-run 0) n of-run) none ∙ or-itself of-run)
+    where
+      or-itself : (n : ℕ) → cond (eqb n 0) 0 n ≡ n
+      or-itself n = by-test (eqb n 0) refl
+        where
+          by-test : (b : Bool) → eqb n 0 ≡ b → cond b 0 n ≡ n
+          by-test true t = sym (eqb-true n 0 t)
+          by-test false t = refl
+
+-- Where no cause applies, what is lent passes, and every setting's run is accepted.
+module _ (kinds : List ℕ) (literals : List ℤ) (settings : List ℕ) (found : Areas) (none : cause kinds literals settings found ≡ 0) where
+  both : (run-cause (given kinds literals [] found 1 0) ≡ 0) × (list-cause settings ≡ 0)
+  unfolding cause
+  both = parts (run-cause (given kinds literals [] found 1 0)) (list-cause settings) none
+
+  pub list-passes : list-cause settings ≡ 0
+  list-passes = both .1
+
+  pub passes : Passes kinds literals found
+  passes = passes-if-none (given kinds literals [] found 1 0) (both .0)
 
   pub formula-accepted : AcceptedFormula kinds literals
   unfolding checked
@@ -210,4 +247,4 @@ module _ (kinds : List ℕ) (literals : List ℤ) (settings : List ℕ) (found :
   pub each-accepted : (i : ℕ) (s : Setting) → getElem? (settings-of settings) i ≡ some s → run-cause (given-of kinds literals s found) ≡ 0
   each-accepted i s there =
       none-if-passes (given-of kinds literals s found) (record { formula = formula-passes (s .trim); fits = passes .fits })
-      (any-none no-round (settings-of settings) i s (list-told .2) there)
+      (some-round settings list-passes i s there)

@@ -28,7 +28,7 @@ use Rattle.study.specs.Study.{settings-of, formula-of, preferences-of, g
 use Rattle.study.specs.StudyRight.{answer-of, Promised, StudyRight}
 use Rattle.study.specs.Private.Turns.{SameSizes}
 use Rattle.study.proofs.SettingLaws.{length-settings}
-use Rattle.study.proofs.CauseLaws.{some-setting, each-accepted, trimming-proved, limit-if-none}
+use Rattle.study.proofs.CauseLaws.{some-setting, list-passes, each-accepted, trimming-proved, limit-if-none}
 use Rattle.study.proofs.SizeLaws.{same-cause, left-sizes}
 
 -- An answer is a verdict only if it is this one.
@@ -65,7 +65,7 @@ named-verdict true = refl
 named-verdict false = refl
 
 module _ (g : Given) (none : run-cause g ≡ 0) where
-  answered : returned g .answer ≡ named (reached g .answer)
+  pub answered : returned g .answer ≡ named (reached g .answer)
   unfolding returned
   answered = ap (λ (b : Bool). cond b (reported (prefix (g .kinds)) (reached g)) (refusal (run-cause g)) .answer) (eq-eqb (run-cause g) 0 none)
 
@@ -222,7 +222,7 @@ module _ (kinds : List ℕ) (literals : List ℤ) (settings : List ℕ) (found :
   over none =
       subst (λ (b : Bool). Over (cond b (in-turn kinds literals (settings-of settings) 0 found) (ending (refusal stops) 0 found))) (sym (eq-eqb stops 0 none))
       (turns-over kinds literals (trimming-proved kinds literals settings found none) (settings-of settings) 0 found (each-accepted kinds literals settings found none)
-      (subst (λ (n : ℕ). 1 ≤ n) (sym (length-settings settings)) (some-setting kinds literals settings found none)))
+      (subst (λ (n : ℕ). 1 ≤ n) (sym (length-settings settings)) (some-setting settings (list-passes kinds literals settings found none))))
 
   pub study-right : StudyRight kinds literals settings found
   study-right =

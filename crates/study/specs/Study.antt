@@ -35,6 +35,10 @@ settings-of (t ∷ p ∷ []) = []
 settings-of (t ∷ p ∷ k ∷ []) = []
 settings-of (t ∷ p ∷ k ∷ n ∷ rest) = record { trim = t; preference = p; clearing = k; limit = n } ∷ settings-of rest
 
+-- Whether the run of a setting is over the trimmed formula.
+abbrev pub trims : Setting → Bool
+trims s = not (eqb (s .trim) 0)
+
 -- What the run of a setting is given: the lent formula or the trimmed one ..
 abbrev pub formula-of : ℕ → List ℕ → List ℤ → List ℤ
 formula-of zero kinds literals = literals

@@ -2,12 +2,12 @@
 // round left, another may: over the trimmed formula, with other preferences, or with the universal table cleared.
 // `study` promises, for all that is lent, the outcome, the setting that gave it and every lent byte that the definition (specs/Study.antt) gives, that
 // its answer is the verdict whatever the settings, and all that is promised of the last run (specs/StudyRight.antt).
-// The run belongs to `run`, trimming to `trimming`. A study costs its runs, one trimming and one test of the formula more.
+// The run belongs to `run`, trimming to `trimming`. A study costs its runs, and if a setting trims one trimming and one test of the formula more.
 use engine::run::Answer;
 use engine::run::Outcome;
 use formula::Formula;
 use trimming::Trimmed;
-ghost use Prim.Native.Nat.{_+_, _*_, _/_, _≤_, _<_};
+ghost use Prim.Native.Nat.{_*_, _/_, _≤_, _<_};
 ghost use mathlib.Core.Path.{_≡_};
 ghost use mathlib.Core.Bool.{_||_, cond};
 ghost use mathlib.Core.List.{_∷_, []};
@@ -17,9 +17,9 @@ ghost use Rattle.formula.specs.Causes.{any};
 ghost use Rattle.trimming.specs.Outcome.{outcome, output-after, used};
 ghost use Rattle.engine.specs.Outcome.{areas, refusal};
 ghost use Rattle.engine.specs.Ended.{Ended};
-ghost use Rattle.study.specs.Study.{settings-of, preferences-of, given-of, unknown, no-round, list-cause, is-verdict};
+ghost use Rattle.study.specs.Study.{settings-of, preferences-of, given-of, unknown, trims, list-cause};
 ghost use Rattle.study.specs.StudyRight.{Studies};
-ghost use Rattle.study.specs.Private.Turns.{setting-at, formula-from, Holds, Turned};
+ghost use Rattle.study.specs.Private.Turns.{asked-of, at-once, setting-at, formula-from, is-end, Holds, Ready};
 
 // How a run of a study is made: over the trimmed formula (1) or the lent one (0), with a preference byte or `HOUSE`, the universal table cleared in
 // each round that `clearing` divides, and never if it is 0, within the limit of rounds.
@@ -36,6 +36,13 @@ pub struct Studied {
     pub setting: usize,
 }
 
+// What may be asked of a setting: has it an unknown field, does it permit no round, does it trim.
+enum Asked {
+    Unknown,
+    NoRound,
+    Trims,
+}
+
 // The numbers of a setting in a table of settings, in the order of its fields.
 pub const FIELDS: usize = 4;
 
@@ -50,9 +57,73 @@ pub const HOUSE: u32 = 256;
 // Cause 6, which a run with the limit 0 gives where no other cause applies.
 const NO_LIMIT: u32 = 6;
 
-// Runs the formula under the settings of the table in turn. Every cause is tested before the first run: a run with the limit 0 tests all that
-// do not depend on a setting, and changes nothing.
+// Runs the formula under the settings of the table in turn. Every cause is tested before the first run. If no setting trims, the first run tests
+// those that do not depend on a setting.
 pub fn study(
+    kinds: &[u8],
+    literals: &[i32],
+    settings: &[u32],
+    universal_rows: &mut [u8],
+    universal_marks: &mut [u16],
+    universal_counts: &mut [u32],
+    existential_rows: &mut [u8],
+    existential_marks: &mut [u16],
+    existential_counts: &mut [u32],
+    work: &mut [u8],
+) -> Studied
+    ensures { λ r. ⌜ Studies
+        (now (kinds .entry)) (now (literals .entry)) (now (settings .entry))
+        (areas (now («universal_rows» .entry)) (now («universal_marks» .entry)) (now («universal_counts» .entry)) (now («existential_rows» .entry)) (now («existential_marks» .entry)) (now («existential_counts» .entry)) (now (work .entry)))
+        r
+        (areas (now («universal_rows» .exit)) (now («universal_marks» .exit)) (now («universal_counts» .exit)) (now («existential_rows» .exit)) (now («existential_marks» .exit)) (now («existential_counts» .exit)) (now (work .exit))) ⌝ }
+{
+    if runs_at_once(settings) {
+        let none = [0i32; 0];
+        return in_turn(
+            kinds,
+            literals,
+            &none,
+            0,
+            settings,
+            universal_rows,
+            universal_marks,
+            universal_counts,
+            existential_rows,
+            existential_marks,
+            existential_counts,
+            work,
+        );
+    }
+    after_test(
+        kinds,
+        literals,
+        settings,
+        universal_rows,
+        universal_marks,
+        universal_counts,
+        existential_rows,
+        existential_marks,
+        existential_counts,
+        work,
+    )
+}
+
+// Whether the list has no cause and no setting trims.
+fn runs_at_once(settings: &[u32]) -> bool
+    ensures { λ r. ⌜ r ≡ at-once (now (settings .entry)) ⌝ }
+{
+    if list_cause(settings) != 0 {
+        return false;
+    }
+    if any_setting(settings, Asked::Trims) {
+        return false;
+    }
+    true
+}
+
+// The study of a list with a cause, or with a setting that trims. A run with the limit 0 tests all causes that do not depend on a setting, and
+// changes nothing.
+fn after_test(
     kinds: &[u8],
     literals: &[i32],
     settings: &[u32],
@@ -148,23 +219,23 @@ fn list_cause(settings: &[u32]) -> u32
     if settings.len() % FIELDS != 0 {
         return 26;
     }
-    if has_unknown(settings) {
+    if any_setting(settings, Asked::Unknown) {
         return 26;
     }
-    if has_no_round(settings) {
+    if any_setting(settings, Asked::NoRound) {
         return NO_LIMIT;
     }
     0
 }
 
-// Whether a setting has an unknown field.
-fn has_unknown(settings: &[u32]) -> bool
-    ensures { λ r. ⌜ r ≡ any unknown (settings-of (now (settings .entry))) ⌝ }
+// Whether a setting passes the test that is asked for.
+fn any_setting(settings: &[u32], asked: Asked) -> bool
+    ensures { λ r. ⌜ r ≡ any (asked-of asked) (settings-of (now (settings .entry))) ⌝ }
 {
     let count = settings.len() / FIELDS;
     let mut at = 0;
     while at < count {
-        if is_unknown(setting_at(settings, at)) {
+        if passes(setting_at(settings, at), asked) {
             return true;
         }
         at += 1;
@@ -172,19 +243,14 @@ fn has_unknown(settings: &[u32]) -> bool
     false
 }
 
-// Whether a setting permits no round.
-fn has_no_round(settings: &[u32]) -> bool
-    ensures { λ r. ⌜ r ≡ any no-round (settings-of (now (settings .entry))) ⌝ }
+fn passes(setting: Setting, asked: Asked) -> bool
+    ensures { λ r. ⌜ r ≡ asked-of asked setting ⌝ }
 {
-    let count = settings.len() / FIELDS;
-    let mut at = 0;
-    while at < count {
-        if permits_no_round(setting_at(settings, at)) {
-            return true;
-        }
-        at += 1;
+    match asked {
+        Asked::Unknown => is_unknown(setting),
+        Asked::NoRound => setting.limit == 0,
+        Asked::Trims => setting.trim != 0,
     }
-    false
 }
 
 fn is_unknown(setting: Setting) -> bool
@@ -194,12 +260,6 @@ fn is_unknown(setting: Setting) -> bool
         return true;
     }
     setting.preference > HOUSE
-}
-
-fn permits_no_round(setting: Setting) -> bool
-    ensures { λ r. ⌜ r ≡ no-round setting ⌝ }
-{
-    setting.limit == 0
 }
 
 fn setting_at(settings: &[u32], at: usize) -> Setting
@@ -241,8 +301,11 @@ fn in_turn<'a>(
     existential_counts: &mut [u32],
     work: &mut [u8],
 ) -> Studied
-    requires { ⌜ Holds (now kinds) (now literals) (now table) entries × (1 ≤ length (now settings) / 4) ⌝ }
-    ensures { λ r. ⌜ Turned
+    requires { ⌜ Ready
+        (now kinds) (now literals) (now settings)
+        (areas (now «universal_rows») (now «universal_marks») (now «universal_counts») (now «existential_rows») (now «existential_marks») (now «existential_counts») (now work))
+        (now table) entries ⌝ }
+    ensures { λ r. ⌜ Studies
         (now (kinds .entry)) (now (literals .entry)) (now (settings .entry))
         (areas (now («universal_rows» .entry)) (now («universal_marks» .entry)) (now («universal_counts» .entry)) (now («existential_rows» .entry)) (now («existential_marks» .entry)) (now («existential_counts» .entry)) (now (work .entry)))
         r
@@ -277,9 +340,9 @@ fn in_turn<'a>(
     }
 }
 
-// Whether no run follows this answer: it is a verdict, or no setting is left.
+// Whether no run follows this answer: it is a verdict, or a refusal, or no setting is left.
 fn is_over(answer: Answer, next: usize, length: usize) -> bool
-    ensures { λ r. ⌜ r ≡ (is-verdict answer || eqb «next» (length / 4)) ⌝ }
+    ensures { λ r. ⌜ r ≡ (is-end answer || eqb «next» (length / 4)) ⌝ }
 {
     let last = next == length / FIELDS;
     match answer {
@@ -288,7 +351,7 @@ fn is_over(answer: Answer, next: usize, length: usize) -> bool
         Answer::Spent => last,
         Answer::NoRoomUniversal => last,
         Answer::NoRoomExistential => last,
-        Answer::Refused(_) => last,
+        Answer::Refused(_) => true,
     }
 }
 
@@ -307,7 +370,7 @@ fn with_setting<'a>(
     existential_counts: &mut [u32],
     work: &mut [u8],
 ) -> Outcome
-    requires { ⌜ Holds (now kinds) (now literals) (now table) entries ⌝ }
+    requires { ⌜ Holds (trims setting) (now kinds) (now literals) (now table) entries ⌝ }
     ensures { λ r. ⌜ Ended
         (given-of (now (kinds .entry)) (now (literals .entry)) setting
         (areas (now («universal_rows» .entry)) (now («universal_marks» .entry)) (now («universal_counts» .entry)) (now («existential_rows» .entry)) (now («existential_marks» .entry)) (now («existential_counts» .entry)) (now (work .entry))))

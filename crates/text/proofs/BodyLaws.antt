@@ -12,7 +12,7 @@ use Rattle.text.specs.declared.body.Counts.{Counts}
 use Rattle.lines.specs.Lines.{Bytes, words}
 use Rattle.lines.specs.Shapes.{is-prefix, is-gate}
 use Rattle.text.specs.Reading.{State, went, fault, unless, prefix-line, clause-read, clause-line, gate-line, is-item, item-line, body-line, is-gates, Scan, go-on}
-use Rattle.text.specs.Private.Steps.{Marked, placed-in, Sized, settled, Line-read, form-at}
+use Rattle.text.specs.Private.Steps.{Marked, placed-in, Sized, settled, Line-read, items-at}
 
 -- The sizes do not hang on the cause, the line and C.
 pub resized : {c d : Counts} {K N : List ℕ} {L : List ℤ}
@@ -74,6 +74,6 @@ module _ (gates : Bool) where
       → {c r : Counts} {K N P : List ℕ} {L : List ℤ} → Line-read false (clause-line s (words line)) c r K N P L → Line-read gates (body-line gates s line) c r K N P L
   clause-item so s line h k read = rw (body-item gates s line h k, so) read
 
-pub form-gates : (gates minus : Bool) (v k : ℕ) → is-gates (form-at gates minus v k) ≡ gates
-form-gates false minus v k = refl
-form-gates true minus v k = refl
+pub items-gates : (gates minus : Bool) (v k : ℕ) → is-gates (items-at gates minus v k) ≡ gates
+items-gates false minus v k = refl
+items-gates true minus v k = refl

@@ -291,10 +291,10 @@ opened-gated ws few =
 problem-done : (line : Bytes) (ls : List Line) (k : ℕ)
     → Scans OfGates Done (go-on (unless (problem-cause true line) (went (opened (words line)))) k (λ t. body (gate-list (literal-of (fifth (words line))) k) t (suc k) ls))
 problem-done line ls k =
-    let form = gate-list (literal-of (fifth (words line))) k in
-    go-on-so OfGates Gated Done (unless (problem-cause true line) (went (opened (words line)))) k (λ t. body form t (suc k) ls)
+    let items = gate-list (literal-of (fifth (words line))) k in
+    go-on-so OfGates Gated Done (unless (problem-cause true line) (went (opened (words line)))) k (λ t. body items t (suc k) ls)
     (unless-so OfGates Gated (problem-cause true line) (went (opened (words line))) (problem-of-gates line) (λ none. opened-gated (words line) (few-variables line none)))
-    (λ t p. body-so OfGates form (λ _ u. Gated u) Done (λ u l more q. step-gated u l q) (λ u j q. finish-done u (literal-of (fifth (words line))) k j q) ls t (suc k) p)
+    (λ t p. body-so OfGates items (λ _ u. Gated u) Done (λ u l more q. step-gated u l q) (λ u j q. finish-done u (literal-of (fifth (words line))) k j q) ls t (suc k) p)
 
 scan-done : (text : Bytes) (kinds literals names : ℕ) → Scans OfGates Done (scan true text kinds literals names)
 scan-done text kinds literals names =

@@ -23,7 +23,8 @@ use Rattle.named.proofs.NameLaws.{and-both, among-in}
 use Rattle.named.proofs.CircuitRight.{circuit-distinct, circuit-known, circuit-right}
 use Rattle.text.specs.Reading.{max-variables, State, Step, went, fault, unless, name-cause, bind, kind-of-word, prefix-line, literal-of, gate-cause, inputs-cause, gate-of, limit-cause, clauses-of-gate, entries-of-gate, with-gate, gate-line, body-line, step, Scan, whole, stopped, go-on, gate-list, with-output, output-cause, finish, body, problem-cause, output-range, max-items, opened, Read, taken, closed, result-of, scan, read-gates}
 use Rattle.text.specs.Private.Steps.{Placeable}
-use Rattle.text.specs.GatesRight.{Drawing, names-in, with-block, with-gate-line, draw-line, draw, p-words, behind-p, nothing, drawing, output-of, GatesRight}
+use Rattle.text.specs.Form.{p-words}
+use Rattle.text.specs.GatesRight.{Drawing, names-in, with-block, with-gate-line, draw-line, draw, behind-p, nothing, drawing, output-of, GatesRight}
 use Rattle.text.proofs.NameLaws.{name-cause-zero}
 use Rattle.text.proofs.ScanLaws.{cond-so, Steps, Scans, unless-so, go-on-so, bind-all-so, body-so, scan-so}
 use Rattle.text.proofs.DrawnLaws.{Drawn, blocks, bind-drawn, block-none, block-more, made-output, gate-drawn, inputs-known}

@@ -3,6 +3,7 @@ pub mod ByHand
 pub mod OrderLaws
 pub mod Places
 pub mod ProblemLaws
+pub mod FormLaws
 pub mod NameLaws
 pub mod InsertLaws
 pub mod WordLaws
@@ -16,6 +17,7 @@ pub mod ClosedRight
 pub mod DrawnLaws
 pub mod GatesRight
 pub mod GatesPass
+pub mod FormRight
 pub mod CausesRight
 pub mod ReadAsLaws
 pub mod ReadingLaws

@@ -13,6 +13,8 @@ use Rattle.formula.specs.Formula.{max-unknowns, max-entries}
 use Rattle.lines.specs.Lines.{Bytes, lines}
 use Rattle.text.specs.declared.Reading.{Reading}
 use Rattle.text.specs.Reading.{max-bytes, scan, stopped, after-comments, refused, result-of, read-as, Read-so}
+use Rattle.text.specs.declared.Form.{Form}
+use Rattle.text.specs.Form.{has-gates}
 use Rattle.text.specs.Offered.{too-long, offered}
 
 too-long-by-one : leb (length too-long) max-bytes ≡ false
@@ -48,6 +50,15 @@ module _ (buffer : Bytes) (n : ℕ) where
       → Read-so (result-of (scan gates (offered buffer n) k l m)) r K L N K′ L′ N′
   inside-read h gates k l m {r} {K} {N} {K′} {N′} {L} {L′} d =
       subst (λ (text : Bytes). Read-so (result-of (scan gates text k l m)) r K L N K′ L′ N′) (sym (offered-inside h)) d
+
+  -- In the form that was found in its own bytes.
+  pub form-read-so : n ≤ length buffer → (form : Form) {gates : Bool} → gates ≡ has-gates form (take n buffer)
+      → (k l m : ℕ) {r : Reading} {K N K′ N′ : List ℕ} {L L′ : List ℤ}
+      → Read-so (result-of (scan gates (take n buffer) k l m)) r K L N K′ L′ N′
+      → Read-so (result-of (scan (has-gates form (offered buffer n)) (offered buffer n) k l m)) r K L N K′ L′ N′
+  form-read-so h form {gates} e k l m {r} {K} {N} {K′} {N′} {L} {L′} d =
+      let found : gates ≡ has-gates form (offered buffer n) = e ∙ ap (has-gates form) (sym (offered-inside h)) in
+      subst (λ (b : Bool). Read-so (result-of (scan b (offered buffer n) k l m)) r K L N K′ L′ N′) found (inside-read h gates k l m d)
 
 -- A text that fills its buffer is offered as it stands.
 pub offered-whole : (text : Bytes) → offered text (length text) ≡ text

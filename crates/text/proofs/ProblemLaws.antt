@@ -14,8 +14,8 @@ use Rattle.lines.specs.Lines.{Bytes, lines, fifth}
 use Rattle.lines.specs.Numbers.{number, unsigned, negative}
 use Rattle.lines.specs.Places.{before}
 use Rattle.lines.proofs.LineLaws.{lines-line, lines-rest, lines-none}
-use Rattle.text.specs.Reading.{max-bytes, max-variables, State, went, unless, Scan, stopped, go-on, max-items, output-range, form-of, body, opened, problem, after-comments, lent-well, scan}
-use Rattle.text.specs.Private.Steps.{range-cause, form-at, Problem-read}
+use Rattle.text.specs.Reading.{max-bytes, max-variables, State, went, unless, Scan, stopped, go-on, max-items, output-range, items-of, body, opened, problem, after-comments, lent-well, scan}
+use Rattle.text.specs.Private.Steps.{range-cause, items-at, Problem-read}
 
 -- What is lent with the lengths that it may have.
 module _ (text : Bytes) (kinds literals names : ℕ) (well : lent-well text kinds literals names ≡ true) where
@@ -48,9 +48,9 @@ range-small gates good v c o h = go good gates (ltb max-variables v) (ltb (max-i
     go false gates b d e q r h = absurd (omega arith)
 
 -- The literal of the p line.
-pub output-form : (gates : Bool) (ws : List Bytes) (v : ℕ) (minus : Bool) → v ≡ number (unsigned (fifth ws)) → minus ≡ negative (fifth ws) → (k : ℕ) → form-at gates minus v k ≡ form-of gates ws k
-output-form false ws v minus a b k = refl
-output-form true ws v minus a b k = rw (a, b) refl
+pub output-items : (gates : Bool) (ws : List Bytes) (v : ℕ) (minus : Bool) → v ≡ number (unsigned (fifth ws)) → minus ≡ negative (fifth ws) → (k : ℕ) → items-at gates minus v k ≡ items-of gates ws k
+output-items false ws v minus a b k = refl
+output-items true ws v minus a b k = rw (a, b) refl
 
 go-on-refused : (cause : ℕ) → (cause ≡ 0 → ⊥) → (s : State) (k : ℕ) (more : State → Scan) → go-on (unless cause (went s)) k more ≡ stopped cause k
 go-on-refused zero h s k more = absurd (h refl)
@@ -71,6 +71,6 @@ module _ (gates : Bool) (text : Bytes) (at end line : ℕ) (e : end ≡ at + bef
 
     pub problem-taken : cause ≡ 0
         → problem gates line (lines (drop at text))
-        ≡ body (form-at gates minus o line) (record { variables = v; clauses = c; kinds = []; names = []; free = []; entries = []; clauses-read = 0; made = 0 }) (line + 1) (lines (drop (end + 1) text))
+        ≡ body (items-at gates minus o line) (record { variables = v; clauses = c; kinds = []; names = []; free = []; entries = []; clauses-read = 0; made = 0 }) (line + 1) (lines (drop (end + 1) text))
     unfolding opened
-    problem-taken h = rw (lines-line text at end e inside, ← p .right, h, ← p .v, ← p .c, add-one line, p .form line) refl
+    problem-taken h = rw (lines-line text at end e inside, ← p .right, h, ← p .v, ← p .c, add-one line, p .items line) refl

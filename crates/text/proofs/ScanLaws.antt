@@ -8,7 +8,7 @@ use mathlib.Core.List.{List, [], _∷_}
 use Rattle.lines.specs.Lines.{Bytes, Line, ended, unended, lines, words}
 use Rattle.lines.specs.Numbers.{number, is-zero}
 use Rattle.lines.specs.Shapes.{is-comment}
-use Rattle.text.specs.Reading.{State, Step, went, fault, unless, name-cause, bind, bind-all, step, Scan, whole, stopped, go-on, Form, is-gates, finish, body, problem-cause, form-of, opened, problem, after-comments, lent-well, scan}
+use Rattle.text.specs.Reading.{State, Step, went, fault, unless, name-cause, bind, bind-all, step, Scan, whole, stopped, go-on, Items, is-gates, finish, body, problem-cause, items-of, opened, problem, after-comments, lent-well, scan}
 
 pub cond-so : {A : Type 0} (P : A → Type 0) (b : Bool) (x y : A) → (b ≡ true → P x) → (b ≡ false → P y) → P (cond b x y)
 cond-so P true x y t f = t refl
@@ -51,18 +51,18 @@ module _ (Bad : ℕ → Type 0) where
         (λ free. bind-all-so ws (bind kind s (number w)) (more s w ws some free p)))
 
   -- The lines after the p line.
-  module _ (form : Form) (P : List Line → State → Type 0) (Q : State → Type 0)
-      (one : (s : State) (l : Line) (ls : List Line) → P (l ∷ ls) s → Steps (P ls) (step (is-gates form) s l))
-      (end : (s : State) (k : ℕ) → P [] s → Scans Q (finish form s k)) where
-    pub body-so : (ls : List Line) (s : State) (k : ℕ) → P ls s → Scans Q (body form s k ls)
+  module _ (items : Items) (P : List Line → State → Type 0) (Q : State → Type 0)
+      (one : (s : State) (l : Line) (ls : List Line) → P (l ∷ ls) s → Steps (P ls) (step (is-gates items) s l))
+      (end : (s : State) (k : ℕ) → P [] s → Scans Q (finish items s k)) where
+    pub body-so : (ls : List Line) (s : State) (k : ℕ) → P ls s → Scans Q (body items s k ls)
     body-so [] s k p = end s k p
     body-so (l ∷ ls) s k p =
-        go-on-so (P ls) Q (step (is-gates form) s l) k (λ t. body form t (suc k) ls) (one s l ls p) (λ t q. body-so ls t (suc k) q)
+        go-on-so (P ls) Q (step (is-gates items) s l) k (λ t. body items t (suc k) ls) (one s l ls p) (λ t q. body-so ls t (suc k) q)
 
   -- A text, from its first line on: P says what is to be shown of the end, from all the lines that are left.
   module _ (gates : Bool) (bad : Bad 10) (Q : List Line → State → Type 0)
       (p-line : (line : Bytes) (ls : List Line) (k : ℕ) → is-comment line ≡ false
-      → Scans (Q (ended line ∷ ls)) (go-on (unless (problem-cause gates line) (went (opened (words line)))) k (λ t. body (form-of gates (words line) k) t (suc k) ls)))
+      → Scans (Q (ended line ∷ ls)) (go-on (unless (problem-cause gates line) (went (opened (words line)))) k (λ t. body (items-of gates (words line) k) t (suc k) ls)))
       (c-line : (line : Bytes) (ls : List Line) (s : State) → is-comment line ≡ true → Q ls s → Q (ended line ∷ ls) s) where
     comments-more : (x : Scan) (line : Bytes) (ls : List Line) → is-comment line ≡ true → Scans (Q ls) x → Scans (Q (ended line ∷ ls)) x
     comments-more (whole s) line ls c q = c-line line ls s c q

@@ -22,7 +22,7 @@ use Rattle.named.specs.Names.{Known}
 use Rattle.named.specs.Closing.{closed-names, closed-kinds, closed-literals}
 use Rattle.named.proofs.CauseLaws.{length-map, kinds-known, as-many-closed, zeros-placed, ended-placed, placed-within}
 use Rattle.named.proofs.NameLaws.{and-both}
-use Rattle.text.specs.Reading.{max-bytes, max-variables, State, Step, went, fault, unless, name-cause, kind-of-word, prefix-line, has-place, literal-cause, add-entry, add-entries, clause-read, clause-line, body-line, step, Scan, whole, stopped, go-on, Form, clause-list, gate-list, is-gates, with-output, output-cause, ending, finish, body, problem-cause, form-of, opened, problem, after-comments, lent-well, scan, Read, closed, Result, taken, refused, result-of, read, read-gates}
+use Rattle.text.specs.Reading.{max-bytes, max-variables, State, Step, went, fault, unless, name-cause, kind-of-word, prefix-line, has-place, literal-cause, add-entry, add-entries, clause-read, clause-line, body-line, step, Scan, whole, stopped, go-on, Items, clause-list, gate-list, is-gates, with-output, output-cause, ending, finish, body, problem-cause, items-of, opened, problem, after-comments, lent-well, scan, Read, closed, Result, taken, refused, result-of, read, read-gates}
 use Rattle.text.proofs.NameLaws.{name-cause-zero, literal-cause-zero}
 use Rattle.text.proofs.ScanLaws.{cond-so, NoneOr, Steps, Scans, unless-so, go-on-so, bind-all-so, body-so, scan-so}
 use Rattle.text.proofs.KeptLaws.{Whole, Open, Closed, bind-whole, add-zero, add-literal}
@@ -289,30 +289,30 @@ go-on-to m (fault n) k more small then = small
 go-on-to m (went s) k more small then = then s
 
 -- O's causes are reported at the p line.
-abbrev FormTo : ℕ → Form → Type 0
-FormTo m clause-list = Unit {0}
-FormTo m (gate-list o line) = line ≤ m
+abbrev ItemsTo : ℕ → Items → Type 0
+ItemsTo m clause-list = Unit {0}
+ItemsTo m (gate-list o line) = line ≤ m
 
-ending-to : (m : ℕ) (form : Form) (s : State) (k : ℕ) → FormTo m form → To m (ending form s k)
+ending-to : (m : ℕ) (items : Items) (s : State) (k : ℕ) → ItemsTo m items → To m (ending items s k)
 ending-to m clause-list s k small = tt
 ending-to m (gate-list o line) s k small = go-on-to m (unless (output-cause s o) (went (with-output s o))) line whole small (λ t. tt)
 
-body-to : (form : Form) (ls : List Line) (s : State) (k m : ℕ) → FormTo m form → k + length ls ≤ m → To m (body form s k ls)
-body-to form [] s k m top small =
-    cond-so (To m) (eqb (s .clauses-read) (s .clauses)) (ending form s k) (stopped 14 k) (λ _. ending-to m form s k top) (λ _. omega arith)
-body-to form (l ∷ ls) s k m top small =
-    go-on-to m (step (is-gates form) s l) k (λ t. body form t (suc k) ls) (omega arith) (λ t. body-to form ls t (suc k) m top (omega arith))
+body-to : (items : Items) (ls : List Line) (s : State) (k m : ℕ) → ItemsTo m items → k + length ls ≤ m → To m (body items s k ls)
+body-to items [] s k m top small =
+    cond-so (To m) (eqb (s .clauses-read) (s .clauses)) (ending items s k) (stopped 14 k) (λ _. ending-to m items s k top) (λ _. omega arith)
+body-to items (l ∷ ls) s k m top small =
+    go-on-to m (step (is-gates items) s l) k (λ t. body items t (suc k) ls) (omega arith) (λ t. body-to items ls t (suc k) m top (omega arith))
 
-form-to : (gates : Bool) (ws : List Bytes) (k m : ℕ) → k ≤ m → FormTo m (form-of gates ws k)
-form-to false ws k m small = tt
-form-to true ws k m small = small
+items-to : (gates : Bool) (ws : List Bytes) (k m : ℕ) → k ≤ m → ItemsTo m (items-of gates ws k)
+items-to false ws k m small = tt
+items-to true ws k m small = small
 
 problem-to : (gates : Bool) (ls : List Line) (k m : ℕ) → k + length ls ≤ m → To m (problem gates k ls)
 problem-to gates [] k m small = omega arith
 problem-to gates (unended line ∷ ls) k m small = omega arith
 problem-to gates (line-ended line ∷ ls) k m small =
-    go-on-to m (unless (problem-cause gates line) (went (opened (words line)))) k (λ t. body (form-of gates (words line) k) t (suc k) ls) (omega arith)
-    (λ t. body-to (form-of gates (words line) k) ls t (suc k) m (form-to gates (words line) k m (omega arith)) (omega arith))
+    go-on-to m (unless (problem-cause gates line) (went (opened (words line)))) k (λ t. body (items-of gates (words line) k) t (suc k) ls) (omega arith)
+    (λ t. body-to (items-of gates (words line) k) ls t (suc k) m (items-to gates (words line) k m (omega arith)) (omega arith))
 
 comments-to : (gates : Bool) (ls : List Line) (k m : ℕ) → k + length ls ≤ m → To m (after-comments gates k ls)
 comments-to gates [] k m small = problem-to gates [] k m small

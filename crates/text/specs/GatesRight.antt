@@ -13,6 +13,7 @@ use Rattle.lines.specs.Numbers.{number, is-zero}
 use Rattle.lines.specs.Shapes.{is-comment, is-gate}
 use Rattle.named.specs.Named.{Values, named-meaning}
 use Rattle.named.specs.Gates.{Gate, circuit}
+use Rattle.text.specs.Form.{p-words}
 use Rattle.text.specs.Reading.{literal-of, kind-of-word, gate-of, Read, taken, gates-read}
 
 -- What the lines behind the p line say: the kind and the name of each unknown in prefix order, and the gates in order.
@@ -44,14 +45,7 @@ draw d [] = d
 draw d (ended line ∷ ls) = draw (draw-line d line) ls
 draw d (unended line ∷ ls) = draw d ls
 
--- The p line is the first that is no c line.
-abbrev pub p-words : List Line → List Bytes
-p-words [] = []
-p-words (unended line ∷ ls) = words line
-p-words (ended line ∷ ls) =
-    let more = p-words ls in
-    cond (is-comment line) more (words line)
-
+-- The lines behind the p line, the first that is no c line.
 abbrev pub behind-p : List Line → List Line
 behind-p [] = []
 behind-p (unended line ∷ ls) = ls

@@ -200,12 +200,12 @@ abbrev pub go-on : Step → ℕ → (State → Scan) → Scan
 go-on (fault cause) k more = stopped cause k
 go-on (went s) k more = more s
 
--- What the end of a text needs: nothing, or O and the number of the p line.
-pub data Form : Type 0 where
-  clause-list : Form
-  gate-list : ℤ → ℕ → Form
+-- The lines behind the prefix, and what the end of a text needs: nothing, or O and the number of the p line.
+pub data Items : Type 0 where
+  clause-list : Items
+  gate-list : ℤ → ℕ → Items
 
-abbrev pub is-gates : Form → Bool
+abbrev pub is-gates : Items → Bool
 is-gates clause-list = false
 is-gates (gate-list o line) = true
 
@@ -227,18 +227,18 @@ unfoldable pub output-cause : State → ℤ → ℕ
 output-cause s o = cond (among (natAbs o) (s .names)) (limit-cause (suc (s .made)) (length (s .entries) + 2)) 19
 
 -- 'O is looked up once all G lines have passed and reported at the p line.'
-abbrev pub ending : Form → State → ℕ → Scan
+abbrev pub ending : Items → State → ℕ → Scan
 ending clause-list s k = whole s
 ending (gate-list o line) s k = go-on (unless (output-cause s o) (went (with-output s o))) line whole
 
 -- Behind the last line, which line k would follow: 'Clauses other than C .. too few: last + 1', and so for gate lines.
-abbrev pub finish : Form → State → ℕ → Scan
-finish form s k = cond (eqb (s .clauses-read) (s .clauses)) (ending form s k) (stopped 14 k)
+abbrev pub finish : Items → State → ℕ → Scan
+finish items s k = cond (eqb (s .clauses-read) (s .clauses)) (ending items s k) (stopped 14 k)
 
 -- The lines after the p line; k is the number of the first of them.
-abbrev pub body : Form → State → ℕ → List Line → Scan
-body form s k [] = finish form s k
-body form s k (l ∷ ls) = go-on (step (is-gates form) s l) k (λ t. body form t (suc k) ls)
+abbrev pub body : Items → State → ℕ → List Line → Scan
+body items s k [] = finish items s k
+body items s k (l ∷ ls) = go-on (step (is-gates items) s l) k (λ t. body items t (suc k) ls)
 
 -- 'C at most 2,048'; 'G is at most 128, else 11'.
 abbrev pub max-items : Bool → ℕ
@@ -257,10 +257,10 @@ problem-cause gates line =
     (cond (ltb max-variables (number (third (words line)))) 11 (cond (ltb (max-items gates) (number (fourth (words line)))) 11 (output-range gates (number (unsigned (fifth (words line)))))))
     10
 
--- What the p line, line k, says of the form.
-abbrev pub form-of : Bool → List Bytes → ℕ → Form
-form-of false ws k = clause-list
-form-of true ws k = gate-list (literal-of (fifth ws)) k
+-- What the p line, line k, says of the lines behind the prefix.
+abbrev pub items-of : Bool → List Bytes → ℕ → Items
+items-of false ws k = clause-list
+items-of true ws k = gate-list (literal-of (fifth ws)) k
 
 -- The state after the p line.
 unfoldable pub opened : List Bytes → State
@@ -271,7 +271,7 @@ abbrev pub problem : Bool → ℕ → List Line → Scan
 problem gates k [] = stopped 10 k
 problem gates k (unended line ∷ ls) = stopped 10 k
 problem gates k (ended line ∷ ls) =
-    go-on (unless (problem-cause gates line) (went (opened (words line)))) k (λ t. body (form-of gates (words line) k) t (suc k) ls)
+    go-on (unless (problem-cause gates line) (went (opened (words line)))) k (λ t. body (items-of gates (words line) k) t (suc k) ls)
 
 -- 'First any lines beginning with c'; they count as lines.
 abbrev pub after-comments : Bool → ℕ → List Line → Scan

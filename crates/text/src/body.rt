@@ -10,7 +10,7 @@ ghost use Rattle.formula.specs.Formula.{max-unknowns, max-entries};
 ghost use Rattle.lines.specs.Lines.{lines, words};
 ghost use Rattle.lines.specs.Shapes.{is-prefix};
 ghost use Rattle.text.specs.Reading.{max-variables, body as body-read, body-line as body-line-read, prefix-line as prefix-line-read, clause-line as clause-line-read, is-item as item-shape, kind-of-word};
-ghost use Rattle.text.specs.Private.Steps.{Marked, placed-in, Sized, form-at, fresh, held, Line-read, All-read};
+ghost use Rattle.text.specs.Private.Steps.{Marked, placed-in, Sized, items-at, fresh, held, Line-read, All-read};
 use crate::gate;
 use crate::names;
 use crate::opening::Opened;
@@ -43,7 +43,7 @@ pub(crate) fn read_lines(
 ) -> Counts
     requires { ⌜ (length (now kinds) ≡ max-unknowns) × (length (now names) ≡ max-unknowns) × (length (now literals) ≡ max-entries) ⌝ }
     requires { ⌜ (o .at ≤ length (now text)) × (o .line ≤ o .at) × (o .variables ≤ max-variables) × (gates ≡ true → o .output ≤ max-variables) ⌝ }
-    ensures { λ r. ⌜ All-read (body-read (form-at gates (o .negative) (o .output) (o .line)) (fresh o) (o .line + 1) (lines (drop (o .at) (now (text .entry))))) r (now (kinds .exit)) (now (names .exit)) (now (literals .exit)) ⌝ }
+    ensures { λ r. ⌜ All-read (body-read (items-at gates (o .negative) (o .output) (o .line)) (fresh o) (o .line + 1) (lines (drop (o .at) (now (text .entry))))) r (now (kinds .exit)) (now (names .exit)) (now (literals .exit)) ⌝ }
 {
     let mut places = [0u8; named::PLACES];
     let mut s = Counts {

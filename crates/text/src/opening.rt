@@ -4,9 +4,12 @@ ghost use mathlib.Core.Bool.{_&&_};
 ghost use lib.Dec.{leb, eqb};
 ghost use Rattle.formula.specs.Formula.{max-unknowns, max-entries};
 ghost use Rattle.text.specs.Reading.{max-bytes, max-items};
+ghost use Rattle.lines.specs.Lines.{words};
+ghost use Rattle.text.specs.Form.{begins-gates as gates-begin, gates-told};
 ghost use Rattle.text.specs.Private.Steps.{Opened-read, Comments-read, Problem-read, range-cause as range};
 use super::BYTES;
 use formula::Formula;
+use lines::numbers;
 use lines::shapes;
 
 // A text up to its p line: a cause, 0 for none, and its line, which is the p line's without one; then V, C or G, O, and where the next line starts.
@@ -83,6 +86,32 @@ fn lent_well(text: usize, kinds: usize, literals: usize, names: usize) -> bool
         return false;
     }
     names == Formula::UNKNOWNS
+}
+
+// Whether the first line that is no comment begins `p gate`.
+pub(crate) fn begins_gates(text: &[u8]) -> bool
+    ensures { λ r. ⌜ r ≡ gates-begin (now (text .entry)) ⌝ }
+{
+    let start = comments(text);
+    let at = start.at;
+    let end = lines::find(text, at, b'\n');
+    tells_gates(&text[at..end])
+}
+
+// Whether the first two words of a line are `p gate`.
+fn tells_gates(line: &[u8]) -> bool
+    ensures { λ r. ⌜ r ≡ gates-told (words (now (line .entry))) ⌝ }
+{
+    let p = lines::next(line, 0);
+    let form = lines::next(line, p.end);
+    let p_start = p.start;
+    let p_end = p.end;
+    let form_start = form.start;
+    let form_end = form.end;
+    if numbers::same(&line[p_start..p_end], b"p") {} else {
+        return false;
+    }
+    numbers::same(&line[form_start..form_end], b"gate")
 }
 
 struct Place {

@@ -33,7 +33,8 @@ pub up-to-small : (names : List ℕ) → UpTo max-variables names → are-small 
 up-to-small [] u = refl
 up-to-small (v ∷ vs) u = rw (le-leb v max-variables (u .0), up-to-small vs (u .1)) refl
 
-pub up-to-next : (N : List ℕ) (i : ℕ) {v : ℕ} → UpTo max-variables (take i N) → v ≡ getD N i 0 → i < length N → v ≤ max-variables → UpTo max-variables (take (i + 1) N)
+pub up-to-next : (N : List ℕ) (i : ℕ) {v : ℕ} → UpTo max-variables (take i N) → v ≡ getD N i 0 → i < length N → v ≤ max-variables →
+    UpTo max-variables (take (i + 1) N)
 up-to-next N i u is h small =
     let e : take (i + 1) N ≡ take i N ++ (getD N i 0 ∷ []) = rw (add-one i) (take-suc N i 0 h) in
     subst (UpTo max-variables) (sym e) (up-to-append max-variables (take i N) (getD N i 0 ∷ []) u (omega arith, tt))
@@ -97,7 +98,8 @@ module _ (bound free m : ℕ) (OK : List ℕ) (OL : List ℤ) (ON K : List ℕ) 
   left : all-fit bound free m OK OL ON K L N ≡ false → Written bound free m OK OL ON K L N K L N
   left e = record { kinds = rw e refl; literals = rw e refl; names = rw e refl }
 
-  pub left-unfit : tables-fit bound free m (length OK) (length OL) (length ON) (length K) (length L) (length N) ≡ false → Written bound free m OK OL ON K L N K L N
+  pub left-unfit : tables-fit bound free m (length OK) (length OL) (length ON) (length K) (length L) (length N) ≡ false →
+      Written bound free m OK OL ON K L N K L N
   unfolding all-fit
   left-unfit e = left (ap (λ (b : Bool). b && are-small (take (bound + free) ON)) e)
 
@@ -168,7 +170,8 @@ module _ (bound free m : ℕ) (OK : List ℕ) (OL : List ℤ) (ON : List ℕ) (u
       ∙ paste-two N (drop bound ON) ON free bound (omega (arith, length-drop bound ON)) (omega arith)
 
   -- They stand at the front.
-  pub names-front : (N : List ℕ) {N₁ N₂ : List ℕ} → N₁ ≡ paste N 0 (drop bound ON) free → N₂ ≡ paste N₁ free (drop 0 ON) bound → take (free + bound) N₂ ≡ all-names
+  pub names-front : (N : List ℕ) {N₁ N₂ : List ℕ} → N₁ ≡ paste N 0 (drop bound ON) free → N₂ ≡ paste N₁ free (drop 0 ON) bound →
+      take (free + bound) N₂ ≡ all-names
   names-front N e f = ap (take (free + bound)) (names-written N e f) ∙ take-at all-names (drop (length all-names) N) (free + bound) length-names
 
   kinds-written : (K : List ℕ) {K₁ K₂ : List ℕ} → K₁ ≡ paste K 0 (replicate free 0) free → K₂ ≡ paste K₁ free OK bound
@@ -180,7 +183,8 @@ module _ (bound free m : ℕ) (OK : List ℕ) (OL : List ℤ) (ON : List ℕ) (u
       ∙ ap (λ (l : List ℕ). over (l ++ take bound OK) K)
       (take-all free (replicate free 0) (omega (arith, length-replicate {A = ℕ} free 0)) ∙ ap (λ (n : ℕ). replicate n 0) (sym length-free))
 
-  literals-written : (L : List ℤ) {L₁ : List ℤ} (front : List ℕ) → front ≡ all-names → L₁ ≡ paste L 0 (map (placed front) OL) m → L₁ ≡ over (map (placed all-names) (take m OL)) L
+  literals-written : (L : List ℤ) {L₁ : List ℤ} (front : List ℕ) → front ≡ all-names → L₁ ≡ paste L 0 (map (placed front) OL) m →
+      L₁ ≡ over (map (placed all-names) (take m OL)) L
   literals-written L front e f =
       f
       ∙ ap (λ (l : List ℕ). paste L 0 (map (placed l) OL) m) e

@@ -27,7 +27,8 @@ use Rattle.lines.specs.Shapes.{is-gate}
 use Rattle.named.specs.Named.{max-variables, max-places, signed}
 use Rattle.named.specs.CircuitRight.{Fits}
 use Rattle.named.proofs.Negation.{signed-size, signed-bits}
-use Rattle.text_gates.specs.GateLine.{marked, literal-of, known-cause, first-cause, known-causes, inputs-of, function-of, room-limit, line-cause, line-entries, line-clauses, output-cause, Put-so}
+use Rattle.text_gates.specs.GateLine.{marked, literal-of, known-cause, first-cause, known-causes, inputs-of, function-of, room-limit, line-cause}
+use Rattle.text_gates.specs.GateLine.{line-entries, line-clauses, output-cause, Put-so}
 use Rattle.text_gates.specs.Private.Steps.{Input-read, Inputs-read, clause-count, Gate-put}
 use Rattle.text_gates.proofs.GateShape.{gate-shaped}
 
@@ -42,7 +43,8 @@ negated-many (i ∷ is) = ap suc (negated-many is)
 
 pub clauses-counted : (f : Function) (z : ℤ) (is : List ℤ) → Fits f is → length (gate-clauses f z is) ≡ clause-count f (length is)
 clauses-counted And z is fits = length-append (with-each (negℤ z) is) ((z ∷ negated is) ∷ []) ∙ ap (λ (n : ℕ). n + 1) (each-many (negℤ z) is)
-clauses-counted Or z is fits = length-append (with-each z (negated is)) ((negℤ z ∷ is) ∷ []) ∙ ap (λ (n : ℕ). n + 1) (each-many z (negated is) ∙ negated-many is)
+clauses-counted Or z is fits = length-append (with-each z (negated is)) ((negℤ z ∷ is) ∷ []) ∙ ap (λ (n : ℕ). n + 1)
+    (each-many z (negated is) ∙ negated-many is)
 clauses-counted Xor z [] fits = absurd (omega arith)
 clauses-counted Xor z (s ∷ []) fits = absurd (omega arith)
 clauses-counted Xor z (s ∷ t ∷ []) fits = refl
@@ -67,7 +69,11 @@ small-none z small = le-ltb 2147483647 (natAbs z) (omega arith)
 pub entries-all : (f : Function) (v : ℕ) (is : List ℤ) → v ≤ 65535 → ((j : ℕ) → natAbs (getD is j (pos 0)) ≤ max-variables)
     → entries-of f (pos v) is ≡ flat (gate-clauses f (pos v) is)
 unfolding entries-of
-entries-all f v is small each = rw (small-none (pos v) small, none-any (beyond 2147483647) (pos 0) is (λ j. small-none (getD is j (pos 0)) (omega (arith, each j)))) refl
+entries-all f v is small each = rw (
+  small-none (pos v) small,
+  none-any (beyond 2147483647) (pos 0) is
+      (λ j. small-none (getD is j (pos 0)) (omega (arith, each j))),
+) refl
 
 -- What a mark says.
 pub mark-is : (P : List ℕ) (v : ℕ) → v < max-places → {b : Bool} → b ≡ not (eqb (getD P v 0) 0) → b ≡ marked P v
@@ -108,7 +114,8 @@ pub record Passed (line : Bytes) (i : ℕ) (P : List ℕ) (count at : ℕ) (I : 
   pub kept : count ≤ max-clauses → inputs-of (words (drop i line)) ≡ take count I ++ inputs-of (words (drop at line))
   pub small : (j : ℕ) → natAbs (getD I j (pos 0)) ≤ max-variables
 
-pub passed-none : (line : Bytes) (i : ℕ) (P : List ℕ) (I : List ℤ) → i ≤ length line → length I ≡ max-clauses → ((j : ℕ) → natAbs (getD I j (pos 0)) ≤ max-variables) → Passed line i P 0 i I
+pub passed-none : (line : Bytes) (i : ℕ) (P : List ℕ) (I : List ℤ) → i ≤ length line → length I ≡ max-clauses →
+    ((j : ℕ) → natAbs (getD I j (pos 0)) ≤ max-variables) → Passed line i P 0 i I
 passed-none line i P I within size small =
     record { within = within; few = omega arith; size = size; right = refl; many = omega arith; kept = λ few. refl; small = small }
 
@@ -156,17 +163,20 @@ module _ (line : Bytes) (i : ℕ) (P : List ℕ) (count at : ℕ) (I : List ℤ)
       passed-refused {cause} e bad =
           record {
             size = p .size;
-            right = refused-first cause (known-causes (marked P) ws) bad ∙ ap (λ (n : ℕ). first-cause n (known-causes (marked P) ws)) (e .right) ∙ sym (p .right ∙ cause-front);
+            right = refused-first cause (known-causes (marked P) ws) bad ∙ ap (λ (n : ℕ). first-cause n (known-causes (marked P) ws)) (e .right) ∙ sym
+                (p .right ∙ cause-front);
             many = λ free. absurd (bad free);
             kept = λ free. absurd (bad free);
             small = p .small;
           }
 
       -- One input more.
-      pub passed-more : {cause : ℕ} {z : ℤ} (end : ℕ) (I′ : List ℤ) → Input-read P w cause z → cause ≡ 0 → words (drop end line) ≡ ws → at < end → end ≤ length line
+      pub passed-more : {cause : ℕ} {z : ℤ} (end : ℕ) (I′ : List ℤ) → Input-read P w cause z → cause ≡ 0 → words (drop end line) ≡ ws → at < end →
+          end ≤ length line
           → I′ ≡ cond (ltb count max-clauses) (set I count (toZ w32 (ofZ w32 z))) I → Passed line i P (count + 1) end I′
       passed-more {cause} {z} end I′ e free others onward within bits =
-          let put : I′ ≡ cond (ltb count max-clauses) (set I count z) I = bits ∙ ap (λ (y : ℤ). cond (ltb count max-clauses) (set I count y) I) (toZ-ofZ (small-fits z (omega (arith, e .small)))) in
+          let put : I′ ≡ cond (ltb count max-clauses) (set I count z) I = bits ∙ ap (λ (y : ℤ). cond (ltb count max-clauses) (set I count y) I)
+          (toZ-ofZ (small-fits z (omega (arith, e .small)))) in
           record {
             within = within;
             few = omega (arith, p .few);
@@ -179,7 +189,8 @@ module _ (line : Bytes) (i : ℕ) (P : List ℕ) (count at : ℕ) (I : List ℤ)
             kept = λ room.
                 let below : count < max-clauses = omega arith in
                 p .kept (omega arith)
-                ∙ ap (λ (l : List ℤ). take count I ++ l) (inputs-front ∙ ap (λ (y : ℤ). y ∷ inputs-of ws) (sym (e .written free)) ∙ ap (λ (l : List Bytes). z ∷ inputs-of l) (sym others))
+                ∙ ap (λ (l : List ℤ). take count I ++ l) (inputs-front ∙ ap (λ (y : ℤ). y ∷ inputs-of ws) (sym (e .written free)) ∙ ap
+                (λ (l : List Bytes). z ∷ inputs-of l) (sym others))
                 ∙ sym (append-assoc (take count I) (z ∷ []) (inputs-of (words (drop end line))))
                 ∙ ap (λ (l : List ℤ). l ++ inputs-of (words (drop end line))) (sym (front put below));
             small = λ j. subst (λ (l : List ℤ). natAbs (getD l j (pos 0)) ≤ max-variables) (sym put) (small-of (ltb count max-clauses) refl j);
@@ -204,7 +215,8 @@ two-set L m o room =
     let one : m + 1 ≡ suc m = omega arith in
     let two : m + 2 ≡ suc (suc m) = omega arith in
     set-split (set L m o) (m + 1) (pos 0) (omega (arith, length-set L m o))
-    ∙ rw (one, two, take-suc-set L m o (omega arith), drop-set-lt (suc (suc m)) L m o (omega arith)) (append-assoc (take m L) (o ∷ []) (pos 0 ∷ drop (suc (suc m)) L) ∙ sym (append-assoc (take m L) (o ∷ pos 0 ∷ []) (drop (suc (suc m)) L)))
+    ∙ rw (one, two, take-suc-set L m o (omega arith), drop-set-lt (suc (suc m)) L m o (omega arith))
+    (append-assoc (take m L) (o ∷ []) (pos 0 ∷ drop (suc (suc m)) L) ∙ sym (append-assoc (take m L) (o ∷ pos 0 ∷ []) (drop (suc (suc m)) L)))
 
 pub room-two : (m room : ℕ) → 2 ≤ room → leb m (room - 2) ≡ ltb (m + 1) room
 room-two m room some = go (leb m (room - 2)) refl
@@ -214,12 +226,14 @@ room-two m room some = go (leb m (room - 2)) refl
     go false e = sym (le-ltb (m + 1) room (omega (arith, leb-false m (room - 2) e)))
 
 -- Nothing is put, or all is.
-pub put-none : {cause c : ℕ} {zs : List ℤ} {clauses made m : ℕ} {L L′ : List ℤ} → c ≡ cause → (c ≡ 0 → ⊥) → L′ ≡ L → Put-so cause zs clauses made m L c m made L′
+pub put-none : {cause c : ℕ} {zs : List ℤ} {clauses made m : ℕ} {L L′ : List ℤ} → c ≡ cause → (c ≡ 0 → ⊥) → L′ ≡ L →
+    Put-so cause zs clauses made m L c m made L′
 put-none {cause} same bad table =
     let off : eqb cause 0 ≡ false = ne-eqb cause 0 (λ e. bad (same ∙ e)) in
     record { caused = same; used = rw off refl; all = rw off refl; table = table ∙ rw off refl }
 
-pub put-all : {cause entries all : ℕ} {zs : List ℤ} {clauses made m : ℕ} {L L′ : List ℤ} → 0 ≡ cause → entries ≡ m + length zs → all ≡ made + clauses → L′ ≡ laid L m zs
+pub put-all : {cause entries all : ℕ} {zs : List ℤ} {clauses made m : ℕ} {L L′ : List ℤ} → 0 ≡ cause → entries ≡ m + length zs → all ≡ made + clauses →
+    L′ ≡ laid L m zs
     → Put-so cause zs clauses made m L 0 entries all L′
 put-all {cause} same used all table =
     let on : eqb cause 0 ≡ true = eq-eqb cause 0 (sym same) in
@@ -270,7 +284,8 @@ module _ (f : Function) (v : ℕ) (I : List ℤ) (count made m : ℕ) (L : List 
 
   -- Too many clauses.
   pub put-over : (all : ℕ) → all ≡ made + clause-count f count → max-clauses < all → Gate-put f v I count made m L 14 m made L
-  put-over all sum over is size kept fits = put-none (limited (made + length (gate-clauses f (pos v) is)) _ (omega (arith, all-clauses all sum is size fits))) (λ e. omega arith) refl
+  put-over all sum over is size kept fits = put-none (limited (made + length (gate-clauses f (pos v) is)) _ (omega (arith, all-clauses all sum is size fits)))
+      (λ e. omega arith) refl
 
   module _ (narrow : count < max-clauses) (all : ℕ) (sum : all ≡ made + clause-count f count) (under : all ≤ max-clauses) (end : ℕ) (L′ : List ℤ)
       (behind : end ≡ place-behind (length L) m (flat (gate-clauses f (pos v) (take count I))))
@@ -280,7 +295,8 @@ module _ (f : Function) (v : ℕ) (I : List ℤ) (count made m : ℕ) (L : List 
     put-full full is size kept fits =
         let same : take count I ≡ is = kept (omega arith) in
         let zs = flat (gate-clauses f (pos v) is) in
-        let over : length L < m + length zs = full-so (length L) m zs end (subst (λ (l : List ℤ). end ≡ place-behind (length L) m (flat (gate-clauses f (pos v) l))) same behind) (entries-some f (pos v) is fits) full in
+        let over : length L < m + length zs = full-so (length L) m zs end
+        (subst (λ (l : List ℤ). end ≡ place-behind (length L) m (flat (gate-clauses f (pos v) l))) same behind) (entries-some f (pos v) is fits) full in
         put-none
         (rw (← all-clauses all sum is size fits, le-ltb max-clauses all under, lt-ltb (length L) (m + length zs) over) refl)
         (λ e. omega arith)
@@ -326,7 +342,8 @@ module _ (line : Bytes) (i v made m : ℕ) (P : List ℕ) (L : List ℤ) (shape 
   unfolding line-cause
   line-refused {cause} e bad =
       put-none
-      (stays cause _ bad ∙ ap (λ (n : ℕ). first-cause n (room-limit (length L) (made + line-clauses line v) (m + length (line-entries line v)))) (e .right ∙ ap (known-causes (marked P)) others)
+      (stays cause _ bad ∙ ap (λ (n : ℕ). first-cause n (room-limit (length L) (made + line-clauses line v) (m + length (line-entries line v))))
+      (e .right ∙ ap (known-causes (marked P)) others)
       ∙ sym (rw shape refl))
       bad refl
     where
@@ -344,8 +361,10 @@ module _ (line : Bytes) (i v made m : ℕ) (P : List ℕ) (L : List ℤ) (shape 
       let fits : Fits f is = subst (λ (g : Function). Fits g is) (sym same) (gate-shaped line shape .fits) in
       let right = put is (sym (e .many none ∙ ap (λ (l : List ℤ). length l) inputs)) (λ few. e .kept none few ∙ inputs) fits in
       let free : known-causes (marked P) (rest (rest (words line))) ≡ 0 = sym (e .right ∙ ap (known-causes (marked P)) others) ∙ none in
-      let cause-so : line-cause (marked P) line v made m (length L) ≡ room-limit (length L) (made + length (gate-clauses f (pos v) is)) (m + length (flat (gate-clauses f (pos v) is))) = rw (shape, free, same) refl in
-      subst (λ (g : Function). Put-so (line-cause (marked P) line v made m (length L)) (flat (gate-clauses g (pos v) is)) (length (gate-clauses g (pos v) is)) made m L cause entries all L′) same
+      let cause-so : line-cause (marked P) line v made m (length L) ≡ room-limit (length L) (made + length (gate-clauses f (pos v) is))
+      (m + length (flat (gate-clauses f (pos v) is))) = rw (shape, free, same) refl in
+      subst (λ (g : Function). Put-so (line-cause (marked P) line v made m (length L)) (flat (gate-clauses g (pos v) is)) (length (gate-clauses g (pos v) is))
+      made m L cause entries all L′) same
       (subst (λ (n : ℕ). Put-so n (flat (gate-clauses f (pos v) is)) (length (gate-clauses f (pos v) is)) made m L cause entries all L′) (sym cause-so) right)
 
 pub line-unshaped : (line : Bytes) (v made m : ℕ) (P : List ℕ) (L : List ℤ) → is-gate line ≡ false
@@ -384,7 +403,8 @@ module _ (b : Bool) (v made m : ℕ) (P : List ℕ) (L : List ℤ) where
 pub limit-zero : (room clauses entries : ℕ) → room-limit room clauses entries ≡ 0 → (clauses ≤ max-clauses) × (entries ≤ room)
 limit-zero room clauses entries e = go (ltb max-clauses clauses) (ltb room entries) refl refl e
   where
-    go : (a b : Bool) → ltb max-clauses clauses ≡ a → ltb room entries ≡ b → _≡_ {A = ℕ} (cond a 14 (cond b 14 0)) 0 → (clauses ≤ max-clauses) × (entries ≤ room)
+    go : (a b : Bool) → ltb max-clauses clauses ≡ a → ltb room entries ≡ b → _≡_ {A = ℕ} (cond a 14 (cond b 14 0)) 0 → (clauses ≤ max-clauses) ×
+        (entries ≤ room)
     go true b p q e = absurd (omega arith)
     go false true p q e = absurd (omega arith)
     go false false p q e = (ltb-false max-clauses clauses p, ltb-false room entries q)
@@ -399,7 +419,8 @@ module _ {cause clauses made m c entries all : ℕ} {zs L L′ : List ℤ} (put 
       let off : eqb cause 0 ≡ false = ne-eqb cause 0 (λ e. bad (put .caused ∙ e)) in
       (put .used ∙ rw off refl, put .all ∙ rw off refl, put .table ∙ rw off refl)
 
-  pub put-so : c ≡ 0 → m + length zs ≤ length L → (entries ≡ m + length zs) × (all ≡ made + clauses) × (take (m + length zs) L′ ≡ take m L ++ zs) × (length L′ ≡ length L)
+  pub put-so : c ≡ 0 → m + length zs ≤ length L → (entries ≡ m + length zs) × (all ≡ made + clauses) × (take (m + length zs) L′ ≡ take m L ++ zs) ×
+      (length L′ ≡ length L)
   put-so none fit =
       let on : eqb cause 0 ≡ true = eq-eqb cause 0 (sym (put .caused) ∙ none) in
       let table : L′ ≡ take m L ++ zs ++ drop (m + length zs) L = put .table ∙ rw on refl ∙ laid-so L m zs fit in

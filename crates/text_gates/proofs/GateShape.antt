@@ -32,7 +32,8 @@ two-inputs (a ∷ b ∷ c ∷ []) shape three = go (is-zero a) (is-literal a) (i
     go true p′ q q′ r r′ ea eb ec e = absurd (false≢true e)
     go false p′ true q′ r r′ ea eb ec e = absurd (false≢true (and-both p′ false e .1))
     go false p′ false q′ true r′ ea eb ec e = refl
-    go false p′ false q′ false r′ ea eb ec e = absurd (false≢true (and-both r′ false (and-both q′ (r′ && false) (and-both p′ (q′ && (r′ && false)) e .1) .1) .1))
+    go false p′ false q′ false r′ ea eb ec e = absurd
+        (false≢true (and-both r′ false (and-both q′ (r′ && false) (and-both p′ (q′ && (r′ && false)) e .1) .1) .1))
 
 same-word : (w x : Bytes) → same w x ≡ true → w ≡ x
 same-word [] [] e = refl

@@ -11,7 +11,8 @@ ghost use lib.ListN.{length, getD, set};
 ghost use Rattle.formula.specs.Formula.{max-clauses};
 ghost use Rattle.lines.specs.Shapes.{is-gate};
 ghost use Rattle.named.specs.Named.{max-variables, signed as with-sign};
-ghost use Rattle.text_gates.specs.GateLine.{marked as has-mark, function-of as function-word, line-cause, line-entries, line-clauses, output-cause, Put-so};
+ghost use Rattle.text_gates.specs.GateLine.{marked as has-mark, function-of as function-word, line-cause, line-entries, line-clauses, output-cause};
+ghost use Rattle.text_gates.specs.GateLine.{Put-so};
 ghost use Rattle.text_gates.specs.Private.Steps.{Input-read, Inputs-read, clause-count as count-of, Gate-put};
 use formula::Formula;
 use gates::Function;
@@ -35,7 +36,9 @@ pub fn put_line(
     places: &Places,
     literals: &mut [i32],
 ) -> Put
-    ensures { λ r. ⌜ Put-so (line-cause (has-mark (now (places .entry))) (now (line .entry)) v made m (length (now (literals .entry)))) (line-entries (now (line .entry)) v) (line-clauses (now (line .entry)) v) made m (now (literals .entry)) (r .cause) (r .entries) (r .made) (now (literals .exit)) ⌝ }
+    ensures { λ r. ⌜ Put-so (line-cause (has-mark (now (places .entry))) (now (line .entry)) v made m (length (now (literals .entry))))
+        (line-entries (now (line .entry)) v) (line-clauses (now (line .entry)) v) made m (now (literals .entry)) (r .cause) (r .entries) (r .made)
+        (now (literals .exit)) ⌝ }
 {
     if shapes::is_gate(line) {} else {
         return Put {
@@ -56,7 +59,8 @@ pub fn put_output(
     places: &Places,
     literals: &mut [i32],
 ) -> Put
-    ensures { λ r. ⌜ Put-so (output-cause (has-mark (now (places .entry))) v made m (length (now (literals .entry)))) (with-sign negative v ∷ pos 0 ∷ []) 1 made m (now (literals .entry)) (r .cause) (r .entries) (r .made) (now (literals .exit)) ⌝ }
+    ensures { λ r. ⌜ Put-so (output-cause (has-mark (now (places .entry))) v made m (length (now (literals .entry)))) (with-sign negative v ∷ pos 0 ∷ []) 1 made
+        m (now (literals .entry)) (r .cause) (r .entries) (r .made) (now (literals .exit)) ⌝ }
 {
     if is_marked(places, v as usize) {} else {
         return Put {
@@ -118,7 +122,9 @@ fn put_clauses(
     literals: &mut [i32],
 ) -> Put
     requires { ⌜ is-gate (now line) ≡ true ⌝ }
-    ensures { λ r. ⌜ Put-so (line-cause (has-mark (now (places .entry))) (now (line .entry)) v made m (length (now (literals .entry)))) (line-entries (now (line .entry)) v) (line-clauses (now (line .entry)) v) made m (now (literals .entry)) (r .cause) (r .entries) (r .made) (now (literals .exit)) ⌝ }
+    ensures { λ r. ⌜ Put-so (line-cause (has-mark (now (places .entry))) (now (line .entry)) v made m (length (now (literals .entry))))
+        (line-entries (now (line .entry)) v) (line-clauses (now (line .entry)) v) made m (now (literals .entry)) (r .cause) (r .entries) (r .made)
+        (now (literals .exit)) ⌝ }
 {
     let word = lines::next(line, 0);
     let name = lines::next(line, word.end);
@@ -227,7 +233,8 @@ fn put_gate(
     literals: &mut [i32],
 ) -> Put
     requires { ⌜ (length (now inputs) ≡ max-clauses) × ((j : ℕ) → natAbs (getD (now inputs) j (pos 0)) ≤ max-variables) ⌝ }
-    ensures { λ r. ⌜ Gate-put (function-word (now (word .entry))) v (now (inputs .entry)) count made m (now (literals .entry)) (r .cause) (r .entries) (r .made) (now (literals .exit)) ⌝ }
+    ensures { λ r. ⌜ Gate-put (function-word (now (word .entry))) v (now (inputs .entry)) count made m (now (literals .entry)) (r .cause) (r .entries) (r .made)
+        (now (literals .exit)) ⌝ }
 {
     if Formula::CLAUSES < made {
         return Put {

@@ -19,7 +19,8 @@ use Rattle.trimming_rules.specs.Private.Rounds.{reduced-clause, reduced}
 use Rattle.trimming_rules.proofs.ClauseLaws.{Every, In, in-any, any-in, keep-in, keep-all}
 use Rattle.trimming_marks.specs.Marks.{is-left, marked, first-clause, reducible-from}
 use Rattle.index.specs.Occurrences.{listed}
-use Rattle.trimming.specs.Private.Table.{literal-of, clauses-left, Block, standing, inner, whole, Fine, laid, shown, all-shown, Passed, marked-at, left-from, Indexed, Here, AllBut, Except, Irreducible, UnitKnown, Units, Pending, Toward}
+use Rattle.trimming.specs.Private.Table.{literal-of, clauses-left, Block, standing, inner, whole, Fine, laid, shown, all-shown, Passed, marked-at}
+use Rattle.trimming.specs.Private.Table.{left-from, Indexed, Here, AllBut, Except, Irreducible, UnitKnown, Units, Pending, Toward}
 use Rattle.trimming.proofs.BlockLaws.{map-append, block-clause, laid-clauses}
 use Rattle.trimming.proofs.ChangeLaws.{around}
 use Rattle.trimming.proofs.MarkLaws.{marked-stays, marked-entries}
@@ -46,7 +47,8 @@ module _ (ks : List Kind) where
   not-true false e = refl
 
   pub reduced-twice : (c : Clause) → reduced-clause ks (reduced-clause ks c) ≡ reduced-clause ks c
-  reduced-twice c = keep-all (λ z. not (reducible ks (reduced-clause ks c) z)) (reduced-clause ks c) (λ z i. let k = keep-in (λ y. not (reducible ks c y)) c z i in ap not (one z (Trimming.is-universal (kind-at ks z)) refl (any (follows ks z) c) refl (not-true (reducible ks c z) (k .1))))
+  reduced-twice c = keep-all (λ z. not (reducible ks (reduced-clause ks c) z)) (reduced-clause ks c) (λ z i. let k = keep-in (λ y. not (reducible ks c y)) c z i
+      in ap not (one z (Trimming.is-universal (kind-at ks z)) refl (any (follows ks z) c) refl (not-true (reducible ks c z) (k .1))))
     where
       still : (z : ℤ) → any (follows ks z) c ≡ true → any (follows ks z) (reduced-clause ks c) ≡ true
       still z e =
@@ -59,7 +61,8 @@ module _ (ks : List Kind) where
           existential y true p f = absurd (true≢false (sym f ∙ ap (λ (b : Bool). not b && ltb (Trimming.position z) (Trimming.position y)) p))
           existential y false p f = ap (λ (b : Bool). b && not (any (follows ks y) c)) p
 
-      one : (z : ℤ) (u : Bool) → Trimming.is-universal (kind-at ks z) ≡ u → (a : Bool) → any (follows ks z) c ≡ a → reducible ks c z ≡ false → reducible ks (reduced-clause ks c) z ≡ false
+      one : (z : ℤ) (u : Bool) → Trimming.is-universal (kind-at ks z) ≡ u → (a : Bool) → any (follows ks z) c ≡ a → reducible ks c z ≡ false →
+          reducible ks (reduced-clause ks c) z ≡ false
       one z false p a q r = ap (λ (b : Bool). b && not (any (follows ks z) (reduced-clause ks c))) p
       one z true p true q r = ap₂ (λ (b d : Bool). b && not d) p (still z q)
       one z true p false q r = absurd (true≢false (sym (ap₂ (λ (b d : Bool). b && not d) p q) ∙ r))
@@ -70,7 +73,8 @@ module _ (kinds : List ℕ) where
   abbrev ks : List Kind
   ks = prefix kinds
 
-  module _ {table index : List ℕ} {start : ℕ} (h : Here table index start) (table′ : List ℕ) (e : table′ ≡ marked-at (reducible-from kinds 2 (first-clause (drop start table))) 511 start table) where
+  module _ {table index : List ℕ} {start : ℕ} (h : Here table index start) (table′ : List ℕ)
+      (e : table′ ≡ marked-at (reducible-from kinds 2 (first-clause (drop start table))) 511 start table) where
     s : Stands table start
     s = stands h
 
@@ -101,7 +105,9 @@ module _ (kinds : List ℕ) where
           fine-ys = s .fine-ys;
           fine-b = s .fine;
           fine-d = marked-entries (reducible-from kinds 2 (s .es)) 511 (s .es) (s .fine);
-          made = sym (map-append (marked (reducible-from kinds 2 (s .es)) 511) (s .es) (0 ∷ []) ∙ ap (λ (x : ℕ). map (marked (reducible-from kinds 2 (s .es)) 511) (s .es) ++ (x ∷ [])) (marked-stays (reducible-from kinds 2 (s .es)) 511 0 (λ a b r. let t = two-from kinds (s .es) 2 (omega arith) in omega arith)));
+          made = sym (map-append (marked (reducible-from kinds 2 (s .es)) 511) (s .es) (0 ∷ []) ∙ ap
+              (λ (x : ℕ). map (marked (reducible-from kinds 2 (s .es)) 511) (s .es) ++ (x ∷ []))
+              (marked-stays (reducible-from kinds 2 (s .es)) 511 0 (λ a b r. let t = two-from kinds (s .es) 2 (omega arith) in omega arith)));
           written = e ∙ ap (λ (n : ℕ). marked-at n 511 start table) low-is;
         }
 
@@ -109,17 +115,20 @@ module _ (kinds : List ℕ) where
     unfolding reduces low
     list-kept = after-list reduces 1 (standing-listed (map (marked (reducible-from kinds 2 (s .es)) 511) (s .es)) ∙ sym (standing-listed (s .es)))
 
-    pub reducing-more : (names : List ℕ) {table₀ : List ℕ} (index′ : List ℕ) → Indexed table′ index′ → Toward (reduced ks) table₀ table → Pending kinds (start ∷ names) table index → Toward (reduced ks) table₀ table′ × Pending kinds names table′ index′
+    pub reducing-more : (names : List ℕ) {table₀ : List ℕ} (index′ : List ℕ) → Indexed table′ index′ → Toward (reduced ks) table₀ table →
+        Pending kinds (start ∷ names) table index → Toward (reduced ks) table₀ table′ × Pending kinds names table′ index′
     unfolding reduces low
     reducing-more names {table₀} index′ indexed′ toward p =
-        let t = toward-more reduces (reduced ks) (reduced-local kinds) (ap (reduced ks) (ap (λ (c : Clause). c ∷ []) (reduced-codes kinds (s .es) (s .fine))) ∙ ap (λ (c : Clause). c ∷ []) (reduced-twice ks (map literal-of (keep is-left (s .es))))) toward in (
+        let t = toward-more reduces (reduced ks) (reduced-local kinds) (ap (reduced ks) (ap (λ (c : Clause). c ∷ []) (reduced-codes kinds (s .es) (s .fine))) ∙
+        ap (λ (c : Clause). c ∷ []) (reduced-twice ks (map literal-of (keep is-left (s .es))))) toward in (
           t,
           record {
             laid-out = t .laid-out;
             few = let a = after-length reduces in let f = p .few in omega arith;
             indexed = indexed′;
             standing = every-same (λ x. In x (listed 1 table)) (λ x. In x (listed 1 table′)) (λ x i. subst (In x) (sym list-kept) i) names (p .standing .1);
-            others = except-changed (Irreducible kinds) (start ∷ names) names start (λ o other i. behind o other i) low 511 (p .others) (h .stands .inside) (h .stands .first) table′ (e ∙ ap (λ (n : ℕ). marked-at n 511 start table) low-is) (λ xs ys b fx fy fb is here. becomes xs ys b fb is here);
+            others = except-changed (Irreducible kinds) (start ∷ names) names start (λ o other i. behind o other i) low 511 (p .others) (h .stands .inside)
+                (h .stands .first) table′ (e ∙ ap (λ (n : ℕ). marked-at n 511 start table) low-is) (λ xs ys b fx fy fb is here. becomes xs ys b fb is here);
           },
         )
       where
@@ -131,7 +140,8 @@ module _ (kinds : List ℕ) where
         behind o other (inl q) = absurd (other q)
         behind o other (inr i) = i
 
-        becomes : (xs ys : List Block) (b : Block) → Fine b → table ≡ around xs b ys → start ≡ length (laid xs) → Becomes (Irreducible kinds) names start low 511 b
+        becomes : (xs ys : List Block) (b : Block) → Fine b → table ≡ around xs b ys → start ≡ length (laid xs) →
+            Becomes (Irreducible kinds) names start low 511 b
         becomes xs ys b f is here =
             let g = clause-reduced kinds b f in
             let l : reducible-from kinds 2 (inner b) ≡ low = sym (ap (reducible-from kinds 2) (clause-of xs ys b f is here)) ∙ low-is in
@@ -150,10 +160,12 @@ module _ (kinds : List ℕ) where
     pub units-reduced : (firsts names : List ℕ) → In start names → Units kinds firsts names names 0 table → Units kinds firsts names names 0 table′
     unfolding low
     units-reduced firsts names i u =
-        units-changed kinds firsts names names names names 0 start low 511 u (h .stands .inside) (h .stands .first) (λ o other j. j) (λ o j. j) table′ (e ∙ ap (λ (n : ℕ). marked-at n 511 start table) low-is)
+        units-changed kinds firsts names names names names 0 start low 511 u (h .stands .inside) (h .stands .first) (λ o other j. j) (λ o j. j) table′
+        (e ∙ ap (λ (n : ℕ). marked-at n 511 start table) low-is)
         (λ xs ys b fx fy fb is here. becomes xs ys b fb is here) (λ xs ys b fx fy fb is here v other f. f .apart i)
       where
-        becomes : (xs ys : List Block) (b : Block) → Fine b → table ≡ around xs b ys → start ≡ length (laid xs) → Becomes (UnitKnown kinds firsts) names start low 511 b
+        becomes : (xs ys : List Block) (b : Block) → Fine b → table ≡ around xs b ys → start ≡ length (laid xs) →
+            Becomes (UnitKnown kinds firsts) names start low 511 b
         becomes xs ys b f is here =
             let g = clause-reduced kinds b f in
             let l : reducible-from kinds 2 (inner b) ≡ low = sym (ap (reducible-from kinds 2) (clause-of xs ys b f is here)) ∙ low-is in
@@ -163,13 +175,15 @@ module _ (kinds : List ℕ) where
 
   all-irreducible : (o : ℕ) (bs : List Block) → AllBut (Irreducible kinds) [] o bs → reduced ks (all-shown bs) ≡ all-shown bs
   all-irreducible o [] all = refl
-  all-irreducible o (b ∷ bs) all = reduced-local kinds .spread (shown b) (all-shown bs) ∙ ap₂ _++_ (own (all .0)) (all-irreducible (o + length (whole b)) bs (all .1))
+  all-irreducible o (b ∷ bs) all = reduced-local kinds .spread (shown b) (all-shown bs) ∙ ap₂ _++_ (own (all .0))
+      (all-irreducible (o + length (whole b)) bs (all .1))
     where
       own : In o [] ⊎ Irreducible kinds o b → reduced ks (shown b) ≡ shown b
       own (inl i) = absurd i
       own (inr p) = p
 
-  pub reducing-ends : {table₀ table index : List ℕ} → Toward (reduced ks) table₀ table → Pending kinds [] table index → Passed (reduced ks) table₀ table × Indexed table index × Except (Irreducible kinds) [] table
+  pub reducing-ends : {table₀ table index : List ℕ} → Toward (reduced ks) table₀ table → Pending kinds [] table index → Passed (reduced ks) table₀ table ×
+      Indexed table index × Except (Irreducible kinds) [] table
   reducing-ends {table₀} {table} t p =
       (toward-ends (reduced ks) t (ap (reduced ks) shown-all ∙ all-irreducible 0 (p .others .blocks) (p .others .all) ∙ sym shown-all), p .indexed, p .others)
     where
@@ -187,15 +201,19 @@ none-from : (low : ℕ) (es : List ℕ) → any (left-from low) es ≡ false →
 none-from low [] e = refl
 none-from low (x ∷ es) e = go (left-from low x) refl e (none-from low es)
   where
-    go : (t : Bool) → left-from low x ≡ t → (t || any (left-from low) es) ≡ false → (any (left-from low) es ≡ false → map (marked low 511) es ≡ es) → map (marked low 511) (x ∷ es) ≡ x ∷ es
+    go : (t : Bool) → left-from low x ≡ t → (t || any (left-from low) es) ≡ false → (any (left-from low) es ≡ false → map (marked low 511) es ≡ es) →
+        map (marked low 511) (x ∷ es) ≡ x ∷ es
     go true p q later = absurd (true≢false q)
     go false p q later = ap₂ _∷_ (marked-stays low 511 x (λ a b r. true≢false (sym (rw (le-leb low x a) (lt-ltb x 512 r)) ∙ p))) (later q)
 
-pub nothing-from : {table index : List ℕ} {start : ℕ} → Here table index start → (low : ℕ) → 2 ≤ low → any (left-from low) (first-clause (drop start table)) ≡ false → table ≡ marked-at low 511 start table
+pub nothing-from : {table index : List ℕ} {start : ℕ} → Here table index start → (low : ℕ) → 2 ≤ low →
+    any (left-from low) (first-clause (drop start table)) ≡ false → table ≡ marked-at low 511 start table
 nothing-from {table} {index} {start} h low two e =
     sym (ap (marked-at low 511 start) (s .is)
     ∙ marked-around low 511 start (s .xs) (standing (s .es)) (s .ys) (s .here) (s .fine)
-    ∙ ap (λ (l : List ℕ). laid (s .xs) ++ (l ++ laid (s .ys))) (map-append (marked low 511) (s .es) (0 ∷ []) ∙ ap₂ _++_ (none-from low (s .es) (sym (ap (any (left-from low)) clause) ∙ e)) (ap (λ (x : ℕ). x ∷ []) (marked-stays low 511 0 (λ a b r. omega arith))))
+    ∙ ap (λ (l : List ℕ). laid (s .xs) ++ (l ++ laid (s .ys)))
+    (map-append (marked low 511) (s .es) (0 ∷ []) ∙ ap₂ _++_ (none-from low (s .es) (sym (ap (any (left-from low)) clause) ∙ e))
+    (ap (λ (x : ℕ). x ∷ []) (marked-stays low 511 0 (λ a b r. omega arith))))
     ∙ sym (s .is))
   where
     s : Stands table start

@@ -30,7 +30,8 @@ module _ {A : Type 0} where
   keep-append test [] ys = refl
   keep-append test (x ∷ xs) ys = go (test x) (keep-append test xs ys)
     where
-      go : (t : Bool) → keep test (xs ++ ys) ≡ keep test xs ++ keep test ys → cond t (x ∷ keep test (xs ++ ys)) (keep test (xs ++ ys)) ≡ cond t (x ∷ keep test xs) (keep test xs) ++ keep test ys
+      go : (t : Bool) → keep test (xs ++ ys) ≡ keep test xs ++ keep test ys →
+          cond t (x ∷ keep test (xs ++ ys)) (keep test (xs ++ ys)) ≡ cond t (x ∷ keep test xs) (keep test xs) ++ keep test ys
       go true later = ap (λ (l : List A). x ∷ l) later
       go false later = later
 
@@ -132,7 +133,8 @@ named-left : (c : List ℕ) → Every Entry c → Every (Named max-unknowns) (ma
 named-left [] all = tt
 named-left (x ∷ c) all = go (is-left x) refl (named-left c (all .1))
   where
-    go : (t : Bool) → is-left x ≡ t → Every (Named max-unknowns) (map literal-of (keep is-left c)) → Every (Named max-unknowns) (map literal-of (cond t (x ∷ keep is-left c) (keep is-left c)))
+    go : (t : Bool) → is-left x ≡ t → Every (Named max-unknowns) (map literal-of (keep is-left c)) →
+        Every (Named max-unknowns) (map literal-of (cond t (x ∷ keep is-left c) (keep is-left c)))
     go true l later = let s = left-code x (all .0) l in (named-code x (s .0) (s .1), later)
     go false l later = later
 

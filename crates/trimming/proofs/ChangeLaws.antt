@@ -32,7 +32,8 @@ module _ (xs ys : List Block) (b d : Block) (same-codes : codes (whole d) ≡ co
   pub around-codes : codes (around xs d ys) ≡ codes (around xs b ys)
   around-codes =
       codes-append (laid xs) (whole d ++ laid ys)
-      ∙ ap (λ (l : List ℕ). codes (laid xs) ++ l) (codes-append (whole d) (laid ys) ∙ ap (λ (l : List ℕ). l ++ codes (laid ys)) same-codes ∙ sym (codes-append (whole b) (laid ys)))
+      ∙ ap (λ (l : List ℕ). codes (laid xs) ++ l) (codes-append (whole d) (laid ys) ∙ ap (λ (l : List ℕ). l ++ codes (laid ys)) same-codes ∙ sym
+      (codes-append (whole b) (laid ys)))
       ∙ sym (codes-append (laid xs) (whole b ++ laid ys))
 
   pub as-long : length (whole d) ≡ length (whole b)
@@ -60,13 +61,16 @@ module _ (xs ys : List Block) (b d : Block) (same-codes : codes (whole d) ≡ co
         ∙ names-fewer c xs ys b d as-long own
         ∙ ap (without (length (laid xs))) (sym (listed-laid c (xs ++ (b ∷ ys)) (all-fine b fine-b)) ∙ sym (lists c b fine-b))
 
-    pub same-index : length (around xs b ys) ≤ max-entries → ((c : ℕ) → c < code-count → block-has c d ≡ block-has c b) → index-of (around xs d ys) ≡ index-of (around xs b ys)
+    pub same-index : length (around xs b ys) ≤ max-entries → ((c : ℕ) → c < code-count → block-has c d ≡ block-has c b) →
+        index-of (around xs d ys) ≡ index-of (around xs b ys)
     same-index few same = index-same (around xs b ys) (around xs d ys) few around-codes (λ c h. list-same c (same c h))
 
-    pub removed-index : (x : ℕ) → x < code-count → length (around xs b ys) ≤ max-entries → ((c : ℕ) → c < code-count → (c ≡ x → ⊥) → block-has c d ≡ block-has c b) → block-has x d ≡ false
+    pub removed-index : (x : ℕ) → x < code-count → length (around xs b ys) ≤ max-entries →
+        ((c : ℕ) → c < code-count → (c ≡ x → ⊥) → block-has c d ≡ block-has c b) → block-has x d ≡ false
         → removed (index-of (around xs b ys)) x (length (laid xs)) ≡ index-of (around xs d ys)
     removed-index x small few others own =
-        index-removed (around xs b ys) (around xs d ys) few around-codes x small (λ c h other. list-same c (others c h other)) (length (laid xs)) (list-fewer x own)
+        index-removed (around xs b ys) (around xs d ys) few around-codes x small (λ c h other. list-same c (others c h other)) (length (laid xs))
+        (list-fewer x own)
 
 -- ---- what a clause has
 
@@ -104,7 +108,8 @@ has-some x (y ∷ l) all z = go (eqb x y) refl z (has-some x l (all .1))
 below-none : (x low : ℕ) (l : List ℕ) → low ≤ x → x < 512 → Every Entry l → Every (λ y. (y < 512 → y < low)) l → has-left x l ≡ false
 below-none x low [] from small all below = refl
 below-none x low (y ∷ l) from small all below =
-    rw (under-itself y (entry-two y (all .0)), ne-eqb x y (λ e. let h = below .0 in let i = h (omega arith) in omega arith)) (below-none x low l from small (all .1) (below .1))
+    rw (under-itself y (entry-two y (all .0)), ne-eqb x y (λ e. let h = below .0 in let i = h (omega arith) in omega arith))
+    (below-none x low l from small (all .1) (below .1))
 
 -- ---- one entry is dropped
 
@@ -130,15 +135,19 @@ module _ (pre post : List ℕ) (x : ℕ) (entry : Entry x) (small : x < 512) whe
   others-kept c h other =
       has-parts c (x + 512)
       ∙ ap (λ (b : Bool). has-left c pre || (b || (has-left c post || (eqb c 1 || false))))
-      (ap (eqb c) (under-itself (x + 512) (omega arith)) ∙ ne-eqb c (x + 512) (λ e. omega arith) ∙ sym (ap (eqb c) (under-itself x (entry-two x entry)) ∙ ne-eqb c x other))
+      (ap (eqb c) (under-itself (x + 512) (omega arith)) ∙ ne-eqb c (x + 512) (λ e. omega arith) ∙ sym
+      (ap (eqb c) (under-itself x (entry-two x entry)) ∙ ne-eqb c x other))
       ∙ sym (has-parts c x)
 
-  pub own-gone : (low : ℕ) → low ≤ x → Every Entry pre → Every (λ y. (y < 512 → y < low)) pre → Every Entry post → times x post ≡ 0 → block-has x one-after ≡ false
+  pub own-gone : (low : ℕ) → low ≤ x → Every Entry pre → Every (λ y. (y < 512 → y < low)) pre → Every Entry post → times x post ≡ 0 →
+      block-has x one-after ≡ false
   own-gone low from fine-pre below fine-post none =
       let two = entry-two x entry in
       has-parts x (x + 512)
-      ∙ ap₂ (λ (p q : Bool). p || (eqb x (listed-under (x + 512)) || (q || (eqb x 1 || false)))) (below-none x low pre from small fine-pre below) (has-none x post fine-post none)
-      ∙ ap₂ (λ (p q : Bool). p || (q || false)) (ap (eqb x) (under-itself (x + 512) (omega arith)) ∙ ne-eqb x (x + 512) (λ e. omega arith)) (ne-eqb x 1 (λ e. omega arith))
+      ∙ ap₂ (λ (p q : Bool). p || (eqb x (listed-under (x + 512)) || (q || (eqb x 1 || false)))) (below-none x low pre from small fine-pre below)
+      (has-none x post fine-post none)
+      ∙ ap₂ (λ (p q : Bool). p || (q || false)) (ap (eqb x) (under-itself (x + 512) (omega arith)) ∙ ne-eqb x (x + 512) (λ e. omega arith))
+      (ne-eqb x 1 (λ e. omega arith))
 
   pub own-kept : Every Entry post → 0 < times x post → block-has x one-after ≡ block-has x one-before
   own-kept fine-post more =

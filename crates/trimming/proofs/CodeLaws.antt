@@ -59,7 +59,8 @@ pub same-code : (c d : ℕ) → 2 ≤ c → 2 ≤ d → Trimming.same (literal-o
 same-code c d p q = go (form c p) (form d q)
   where
     go : {c d : ℕ} → Form c → Form d → Trimming.same (literal-of c) (literal-of d) ≡ eqb c d
-    go (even v) (even w) = rw (literal-even (suc v), literal-even (suc w)) (same-eqb (suc v) (suc w) (2 * suc v) (2 * suc w) (λ e. omega arith) (λ e. omega arith))
+    go (even v) (even w) = rw (literal-even (suc v), literal-even (suc w)) (same-eqb (suc v) (suc w) (2 * suc v) (2 * suc w) (λ e. omega arith)
+        (λ e. omega arith))
     go (even v) (odd w) = rw (literal-even (suc v), literal-odd w) (sym (ne-eqb (2 * suc v) (2 * suc w + 1) (λ e. omega arith)))
     go (odd v) (even w) = rw (literal-odd v, literal-even (suc w)) (sym (ne-eqb (2 * suc v + 1) (2 * suc w) (λ e. omega arith)))
     go (odd v) (odd w) = rw (literal-odd v, literal-odd w) (same-eqb v w (2 * suc v + 1) (2 * suc w + 1) (λ e. omega arith) (λ e. omega arith))

@@ -77,7 +77,8 @@ module _ (literals : List ℤ) (table : List ℕ) (same : codes table ≡ map co
               inside = omega arith;
               counted = sym (ap length one-is ∙ length-append (left (take i table)) (z ∷ []) ∙ ap (λ (n : ℕ). n + 1) (sym (p .counted)));
               is =
-                  ap (λ (k : List ℤ). set k to z) (p .is ∙ ap (λ (k : List ℤ). left (take i table) ++ k) (drop-front output₀ to (pos 0) (let f = fewer in omega arith)))
+                  ap (λ (k : List ℤ). set k to z)
+                  (p .is ∙ ap (λ (k : List ℤ). left (take i table) ++ k) (drop-front output₀ to (pos 0) (let f = fewer in omega arith)))
                   ∙ set-at (left (take i table)) (getD output₀ to (pos 0)) (drop (to + 1) output₀) z to (sym (p .counted))
                   ∙ sym (append-snoc (left (take i table)) z (drop (to + 1) output₀))
                   ∙ ap (λ (k : List ℤ). k ++ drop (to + 1) output₀) (sym one-is);

@@ -104,10 +104,12 @@ module _ {low start at : ℕ} {table index counts : List ℕ} (p : Dropping low 
     next-place y = let e = p .place in let l = length-append (p .pre) (y ∷ []) in omega arith
 
     times-other : (y : ℕ) → (y ≡ x → ⊥) → times y (p .post) ≡ times y (m .rest)
-    times-other y other = ap (times y) (m .splits) ∙ ap (λ (b : Bool). cond b 1 0 + times y (m .rest)) (ne-eqb y x other) ∙ (let e : 0 + times y (m .rest) ≡ times y (m .rest) = omega arith in e)
+    times-other y other = ap (times y) (m .splits) ∙ ap (λ (b : Bool). cond b 1 0 + times y (m .rest)) (ne-eqb y x other) ∙
+        (let e : 0 + times y (m .rest) ≡ times y (m .rest) = omega arith in e)
 
     times-own : times x (p .post) ≡ suc (times x (m .rest))
-    times-own = ap (times x) (m .splits) ∙ ap (λ (b : Bool). cond b 1 0 + times x (m .rest)) (eq-eqb x x refl) ∙ (let e : 1 + times x (m .rest) ≡ suc (times x (m .rest)) = omega arith in e)
+    times-own = ap (times x) (m .splits) ∙ ap (λ (b : Bool). cond b 1 0 + times x (m .rest)) (eq-eqb x x refl) ∙
+        (let e : 1 + times x (m .rest) ≡ suc (times x (m .rest)) = omega arith in e)
 
     -- The entry is passed.
     pub passes : (x < 512 → x < low) → Dropping low start table index counts (at + 1)
@@ -157,7 +159,8 @@ module _ {low start at : ℕ} {table index counts : List ℕ} (p : Dropping low 
       still-indexed : times x (m .rest) ≡ 0 → removed index x start ≡ index-of after
       still-indexed gone-all =
           ap₂ (λ (i : List ℕ) (s : ℕ). removed i x s) (p .indexed ∙ ap index-of around-x) (p .here)
-          ∙ removed-index (p .xs) (p .ys) (standing (p .pre ++ (x ∷ m .rest))) (standing (p .pre ++ ((x + 512) ∷ m .rest))) (one-codes (p .pre) (m .rest) x (m .entry) small) (p .fine-xs) (p .fine-ys) fine-before fine-after x
+          ∙ removed-index (p .xs) (p .ys) (standing (p .pre ++ (x ∷ m .rest))) (standing (p .pre ++ ((x + 512) ∷ m .rest)))
+          (one-codes (p .pre) (m .rest) x (m .entry) small) (p .fine-xs) (p .fine-ys) fine-before fine-after x
           (let s = code-small in omega arith) (let f = p .few in let e = ap length around-x in omega arith)
           (others-kept (p .pre) (m .rest) x (m .entry) small)
           (own-gone (p .pre) (m .rest) x (m .entry) small low from (p .fine-pre) (p .below) (m .fine) gone-all)
@@ -165,11 +168,15 @@ module _ {low start at : ℕ} {table index counts : List ℕ} (p : Dropping low 
       still-the-same : 0 < times x (m .rest) → index ≡ index-of after
       still-the-same again =
           p .indexed ∙ ap index-of around-x
-          ∙ sym (same-index (p .xs) (p .ys) (standing (p .pre ++ (x ∷ m .rest))) (standing (p .pre ++ ((x + 512) ∷ m .rest))) (one-codes (p .pre) (m .rest) x (m .entry) small) (p .fine-xs) (p .fine-ys) fine-before fine-after (let f = p .few in let e = ap length around-x in omega arith)
+          ∙ sym (same-index (p .xs) (p .ys) (standing (p .pre ++ (x ∷ m .rest))) (standing (p .pre ++ ((x + 512) ∷ m .rest)))
+          (one-codes (p .pre) (m .rest) x (m .entry) small) (p .fine-xs) (p .fine-ys) fine-before fine-after
+          (let f = p .few in let e = ap length around-x in omega arith)
           (λ c h. by c h (eqb c x) refl))
         where
-          by : (c : ℕ) → c < code-count → (t : Bool) → eqb c x ≡ t → block-has c (standing (p .pre ++ ((x + 512) ∷ m .rest))) ≡ block-has c (standing (p .pre ++ (x ∷ m .rest)))
-          by c h true e = subst (λ (k : ℕ). block-has k (standing (p .pre ++ ((x + 512) ∷ m .rest))) ≡ block-has k (standing (p .pre ++ (x ∷ m .rest)))) (sym (eqb-true c x e)) (own-kept (p .pre) (m .rest) x (m .entry) small (m .fine) again)
+          by : (c : ℕ) → c < code-count → (t : Bool) → eqb c x ≡ t →
+              block-has c (standing (p .pre ++ ((x + 512) ∷ m .rest))) ≡ block-has c (standing (p .pre ++ (x ∷ m .rest)))
+          by c h true e = subst (λ (k : ℕ). block-has k (standing (p .pre ++ ((x + 512) ∷ m .rest))) ≡ block-has k (standing (p .pre ++ (x ∷ m .rest))))
+              (sym (eqb-true c x e)) (own-kept (p .pre) (m .rest) x (m .entry) small (m .fine) again)
           by c h false e = others-kept (p .pre) (m .rest) x (m .entry) small c h (eqb-false c x e)
 
       -- What becomes of the index, as it is told by how often the code stood there.
@@ -223,11 +230,14 @@ module _ {low start at : ℕ} {table index counts : List ℕ} (p : Dropping low 
       marks-same =
           ap (marked-at low 511 start) written
           ∙ marked-around low 511 start (p .xs) (standing (p .pre ++ ((x + 512) ∷ m .rest))) (p .ys) (p .here) fine-after
-          ∙ ap (λ (l : List ℕ). laid (p .xs) ++ (l ++ laid (p .ys))) (parts (x + 512) ∙ ap (λ (y : ℕ). map (marked low 511) (p .pre) ++ (y ∷ map (marked low 511) (m .rest ++ (0 ∷ [])))) (marked-again low x from small) ∙ sym (parts x))
+          ∙ ap (λ (l : List ℕ). laid (p .xs) ++ (l ++ laid (p .ys)))
+          (parts (x + 512) ∙ ap (λ (y : ℕ). map (marked low 511) (p .pre) ++ (y ∷ map (marked low 511) (m .rest ++ (0 ∷ []))))
+          (marked-again low x from small) ∙ sym (parts x))
           ∙ sym (marked-around low 511 start (p .xs) (standing (p .pre ++ (x ∷ m .rest))) (p .ys) (p .here) fine-before)
           ∙ ap (marked-at low 511 start) (sym around-x)
         where
-          parts : (y : ℕ) → map (marked low 511) ((p .pre ++ (y ∷ m .rest)) ++ (0 ∷ [])) ≡ map (marked low 511) (p .pre) ++ (marked low 511 y ∷ map (marked low 511) (m .rest ++ (0 ∷ [])))
+          parts : (y : ℕ) → map (marked low 511) ((p .pre ++ (y ∷ m .rest)) ++ (0 ∷ [])) ≡ map (marked low 511) (p .pre) ++
+              (marked low 511 y ∷ map (marked low 511) (m .rest ++ (0 ∷ [])))
           parts y = ap (map (marked low 511)) (append-assoc (p .pre) (y ∷ m .rest) (0 ∷ [])) ∙ map-append (marked low 511) (p .pre) (y ∷ (m .rest ++ (0 ∷ [])))
 
   -- All entries are looked at.
@@ -239,11 +249,13 @@ module _ {low start at : ℕ} {table index counts : List ℕ} (p : Dropping low 
   all-dropped two off =
       ap (marked-at low 511 start) is-pre
       ∙ marked-around low 511 start (p .xs) (standing (p .pre)) (p .ys) (p .here) (p .fine-pre)
-      ∙ ap (λ (l : List ℕ). laid (p .xs) ++ (l ++ laid (p .ys))) (map-append (marked low 511) (p .pre) (0 ∷ []) ∙ ap₂ _++_ (stay (p .pre) (p .below)) (ap (λ (y : ℕ). y ∷ []) (marked-stays low 511 0 (λ a b s. omega arith))))
+      ∙ ap (λ (l : List ℕ). laid (p .xs) ++ (l ++ laid (p .ys))) (map-append (marked low 511) (p .pre) (0 ∷ []) ∙ ap₂ _++_ (stay (p .pre) (p .below))
+      (ap (λ (y : ℕ). y ∷ []) (marked-stays low 511 0 (λ a b s. omega arith))))
       ∙ sym is-pre
     where
       is-pre : table ≡ around (p .xs) (standing (p .pre)) (p .ys)
-      is-pre = p .is ∙ ap (λ (l : List ℕ). laid (p .xs) ++ ((l ++ (0 ∷ [])) ++ laid (p .ys))) (ap (λ (l : List ℕ). p .pre ++ l) (none off) ∙ append-nil (p .pre))
+      is-pre = p .is ∙ ap (λ (l : List ℕ). laid (p .xs) ++ ((l ++ (0 ∷ [])) ++ laid (p .ys)))
+          (ap (λ (l : List ℕ). p .pre ++ l) (none off) ∙ append-nil (p .pre))
 
 -- ---- how often a code stands in a clause
 
@@ -257,7 +269,8 @@ module _ (counts : List ℕ) (sized : length counts ≡ last-code + 1) (x : ℕ)
           ap (λ (k : ℕ). getD (set counts x (getD counts x 0 + 1)) k 0) same
           ∙ getD-set-same counts x (getD counts x 0 + 1) 0 (omega arith)
           ∙ ap (λ (k : ℕ). getD counts k 0 + 1) (sym same)
-      go false e = getD-set-other counts x y (getD counts x 0 + 1) 0 (eqb-false y x e) ∙ (let z : getD counts y 0 ≡ getD counts y 0 + (0 + 0) = omega arith in z)
+      go false e = getD-set-other counts x y (getD counts x 0 + 1) 0 (eqb-false y x e) ∙ (let z : getD counts y 0 ≡ getD counts y 0 + (0 + 0) = omega arith in
+          z)
 
   pub no-more : last-code + 1 ≤ x → (y : ℕ) → y < last-code + 1 → getD counts y 0 ≡ getD counts y 0 + times y (x ∷ [])
   no-more large y below = rw (ne-eqb y x (λ e. omega arith)) (omega arith)
@@ -286,7 +299,8 @@ counting-begins table start counts e =
     record {
       sized = ap length e ∙ length-replicate {A = ℕ} (last-code + 1) 0;
       bounded = λ y. let z = zeros y in omega arith;
-      so-far = λ y small. ap (λ (n : ℕ). n + times y (first-clause (drop start table))) (zeros y) ∙ (let z : 0 + times y (first-clause (drop start table)) ≡ times y (first-clause (drop start table)) = omega arith in z);
+      so-far = λ y small. ap (λ (n : ℕ). n + times y (first-clause (drop start table))) (zeros y) ∙
+          (let z : 0 + times y (first-clause (drop start table)) ≡ times y (first-clause (drop start table)) = omega arith in z);
     }
   where
     zeros : (y : ℕ) → getD counts y 0 ≡ 0
@@ -294,7 +308,8 @@ counting-begins table start counts e =
 
 module _ {table : List ℕ} {start i : ℕ} {counts : List ℕ} (p : Counting table start counts i) where
   pub counting-more : i < length table → ends (getD table i 0) ≡ false → (counts′ : List ℕ)
-      → (length counts′ ≡ last-code + 1) × ((y : ℕ) → y < last-code + 1 → getD counts′ y 0 ≡ getD counts y 0 + times y (getD table i 0 ∷ [])) → Counting table start counts′ (i + 1)
+      → (length counts′ ≡ last-code + 1) × ((y : ℕ) → y < last-code + 1 → getD counts′ y 0 ≡ getD counts y 0 + times y (getD table i 0 ∷ [])) → Counting table
+      start counts′ (i + 1)
   counting-more within on counts′ e =
       record {
         sized = e .0;
@@ -317,18 +332,26 @@ module _ {table : List ℕ} {start i : ℕ} {counts : List ℕ} (p : Counting ta
       small y true b = let a = e .1 y (ltb-true y (last-code + 1) b) in let f = p .bounded y in let g = one y in omega arith
       small y false b = let a = getD-past counts′ y (let g = ltb-false y (last-code + 1) b in let h = e .0 in omega arith) in omega arith
 
-  pub counting-ends : first-clause (drop i table) ≡ [] → (length counts ≡ last-code + 1) × ((y : ℕ) → y < last-code + 1 → getD counts y 0 ≡ times y (first-clause (drop start table)))
-  counting-ends over = (p .sized, λ y below. (let z : getD counts y 0 ≡ getD counts y 0 + 0 = omega arith in z) ∙ ap (λ (l : List ℕ). getD counts y 0 + times y l) (sym over) ∙ p .so-far y below)
+  pub counting-ends : first-clause (drop i table) ≡ [] → (length counts ≡ last-code + 1) ×
+      ((y : ℕ) → y < last-code + 1 → getD counts y 0 ≡ times y (first-clause (drop start table)))
+  counting-ends over = (
+    p .sized,
+    λ y below. (let z : getD counts y 0 ≡ getD counts y 0 + 0 = omega arith in z) ∙ ap
+        (λ (l : List ℕ). getD counts y 0 + times y l) (sym over) ∙ p .so-far y below,
+  )
 
 pub turned : (b : Bool) {t : Bool} → not b ≡ t → b ≡ not t
 turned true e = ap not e
 turned false e = ap not e
 
 -- The same under equal names.
-pub moved-on : {low start at : ℕ} {table index counts index′ counts′ : List ℕ} → Dropping low start table index counts at → index′ ≡ index → counts′ ≡ counts → Dropping low start table index′ counts′ at
-moved-on {low} {start} {at} {table} {index} {counts} {index′} {counts′} p ei ec = subst (λ (i : List ℕ). Dropping low start table i counts′ at) (sym ei) (subst (λ (k : List ℕ). Dropping low start table index k at) (sym ec) p)
+pub moved-on : {low start at : ℕ} {table index counts index′ counts′ : List ℕ} → Dropping low start table index counts at → index′ ≡ index → counts′ ≡ counts →
+    Dropping low start table index′ counts′ at
+moved-on {low} {start} {at} {table} {index} {counts} {index′} {counts′} p ei ec = subst (λ (i : List ℕ). Dropping low start table i counts′ at) (sym ei)
+    (subst (λ (k : List ℕ). Dropping low start table index k at) (sym ec) p)
 
-pub ends-here : {low start at : ℕ} {table index counts : List ℕ} → (p : Dropping low start table index counts at) → ends (getD table at 0) ≡ true → at + 1 ≡ start + first-length (drop start table)
+pub ends-here : {low start at : ℕ} {table index counts : List ℕ} → (p : Dropping low start table index counts at) → ends (getD table at 0) ≡ true →
+    at + 1 ≡ start + first-length (drop start table)
 ends-here {low} {start} {at} {table} p off =
     let l = length-append (p .pre ++ p .post) (0 ∷ []) in
     let e = ap length (ap (λ (l : List ℕ). p .pre ++ l) (none p off) ∙ append-nil (p .pre)) in

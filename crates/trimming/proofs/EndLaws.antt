@@ -46,7 +46,8 @@ gone-unlisted es all = has-append 1 es (512 ∷ []) ∙ ap (λ (b : Bool). b || 
 
 module _ {table : List ℕ} {start : ℕ} (l : Laid table) where
   pub split-of : start < length table → begins table start ≡ true → Split start (l .blocks)
-  split-of within first = splits (l .blocks) (l .fine) start (let e = ap length (l .is) in omega arith) (ap (λ (t : List ℕ). begins t start) (sym (l .is)) ∙ first)
+  split-of within first = splits (l .blocks) (l .fine) start (let e = ap length (l .is) in omega arith)
+      (ap (λ (t : List ℕ). begins t start) (sym (l .is)) ∙ first)
 
 pub stands : {table index : List ℕ} {start : ℕ} → Here table index start → Stands table start
 stands {table} {index} {start} h = go (s .block) refl
@@ -85,7 +86,8 @@ stands {table} {index} {start} h = go (s .block) refl
 -- ---- before the first entry is dropped
 
 pub dropping-begins : {table index : List ℕ} {start : ℕ} → Here table index start → (low : ℕ) (counts : List ℕ)
-    → (length counts ≡ last-code + 1) × ((y : ℕ) → y < last-code + 1 → getD counts y 0 ≡ times y (first-clause (drop start table))) → Dropping low start table index counts start
+    → (length counts ≡ last-code + 1) × ((y : ℕ) → y < last-code + 1 → getD counts y 0 ≡ times y (first-clause (drop start table))) → Dropping low start
+    table index counts start
 dropping-begins {table} {index} {start} h low counts counted =
     record {
       xs = s .xs;
@@ -117,7 +119,8 @@ dropping-begins {table} {index} {start} h low counts counted =
 
 -- ---- the end is dropped
 
-module _ {table index : List ℕ} {start : ℕ} (h : Here table index start) (table₁ index₁ : List ℕ) (e : table₁ ≡ marked-at 2 511 start table) (indexed : Indexed table₁ index₁)
+module _ {table index : List ℕ} {start : ℕ} (h : Here table index start) (table₁ index₁ : List ℕ) (e : table₁ ≡ marked-at 2 511 start table)
+    (indexed : Indexed table₁ index₁)
     (at : ℕ) (place : at + 1 ≡ start + first-length (drop start table₁)) where
   s : Stands table start
   s = stands h
@@ -153,7 +156,8 @@ module _ {table index : List ℕ} {start : ℕ} (h : Here table index start) (ta
   emptied =
       e ∙ ap (marked-at 2 511 start) (s .is)
       ∙ marked-around 2 511 start (s .xs) (standing (s .es)) (s .ys) (s .here) (s .fine)
-      ∙ ap (λ (l : List ℕ). laid (s .xs) ++ (l ++ laid (s .ys))) (map-append (marked 2 511) (s .es) (0 ∷ []) ∙ ap₂ _++_ (same-mark (s .es) (s .fine)) (ap (λ (x : ℕ). x ∷ []) (marked-stays 2 511 0 (λ p q r. omega arith))))
+      ∙ ap (λ (l : List ℕ). laid (s .xs) ++ (l ++ laid (s .ys))) (map-append (marked 2 511) (s .es) (0 ∷ []) ∙ ap₂ _++_ (same-mark (s .es) (s .fine))
+      (ap (λ (x : ℕ). x ∷ []) (marked-stays 2 511 0 (λ p q r. omega arith))))
 
   at-end : at ≡ length (laid (s .xs) ++ es)
   at-end =
@@ -187,13 +191,16 @@ module _ {table index : List ℕ} {start : ℕ} (h : Here table index start) (ta
       ended
       ∙ sym (ap (marked-at 0 511 start) (s .is)
       ∙ marked-around 0 511 start (s .xs) (standing (s .es)) (s .ys) (s .here) (s .fine)
-      ∙ ap (λ (l : List ℕ). laid (s .xs) ++ (l ++ laid (s .ys))) (map-append (marked 0 511) (s .es) (0 ∷ []) ∙ ap (λ (x : ℕ). map (marked 0 511) (s .es) ++ (x ∷ [])) (marked-goes 0 511 0 (omega arith) (omega arith) (omega arith))))
+      ∙ ap (λ (l : List ℕ). laid (s .xs) ++ (l ++ laid (s .ys)))
+      (map-append (marked 0 511) (s .es) (0 ∷ []) ∙ ap (λ (x : ℕ). map (marked 0 511) (s .es) ++ (x ∷ []))
+      (marked-goes 0 511 0 (omega arith) (omega arith) (omega arith))))
 
   pub end-forgotten : removed index₁ 1 start ≡ index-of (set table₁ at 512)
   end-forgotten =
       ap₂ (λ (i : List ℕ) (n : ℕ). removed i 1 n) (indexed ∙ ap index-of emptied) (s .here)
       ∙ removed-index (s .xs) (s .ys) (standing es) (gone es) (ap (λ (l : List ℕ). l) ends-same) (s .fine-xs) (s .fine-ys) entries fine-es 1 (omega arith) few
-      (λ c small other. has-append c es (512 ∷ []) ∙ ap (λ (b : Bool). has-left c es || (b || false)) (ne-eqb c 512 (λ z. omega arith) ∙ sym (ne-eqb c 1 other)) ∙ sym (has-append c es (0 ∷ [])))
+      (λ c small other. has-append c es (512 ∷ []) ∙ ap (λ (b : Bool). has-left c es || (b || false)) (ne-eqb c 512 (λ z. omega arith) ∙ sym (ne-eqb c 1 other))
+      ∙ sym (has-append c es (0 ∷ [])))
       (gone-unlisted es entries)
       ∙ ap index-of (sym ended)
     where

@@ -20,7 +20,8 @@ use Rattle.trimming_rules.specs.Trimming.{keep, lower, lowest-unit}
 use Rattle.trimming_rules.proofs.ClauseLaws.{Every, In}
 use Rattle.trimming_marks.specs.Marks.{is-left, first-clause, unit}
 use Rattle.index.specs.Occurrences.{listed, begins, Names}
-use Rattle.trimming.specs.Private.Table.{literal-of, clauses-left, Entry, Block, standing, gone, inner, whole, Fine, laid, shown, all-shown, Laid, literal-or-none, Picked, AllBut, SomeAt, UnitKnown, FirstUnit, noted-unit, Units}
+use Rattle.trimming.specs.Private.Table.{literal-of, clauses-left, Entry, Block, standing, gone, inner, whole, Fine, laid, shown, all-shown, Laid}
+use Rattle.trimming.specs.Private.Table.{literal-or-none, Picked, AllBut, SomeAt, UnitKnown, FirstUnit, noted-unit, Units}
 use Rattle.trimming.proofs.CodeLaws.{Form, even, odd, form, opposite-even, opposite-odd, position-code}
 use Rattle.trimming.proofs.BlockLaws.{entries-of, block-clause, laid-append, laid-clauses, shown-append}
 use Rattle.trimming.proofs.ListedLaws.{block-has, names-from, whole-some, Split, splits}
@@ -41,10 +42,12 @@ kept-in : (x : ℕ) (c : List ℕ) → any (eqb x) (keep is-left c) ≡ true →
 kept-in x [] h = h
 kept-in x (y ∷ c) h = go (is-left y) (eqb x y) h (kept-in x c)
   where
-    go : (l t : Bool) → any (eqb x) (cond l (y ∷ keep is-left c) (keep is-left c)) ≡ true → (any (eqb x) (keep is-left c) ≡ true → any (eqb x) c ≡ true) → (eqb x y || any (eqb x) c) ≡ true
+    go : (l t : Bool) → any (eqb x) (cond l (y ∷ keep is-left c) (keep is-left c)) ≡ true → (any (eqb x) (keep is-left c) ≡ true → any (eqb x) c ≡ true) →
+        (eqb x y || any (eqb x) c) ≡ true
     go true t h later = first (eqb x y) h later
       where
-        first : (b : Bool) → (b || any (eqb x) (keep is-left c)) ≡ true → (any (eqb x) (keep is-left c) ≡ true → any (eqb x) c ≡ true) → (b || any (eqb x) c) ≡ true
+        first : (b : Bool) → (b || any (eqb x) (keep is-left c)) ≡ true → (any (eqb x) (keep is-left c) ≡ true → any (eqb x) c ≡ true) →
+            (b || any (eqb x) c) ≡ true
         first true h later = refl
         first false h later = later h
     go false t h later = second (eqb x y) (later h)
@@ -92,7 +95,8 @@ none-has : (c o : ℕ) (bs : List Block) → names-from c o bs ≡ [] → Every 
 none-has c o [] e = tt
 none-has c o (b ∷ bs) e = go (block-has c b) refl e (none-has c (o + length (whole b)) bs)
   where
-    go : (t : Bool) → block-has c b ≡ t → cond t (o ∷ names-from c (o + length (whole b)) bs) (names-from c (o + length (whole b)) bs) ≡ [] → (names-from c (o + length (whole b)) bs ≡ [] → Every (λ b. block-has c b ≡ false) bs) → Every (λ b. block-has c b ≡ false) (b ∷ bs)
+    go : (t : Bool) → block-has c b ≡ t → cond t (o ∷ names-from c (o + length (whole b)) bs) (names-from c (o + length (whole b)) bs) ≡ [] →
+        (names-from c (o + length (whole b)) bs ≡ [] → Every (λ b. block-has c b ≡ false) bs) → Every (λ b. block-has c b ≡ false) (b ∷ bs)
     go true p e later = absurd (let z : _≡_ {A = ℕ} 1 0 = ap (λ (l : List ℕ). count l) e in omega arith)
       where
         count : List ℕ → ℕ
@@ -100,52 +104,61 @@ none-has c o (b ∷ bs) e = go (block-has c b) refl e (none-has c (o + length (w
         count (x ∷ l) = 1
     go false p e later = (p, later e)
 
-module _ (kinds firsts names : List ℕ) (code : ℕ) (two : 2 ≤ code) (small : code < last-code + 1) (sized : length firsts ≡ max-unknowns + 1) {table : List ℕ} where
-  pub units-off : Units kinds firsts names names (code / 2) table → listed code table ≡ [] → listed (opposite code) table ≡ [] → (opposite code < last-code + 1) → (2 ≤ opposite code) → Units kinds (set firsts (code / 2) 65535) names names 0 table
-  units-off u own opp opp-small opp-two =
-      record {
-        blocks = u .blocks;
-        is = u .is;
-        fine = u .fine;
-        complete = all-other 0 (u .blocks) (u .fine) (none-has code 0 (u .blocks) (sym (lists l code) ∙ own)) (none-has (opposite code) 0 (u .blocks) (sym (lists l (opposite code)) ∙ opp)) (u .complete);
-        sound = λ v other positive below some-first. by v positive below (eqb v (code / 2)) refl some-first;
-      }
-    where
-      l : Laid table
-      l = record { blocks = u .blocks; is = u .is; fine = u .fine }
+module _ (kinds firsts names : List ℕ) (code : ℕ) (two : 2 ≤ code) (small : code < last-code + 1) (sized : length firsts ≡ max-unknowns + 1) {table : List ℕ}
+  where
+    pub units-off : Units kinds firsts names names (code / 2) table → listed code table ≡ [] → listed (opposite code) table ≡ [] →
+        (opposite code < last-code + 1) → (2 ≤ opposite code) → Units kinds (set firsts (code / 2) 65535) names names 0 table
+    units-off u own opp opp-small opp-two =
+        record {
+          blocks = u .blocks;
+          is = u .is;
+          fine = u .fine;
+          complete = all-other 0 (u .blocks) (u .fine) (none-has code 0 (u .blocks) (sym (lists l code) ∙ own))
+              (none-has (opposite code) 0 (u .blocks) (sym (lists l (opposite code)) ∙ opp)) (u .complete);
+          sound = λ v other positive below some-first. by v positive below (eqb v (code / 2)) refl some-first;
+        }
+      where
+        l : Laid table
+        l = record { blocks = u .blocks; is = u .is; fine = u .fine }
 
-      half-below : code / 2 < max-unknowns + 1
-      half-below = omega arith
+        half-below : code / 2 < max-unknowns + 1
+        half-below = omega arith
 
-      known-still : (o : ℕ) (b : Block) → Fine b → block-has code b ≡ false → block-has (opposite code) b ≡ false → UnitKnown kinds firsts o b → UnitKnown kinds (set firsts (code / 2) 65535) o b
-      known-still o b f a c known some-unit =
-          subst (λ (n : ℕ). n ≤ o) (sym (getD-set-other firsts (code / 2) (unit kinds (inner b) / 2) 65535 0 other)) (known some-unit)
-        where
-          clash : (d : ℕ) → 2 ≤ d → d < last-code + 1 → unit kinds (inner b) ≡ d → block-has d b ≡ false → ⊥
-          clash d low high e none? = true≢false (sym (unit-stands kinds (inner b) (entries-of b f) some-unit) ∙ ap (λ (x : ℕ). has x (inner b)) e ∙ sym (has-inner d low (omega arith) b f) ∙ none?)
+        known-still : (o : ℕ) (b : Block) → Fine b → block-has code b ≡ false → block-has (opposite code) b ≡ false → UnitKnown kinds firsts o b →
+            UnitKnown kinds (set firsts (code / 2) 65535) o b
+        known-still o b f a c known some-unit =
+            subst (λ (n : ℕ). n ≤ o) (sym (getD-set-other firsts (code / 2) (unit kinds (inner b) / 2) 65535 0 other)) (known some-unit)
+          where
+            clash : (d : ℕ) → 2 ≤ d → d < last-code + 1 → unit kinds (inner b) ≡ d → block-has d b ≡ false → ⊥
+            clash d low high e none? = true≢false (sym (unit-stands kinds (inner b) (entries-of b f) some-unit) ∙ ap (λ (x : ℕ). has x (inner b)) e ∙ sym
+                (has-inner d low (omega arith) b f) ∙ none?)
 
-          other : unit kinds (inner b) / 2 ≡ code / 2 → ⊥
-          other e = either (half-same code (unit kinds (inner b)) two e)
-            where
-              either : (unit kinds (inner b) ≡ code) ⊎ (unit kinds (inner b) ≡ opposite code) → ⊥
-              either (inl p) = clash code two small p a
-              either (inr p) = clash (opposite code) opp-two opp-small p c
+            other : unit kinds (inner b) / 2 ≡ code / 2 → ⊥
+            other e = either (half-same code (unit kinds (inner b)) two e)
+              where
+                either : (unit kinds (inner b) ≡ code) ⊎ (unit kinds (inner b) ≡ opposite code) → ⊥
+                either (inl p) = clash code two small p a
+                either (inr p) = clash (opposite code) opp-two opp-small p c
 
-      all-other : (o : ℕ) (bs : List Block) → Every Fine bs → Every (λ b. block-has code b ≡ false) bs → Every (λ b. block-has (opposite code) b ≡ false) bs → AllBut (UnitKnown kinds firsts) names o bs → AllBut (UnitKnown kinds (set firsts (code / 2) 65535)) names o bs
-      all-other o [] f a c all = tt
-      all-other o (b ∷ bs) f a c all = (still (all .0), all-other (o + length (whole b)) bs (f .1) (a .1) (c .1) (all .1))
-        where
-          still : In o names ⊎ UnitKnown kinds firsts o b → In o names ⊎ UnitKnown kinds (set firsts (code / 2) 65535) o b
-          still (inl i) = inl i
-          still (inr known) = inr (known-still o b (f .0) (a .0) (c .0) known)
+        all-other : (o : ℕ) (bs : List Block) → Every Fine bs → Every (λ b. block-has code b ≡ false) bs → Every (λ b. block-has (opposite code) b ≡ false) bs →
+            AllBut (UnitKnown kinds firsts) names o bs → AllBut (UnitKnown kinds (set firsts (code / 2) 65535)) names o bs
+        all-other o [] f a c all = tt
+        all-other o (b ∷ bs) f a c all = (still (all .0), all-other (o + length (whole b)) bs (f .1) (a .1) (c .1) (all .1))
+          where
+            still : In o names ⊎ UnitKnown kinds firsts o b → In o names ⊎ UnitKnown kinds (set firsts (code / 2) 65535) o b
+            still (inl i) = inl i
+            still (inr known) = inr (known-still o b (f .0) (a .0) (c .0) known)
 
-      by : (v : ℕ) → 0 < v → v < max-unknowns + 1 → (t : Bool) → eqb v (code / 2) ≡ t → (getD (set firsts (code / 2) 65535) v 0 ≡ 65535 → ⊥) → SomeAt (FirstUnit kinds (set firsts (code / 2) 65535) names v) 0 (u .blocks)
-      by v positive below true e some-first = absurd (some-first (ap (λ (n : ℕ). getD (set firsts (code / 2) 65535) n 0) (eqb-true v (code / 2) e) ∙ getD-set-same firsts (code / 2) 65535 0 (let h = half-below in omega arith)))
-      by v positive below false e some-first =
-          let same = getD-set-other firsts (code / 2) v 65535 0 (eqb-false v (code / 2) e) in
-          some-later (FirstUnit kinds firsts names v) (FirstUnit kinds (set firsts (code / 2) 65535) names v)
-          (λ o b f. record { noted = f .noted ∙ sym same; apart = f .apart; own = f .own; some-unit = f .some-unit })
-          0 (u .blocks) (u .sound v (eqb-false v (code / 2) e) positive below (λ z. some-first (same ∙ z)))
+        by : (v : ℕ) → 0 < v → v < max-unknowns + 1 → (t : Bool) → eqb v (code / 2) ≡ t → (getD (set firsts (code / 2) 65535) v 0 ≡ 65535 → ⊥) →
+            SomeAt (FirstUnit kinds (set firsts (code / 2) 65535) names v) 0 (u .blocks)
+        by v positive below true e some-first = absurd
+            (some-first (ap (λ (n : ℕ). getD (set firsts (code / 2) 65535) n 0) (eqb-true v (code / 2) e) ∙ getD-set-same firsts (code / 2) 65535 0
+            (let h = half-below in omega arith)))
+        by v positive below false e some-first =
+            let same = getD-set-other firsts (code / 2) v 65535 0 (eqb-false v (code / 2) e) in
+            some-later (FirstUnit kinds firsts names v) (FirstUnit kinds (set firsts (code / 2) 65535) names v)
+            (λ o b f. record { noted = f .noted ∙ sym same; apart = f .apart; own = f .own; some-unit = f .some-unit })
+            0 (u .blocks) (u .sound v (eqb-false v (code / 2) e) positive below (λ z. some-first (same ∙ z)))
 
 -- ---- a clause is noted
 
@@ -173,7 +186,8 @@ module _ (kinds firsts : List ℕ) (start : ℕ) (table : List ℕ) where
               let a = ltb-true start (getD firsts (x / 2) 0) e in
               subst (λ (n : ℕ). getD (set firsts (x / 2) start) n 0 ≤ getD firsts n 0) (sym same)
               (subst (λ (n : ℕ). n ≤ getD firsts (x / 2) 0) (sym (getD-set-same firsts (x / 2) start 0 (ltb-true (x / 2) (length firsts) i))) (omega arith))
-          here true p false i = subst (λ (l : List ℕ). getD l w 0 ≤ getD firsts w 0) (sym (past firsts (x / 2) start (ltb-false (x / 2) (length firsts) i))) (omega arith)
+          here true p false i = subst (λ (l : List ℕ). getD l w 0 ≤ getD firsts w 0) (sym (past firsts (x / 2) start (ltb-false (x / 2) (length firsts) i)))
+              (omega arith)
           here false p i j = subst (λ (n : ℕ). n ≤ getD firsts w 0) (sym (getD-set-other firsts (x / 2) w start 0 (eqb-false w (x / 2) p))) (omega arith)
 
   noted-own : length firsts ≡ max-unknowns + 1 → x < last-code + 1 → (x ≡ 0 → ⊥) → getD (noted-unit x start firsts) (x / 2) 0 ≤ start
@@ -185,15 +199,22 @@ module _ (kinds firsts : List ℕ) (start : ℕ) (table : List ℕ) where
       go false e = ltb-false start (getD firsts (x / 2) 0) e
 
   -- What is noted of an unknown is as before, or it is this clause.
-  noted-which : (v : ℕ) → length firsts ≡ max-unknowns + 1 → x < last-code + 1 → (getD (noted-unit x start firsts) v 0 ≡ getD firsts v 0) ⊎ ((v ≡ x / 2) × (x ≡ 0 → ⊥) × (getD (noted-unit x start firsts) v 0 ≡ start))
+  noted-which : (v : ℕ) → length firsts ≡ max-unknowns + 1 → x < last-code + 1 → (getD (noted-unit x start firsts) v 0 ≡ getD firsts v 0) ⊎ ((v ≡ x / 2) ×
+      (x ≡ 0 → ⊥) × (getD (noted-unit x start firsts) v 0 ≡ start))
   unfolding noted-unit
   noted-which v sized small = go (eqb x 0) refl (ltb start (getD firsts (x / 2) 0)) (eqb v (x / 2)) refl
     where
       go : (t : Bool) → eqb x 0 ≡ t → (l e : Bool) → eqb v (x / 2) ≡ e
-          → (getD (cond t firsts (cond l (set firsts (x / 2) start) firsts)) v 0 ≡ getD firsts v 0) ⊎ ((v ≡ x / 2) × (x ≡ 0 → ⊥) × (getD (cond t firsts (cond l (set firsts (x / 2) start) firsts)) v 0 ≡ start))
+          → (getD (cond t firsts (cond l (set firsts (x / 2) start) firsts)) v 0 ≡ getD firsts v 0) ⊎
+          ((v ≡ x / 2) × (x ≡ 0 → ⊥) × (getD (cond t firsts (cond l (set firsts (x / 2) start) firsts)) v 0 ≡ start))
       go true p l e q = inl refl
       go false p false e q = inl refl
-      go false p true true q = let same = eqb-true v (x / 2) q in inr (same, eqb-false x 0 p, ap (λ (n : ℕ). getD (set firsts (x / 2) start) n 0) same ∙ getD-set-same firsts (x / 2) start 0 (omega arith))
+      go false p true true q = let same = eqb-true v (x / 2) q in inr (
+        same,
+        eqb-false x 0 p,
+        ap (λ (n : ℕ). getD (set firsts (x / 2) start) n 0) same ∙
+            getD-set-same firsts (x / 2) start 0 (omega arith),
+      )
       go false p true false q = inl (getD-set-other firsts (x / 2) v start 0 (eqb-false v (x / 2) q))
 
   pub noted-length : length (noted-unit x start firsts) ≡ length firsts
@@ -205,7 +226,8 @@ module _ (kinds firsts : List ℕ) (start : ℕ) (table : List ℕ) where
       go false true = length-set firsts (x / 2) start
       go false false = refl
 
-  pub units-noted : (rest : List ℕ) → length firsts ≡ max-unknowns + 1 → x < last-code + 1 → start < length table → begins table start ≡ true → Units kinds firsts (start ∷ rest) [] 0 table → Units kinds (noted-unit x start firsts) rest [] 0 table
+  pub units-noted : (rest : List ℕ) → length firsts ≡ max-unknowns + 1 → x < last-code + 1 → start < length table → begins table start ≡ true →
+      Units kinds firsts (start ∷ rest) [] 0 table → Units kinds (noted-unit x start firsts) rest [] 0 table
   units-noted rest sized small inside first u =
       record {
         blocks = u .blocks;
@@ -218,13 +240,15 @@ module _ (kinds firsts : List ℕ) (start : ℕ) (table : List ℕ) where
       t : Split start (u .blocks)
       t = splits (u .blocks) (u .fine) start (let z = ap length (u .is) in omega arith) (ap (λ (l : List ℕ). begins l start) (sym (u .is)) ∙ first)
 
-      clause-at : (xs ys : List Block) (b : Block) → Fine b → table ≡ laid xs ++ (whole b ++ laid ys) → start ≡ length (laid xs) → first-clause (drop start table) ≡ inner b
+      clause-at : (xs ys : List Block) (b : Block) → Fine b → table ≡ laid xs ++ (whole b ++ laid ys) → start ≡ length (laid xs) →
+          first-clause (drop start table) ≡ inner b
       clause-at xs ys b f is here =
           ap (λ (l : List ℕ). first-clause (drop start l)) is
           ∙ ap first-clause (drop-at (laid xs) (whole b ++ laid ys) start (sym here))
           ∙ block-clause (laid ys) b f
 
-      walk : (xs bs : List Block) → table ≡ laid xs ++ laid bs → Every Fine bs → (o : ℕ) → o ≡ length (laid xs) → AllBut (UnitKnown kinds firsts) (start ∷ rest) o bs → AllBut (UnitKnown kinds (noted-unit x start firsts)) rest o bs
+      walk : (xs bs : List Block) → table ≡ laid xs ++ laid bs → Every Fine bs → (o : ℕ) → o ≡ length (laid xs) →
+          AllBut (UnitKnown kinds firsts) (start ∷ rest) o bs → AllBut (UnitKnown kinds (noted-unit x start firsts)) rest o bs
       walk xs [] is f o here all = tt
       walk xs (b ∷ bs) is f o here all = (
         one-block (all .0),
@@ -245,17 +269,20 @@ module _ (kinds firsts : List ℕ) (start : ℕ) (table : List ℕ) where
           one-block (inr known) = inr (λ some-unit. let a = known some-unit in let c = noted-lower (unit kinds (inner b) / 2) in omega arith)
           one-block (inl (inl e)) =
               let same : x ≡ unit kinds (inner b) = ap (unit kinds) (clause-at xs bs b (f .0) is (sym e ∙ here)) in
-              inr (λ some-unit. subst (λ (n : ℕ). getD (noted-unit x start firsts) (n / 2) 0 ≤ o) same (subst (λ (n : ℕ). getD (noted-unit x start firsts) (x / 2) 0 ≤ n) (sym e) (noted-own sized small (λ z. some-unit (sym same ∙ z)))))
+              inr (λ some-unit. subst (λ (n : ℕ). getD (noted-unit x start firsts) (n / 2) 0 ≤ o) same
+              (subst (λ (n : ℕ). getD (noted-unit x start firsts) (x / 2) 0 ≤ n) (sym e) (noted-own sized small (λ z. some-unit (sym same ∙ z)))))
 
       by : (v : ℕ) → (v ≡ 0 → ⊥) → 0 < v → v < max-unknowns + 1 → (getD (noted-unit x start firsts) v 0 ≡ 65535 → ⊥)
-          → (getD (noted-unit x start firsts) v 0 ≡ getD firsts v 0) ⊎ ((v ≡ x / 2) × (x ≡ 0 → ⊥) × (getD (noted-unit x start firsts) v 0 ≡ start)) → SomeAt (FirstUnit kinds (noted-unit x start firsts) [] v) 0 (u .blocks)
+          → (getD (noted-unit x start firsts) v 0 ≡ getD firsts v 0) ⊎ ((v ≡ x / 2) × (x ≡ 0 → ⊥) × (getD (noted-unit x start firsts) v 0 ≡ start)) → SomeAt
+          (FirstUnit kinds (noted-unit x start firsts) [] v) 0 (u .blocks)
       by v other positive below some-first (inl same) =
           some-later (FirstUnit kinds firsts [] v) (FirstUnit kinds (noted-unit x start firsts) [] v)
           (λ o b f. record { noted = f .noted ∙ sym same; apart = f .apart; own = f .own; some-unit = f .some-unit })
           0 (u .blocks) (u .sound v other positive below (λ z. some-first (same ∙ z)))
       by v other positive below some-first (inr here) =
           let parts = every-front Fine (t .before) (t .block ∷ t .behind) (subst (Every Fine) (t .is) (u .fine)) in
-          let same : x ≡ unit kinds (inner (t .block)) = ap (unit kinds) (clause-at (t .before) (t .behind) (t .block) (parts .1 .0) (u .is ∙ ap laid (t .is) ∙ laid-around (t .before) (t .block) (t .behind)) (t .here)) in
+          let same : x ≡ unit kinds (inner (t .block)) = ap (unit kinds) (clause-at (t .before) (t .behind) (t .block) (parts .1 .0)
+          (u .is ∙ ap laid (t .is) ∙ laid-around (t .before) (t .block) (t .behind)) (t .here)) in
           subst (SomeAt (FirstUnit kinds (noted-unit x start firsts) [] v) 0) (sym (t .is))
           (some-at (FirstUnit kinds (noted-unit x start firsts) [] v) 0 (t .before) (t .block) (t .behind)
           (record {
@@ -280,14 +307,19 @@ lower-at-least m (something z p) (something y q) = go (leb (Trimming.position z)
     go true = something z p
     go false = something y q
 
-all-but-append : (P : ℕ → Block → Type 0) (names : List ℕ) (o : ℕ) (xs ys : List Block) → AllBut P names o (xs ++ ys) → AllBut P names o xs × AllBut P names (o + length (laid xs)) ys
+all-but-append : (P : ℕ → Block → Type 0) (names : List ℕ) (o : ℕ) (xs ys : List Block) → AllBut P names o (xs ++ ys) → AllBut P names o xs ×
+    AllBut P names (o + length (laid xs)) ys
 all-but-append P names o [] ys all = (tt, subst (λ (n : ℕ). AllBut P names n ys) (let e : o ≡ o + 0 = omega arith in e) all)
 all-but-append P names o (x ∷ xs) ys all =
-    let r = all-but-append P names (o + length (whole x)) xs ys (all .1) in
-    ((all .0, r .0), subst (λ (n : ℕ). AllBut P names n ys) (let l = length-append (whole x) (laid xs) in let e : (o + length (whole x)) + length (laid xs) ≡ o + length (whole x ++ laid xs) = omega arith in e) (r .1))
+    let r = all-but-append P names (o + length (whole x)) xs ys (all .1) in (
+      (all .0, r .0),
+      subst (λ (n : ℕ). AllBut P names n ys) (let l = length-append (whole x) (laid xs) in let e : (o + length (whole x)) + length
+          (laid xs) ≡ o + length (whole x ++ laid xs) = omega arith in e) (r .1),
+    )
 
 module _ (kinds firsts : List ℕ) where
-  block-at-least : (m : ℕ) (b : Block) → Fine b → ((unit kinds (inner b) ≡ 0 → ⊥) → m ≤ unit kinds (inner b) / 2) → AtLeast m (lowest-unit (prefix kinds) (shown b))
+  block-at-least : (m : ℕ) (b : Block) → Fine b → ((unit kinds (inner b) ≡ 0 → ⊥) → m ≤ unit kinds (inner b) / 2) →
+      AtLeast m (lowest-unit (prefix kinds) (shown b))
   block-at-least m b f h = go (unit kinds (inner b)) refl
     where
       go : (u : ℕ) → unit kinds (inner b) ≡ u → AtLeast m (lowest-unit (prefix kinds) (shown b))
@@ -299,7 +331,8 @@ module _ (kinds firsts : List ℕ) where
           let n = h some-unit in
           subst (AtLeast m) (sym (ap literal-or-none e) ∙ unit-block kinds b f .is) (something (literal-of (suc u)) (omega (arith, e)))
 
-  blocks-at-least : (m limit : ℕ) → ((w : ℕ) → 0 < w → w < m → limit ≤ getD firsts w 0) → (o : ℕ) (bs : List Block) → Every Fine bs → o + length (laid bs) ≤ limit → AllBut (UnitKnown kinds firsts) [] o bs → AtLeast m (lowest-unit (prefix kinds) (all-shown bs))
+  blocks-at-least : (m limit : ℕ) → ((w : ℕ) → 0 < w → w < m → limit ≤ getD firsts w 0) → (o : ℕ) (bs : List Block) → Every Fine bs →
+      o + length (laid bs) ≤ limit → AllBut (UnitKnown kinds firsts) [] o bs → AtLeast m (lowest-unit (prefix kinds) (all-shown bs))
   blocks-at-least m limit high o [] f within all = nothing
   blocks-at-least m limit high o (b ∷ bs) f within all =
       subst (AtLeast m) (sym (lowest-append kinds (shown b) (all-shown bs)))
@@ -336,9 +369,14 @@ module _ (kinds firsts : List ℕ) where
     all-clauses : clauses-left table ≡ all-shown (u .blocks)
     all-clauses = ap clauses-left (u .is) ∙ laid-clauses (u .blocks) (u .fine)
 
-    pub unit-found : (v : ℕ) → 0 < v → v < max-unknowns + 1 → ((w : ℕ) → 0 < w → w < v → getD firsts w 0 ≡ 65535) → (getD firsts v 0 ≡ 65535 → ⊥) → (c : ℕ) → c ≡ unit kinds (first-clause (drop (getD firsts v 0) table)) → Picked (lowest-unit (prefix kinds) (clauses-left table)) c
+    pub unit-found : (v : ℕ) → 0 < v → v < max-unknowns + 1 → ((w : ℕ) → 0 < w → w < v → getD firsts w 0 ≡ 65535) → (getD firsts v 0 ≡ 65535 → ⊥) → (c : ℕ) →
+        c ≡ unit kinds (first-clause (drop (getD firsts v 0) table)) → Picked (lowest-unit (prefix kinds) (clauses-left table)) c
     unit-found v from below lower-none-noted some-first c e =
-        record { chosen = record { small = small-c; code = λ z. omega (arith, two-c) }; is = some-literal c two-c ∙ sym (ap (lowest-unit (prefix kinds)) (all-clauses ∙ ap all-shown (p .is)) ∙ lowest) }
+        record {
+          chosen = record { small = small-c; code = λ z. omega (arith, two-c) };
+          is = some-literal c two-c ∙ sym
+              (ap (lowest-unit (prefix kinds)) (all-clauses ∙ ap all-shown (p .is)) ∙ lowest);
+        }
       where
         p : SomeSplit (FirstUnit kinds firsts [] v) 0 (u .blocks)
         p = some-split (FirstUnit kinds firsts [] v) 0 (u .blocks) (u .sound v (λ z. omega arith) from below some-first)
@@ -374,7 +412,8 @@ module _ (kinds firsts : List ℕ) where
         total = ap length placed ∙ length-append (laid (p .before)) (whole (p .block) ++ laid (p .behind))
 
         both : AllBut (UnitKnown kinds firsts) [] 0 (p .before) × AllBut (UnitKnown kinds firsts) [] (0 + length (laid (p .before))) (p .block ∷ p .behind)
-        both = all-but-append (UnitKnown kinds firsts) [] 0 (p .before) (p .block ∷ p .behind) (subst (AllBut (UnitKnown kinds firsts) [] 0) (p .is) (u .complete))
+        both = all-but-append (UnitKnown kinds firsts) [] 0 (p .before) (p .block ∷ p .behind)
+            (subst (AllBut (UnitKnown kinds firsts) [] 0) (p .is) (u .complete))
 
         high-before : (w : ℕ) → 0 < w → w < v + 1 → length (laid (p .before)) ≤ getD firsts w 0
         high-before w positive up-to = go (eqb w v) refl
@@ -394,7 +433,8 @@ module _ (kinds firsts : List ℕ) where
 
         behind-higher : AtLeast v (lowest-unit (prefix kinds) (all-shown (p .behind)))
         behind-higher =
-            blocks-at-least v max-entries (λ w positive under. let f = lower-none-noted w positive under in omega arith) ((0 + length (laid (p .before))) + length (whole (p .block))) (p .behind) (parts .1 .1)
+            blocks-at-least v max-entries (λ w positive under. let f = lower-none-noted w positive under in omega arith)
+            ((0 + length (laid (p .before))) + length (whole (p .block))) (p .behind) (parts .1 .1)
             (let t = total in let l = length-append (whole (p .block)) (laid (p .behind)) in omega arith) (both .1 .1)
 
         block-unit : lowest-unit (prefix kinds) (shown (p .block)) ≡ some (literal-of c)
@@ -404,14 +444,17 @@ module _ (kinds firsts : List ℕ) where
         lowest =
             ap (lowest-unit (prefix kinds)) (shown-append (p .before) (p .block ∷ p .behind))
             ∙ lowest-append kinds (all-shown (p .before)) (shown (p .block) ++ all-shown (p .behind))
-            ∙ ap (lower (lowest-unit (prefix kinds) (all-shown (p .before)))) (lowest-append kinds (shown (p .block)) (all-shown (p .behind)) ∙ ap (λ (o : Option ℤ). lower o (lowest-unit (prefix kinds) (all-shown (p .behind)))) block-unit)
+            ∙ ap (lower (lowest-unit (prefix kinds) (all-shown (p .before)))) (lowest-append kinds (shown (p .block)) (all-shown (p .behind)) ∙ ap
+            (λ (o : Option ℤ). lower o (lowest-unit (prefix kinds) (all-shown (p .behind)))) block-unit)
             ∙ lower-first v (literal-of c) own before-higher behind-higher
 
-    no-units : (o : ℕ) (bs : List Block) → ((w : ℕ) → 0 < w → w < max-unknowns + 1 → getD firsts w 0 ≡ 65535) → Every Fine bs → o + length (laid bs) ≤ max-entries → AllBut (UnitKnown kinds firsts) [] o bs → lowest-unit (prefix kinds) (all-shown bs) ≡ none
+    no-units : (o : ℕ) (bs : List Block) → ((w : ℕ) → 0 < w → w < max-unknowns + 1 → getD firsts w 0 ≡ 65535) → Every Fine bs →
+        o + length (laid bs) ≤ max-entries → AllBut (UnitKnown kinds firsts) [] o bs → lowest-unit (prefix kinds) (all-shown bs) ≡ none
     no-units o [] all-none f within all = refl
     no-units o (b ∷ bs) all-none f within all =
         lowest-append kinds (shown b) (all-shown bs)
-        ∙ ap₂ lower (own (unit kinds (inner b)) refl (all .0)) (no-units (o + length (whole b)) bs all-none (f .1) (let l = length-append (whole b) (laid bs) in omega arith) (all .1))
+        ∙ ap₂ lower (own (unit kinds (inner b)) refl (all .0))
+        (no-units (o + length (whole b)) bs all-none (f .1) (let l = length-append (whole b) (laid bs) in omega arith) (all .1))
       where
         own : (n : ℕ) → unit kinds (inner b) ≡ n → In o [] ⊎ UnitKnown kinds firsts o b → lowest-unit (prefix kinds) (shown b) ≡ none
         own zero e k = sym (unit-block kinds b (f .0) .is) ∙ ap literal-or-none e
@@ -427,29 +470,45 @@ module _ (kinds firsts : List ℕ) where
 
     pub unit-nowhere : ((w : ℕ) → 0 < w → w < max-unknowns + 1 → getD firsts w 0 ≡ 65535) → Picked (lowest-unit (prefix kinds) (clauses-left table)) 0
     unit-nowhere all-none =
-        record { chosen = nothing-chosen; is = sym (ap (lowest-unit (prefix kinds)) all-clauses ∙ no-units 0 (u .blocks) all-none (u .fine) (let e = ap length (u .is) in omega arith) (u .complete)) }
+        record {
+          chosen = nothing-chosen;
+          is = sym (ap (lowest-unit (prefix kinds)) all-clauses ∙ no-units 0 (u .blocks) all-none (u .fine)
+              (let e = ap length (u .is) in omega arith) (u .complete));
+        }
 
 -- ---- at first nothing is noted
 
-pub units-begin : (kinds firsts : List ℕ) → ((v : ℕ) → v < max-unknowns + 1 → getD firsts v 0 ≡ 65535) → {table : List ℕ} → Laid table → (names : List ℕ) → names ≡ listed 1 table → Units kinds firsts names names 0 table
+pub units-begin : (kinds firsts : List ℕ) → ((v : ℕ) → v < max-unknowns + 1 → getD firsts v 0 ≡ 65535) → {table : List ℕ} → Laid table → (names : List ℕ) →
+    names ≡ listed 1 table → Units kinds firsts names names 0 table
 units-begin kinds firsts all-none {table} l names e =
     record {
       blocks = l .blocks;
       is = l .is;
       fine = l .fine;
-      complete = subst (λ (n : List ℕ). AllBut (UnitKnown kinds firsts) n 0 (l .blocks)) (sym (e ∙ lists l 1)) (every-block (names-from 1 0 (l .blocks)) 0 (l .blocks) (l .fine) (λ x i. i));
+      complete = subst (λ (n : List ℕ). AllBut (UnitKnown kinds firsts) n 0 (l .blocks)) (sym (e ∙ lists l 1))
+          (every-block (names-from 1 0 (l .blocks)) 0 (l .blocks) (l .fine) (λ x i. i));
       sound = λ v other positive below some-first. absurd (some-first (all-none v below));
     }
   where
-    every-block : (names : List ℕ) (o : ℕ) (bs : List Block) → Every Fine bs → ((x : ℕ) → In x (names-from 1 o bs) → In x names) → AllBut (UnitKnown kinds firsts) names o bs
+    every-block : (names : List ℕ) (o : ℕ) (bs : List Block) → Every Fine bs → ((x : ℕ) → In x (names-from 1 o bs) → In x names) →
+        AllBut (UnitKnown kinds firsts) names o bs
     every-block names o [] f known = tt
     every-block names o (standing es ∷ bs) f known = (
-      inl (known o (subst (λ (t : Bool). In o (cond t (o ∷ names-from 1 (o + length (whole (standing es))) bs) (names-from 1 (o + length (whole (standing es))) bs))) (sym (standing-listed es)) (inl refl))),
-      every-block names (o + length (whole (standing es))) bs (f .1) (λ x i. known x (subst (λ (t : Bool). In x (cond t (o ∷ names-from 1 (o + length (whole (standing es))) bs) (names-from 1 (o + length (whole (standing es))) bs))) (sym (standing-listed es)) (inr i))),
+      inl (known o (subst (λ (t : Bool). In o (cond t (o ∷ names-from 1 (o + length (whole (standing es))) bs)
+          (names-from 1 (o + length (whole (standing es))) bs))) (sym (standing-listed es)) (inl refl))),
+      every-block names (o + length (whole (standing es))) bs (f .1)
+          (λ x i. known x (subst
+          (λ (t : Bool). In x (cond t (o ∷ names-from 1 (o + length (whole (standing es))) bs) (names-from 1 (o + length (whole (standing es))) bs)))
+          (sym (standing-listed es)) (inr i))),
     )
-    every-block names o (gone es ∷ bs) f known = (inr (λ some-unit. absurd (some-unit (gone-unit kinds es (f .0)))), every-block names (o + length (whole (gone es))) bs (f .1) (λ x i. known x (later (block-has 1 (gone es)) x i)))
+    every-block names o (gone es ∷ bs) f known = (
+      inr (λ some-unit. absurd (some-unit (gone-unit kinds es (f .0)))),
+      every-block names
+          (o + length (whole (gone es))) bs (f .1) (λ x i. known x (later (block-has 1 (gone es)) x i)),
+    )
       where
-        later : (t : Bool) (x : ℕ) → In x (names-from 1 (o + length (whole (gone es))) bs) → In x (cond t (o ∷ names-from 1 (o + length (whole (gone es))) bs) (names-from 1 (o + length (whole (gone es))) bs))
+        later : (t : Bool) (x : ℕ) → In x (names-from 1 (o + length (whole (gone es))) bs) →
+            In x (cond t (o ∷ names-from 1 (o + length (whole (gone es))) bs) (names-from 1 (o + length (whole (gone es))) bs))
         later true x i = inr i
         later false x i = i
 
@@ -462,13 +521,17 @@ units-joined kinds firsts names u =
       fine = u .fine;
       complete = u .complete;
       sound = λ v other positive below some-first.
-          some-later (FirstUnit kinds firsts names v) (FirstUnit kinds firsts [] v) (λ o b f. record { noted = f .noted; apart = λ i. i; own = f .own; some-unit = f .some-unit }) 0 (u .blocks) (u .sound v other positive below some-first);
+          some-later (FirstUnit kinds firsts names v) (FirstUnit kinds firsts [] v)
+          (λ o b f. record { noted = f .noted; apart = λ i. i; own = f .own; some-unit = f .some-unit }) 0 (u .blocks)
+          (u .sound v other positive below some-first);
     }
 
 -- The only entry of a clause that is left is a code.
-pub code-small : (kinds : List ℕ) {table : List ℕ} → Laid table → {start : ℕ} → Names table 1 start → unit kinds (first-clause (drop start table)) < last-code + 1
+pub code-small : (kinds : List ℕ) {table : List ℕ} → Laid table → {start : ℕ} → Names table 1 start →
+    unit kinds (first-clause (drop start table)) < last-code + 1
 code-small kinds {table} l {start} n =
-    let t = splits (l .blocks) (l .fine) start (let z = ap length (l .is) in let i = n .inside in omega arith) (ap (λ (k : List ℕ). begins k start) (sym (l .is)) ∙ n .first) in
+    let t = splits (l .blocks) (l .fine) start (let z = ap length (l .is) in let i = n .inside in omega arith)
+    (ap (λ (k : List ℕ). begins k start) (sym (l .is)) ∙ n .first) in
     let parts = every-front Fine (t .before) (t .block ∷ t .behind) (subst (Every Fine) (t .is) (l .fine)) in
     let e : first-clause (drop start table) ≡ inner (t .block) =
     ap (λ (k : List ℕ). first-clause (drop start k)) (l .is ∙ ap laid (t .is) ∙ laid-around (t .before) (t .block) (t .behind))
@@ -476,7 +539,8 @@ code-small kinds {table} l {start} n =
     ∙ block-clause (laid (t .behind)) (t .block) (parts .1 .0) in
     subst (λ (k : List ℕ). unit kinds k < last-code + 1) (sym e) (unit-block kinds (t .block) (parts .1 .0) .chosen .small)
 
-pub none-before : (firsts : List ℕ) (name : ℕ) → ((w : ℕ) → 0 < w → w < name → getD firsts w 0 ≡ 65535) → getD firsts name 0 ≡ 65535 → (w : ℕ) → 0 < w → w < name + 1 → getD firsts w 0 ≡ 65535
+pub none-before : (firsts : List ℕ) (name : ℕ) → ((w : ℕ) → 0 < w → w < name → getD firsts w 0 ≡ 65535) → getD firsts name 0 ≡ 65535 → (w : ℕ) → 0 < w →
+    w < name + 1 → getD firsts w 0 ≡ 65535
 none-before firsts name so-far here w positive below = go (eqb w name) refl
   where
     go : (t : Bool) → eqb w name ≡ t → getD firsts w 0 ≡ 65535
@@ -491,7 +555,14 @@ none-noted firsts e v below = ap (λ (l : List ℕ). getD l v 0) e ∙ getD-repl
 
 -- All that is noted is exact, also but for one unknown.
 pub units-all : (kinds : List ℕ) (code : ℕ) {firsts table : List ℕ} → Units kinds firsts [] [] 0 table → Units kinds firsts [] [] (code / 2) table
-units-all kinds code u = record { blocks = u .blocks; is = u .is; fine = u .fine; complete = u .complete; sound = λ v other positive below some-first. u .sound v (λ z. omega arith) positive below some-first }
+units-all kinds code u = record {
+  blocks = u .blocks;
+  is = u .is;
+  fine = u .fine;
+  complete = u .complete;
+  sound = λ v other positive below some-first. u .sound
+      v (λ z. omega arith) positive below some-first;
+}
 
 module _ (code start : ℕ) (firsts : List ℕ) where
   pub noted-none : code ≡ 0 → firsts ≡ noted-unit code start firsts
@@ -500,8 +571,10 @@ module _ (code start : ℕ) (firsts : List ℕ) where
 
   pub noted-first : (code ≡ 0 → ⊥) → start < getD firsts (code / 2) 0 → set firsts (code / 2) start ≡ noted-unit code start firsts
   unfolding noted-unit
-  noted-first e h = sym (ap₂ (λ (a b : Bool). cond a firsts (cond b (set firsts (code / 2) start) firsts)) (ne-eqb code 0 e) (lt-ltb start (getD firsts (code / 2) 0) h))
+  noted-first e h = sym (ap₂ (λ (a b : Bool). cond a firsts (cond b (set firsts (code / 2) start) firsts)) (ne-eqb code 0 e)
+      (lt-ltb start (getD firsts (code / 2) 0) h))
 
   pub noted-later : (code ≡ 0 → ⊥) → getD firsts (code / 2) 0 ≤ start → firsts ≡ noted-unit code start firsts
   unfolding noted-unit
-  noted-later e h = sym (ap₂ (λ (a b : Bool). cond a firsts (cond b (set firsts (code / 2) start) firsts)) (ne-eqb code 0 e) (le-ltb start (getD firsts (code / 2) 0) h))
+  noted-later e h = sym (ap₂ (λ (a b : Bool). cond a firsts (cond b (set firsts (code / 2) start) firsts)) (ne-eqb code 0 e)
+      (le-ltb start (getD firsts (code / 2) 0) h))

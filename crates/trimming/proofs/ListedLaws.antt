@@ -26,7 +26,8 @@ names-from c o (b ∷ bs) = let rest = names-from c (o + length (whole b)) bs in
 -- ---- the list of a code
 
 module _ (close : ℕ) (closes : ends close ≡ true) (r : List ℕ) where
-  passed-over : (c o : ℕ) (es : List ℕ) → Every Entry es → listed-from c false o ((es ++ (close ∷ [])) ++ r) ≡ listed-from c true (o + length (es ++ (close ∷ []))) r
+  passed-over : (c o : ℕ) (es : List ℕ) → Every Entry es →
+      listed-from c false o ((es ++ (close ∷ [])) ++ r) ≡ listed-from c true (o + length (es ++ (close ∷ []))) r
   passed-over c o [] all = rw closes
   passed-over c o (x ∷ es) all =
       rw (entry-goes-on x (all .0))
@@ -38,7 +39,8 @@ module _ (close : ℕ) (closes : ends close ≡ true) (r : List ℕ) where
   whole-front (x ∷ es) all = rw (entry-goes-on x (all .0)) (ap (λ (l : List ℕ). x ∷ l) (whole-front es (all .1)))
 
   front-listed : (c o : ℕ) (es : List ℕ) → Every Entry es
-      → listed-from c true o ((es ++ (close ∷ [])) ++ r) ≡ cond (has-left c (es ++ (close ∷ []))) (o ∷ listed-from c true (o + length (es ++ (close ∷ []))) r) (listed-from c true (o + length (es ++ (close ∷ []))) r)
+      → listed-from c true o ((es ++ (close ∷ [])) ++ r) ≡ cond (has-left c (es ++ (close ∷ []))) (o ∷ listed-from c true (o + length (es ++ (close ∷ []))) r)
+      (listed-from c true (o + length (es ++ (close ∷ []))) r)
   front-listed c o [] all = rw closes
   front-listed c o (x ∷ es) all =
       ap₂ (λ (w rest : List ℕ). cond (has-left c w) (o ∷ rest) rest) (whole-front (x ∷ es) all)
@@ -69,9 +71,12 @@ whole-some (gone c) = let e = length-append c (512 ∷ []) in omega arith
 module _ (c : ℕ) where
   pub names-append : (o : ℕ) (bs ds : List Block) → names-from c o (bs ++ ds) ≡ names-from c o bs ++ names-from c (o + length (laid bs)) ds
   names-append o [] ds = ap (λ (n : ℕ). names-from c n ds) (let e : o ≡ o + 0 = omega arith in e)
-  names-append o (b ∷ bs) ds = go (block-has c b) (names-append (o + length (whole b)) bs ds ∙ ap (λ (n : ℕ). names-from c (o + length (whole b)) bs ++ names-from c n ds) (let l = length-append (whole b) (laid bs) in let e : (o + length (whole b)) + length (laid bs) ≡ o + length (whole b ++ laid bs) = omega arith in e))
+  names-append o (b ∷ bs) ds = go (block-has c b)
+      (names-append (o + length (whole b)) bs ds ∙ ap (λ (n : ℕ). names-from c (o + length (whole b)) bs ++ names-from c n ds)
+      (let l = length-append (whole b) (laid bs) in let e : (o + length (whole b)) + length (laid bs) ≡ o + length (whole b ++ laid bs) = omega arith in e))
     where
-      go : (t : Bool) → names-from c (o + length (whole b)) (bs ++ ds) ≡ names-from c (o + length (whole b)) bs ++ names-from c (o + length (whole b ++ laid bs)) ds
+      go : (t : Bool) → names-from c (o + length (whole b)) (bs ++ ds) ≡ names-from c (o + length (whole b)) bs ++ names-from c
+          (o + length (whole b ++ laid bs)) ds
           → cond t (o ∷ names-from c (o + length (whole b)) (bs ++ ds)) (names-from c (o + length (whole b)) (bs ++ ds))
           ≡ cond t (o ∷ names-from c (o + length (whole b)) bs) (names-from c (o + length (whole b)) bs) ++ names-from c (o + length (whole b ++ laid bs)) ds
       go true later = ap (λ (l : List ℕ). o ∷ l) later
@@ -81,7 +86,8 @@ module _ (c : ℕ) where
   names-above o m [] h = tt
   names-above o m (b ∷ bs) h = go (block-has c b) (names-above (o + length (whole b)) m bs (omega arith))
     where
-      go : (t : Bool) → Every (λ x. m ≤ x) (names-from c (o + length (whole b)) bs) → Every (λ x. m ≤ x) (cond t (o ∷ names-from c (o + length (whole b)) bs) (names-from c (o + length (whole b)) bs))
+      go : (t : Bool) → Every (λ x. m ≤ x) (names-from c (o + length (whole b)) bs) →
+          Every (λ x. m ≤ x) (cond t (o ∷ names-from c (o + length (whole b)) bs) (names-from c (o + length (whole b)) bs))
       go true later = (h, later)
       go false later = later
 
@@ -89,7 +95,8 @@ module _ (c : ℕ) where
   names-below o m [] h = tt
   names-below o m (b ∷ bs) h = go (block-has c b) (names-below (o + length (whole b)) m bs (let l = length-append (whole b) (laid bs) in omega arith))
     where
-      go : (t : Bool) → Every (λ x. x < m) (names-from c (o + length (whole b)) bs) → Every (λ x. x < m) (cond t (o ∷ names-from c (o + length (whole b)) bs) (names-from c (o + length (whole b)) bs))
+      go : (t : Bool) → Every (λ x. x < m) (names-from c (o + length (whole b)) bs) →
+          Every (λ x. x < m) (cond t (o ∷ names-from c (o + length (whole b)) bs) (names-from c (o + length (whole b)) bs))
       go true later = (let w = whole-some b in let l = length-append (whole b) (laid bs) in omega arith, later)
       go false later = later
 
@@ -106,11 +113,13 @@ module _ (c : ℕ) (xs ys : List Block) (b d : Block) (sized : length (whole d) 
   abbrev after : List ℕ
   after = names-from c (length (laid xs) + length (whole b)) ys
 
-  split : (e : Block) → length (whole e) ≡ length (whole b) → names-from c 0 (xs ++ (e ∷ ys)) ≡ names-from c 0 xs ++ cond (block-has c e) (length (laid xs) ∷ after) after
+  split : (e : Block) → length (whole e) ≡ length (whole b) →
+      names-from c 0 (xs ++ (e ∷ ys)) ≡ names-from c 0 xs ++ cond (block-has c e) (length (laid xs) ∷ after) after
   split e same =
       names-append c 0 xs (e ∷ ys)
       ∙ ap (λ (n : ℕ). names-from c 0 xs ++ names-from c n (e ∷ ys)) (let z : 0 + length (laid xs) ≡ length (laid xs) = omega arith in z)
-      ∙ ap (λ (n : ℕ). names-from c 0 xs ++ cond (block-has c e) (length (laid xs) ∷ names-from c (length (laid xs) + n) ys) (names-from c (length (laid xs) + n) ys)) same
+      ∙ ap (λ (n : ℕ). names-from c 0 xs ++ cond (block-has c e) (length (laid xs) ∷ names-from c (length (laid xs) + n) ys)
+      (names-from c (length (laid xs) + n) ys)) same
 
   pub names-same : block-has c d ≡ block-has c b → names-from c 0 (xs ++ (d ∷ ys)) ≡ names-from c 0 (xs ++ (b ∷ ys))
   names-same e =
@@ -122,11 +131,14 @@ module _ (c : ℕ) (xs ys : List Block) (b d : Block) (sized : length (whole d) 
   names-fewer e =
       split d sized
       ∙ ap (λ (t : Bool). names-from c 0 xs ++ cond t (length (laid xs) ∷ after) after) e
-      ∙ sym (ap (without (length (laid xs))) (split b refl) ∙ without-past (length (laid xs)) (names-from c 0 xs) (cond (block-has c b) (length (laid xs) ∷ after) after) (names-below c 0 (length (laid xs)) xs (omega arith)) ∙ ap (λ (l : List ℕ). names-from c 0 xs ++ l) (go (block-has c b)))
+      ∙ sym (ap (without (length (laid xs))) (split b refl) ∙ without-past (length (laid xs)) (names-from c 0 xs)
+      (cond (block-has c b) (length (laid xs) ∷ after) after) (names-below c 0 (length (laid xs)) xs (omega arith)) ∙ ap
+      (λ (l : List ℕ). names-from c 0 xs ++ l) (go (block-has c b)))
     where
       go : (t : Bool) → without (length (laid xs)) (cond t (length (laid xs) ∷ after) after) ≡ after
       go true = rw (eq-eqb (length (laid xs)) (length (laid xs)) refl)
-      go false = without-none (length (laid xs)) after (names-above c (length (laid xs) + length (whole b)) (length (laid xs) + 1) ys (let w = whole-some b in omega arith))
+      go false = without-none (length (laid xs)) after (names-above c (length (laid xs) + length (whole b)) (length (laid xs) + 1) ys
+          (let w = whole-some b in omega arith))
 
 -- ---- where clauses begin
 
@@ -149,7 +161,8 @@ block-within r (standing es) f k h = within 0 r es f k (let l = length-append es
 block-within r (gone es) f k h = within 512 r es (entries-of (gone es) f) k (let l = length-append es (512 ∷ []) in omega arith)
 
 begins-behind : (w r : List ℕ) (close : ℕ) → ends close ≡ true → (k : ℕ) → begins ((w ++ (close ∷ [])) ++ r) (length (w ++ (close ∷ [])) + k) ≡ begins r k
-begins-behind w r close closes zero = at (length w) (let l = length-append w (close ∷ []) in let e : length (w ++ (close ∷ [])) + 0 ≡ suc (length w) = omega arith in e)
+begins-behind w r close closes zero = at (length w) (let l = length-append w (close ∷ []) in let e : length (w ++ (close ∷ [])) + 0 ≡ suc (length w) = omega
+    arith in e)
   where
     last : (w : List ℕ) → getD ((w ++ (close ∷ [])) ++ r) (length w) 1 ≡ close
     last [] = refl
@@ -180,7 +193,8 @@ splits (b ∷ bs) f (suc k) inside first = go (ltb (k + 1) (length (whole b))) r
         let far = ltb-false (k + 1) (length (whole b)) e in
         let l = length-append (whole b) (laid bs) in
         let m : suc k ≡ length (whole b) + (suc k - length (whole b)) = omega arith in
-        let s = later (suc k - length (whole b)) (omega arith) (sym (block-behind (laid bs) b (suc k - length (whole b))) ∙ ap (begins (whole b ++ laid bs)) (sym m) ∙ first) in
+        let s = later (suc k - length (whole b)) (omega arith) (sym (block-behind (laid bs) b (suc k - length (whole b))) ∙ ap (begins (whole b ++ laid bs))
+        (sym m) ∙ first) in
         record {
           before = b ∷ s .before;
           block = s .block;

@@ -26,16 +26,19 @@ module _ {A B : Type 0} where
   map-keep f p q [] same = refl
   map-keep f p q (x ∷ xs) same = rw (same .0) (go (q (f x)) (map-keep f p q xs (same .1)))
     where
-      go : (t : Bool) → map f (keep p xs) ≡ keep q (map f xs) → map f (cond t (x ∷ keep p xs) (keep p xs)) ≡ cond t (f x ∷ keep q (map f xs)) (keep q (map f xs))
+      go : (t : Bool) → map f (keep p xs) ≡ keep q (map f xs) →
+          map f (cond t (x ∷ keep p xs) (keep p xs)) ≡ cond t (f x ∷ keep q (map f xs)) (keep q (map f xs))
       go true later = ap (λ (l : List B). f x ∷ l) later
       go false later = later
 
   -- A test of what is left, mapped.
-  pub any-left : (f : A → B) (here : A → Bool) (q : B → Bool) (p : A → Bool) (xs : List A) → Every (λ x. (here x && q (f x)) ≡ p x) xs → any q (map f (keep here xs)) ≡ any p xs
+  pub any-left : (f : A → B) (here : A → Bool) (q : B → Bool) (p : A → Bool) (xs : List A) → Every (λ x. (here x && q (f x)) ≡ p x) xs →
+      any q (map f (keep here xs)) ≡ any p xs
   any-left f here q p [] same = refl
   any-left f here q p (x ∷ xs) same = go (here x) refl (same .0) (any-left f here q p xs (same .1))
     where
-      go : (t : Bool) → here x ≡ t → (here x && q (f x)) ≡ p x → any q (map f (keep here xs)) ≡ any p xs → any q (map f (cond t (x ∷ keep here xs) (keep here xs))) ≡ (p x || any p xs)
+      go : (t : Bool) → here x ≡ t → (here x && q (f x)) ≡ p x → any q (map f (keep here xs)) ≡ any p xs →
+          any q (map f (cond t (x ∷ keep here xs) (keep here xs))) ≡ (p x || any p xs)
       go true e s later = ap₂ _||_ (ap (λ (b : Bool). b && q (f x)) (sym e) ∙ s) later
       go false e s later = later ∙ ap (λ (b : Bool). b || any p xs) (ap (λ (b : Bool). b && q (f x)) (sym e) ∙ s)
 
@@ -113,7 +116,8 @@ keep-marked low high [] = refl
 keep-marked low high (x ∷ c) = rw (left-marked low high x) (go (is-left x) (among low high x) refl (keep-marked low high c))
   where
     go : (a b : Bool) → among low high x ≡ b → keep is-left (map (marked low high) c) ≡ keep (λ y. not (among low high y)) (keep is-left c)
-        → cond (a && not b) (marked low high x ∷ keep is-left (map (marked low high) c)) (keep is-left (map (marked low high) c)) ≡ keep (λ y. not (among low high y)) (cond a (x ∷ keep is-left c) (keep is-left c))
+        → cond (a && not b) (marked low high x ∷ keep is-left (map (marked low high) c)) (keep is-left (map (marked low high) c)) ≡ keep
+        (λ y. not (among low high y)) (cond a (x ∷ keep is-left c) (keep is-left c))
     go true true e later = rw e later
     go true false e later = rw e (ap₂ _∷_ (marked-stays low high x (λ p q r. absurd (both p q))) later)
       where

@@ -17,7 +17,8 @@ use Rattle.trimming_rules.proofs.ClauseLaws.{Every, In}
 use Rattle.trimming_marks.specs.Marks.{ends}
 use Rattle.index.specs.Occurrences.{whole-clause, has-left, listed, begins, Names}
 use Rattle.index.specs.Index.{code-count, begin-of, end-of}
-use Rattle.trimming.specs.Private.Table.{literal-of, clauses-left, Entry, Block, standing, gone, inner, whole, Fine, laid, shown, all-shown, Laid, Indexed, Here}
+use Rattle.trimming.specs.Private.Table.{literal-of, clauses-left, Entry, Block, standing, gone, inner, whole, Fine, laid, shown, all-shown, Laid}
+use Rattle.trimming.specs.Private.Table.{Indexed, Here}
 use Rattle.trimming.proofs.BlockLaws.{entries-of, laid-clauses}
 use Rattle.trimming.proofs.IndexLaws.{Read, reads}
 use Rattle.trimming.proofs.ListedLaws.{block-has, names-from, listed-laid, whole-front, whole-some, begins-at}
@@ -46,11 +47,13 @@ named c o s (b ∷ bs) i = go (block-has c b) refl i (named c (o + length (whole
           block = n .block;
           behind = n .behind;
           is = ap (λ (l : List Block). b ∷ l) (n .is);
-          here = n .here ∙ (let l = length-append (whole b) (laid (n .before)) in let e : (o + length (whole b)) + length (laid (n .before)) ≡ o + length (whole b ++ laid (n .before)) = omega arith in e);
+          here = n .here ∙ (let l = length-append (whole b) (laid (n .before)) in let e : (o + length (whole b)) + length (laid (n .before)) ≡ o + length
+              (whole b ++ laid (n .before)) = omega arith in e);
           has = n .has;
         }
 
-    go : (t : Bool) → block-has c b ≡ t → In s (cond t (o ∷ names-from c (o + length (whole b)) bs) (names-from c (o + length (whole b)) bs)) → (In s (names-from c (o + length (whole b)) bs) → NamedAt c (o + length (whole b)) s bs) → NamedAt c o s (b ∷ bs)
+    go : (t : Bool) → block-has c b ≡ t → In s (cond t (o ∷ names-from c (o + length (whole b)) bs) (names-from c (o + length (whole b)) bs)) →
+        (In s (names-from c (o + length (whole b)) bs) → NamedAt c (o + length (whole b)) s bs) → NamedAt c o s (b ∷ bs)
     go true e (inl p) later = record { before = []; block = b; behind = bs; is = refl; here = p ∙ (let z : o ≡ o + 0 = omega arith in z); has = e }
     go true e (inr j) later = deeper (later j)
     go false e j later = deeper (later j)
@@ -63,10 +66,12 @@ getD-in (x ∷ l) (suc k) h = inr (getD-in l k (omega arith))
 -- A clause that is gone has no code.
 pub gone-has-none : (c : ℕ) → c < 512 → (es : List ℕ) → Every (λ x. Entry x × (512 ≤ x)) es → has-left c es ≡ false
 gone-has-none c small [] all = refl
-gone-has-none c small (y ∷ es) all = rw (under-itself y (entry-two y (all .0 .0)), ne-eqb c y (λ e. let h = all .0 .1 in omega arith)) (gone-has-none c small es (all .1))
+gone-has-none c small (y ∷ es) all = rw (under-itself y (entry-two y (all .0 .0)), ne-eqb c y (λ e. let h = all .0 .1 in omega arith))
+    (gone-has-none c small es (all .1))
 
 pub gone-without : (c : ℕ) → c < 512 → (es : List ℕ) → Every (λ x. Entry x × (512 ≤ x)) es → block-has c (gone es) ≡ false
-gone-without c small es all = has-append c es (512 ∷ []) ∙ ap₂ (λ (a b : Bool). a || (b || false)) (gone-has-none c small es all) (ne-eqb c 512 (λ e. omega arith))
+gone-without c small es all = has-append c es (512 ∷ []) ∙ ap₂ (λ (a b : Bool). a || (b || false)) (gone-has-none c small es all)
+    (ne-eqb c 512 (λ e. omega arith))
 
 -- What a standing clause has, by its entries.
 pub has-entries : (c : ℕ) (es : List ℕ) → Every Entry es → has-left c es ≡ has c es
@@ -90,15 +95,18 @@ nonempty : List ℕ → Bool
 nonempty [] = false
 nonempty (x ∷ l) = true
 
-names-found : (c : ℕ) → 2 ≤ c → c < last-code + 1 → (o : ℕ) (bs : List Block) → Every Fine bs → nonempty (names-from c o bs) ≡ found (literal-of c) (all-shown bs)
+names-found : (c : ℕ) → 2 ≤ c → c < last-code + 1 → (o : ℕ) (bs : List Block) → Every Fine bs →
+    nonempty (names-from c o bs) ≡ found (literal-of c) (all-shown bs)
 unfolding nonempty
 names-found c two small o [] f = refl
 names-found c two small o (b ∷ bs) f =
     go (block-has c b) refl (names-found c two small (o + length (whole b)) bs (f .1))
-    ∙ sym (found-append (literal-of c) (shown b) (all-shown bs) ∙ ap (λ (t : Bool). t || found (literal-of c) (all-shown bs)) (sym (has-inner c two (omega arith) b (f .0) ∙ found-block c two small b (f .0))))
+    ∙ sym (found-append (literal-of c) (shown b) (all-shown bs) ∙ ap (λ (t : Bool). t || found (literal-of c) (all-shown bs))
+    (sym (has-inner c two (omega arith) b (f .0) ∙ found-block c two small b (f .0))))
   where
     go : (t : Bool) → block-has c b ≡ t → nonempty (names-from c (o + length (whole b)) bs) ≡ found (literal-of c) (all-shown bs)
-        → nonempty (cond t (o ∷ names-from c (o + length (whole b)) bs) (names-from c (o + length (whole b)) bs)) ≡ (block-has c b || found (literal-of c) (all-shown bs))
+        → nonempty (cond t (o ∷ names-from c (o + length (whole b)) bs) (names-from c (o + length (whole b)) bs)) ≡ (block-has c b || found (literal-of c)
+        (all-shown bs))
     go true e later = sym (ap (λ (t : Bool). t || found (literal-of c) (all-shown bs)) e)
     go false e later = later ∙ sym (ap (λ (t : Bool). t || found (literal-of c) (all-shown bs)) e)
 
@@ -134,7 +142,8 @@ module _ {table : List ℕ} (l : Laid table) where
       where
         go : (names : List ℕ) → listed c table ≡ names → ltb (begin-of index c) (end-of index c) ≡ nonempty (listed c table)
         go [] e = let r = read c (omega arith) .ends in let n = ap length e in le-ltb (begin-of index c) (end-of index c) (omega arith) ∙ sym (ap nonempty e)
-        go (x ∷ names) e = let r = read c (omega arith) .ends in let n = ap length e in lt-ltb (begin-of index c) (end-of index c) (omega arith) ∙ sym (ap nonempty e)
+        go (x ∷ names) e = let r = read c (omega arith) .ends in let n = ap length e in lt-ltb (begin-of index c) (end-of index c) (omega arith) ∙ sym
+            (ap nonempty e)
 
     pub list-empty : (c : ℕ) → c < code-count → ltb (begin-of index c) (end-of index c) ≡ false → listed c table ≡ []
     list-empty c small e = go (listed c table) refl

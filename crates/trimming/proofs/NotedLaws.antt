@@ -40,7 +40,8 @@ module _ (kinds : List ℕ) where
   has-keep x small [] h = h
   has-keep x small (y ∷ c) h = go (eqb x y) refl (is-left y) refl h (has-keep x small c)
     where
-      go : (t : Bool) → eqb x y ≡ t → (l : Bool) → is-left y ≡ l → (t || has x c) ≡ true → (has x c ≡ true → any (eqb x) (keep is-left c) ≡ true) → any (eqb x) (cond l (y ∷ keep is-left c) (keep is-left c)) ≡ true
+      go : (t : Bool) → eqb x y ≡ t → (l : Bool) → is-left y ≡ l → (t || has x c) ≡ true → (has x c ≡ true → any (eqb x) (keep is-left c) ≡ true) →
+          any (eqb x) (cond l (y ∷ keep is-left c) (keep is-left c)) ≡ true
       go true e true l h later = ap (λ (b : Bool). b || any (eqb x) (keep is-left c)) e
       go true e false l h later = absurd (let s = ltb-false y 512 l in let q = eqb-true x y e in omega arith)
       go false e true l h later = ap (λ (b : Bool). b || any (eqb x) (keep is-left c)) e ∙ later h
@@ -76,12 +77,15 @@ module _ (P Q : ℕ → Block → Type 0) (same : (o : ℕ) (b : Block) → P o 
   some-later o (b ∷ bs) (inl p) = inl (same o b p)
   some-later o (b ∷ bs) (inr i) = inr (some-later (o + length (whole b)) bs i)
 
-  some-changed : (o : ℕ) (xs : List Block) (b d : Block) (ys : List Block) → length (whole d) ≡ length (whole b) → (P (o + length (laid xs)) b → ⊥) → SomeAt P o (xs ++ (b ∷ ys)) → SomeAt Q o (xs ++ (d ∷ ys))
+  some-changed : (o : ℕ) (xs : List Block) (b d : Block) (ys : List Block) → length (whole d) ≡ length (whole b) → (P (o + length (laid xs)) b → ⊥) →
+      SomeAt P o (xs ++ (b ∷ ys)) → SomeAt Q o (xs ++ (d ∷ ys))
   some-changed o [] b d ys sized never (inl p) = absurd (never (subst (λ (n : ℕ). P n b) (let e : o ≡ o + 0 = omega arith in e) p))
   some-changed o [] b d ys sized never (inr i) = inr (subst (λ (n : ℕ). SomeAt Q (o + n) ys) (sym sized) (some-later (o + length (whole b)) ys i))
   some-changed o (x ∷ xs) b d ys sized never (inl p) = inl (same o x p)
   some-changed o (x ∷ xs) b d ys sized never (inr i) =
-      inr (some-changed (o + length (whole x)) xs b d ys sized (λ p. never (subst (λ (n : ℕ). P n b) (let l = length-append (whole x) (laid xs) in let e : (o + length (whole x)) + length (laid xs) ≡ o + length (whole x ++ laid xs) = omega arith in e) p)) i)
+      inr (some-changed (o + length (whole x)) xs b d ys sized
+      (λ p. never (subst (λ (n : ℕ). P n b) (let l = length-append (whole x) (laid xs) in let e : (o + length (whole x)) + length (laid xs) ≡ o + length
+      (whole x ++ laid xs) = omega arith in e) p)) i)
 
 pub record SomeSplit (P : ℕ → Block → Type 0) (o : ℕ) (bs : List Block) : Type 0 where
   pub before : List Block
@@ -91,7 +95,14 @@ pub record SomeSplit (P : ℕ → Block → Type 0) (o : ℕ) (bs : List Block) 
   pub holds : P (o + length (laid before)) block
 
 pub some-split : (P : ℕ → Block → Type 0) (o : ℕ) (bs : List Block) → SomeAt P o bs → SomeSplit P o bs
-some-split P o (b ∷ bs) (inl p) = record { before = []; block = b; behind = bs; is = refl; holds = subst (λ (n : ℕ). P n b) (let e : o ≡ o + 0 = omega arith in e) p }
+some-split P o (b ∷ bs) (inl p) = record {
+  before = [];
+  block = b;
+  behind = bs;
+  is = refl;
+  holds = subst (λ (n : ℕ). P n b)
+      (let e : o ≡ o + 0 = omega arith in e) p;
+}
 some-split P o (b ∷ bs) (inr i) =
     let s = some-split P (o + length (whole b)) bs i in
     record {
@@ -99,12 +110,16 @@ some-split P o (b ∷ bs) (inr i) =
       block = s .block;
       behind = s .behind;
       is = ap (λ (l : List Block). b ∷ l) (s .is);
-      holds = subst (λ (n : ℕ). P n (s .block)) (let l = length-append (whole b) (laid (s .before)) in let e : (o + length (whole b)) + length (laid (s .before)) ≡ o + length (whole b ++ laid (s .before)) = omega arith in e) (s .holds);
+      holds = subst (λ (n : ℕ). P n (s .block)) (let l = length-append (whole b) (laid (s .before)) in let e : (o + length (whole b)) + length
+          (laid (s .before)) ≡ o + length (whole b ++ laid (s .before)) = omega arith in e) (s .holds);
     }
 
 pub some-at : (P : ℕ → Block → Type 0) (o : ℕ) (xs : List Block) (b : Block) (ys : List Block) → P (o + length (laid xs)) b → SomeAt P o (xs ++ (b ∷ ys))
 some-at P o [] b ys p = inl (subst (λ (n : ℕ). P n b) (let e : o + 0 ≡ o = omega arith in e) p)
-some-at P o (x ∷ xs) b ys p = inr (some-at P (o + length (whole x)) xs b ys (subst (λ (n : ℕ). P n b) (let l = length-append (whole x) (laid xs) in let e : o + length (whole x ++ laid xs) ≡ (o + length (whole x)) + length (laid xs) = omega arith in e) p))
+some-at P o (x ∷ xs) b ys p = inr
+    (some-at P (o + length (whole x)) xs b ys
+    (subst (λ (n : ℕ). P n b) (let l = length-append (whole x) (laid xs) in let e : o + length (whole x ++ laid xs) ≡ (o + length (whole x)) + length
+    (laid xs) = omega arith in e) p))
 
 -- A name of a list is the place of a clause that has the code.
 every-not : (P : ℕ → Type 0) (s : ℕ) (l : List ℕ) → Every P l → (P s → ⊥) → In s l → ⊥
@@ -112,21 +127,29 @@ every-not P s (x ∷ l) all never (inl e) = never (subst P (sym e) (all .0))
 every-not P s (x ∷ l) all never (inr i) = every-not P s l (all .1) never i
 
 pub in-has : (c : ℕ) (xs : List Block) (b : Block) (ys : List Block) → In (length (laid xs)) (names-from c 0 (xs ++ (b ∷ ys))) → block-has c b ≡ true
-in-has c xs b ys i = split (names-from c 0 xs) (names-below c 0 (length (laid xs)) xs (omega arith)) (subst (In (length (laid xs))) (names-append c 0 xs (b ∷ ys)) i)
+in-has c xs b ys i = split (names-from c 0 xs) (names-below c 0 (length (laid xs)) xs (omega arith))
+    (subst (In (length (laid xs))) (names-append c 0 xs (b ∷ ys)) i)
   where
-    here : (t : Bool) → block-has c b ≡ t → In (length (laid xs)) (cond t ((0 + length (laid xs)) ∷ names-from c ((0 + length (laid xs)) + length (whole b)) ys) (names-from c ((0 + length (laid xs)) + length (whole b)) ys)) → block-has c b ≡ true
+    here : (t : Bool) → block-has c b ≡ t →
+        In (length (laid xs)) (cond t ((0 + length (laid xs)) ∷ names-from c ((0 + length (laid xs)) + length (whole b)) ys)
+        (names-from c ((0 + length (laid xs)) + length (whole b)) ys)) → block-has c b ≡ true
     here true e i = e
-    here false e i = absurd (every-not (λ n. length (laid xs) + 1 ≤ n) (length (laid xs)) (names-from c ((0 + length (laid xs)) + length (whole b)) ys) (names-above c ((0 + length (laid xs)) + length (whole b)) (length (laid xs) + 1) ys (let w = whole-some b in omega arith)) (λ h. omega arith) i)
+    here false e i = absurd (every-not (λ n. length (laid xs) + 1 ≤ n) (length (laid xs)) (names-from c ((0 + length (laid xs)) + length (whole b)) ys)
+        (names-above c ((0 + length (laid xs)) + length (whole b)) (length (laid xs) + 1) ys (let w = whole-some b in omega arith)) (λ h. omega arith) i)
 
-    split : (l : List ℕ) → Every (λ x. x < length (laid xs)) l → In (length (laid xs)) (l ++ cond (block-has c b) ((0 + length (laid xs)) ∷ names-from c ((0 + length (laid xs)) + length (whole b)) ys) (names-from c ((0 + length (laid xs)) + length (whole b)) ys)) → block-has c b ≡ true
+    split : (l : List ℕ) → Every (λ x. x < length (laid xs)) l →
+        In (length (laid xs)) (l ++ cond (block-has c b) ((0 + length (laid xs)) ∷ names-from c ((0 + length (laid xs)) + length (whole b)) ys)
+        (names-from c ((0 + length (laid xs)) + length (whole b)) ys)) → block-has c b ≡ true
     split [] all i = here (block-has c b) refl i
     split (x ∷ l) all (inl e) = absurd (let h = all .0 in omega arith)
     split (x ∷ l) all (inr i) = split l (all .1) i
 
 -- ---- one clause is marked
 
-module _ (kinds firsts names names′ apart apart′ : List ℕ) (off s low high : ℕ) {table : List ℕ} (u : Units kinds firsts names apart off table) (inside : s < length table) (first : begins table s ≡ true)
-    (kept : (o : ℕ) → (o ≡ s → ⊥) → In o names → In o names′) (still : (o : ℕ) → In o apart′ → In o apart) (table′ : List ℕ) (written : table′ ≡ marked-at low high s table) where
+module _ (kinds firsts names names′ apart apart′ : List ℕ) (off s low high : ℕ) {table : List ℕ} (u : Units kinds firsts names apart off table)
+    (inside : s < length table) (first : begins table s ≡ true)
+    (kept : (o : ℕ) → (o ≡ s → ⊥) → In o names → In o names′) (still : (o : ℕ) → In o apart′ →
+    In o apart) (table′ : List ℕ) (written : table′ ≡ marked-at low high s table) where
   t : Split s (u .blocks)
   t = splits (u .blocks) (u .fine) s (let z = ap length (u .is) in omega arith) (ap (λ (l : List ℕ). begins l s) (sym (u .is)) ∙ first)
 
@@ -136,19 +159,23 @@ module _ (kinds firsts names names′ apart apart′ : List ℕ) (off s low high
   placed : table ≡ around (t .before) (t .block) (t .behind)
   placed = u .is ∙ ap laid (t .is) ∙ laid-around (t .before) (t .block) (t .behind)
 
-  pub units-changed : ((xs ys : List Block) (b : Block) → Every Fine xs → Every Fine ys → Fine b → table ≡ around xs b ys → s ≡ length (laid xs) → Becomes (UnitKnown kinds firsts) names′ s low high b)
-      → ((xs ys : List Block) (b : Block) → Every Fine xs → Every Fine ys → Fine b → table ≡ around xs b ys → s ≡ length (laid xs) → (v : ℕ) → (v ≡ off → ⊥) → FirstUnit kinds firsts apart v s b → ⊥) → Units kinds firsts names′ apart′ off table′
+  pub units-changed : ((xs ys : List Block) (b : Block) → Every Fine xs → Every Fine ys → Fine b → table ≡ around xs b ys → s ≡ length (laid xs) →
+      Becomes (UnitKnown kinds firsts) names′ s low high b)
+      → ((xs ys : List Block) (b : Block) → Every Fine xs → Every Fine ys → Fine b → table ≡ around xs b ys → s ≡ length (laid xs) → (v : ℕ) → (v ≡ off → ⊥) →
+      FirstUnit kinds firsts apart v s b → ⊥) → Units kinds firsts names′ apart′ off table′
   units-changed does never =
       record {
         blocks = t .before ++ (e .after ∷ t .behind);
         is = is-after m ∙ sym (laid-around (t .before) (e .after) (t .behind));
         fine = every-append Fine (t .before) (e .after ∷ t .behind) (parts .0) (e .fine, parts .1 .1);
-        complete = changed (UnitKnown kinds firsts) names names′ s kept 0 (t .before) (t .block) (e .after) (t .behind) at-zero sized (e .then) (subst (AllBut (UnitKnown kinds firsts) names 0) (t .is) (u .complete));
+        complete = changed (UnitKnown kinds firsts) names names′ s kept 0 (t .before) (t .block) (e .after) (t .behind) at-zero sized (e .then)
+            (subst (AllBut (UnitKnown kinds firsts) names 0) (t .is) (u .complete));
         sound = λ v other positive small some-first.
             some-changed (FirstUnit kinds firsts apart v) (FirstUnit kinds firsts apart′ v)
             (λ o b f. record { noted = f .noted; apart = λ i. f .apart (still o i); own = f .own; some-unit = f .some-unit })
             0 (t .before) (t .block) (e .after) (t .behind) sized
-            (λ f. never (t .before) (t .behind) (t .block) (parts .0) (parts .1 .1) (parts .1 .0) placed (t .here) v other (subst (λ (n : ℕ). FirstUnit kinds firsts apart v n (t .block)) (sym at-zero) f))
+            (λ f. never (t .before) (t .behind) (t .block) (parts .0) (parts .1 .1) (parts .1 .0) placed (t .here) v other
+            (subst (λ (n : ℕ). FirstUnit kinds firsts apart v n (t .block)) (sym at-zero) f))
             (subst (SomeAt (FirstUnit kinds firsts apart v) 0) (t .is) (u .sound v other positive small some-first));
       }
     where
@@ -181,7 +208,8 @@ module _ (kinds firsts names names′ apart apart′ : List ℕ) (off s low high
 -- ---- a clause of one entry has no other code
 
 module _ (kinds firsts apart : List ℕ) (c : ℕ) (two : 2 ≤ c) (small : c < last-code + 1) {table : List ℕ} where
-  pub no-unit : (xs ys : List Block) (b : Block) → Every Fine xs → Every Fine ys → Fine b → table ≡ around xs b ys → (s : ℕ) → s ≡ length (laid xs) → In s (listed c table) → (v : ℕ) → (v ≡ c / 2 → ⊥) → FirstUnit kinds firsts apart v s b → ⊥
+  pub no-unit : (xs ys : List Block) (b : Block) → Every Fine xs → Every Fine ys → Fine b → table ≡ around xs b ys → (s : ℕ) → s ≡ length (laid xs) →
+      In s (listed c table) → (v : ℕ) → (v ≡ c / 2 → ⊥) → FirstUnit kinds firsts apart v s b → ⊥
   no-unit xs ys b fx fy f is s here i v other u =
       let l : Laid table = record { blocks = xs ++ (b ∷ ys); is = is ∙ sym (laid-around xs b ys); fine = every-append Fine xs (b ∷ ys) fx (f, fy) } in
       let h = in-has c xs b ys (subst (λ (n : ℕ). In n (names-from c 0 (xs ++ (b ∷ ys)))) here (subst (In s) (listed-table l) i)) in
@@ -192,7 +220,8 @@ module _ (kinds firsts apart : List ℕ) (c : ℕ) (two : 2 ≤ c) (small : c < 
       listed-table l = lists l c
 
 -- The places of a literal are named before they are dropped.
-pub units-named : (kinds firsts : List ℕ) (c : ℕ) → 2 ≤ c → c < last-code + 1 → {table : List ℕ} → Units kinds firsts [] [] (c / 2) table → Units kinds firsts (listed c table) (listed c table) (c / 2) table
+pub units-named : (kinds firsts : List ℕ) (c : ℕ) → 2 ≤ c → c < last-code + 1 → {table : List ℕ} → Units kinds firsts [] [] (c / 2) table →
+    Units kinds firsts (listed c table) (listed c table) (c / 2) table
 units-named kinds firsts c two small {table} u =
     record {
       blocks = u .blocks;
@@ -213,13 +242,16 @@ units-named kinds firsts c two small {table} u =
         still (inl i) = absurd i
         still (inr q) = inr q
 
-    named-apart : (v : ℕ) → (v ≡ c / 2 → ⊥) → (p : SomeSplit (FirstUnit kinds firsts [] v) 0 (u .blocks)) → FirstUnit kinds firsts (listed c table) v (0 + length (laid (p .before))) (p .block)
+    named-apart : (v : ℕ) → (v ≡ c / 2 → ⊥) → (p : SomeSplit (FirstUnit kinds firsts [] v) 0 (u .blocks)) →
+        FirstUnit kinds firsts (listed c table) v (0 + length (laid (p .before))) (p .block)
     named-apart v other p =
         let f = p .holds in
         let parts = every-front Fine (p .before) (p .block ∷ p .behind) (subst (Every Fine) (p .is) (u .fine)) in
         record {
           noted = f .noted;
-          apart = λ i. no-unit kinds firsts [] c two small (p .before) (p .behind) (p .block) (parts .0) (parts .1 .1) (parts .1 .0) (u .is ∙ ap laid (p .is) ∙ laid-around (p .before) (p .block) (p .behind)) (0 + length (laid (p .before))) (let z : 0 + length (laid (p .before)) ≡ length (laid (p .before)) = omega arith in z) i v other f;
+          apart = λ i. no-unit kinds firsts [] c two small (p .before) (p .behind) (p .block) (parts .0) (parts .1 .1) (parts .1 .0)
+              (u .is ∙ ap laid (p .is) ∙ laid-around (p .before) (p .block) (p .behind)) (0 + length (laid (p .before)))
+              (let z : 0 + length (laid (p .before)) ≡ length (laid (p .before)) = omega arith in z) i v other f;
           own = f .own;
           some-unit = f .some-unit;
         }

@@ -24,7 +24,8 @@ pub toward-begins : (change : List Clause → List Clause) (table : List ℕ) �
 toward-begins change table l = record { laid-out = l; sized = refl; same-codes = refl; same = refl }
 
 -- Where nothing is left for the change, it is made.
-pub toward-ends : (change : List Clause → List Clause) {before after : List ℕ} → Toward change before after → change (clauses-left after) ≡ clauses-left after → Passed change before after
+pub toward-ends : (change : List Clause → List Clause) {before after : List ℕ} → Toward change before after → change (clauses-left after) ≡ clauses-left after →
+    Passed change before after
 toward-ends change t over = record { laid-out = t .laid-out; sized = t .sized; same-codes = t .same-codes; changed = sym over ∙ t .same }
 
 -- The clause at place s is b, and becomes d.
@@ -72,17 +73,21 @@ module _ {table table′ : List ℕ} {s low high : ℕ} (m : Marks table table�
       ∙ laid-clauses (m .xs ++ (e ∷ m .ys)) (every-append Fine (m .xs) (e ∷ m .ys) (m .fine-xs) (f, m .fine-ys))
       ∙ shown-append (m .xs) (e ∷ m .ys)
 
-  pub after-same : (change : List Clause → List Clause) → Local change → change (shown (m .d)) ≡ change (shown (m .b)) → change (clauses-left table′) ≡ change (clauses-left table)
+  pub after-same : (change : List Clause → List Clause) → Local change → change (shown (m .d)) ≡ change (shown (m .b)) →
+      change (clauses-left table′) ≡ change (clauses-left table)
   after-same change loc e =
       ap change (ap clauses-left is-after ∙ shows (m .d) (m .fine-d))
       ∙ spread (m .d)
       ∙ ap (λ (cs : List Clause). change (all-shown (m .xs)) ++ (cs ++ change (all-shown (m .ys)))) e
       ∙ sym (ap change (ap clauses-left (m .is) ∙ shows (m .b) (m .fine-b)) ∙ spread (m .b))
     where
-      spread : (e : Block) → change (all-shown (m .xs) ++ (shown e ++ all-shown (m .ys))) ≡ change (all-shown (m .xs)) ++ (change (shown e) ++ change (all-shown (m .ys)))
-      spread e = loc .spread (all-shown (m .xs)) (shown e ++ all-shown (m .ys)) ∙ ap (λ (cs : List Clause). change (all-shown (m .xs)) ++ cs) (loc .spread (shown e) (all-shown (m .ys)))
+      spread : (e : Block) →
+          change (all-shown (m .xs) ++ (shown e ++ all-shown (m .ys))) ≡ change (all-shown (m .xs)) ++ (change (shown e) ++ change (all-shown (m .ys)))
+      spread e = loc .spread (all-shown (m .xs)) (shown e ++ all-shown (m .ys)) ∙ ap (λ (cs : List Clause). change (all-shown (m .xs)) ++ cs)
+          (loc .spread (shown e) (all-shown (m .ys)))
 
-  pub toward-more : (change : List Clause → List Clause) → Local change → change (shown (m .d)) ≡ change (shown (m .b)) → {table₀ : List ℕ} → Toward change table₀ table → Toward change table₀ table′
+  pub toward-more : (change : List Clause → List Clause) → Local change → change (shown (m .d)) ≡ change (shown (m .b)) → {table₀ : List ℕ} →
+      Toward change table₀ table → Toward change table₀ table′
   toward-more change loc e t =
       record {
         laid-out = after-laid;
@@ -92,7 +97,8 @@ module _ {table table′ : List ℕ} {s low high : ℕ} (m : Marks table table�
       }
 
   pub after-list : (c : ℕ) → block-has c (m .d) ≡ block-has c (m .b) → listed c table′ ≡ listed c table
-  after-list c e = ap (listed c) is-after ∙ list-same (m .xs) (m .ys) (m .b) (m .d) block-codes (m .fine-xs) (m .fine-ys) (m .fine-b) (m .fine-d) c e ∙ ap (listed c) (sym (m .is))
+  after-list c e = ap (listed c) is-after ∙ list-same (m .xs) (m .ys) (m .b) (m .d) block-codes (m .fine-xs) (m .fine-ys) (m .fine-b) (m .fine-d) c e ∙ ap
+      (listed c) (sym (m .is))
 
   pub after-fewer : (c : ℕ) → block-has c (m .d) ≡ false → listed c table′ ≡ without s (listed c table)
   after-fewer c e =
@@ -122,21 +128,28 @@ module _ (P : ℕ → Block → Type 0) (names names′ : List ℕ) (s : ℕ) (k
       → AllBut P names o (xs ++ (b ∷ ys)) → AllBut P names′ o (xs ++ (d ∷ ys))
   changed o [] b d ys here sized then all =
       let same : s ≡ o = here ∙ (let e : o + 0 ≡ o = omega arith in e) in
-      let w = whole-some b in
-      (subst (λ (n : ℕ). In n names′ ⊎ P n d) same then, subst (λ (n : ℕ). AllBut P names′ (o + n) ys) (sym sized) (behind (o + length (whole b)) ys (omega arith) (all .1)))
+      let w = whole-some b in (
+        subst (λ (n : ℕ). In n names′ ⊎ P n d) same then,
+        subst (λ (n : ℕ). AllBut P names′ (o + n) ys) (sym sized)
+            (behind (o + length (whole b)) ys (omega arith) (all .1)),
+      )
   changed o (x ∷ xs) b d ys here sized then all =
       let w = whole-some x in
       let l = length-append (whole x) (laid xs) in
       (still o x (λ e. omega arith) (all .0), changed (o + length (whole x)) xs b d ys (omega arith) sized then (all .1))
 
-  pub except-changed : (low high : ℕ) {table : List ℕ} → Except P names table → s < length table → begins table s ≡ true → (table′ : List ℕ) → table′ ≡ marked-at low high s table
-      → ((xs ys : List Block) (b : Block) → Every Fine xs → Every Fine ys → Fine b → table ≡ around xs b ys → s ≡ length (laid xs) → Becomes P names′ s low high b) → Except P names′ table′
+  pub except-changed : (low high : ℕ) {table : List ℕ} → Except P names table → s < length table → begins table s ≡ true → (table′ : List ℕ) →
+      table′ ≡ marked-at low high s table
+      → ((xs ys : List Block) (b : Block) → Every Fine xs → Every Fine ys → Fine b → table ≡ around xs b ys → s ≡ length (laid xs) → Becomes P names′ s low high
+      b) → Except P names′ table′
   except-changed low high {table} p inside first table′ written does =
       record {
         blocks = t .before ++ (e .after ∷ t .behind);
         is = is-after m ∙ sym (laid-around (t .before) (e .after) (t .behind));
         fine = every-append Fine (t .before) (e .after ∷ t .behind) (parts .0) (e .fine, parts .1 .1);
-        all = changed 0 (t .before) (t .block) (e .after) (t .behind) (t .here ∙ (let z : length (laid (t .before)) ≡ 0 + length (laid (t .before)) = omega arith in z)) (ap length (e .made) ∙ length-map (whole (t .block)) (marked low high)) (e .then) (subst (AllBut P names 0) (t .is) (p .all));
+        all = changed 0 (t .before) (t .block) (e .after) (t .behind)
+            (t .here ∙ (let z : length (laid (t .before)) ≡ 0 + length (laid (t .before)) = omega arith in z))
+            (ap length (e .made) ∙ length-map (whole (t .block)) (marked low high)) (e .then) (subst (AllBut P names 0) (t .is) (p .all));
       }
     where
       t : Split s (p .blocks)

@@ -34,9 +34,11 @@ module _ (kinds : List ℕ) (literals output : List ℤ) where
   by-cause : (n : ℕ) → cause kinds literals output ≡ n → eqb n 0 ≡ false → (formula-cause kinds literals ≡ 0 → Proved kinds literals) → End (Refused n) output
   unfolding outcome output-after
   by-cause n e other p = (
-    sym (ap (λ (k : ℕ). cond (eqb k 0) (Entries (length (trimmed kinds literals))) (Refused k)) e ∙ ap (λ (b : Bool). cond b (Entries (length (trimmed kinds literals))) (Refused n)) other),
+    sym (ap (λ (k : ℕ). cond (eqb k 0) (Entries (length (trimmed kinds literals))) (Refused k)) e ∙ ap
+        (λ (b : Bool). cond b (Entries (length (trimmed kinds literals))) (Refused n)) other),
     (
-      sym (ap (λ (k : ℕ). cond (eqb k 0) (trimmed kinds literals ++ drop (length (trimmed kinds literals)) output) output) e ∙ ap (λ (b : Bool). cond b (trimmed kinds literals ++ drop (length (trimmed kinds literals)) output) output) other),
+      sym (ap (λ (k : ℕ). cond (eqb k 0) (trimmed kinds literals ++ drop (length (trimmed kinds literals)) output) output) e ∙ ap
+          (λ (b : Bool). cond b (trimmed kinds literals ++ drop (length (trimmed kinds literals)) output) output) other),
       (sym e, p),
     ),
   )
@@ -48,7 +50,8 @@ module _ (kinds : List ℕ) (literals output : List ℤ) where
       let some-cause = refused-from-1 kinds literals n e in
       let other = ne-eqb n 0 (λ z. omega arith) in
       by-cause n
-      (ap (λ (k : Check). cond (eqb (Causes.number k) 0) (cond (ltb (length output) (length literals)) 15 0) (Causes.number k)) e ∙ ap (λ (b : Bool). cond b (cond (ltb (length output) (length literals)) 15 0) n) other)
+      (ap (λ (k : Check). cond (eqb (Causes.number k) 0) (cond (ltb (length output) (length literals)) 15 0) (Causes.number k)) e ∙ ap
+      (λ (b : Bool). cond b (cond (ltb (length output) (length literals)) 15 0) n) other)
       other
       (λ z. absurd (let q : n ≡ 0 = sym (ap Causes.number e) ∙ z in omega arith))
 
@@ -65,13 +68,15 @@ module _ (kinds : List ℕ) (literals output : List ℤ) where
     output-refused short = by-cause 15 (later ∙ ap (λ (b : Bool). cond b 15 0) (lt-ltb (length output) (length literals) short)) refl (λ z. holds)
 
     -- .. and without a cause the formula is trimmed.
-    pub answered : length literals ≤ length output → (n : ℕ) (exit : List ℤ) → n ≡ length (trimmed kinds literals) → exit ≡ trimmed kinds literals ++ drop n output → End (Entries n) exit
+    pub answered : length literals ≤ length output → (n : ℕ) (exit : List ℤ) → n ≡ length (trimmed kinds literals) →
+        exit ≡ trimmed kinds literals ++ drop n output → End (Entries n) exit
     unfolding outcome output-after
     answered room n exit en ex =
         let none = later ∙ ap (λ (b : Bool). cond b 15 0) (le-ltb (length output) (length literals) room) in (
           ap Entries en ∙ sym (ap (λ (k : ℕ). cond (eqb k 0) (Entries (length (trimmed kinds literals))) (Refused k)) none),
           (
-            ex ∙ ap (λ (k : ℕ). trimmed kinds literals ++ drop k output) en ∙ sym (ap (λ (k : ℕ). cond (eqb k 0) (trimmed kinds literals ++ drop (length (trimmed kinds literals)) output) output) none),
+            ex ∙ ap (λ (k : ℕ). trimmed kinds literals ++ drop k output) en ∙ sym
+                (ap (λ (k : ℕ). cond (eqb k 0) (trimmed kinds literals ++ drop (length (trimmed kinds literals)) output) output) none),
             (sym none, λ z. holds),
           ),
         )

@@ -68,7 +68,8 @@ module _ {table : List ℕ} {s : ℕ} (a : At table s) where
 
     -- The walk goes on behind the clause, which may have been made another one.
     module _ (b′ : Block) (fine : Fine b′) (sized : length (whole b′) ≡ length (whole (f .b))) where
-      unfoldable pub moved : (table′ : List ℕ) (s′ : ℕ) → table′ ≡ laid (a .done) ++ (whole b′ ++ laid (f .bs)) → s′ ≡ s + first-length (drop s table) → At table′ s′
+      unfoldable pub moved : (table′ : List ℕ) (s′ : ℕ) → table′ ≡ laid (a .done) ++ (whole b′ ++ laid (f .bs)) → s′ ≡ s + first-length (drop s table) →
+          At table′ s′
       moved table′ s′ e at =
           record {
             done = a .done ++ (b′ ∷ []);
@@ -151,7 +152,8 @@ module _ (change : List Clause → List Clause) (loc : Local change) where
         changed =
             ap clauses-left (l .is)
             ∙ laid-clauses (l .blocks) (l .fine)
-            ∙ sym (p .so-far ∙ ap (λ (bs : List Block). all-shown (p .at .done) ++ change (all-shown bs)) (over (p .at) past) ∙ ap (λ (cs : List Clause). all-shown (p .at .done) ++ cs) (loc .none) ∙ append-nil (all-shown (p .at .done)));
+            ∙ sym (p .so-far ∙ ap (λ (bs : List Block). all-shown (p .at .done) ++ change (all-shown bs)) (over (p .at) past) ∙ ap
+            (λ (cs : List Clause). all-shown (p .at .done) ++ cs) (loc .none) ∙ append-nil (all-shown (p .at .done)));
       }
 
   module _ (low-of high-of : List ℕ → ℕ) (does : (b : Block) → Fine b → Change change (low-of (inner b)) (high-of (inner b)) b) where
@@ -161,15 +163,18 @@ module _ (change : List Clause → List Clause) (loc : Local change) where
     unfolding moved
     passing-more {table₀} {table} {s} p inside low high s′ table′ el eh es et =
         record {
-          at = moved a inside (d .after) (d .fine) (ap length (d .made) ∙ length-map (whole b) (marked (low-of (inner b)) (high-of (inner b)))) table′ s′ now es;
+          at = moved a inside (d .after) (d .fine) (ap length (d .made) ∙ length-map (whole b) (marked (low-of (inner b)) (high-of (inner b)))) table′ s′ now
+              es;
           sized = sym (length-codes table′) ∙ ap length same ∙ length-codes table ∙ p .sized;
           same-codes = same ∙ p .same-codes;
           so-far =
               p .so-far
               ∙ ap (λ (l : List Block). all-shown (a .done) ++ change (all-shown l)) (f′ .splits)
-              ∙ ap (λ (cs : List Clause). all-shown (a .done) ++ cs) (loc .spread (shown b) (all-shown (f′ .bs)) ∙ ap (λ (cs : List Clause). cs ++ change (all-shown (f′ .bs))) (sym (d .shows)))
+              ∙ ap (λ (cs : List Clause). all-shown (a .done) ++ cs)
+              (loc .spread (shown b) (all-shown (f′ .bs)) ∙ ap (λ (cs : List Clause). cs ++ change (all-shown (f′ .bs))) (sym (d .shows)))
               ∙ sym (append-assoc (all-shown (a .done)) (shown (d .after)) (change (all-shown (f′ .bs))))
-              ∙ ap (λ (cs : List Clause). cs ++ change (all-shown (f′ .bs))) (sym (shown-append (a .done) (d .after ∷ []) ∙ ap (λ (cs : List Clause). all-shown (a .done) ++ cs) (append-nil (shown (d .after)))));
+              ∙ ap (λ (cs : List Clause). cs ++ change (all-shown (f′ .bs)))
+              (sym (shown-append (a .done) (d .after ∷ []) ∙ ap (λ (cs : List Clause). all-shown (a .done) ++ cs) (append-nil (shown (d .after)))));
         }
       where
         a : At table s

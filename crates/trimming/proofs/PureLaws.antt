@@ -13,11 +13,13 @@ use Rattle.formula.specs.Formula.{max-unknowns, Kind, existential, universal, k
 use Rattle.formula.proofs.Places.{drop-front}
 use Rattle.codes.specs.Codes.{last-code, opposite, has}
 use Rattle.trimming_rules.specs.Trimming as Trimming
-use Rattle.trimming_rules.specs.Trimming.{keep, first-of, if-some, lowest-unit, set-true, rule-3, found, one-of, lowest-pure, dropped, rule-4, kind-at, without-clauses, without-literal}
+use Rattle.trimming_rules.specs.Trimming.{keep, first-of, if-some, lowest-unit, set-true, rule-3, found, one-of, lowest-pure, dropped, rule-4, kind-at}
+use Rattle.trimming_rules.specs.Trimming.{without-clauses, without-literal}
 use Rattle.trimming_rules.proofs.ClauseLaws.{Named, without-literal-none, without-clauses-none}
 use Rattle.trimming_rules.proofs.RuleLaws.{pure-stands}
 use Rattle.trimming_marks.specs.Marks.{is-left, is-universal}
-use Rattle.trimming.specs.Private.Table.{literal-of, Block, standing, gone, inner, Fine, shown, literal-or-none, Chosen, Picked, lists-some, pure-code, one-code, made-true, Next, Found}
+use Rattle.trimming.specs.Private.Table.{literal-of, Block, standing, gone, inner, Fine, shown, literal-or-none, Chosen, Picked, lists-some, pure-code}
+use Rattle.trimming.specs.Private.Table.{one-code, made-true, Next, Found}
 use Rattle.trimming.proofs.CodeLaws.{literal-even, literal-odd, opposite-literal, opposite-bounds, named-code, universal-code}
 use Rattle.trimming.proofs.BlockLaws.{gone-none, entries-of}
 use Rattle.trimming.proofs.MarkLaws.{has-literal}
@@ -63,8 +65,10 @@ module _ (seen : List ℕ) (cs : List Clause) (h : Found seen cs) where
   unfolding pure-code
   pure-picks k below =
       rw (
-        h (2 * k + 2) (omega arith) (omega arith) ∙ ap (λ (z : ℤ). found z cs) (ap literal-of (let e : 2 * k + 2 ≡ 2 * suc k = omega arith in e) ∙ literal-even (suc k)),
-        h (2 * k + 3) (omega arith) (omega arith) ∙ ap (λ (z : ℤ). found z cs) (ap literal-of (let e : 2 * k + 3 ≡ 2 * suc k + 1 = omega arith in e) ∙ literal-odd k),
+        h (2 * k + 2) (omega arith) (omega arith) ∙ ap (λ (z : ℤ). found z cs) (ap literal-of (let e : 2 * k + 2 ≡ 2 * suc k = omega arith in e) ∙ literal-even
+            (suc k)),
+        h (2 * k + 3) (omega arith) (omega arith) ∙ ap (λ (z : ℤ). found z cs) (ap literal-of (let e : 2 * k + 3 ≡ 2 * suc k + 1 = omega arith in e) ∙
+            literal-odd k),
       )
       (one-picks k below (found (pos (suc k)) cs) (found (negsuc k) cs))
 
@@ -73,7 +77,9 @@ module _ (seen : List ℕ) (cs : List Clause) (h : Found seen cs) where
     abbrev pub FromHere : ℕ → Type 0
     FromHere v = lowest-pure zero (prefix kinds) cs ≡ lowest-pure v (drop v (prefix kinds)) cs
 
-    asked : (v : ℕ) → v < length kinds → lowest-pure v (drop v (prefix kinds)) cs ≡ first-of (one-of (found (pos (suc v)) cs) (found (negsuc v) cs) v) (lowest-pure (v + 1) (drop (v + 1) (prefix kinds)) cs)
+    asked : (v : ℕ) → v < length kinds →
+        lowest-pure v (drop v (prefix kinds)) cs ≡ first-of (one-of (found (pos (suc v)) cs) (found (negsuc v) cs) v)
+        (lowest-pure (v + 1) (drop (v + 1) (prefix kinds)) cs)
     asked v below =
         let e = length-map kinds kind-of in
         ap (λ (l : List Kind). lowest-pure v l cs) (drop-front (prefix kinds) v existential (omega arith))
@@ -98,7 +104,10 @@ module _ (seen : List ℕ) (cs : List Clause) (h : Found seen cs) where
     pub pure-nowhere : (v : ℕ) → length kinds ≤ v → FromHere v → Picked (lowest-pure zero (prefix kinds) cs) 0
     pure-nowhere v past here =
         let e = length-map kinds kind-of in
-        record { chosen = nothing-chosen; is = sym (here ∙ ap (λ (l : List Kind). lowest-pure v l cs) (drop-of-length-le (prefix kinds) {i = v} (omega arith))) }
+        record {
+          chosen = nothing-chosen;
+          is = sym (here ∙ ap (λ (l : List Kind). lowest-pure v l cs) (drop-of-length-le (prefix kinds) {i = v} (omega arith)));
+        }
 
 -- ---- the code that is made true
 
@@ -118,7 +127,8 @@ module _ (kinds : List ℕ) (cs : List Clause) where
       let two = code-of-chosen c (p .chosen) never in
       record {
         chosen = p .chosen;
-        change = ap (λ (o : Option ℤ). first-of (if-some (λ z. set-true z cs) o) (rule-4 (prefix kinds) cs)) (sym (p .is) ∙ some-literal c two) ∙ sym (made c two);
+        change = ap (λ (o : Option ℤ). first-of (if-some (λ z. set-true z cs) o) (rule-4 (prefix kinds) cs)) (sym (p .is) ∙ some-literal c two) ∙ sym
+            (made c two);
       }
 
   module _ (u : ℕ) (no-unit : Picked (lowest-unit (prefix kinds) cs) u) (u-none : u ≡ 0) where
@@ -159,7 +169,8 @@ module _ (kinds : List ℕ) (cs : List Clause) where
             change =
                 fourth-drops
                 ∙ ap (λ (k : Kind). some (dropped k (literal-of c) cs)) (kind-known false e)
-                ∙ ap some (sym (without-literal-none (negℤ (literal-of c)) (without-clauses (literal-of c) cs) (absent-still (literal-of c) (negℤ (literal-of c)) cs absent)))
+                ∙ ap some (sym (without-literal-none (negℤ (literal-of c)) (without-clauses (literal-of c) cs)
+                (absent-still (literal-of c) (negℤ (literal-of c)) cs absent)))
                 ∙ sym (made c two);
           }
         where
@@ -167,7 +178,9 @@ module _ (kinds : List ℕ) (cs : List Clause) where
           absent-still z y [] lacks = lacks
           absent-still z y (d ∷ ds) lacks = pass (Trimming.has y d) refl lacks (Trimming.has z d) (absent-still z y ds)
             where
-              pass : (b : Bool) → Trimming.has y d ≡ b → (b || found y ds) ≡ false → (t : Bool) → (found y ds ≡ false → found y (without-clauses z ds) ≡ false) → found y (cond (not t) (d ∷ without-clauses z ds) (without-clauses z ds)) ≡ false
+              pass : (b : Bool) → Trimming.has y d ≡ b → (b || found y ds) ≡ false → (t : Bool) →
+                  (found y ds ≡ false → found y (without-clauses z ds) ≡ false) →
+                  found y (cond (not t) (d ∷ without-clauses z ds) (without-clauses z ds)) ≡ false
               pass true q lacks t later = absurd (true≢false lacks)
               pass false q lacks true later = later lacks
               pass false q lacks false later = rw q (later lacks)

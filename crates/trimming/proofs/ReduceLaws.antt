@@ -53,7 +53,8 @@ module _ (kinds : List ℕ) where
       and-true true = refl
       and-true false = refl
 
-      go : (a b : Bool) → leb low y ≡ b → (u : Bool) → leb (cond (a && (b && not u)) (y / 2 * 2 + 2) low) x ≡ (leb low x && not (a && (not u && leb (x / 2) (y / 2))))
+      go : (a b : Bool) → leb low y ≡ b → (u : Bool) →
+          leb (cond (a && (b && not u)) (y / 2 * 2 + 2) low) x ≡ (leb low x && not (a && (not u && leb (x / 2) (y / 2))))
       go true true l true = and-true (leb low x)
       go true true l false = past l
       go true false l true = and-true (leb low x)
@@ -111,7 +112,8 @@ module _ (kinds : List ℕ) where
         ∙ by-kind (is-universal kinds y) refl
         ∙ sym (ap (λ (b : Bool). b && (not (is-universal kinds y) && leb (x / 2) (y / 2))) l)
       where
-        order : is-universal kinds y ≡ false → (t : Bool) → leb (x / 2) (y / 2) ≡ t → ltb (Trimming.position (literal-of x)) (Trimming.position (literal-of y)) ≡ t
+        order : is-universal kinds y ≡ false → (t : Bool) → leb (x / 2) (y / 2) ≡ t →
+            ltb (Trimming.position (literal-of x)) (Trimming.position (literal-of y)) ≡ t
         order u true p =
             let q = leb-true (x / 2) (y / 2) p in
             let a = position-code x two in
@@ -121,7 +123,8 @@ module _ (kinds : List ℕ) where
             clash : true ≡ false → ⊥
             clash z = let w : _≡_ {A = ℕ} 0 1 = cc in omega arith
 
-            apart : (x / 2 ≡ y / 2 → ⊥) → x / 2 ≤ y / 2 → suc (Trimming.position (literal-of x)) ≡ x / 2 → suc (Trimming.position (literal-of y)) ≡ y / 2 → Trimming.position (literal-of x) < Trimming.position (literal-of y)
+            apart : (x / 2 ≡ y / 2 → ⊥) → x / 2 ≤ y / 2 → suc (Trimming.position (literal-of x)) ≡ x / 2 → suc (Trimming.position (literal-of y)) ≡ y / 2 →
+                Trimming.position (literal-of x) < Trimming.position (literal-of y)
             apart never q a b = omega arith
         order u false p =
             let q = leb-false (x / 2) (y / 2) p in
@@ -129,7 +132,8 @@ module _ (kinds : List ℕ) where
             let b = position-code y (left-code y e l .0) in
             le-ltb (Trimming.position (literal-of x)) (Trimming.position (literal-of y)) (omega arith)
 
-        by-kind : (u : Bool) → is-universal kinds y ≡ u → (not u && ltb (Trimming.position (literal-of x)) (Trimming.position (literal-of y))) ≡ (not u && leb (x / 2) (y / 2))
+        by-kind : (u : Bool) → is-universal kinds y ≡ u →
+            (not u && ltb (Trimming.position (literal-of x)) (Trimming.position (literal-of y))) ≡ (not u && leb (x / 2) (y / 2))
         by-kind true u = refl
         by-kind false u = order u (leb (x / 2) (y / 2)) refl
 
@@ -142,28 +146,36 @@ module _ (kinds : List ℕ) where
 
   -- An entry of a clause is reducible, if it is from the lowest reducible code on.
   module _ (c : List ℕ) (all : Every Entry c) where
-    reducible-code : (x : ℕ) → In x c → is-left x ≡ true → reducible (prefix kinds) (map literal-of (keep is-left c)) (literal-of x) ≡ leb (reducible-from kinds 2 c) x
+    reducible-code : (x : ℕ) → In x c → is-left x ≡ true →
+        reducible (prefix kinds) (map literal-of (keep is-left c)) (literal-of x) ≡ leb (reducible-from kinds 2 c) x
     reducible-code x i l =
         let s = left-code x (every-in Entry c x all i) l in
         ap (λ (b : Bool). b && not (any (follows (prefix kinds) (literal-of x)) (map literal-of (keep is-left c)))) (universal-code kinds x (s .0))
         ∙ by-kind (is-universal kinds x) refl (s .0)
         ∙ sym (from-lowest c 2 x refl ∙ ap (λ (b : Bool). b && not (any (stops x) c)) (le-leb 2 x (s .0)))
       where
-        by-kind : (u : Bool) → is-universal kinds x ≡ u → 2 ≤ x → (u && not (any (follows (prefix kinds) (literal-of x)) (map literal-of (keep is-left c)))) ≡ not (any (stops x) c)
+        by-kind : (u : Bool) → is-universal kinds x ≡ u → 2 ≤ x →
+            (u && not (any (follows (prefix kinds) (literal-of x)) (map literal-of (keep is-left c)))) ≡ not (any (stops x) c)
         by-kind true u two = ap not (followed x two u c all)
-        by-kind false u two = sym (ap not (in-any (stops x) c x i (ap₂ (λ (a b : Bool). a && (not b && leb (x / 2) (x / 2))) l u ∙ le-leb (x / 2) (x / 2) (omega arith))))
+        by-kind false u two = sym
+            (ap not (in-any (stops x) c x i (ap₂ (λ (a b : Bool). a && (not b && leb (x / 2) (x / 2))) l u ∙ le-leb (x / 2) (x / 2) (omega arith))))
 
-    pub reduced-codes : map literal-of (keep is-left (map (marked (reducible-from kinds 2 c) 511) c)) ≡ reduced-clause (prefix kinds) (map literal-of (keep is-left c))
+    pub reduced-codes : map literal-of (keep is-left (map (marked (reducible-from kinds 2 c) 511) c)) ≡ reduced-clause (prefix kinds)
+        (map literal-of (keep is-left c))
     reduced-codes =
         ap (map literal-of) (keep-marked (reducible-from kinds 2 c) 511 c)
-        ∙ map-keep literal-of (λ x. not (among (reducible-from kinds 2 c) 511 x)) (λ z. not (reducible (prefix kinds) (map literal-of (keep is-left c)) z)) (keep is-left c)
-        (every-from (λ x. not (among (reducible-from kinds 2 c) 511 x) ≡ not (reducible (prefix kinds) (map literal-of (keep is-left c)) (literal-of x))) (keep is-left c)
+        ∙ map-keep literal-of (λ x. not (among (reducible-from kinds 2 c) 511 x)) (λ z. not (reducible (prefix kinds) (map literal-of (keep is-left c)) z))
+        (keep is-left c)
+        (every-from (λ x. not (among (reducible-from kinds 2 c) 511 x) ≡ not (reducible (prefix kinds) (map literal-of (keep is-left c)) (literal-of x)))
+        (keep is-left c)
         (λ x j. let k = keep-in is-left c x j in one x (k .0) (k .1)))
       where
-        one : (x : ℕ) → In x c → is-left x ≡ true → not (among (reducible-from kinds 2 c) 511 x) ≡ not (reducible (prefix kinds) (map literal-of (keep is-left c)) (literal-of x))
+        one : (x : ℕ) → In x c → is-left x ≡ true →
+            not (among (reducible-from kinds 2 c) 511 x) ≡ not (reducible (prefix kinds) (map literal-of (keep is-left c)) (literal-of x))
         one x i l =
             let h = ltb-true x 512 l in
-            ap not (ap (λ (b : Bool). leb (reducible-from kinds 2 c) x && b) (le-leb x 511 (omega arith)) ∙ and-one (leb (reducible-from kinds 2 c) x) ∙ sym (reducible-code x i l))
+            ap not (ap (λ (b : Bool). leb (reducible-from kinds 2 c) x && b) (le-leb x 511 (omega arith)) ∙ and-one (leb (reducible-from kinds 2 c) x) ∙ sym
+            (reducible-code x i l))
           where
             and-one : (b : Bool) → (b && true) ≡ b
             and-one true = refl
@@ -176,14 +188,16 @@ module _ (kinds : List ℕ) where
   clause-reduced (gone c) f =
       record {
         after = gone c;
-        made = sym (map-append (marked (reducible-from kinds 2 c) 511) c (512 ∷ []) ∙ ap₂ _++_ (gone-stays (reducible-from kinds 2 c) 511 c f) (ap (λ (x : ℕ). x ∷ []) (marked-stays (reducible-from kinds 2 c) 511 512 (λ p q r. omega arith))));
+        made = sym (map-append (marked (reducible-from kinds 2 c) 511) c (512 ∷ []) ∙ ap₂ _++_ (gone-stays (reducible-from kinds 2 c) 511 c f)
+            (ap (λ (x : ℕ). x ∷ []) (marked-stays (reducible-from kinds 2 c) 511 512 (λ p q r. omega arith))));
         fine = f;
         shows = refl;
       }
   clause-reduced (standing c) f =
       record {
         after = standing (map (marked (reducible-from kinds 2 c) 511) c);
-        made = sym (map-append (marked (reducible-from kinds 2 c) 511) c (0 ∷ []) ∙ ap (λ (x : ℕ). map (marked (reducible-from kinds 2 c) 511) c ++ (x ∷ [])) (marked-stays (reducible-from kinds 2 c) 511 0 (λ p q r. let t = two-from c 2 (omega arith) in omega arith)));
+        made = sym (map-append (marked (reducible-from kinds 2 c) 511) c (0 ∷ []) ∙ ap (λ (x : ℕ). map (marked (reducible-from kinds 2 c) 511) c ++ (x ∷ []))
+            (marked-stays (reducible-from kinds 2 c) 511 0 (λ p q r. let t = two-from c 2 (omega arith) in omega arith)));
         fine = marked-entries (reducible-from kinds 2 c) 511 c f;
         shows = ap (λ (l : Clause). l ∷ []) (reduced-codes c f);
       }

@@ -32,7 +32,8 @@ module _ (ks : List Kind) (all : ℕ) (table₀ : List ℕ) where
         changed = sym (ap (λ (m : ℕ). rounds m ks (clauses-left table)) e) ∙ p .to-go;
       }
 
-  module _ {table : List ℕ} {left : ℕ} (p : Settling ks all table₀ table left) (some-left : 0 < left) (reduced-table : List ℕ) (r : Passed (reduced ks) table reduced-table) (c : ℕ)
+  module _ {table : List ℕ} {left : ℕ} (p : Settling ks all table₀ table left) (some-left : 0 < left) (reduced-table : List ℕ)
+      (r : Passed (reduced ks) table reduced-table) (c : ℕ)
       (n : Next ks (clauses-left reduced-table) c) where
     one-round : rounds left ks (clauses-left table) ≡ from-step (made-true c (clauses-left reduced-table)) (rounds (left - 1) ks) (clauses-left reduced-table)
     one-round =
@@ -46,7 +47,8 @@ module _ (ks : List Kind) (all : ℕ) (table₀ : List ℕ) where
           laid-out = r .laid-out;
           sized = r .sized ∙ p .sized;
           same-codes = r .same-codes ∙ p .same-codes;
-          changed = sym (one-round ∙ ap (λ (k : ℕ). from-step (made-true k (clauses-left reduced-table)) (rounds (left - 1) ks) (clauses-left reduced-table)) z) ∙ p .to-go;
+          changed = sym (one-round ∙ ap (λ (k : ℕ). from-step (made-true k (clauses-left reduced-table)) (rounds (left - 1) ks) (clauses-left reduced-table)) z)
+              ∙ p .to-go;
         }
 
     pub code-bounds : (c ≡ 0 → ⊥) → (2 ≤ c) × (c < last-code + 1)
@@ -55,7 +57,8 @@ module _ (ks : List Kind) (all : ℕ) (table₀ : List ℕ) where
         go : (c ≡ 1 → ⊥) → 2 ≤ c
         go other = omega arith
 
-    pub settling-more : (c ≡ 0 → ⊥) → (set-table : List ℕ) → Passed (set-true (literal-of c)) reduced-table set-table → Settling ks all table₀ set-table (left - 1)
+    pub settling-more : (c ≡ 0 → ⊥) → (set-table : List ℕ) → Passed (set-true (literal-of c)) reduced-table set-table →
+        Settling ks all table₀ set-table (left - 1)
     settling-more never set-table s =
         record {
           laid-out = s .laid-out;
@@ -63,7 +66,8 @@ module _ (ks : List Kind) (all : ℕ) (table₀ : List ℕ) where
           same-codes = s .same-codes ∙ r .same-codes ∙ p .same-codes;
           to-go =
               ap (rounds (left - 1) ks) (s .changed)
-              ∙ sym (one-round ∙ ap (λ (o : Option (List Clause)). from-step o (rounds (left - 1) ks) (clauses-left reduced-table)) (made c (clauses-left reduced-table) never))
+              ∙ sym (one-round ∙ ap (λ (o : Option (List Clause)). from-step o (rounds (left - 1) ks) (clauses-left reduced-table))
+              (made c (clauses-left reduced-table) never))
               ∙ p .to-go;
         }
       where

@@ -58,7 +58,8 @@ module _ (o : ℕ) (low : 2 ≤ o) (below : o < last-code + 1) where
           ∙ sym (ap (eqb d) (under-itself x (omega arith)) ∙ ne-eqb d x (λ w. other (w ∙ sym q)))
       go false z = let q = eqb-false o x z in ap (λ (y : ℕ). eqb d (listed-under y)) (marked-stays o o x (λ a b r. q (omega arith)))
 
-  pub marked-other-has : (d : ℕ) → d < code-count → (d ≡ o → ⊥) → (es : List ℕ) → Every Entry es → has-left d (map (marked o o) es ++ (0 ∷ [])) ≡ has-left d (es ++ (0 ∷ []))
+  pub marked-other-has : (d : ℕ) → d < code-count → (d ≡ o → ⊥) → (es : List ℕ) → Every Entry es →
+      has-left d (map (marked o o) es ++ (0 ∷ [])) ≡ has-left d (es ++ (0 ∷ []))
   marked-other-has d small other [] all = refl
   marked-other-has d small other (x ∷ es) all = ap₂ _||_ (one-other d small other x (all .0)) (marked-other-has d small other es (all .1))
 

@@ -18,7 +18,8 @@ use Rattle.trimming_rules.proofs.ClauseLaws.{Every, In, every-from, without-cla
 use Rattle.trimming_marks.specs.Marks.{is-left, marked}
 use Rattle.index.specs.Occurrences.{listed, begins}
 use Rattle.index.specs.Index.{code-count, begin-of, end-of, without, cleared}
-use Rattle.trimming.specs.Private.Table.{literal-of, clauses-left, Entry, Block, standing, gone, whole, Fine, laid, Laid, marked-at, Indexed, Here, AllBut, Except, Irreducible, UnitKnown, Units, Toward, Cleared, Dropped}
+use Rattle.trimming.specs.Private.Table.{literal-of, clauses-left, Entry, Block, standing, gone, whole, Fine, laid, Laid, marked-at, Indexed, Here}
+use Rattle.trimming.specs.Private.Table.{AllBut, Except, Irreducible, UnitKnown, Units, Toward, Cleared, Dropped}
 use Rattle.trimming.proofs.NotedLaws.{gone-unit, units-changed, no-unit, units-named}
 use Rattle.trimming.proofs.CodeLaws.{opposite-literal, opposite-half}
 use Rattle.trimming.proofs.BlockLaws.{map-append, keep-append, every-append}
@@ -29,7 +30,8 @@ use Rattle.trimming.proofs.PassLaws.{Local}
 use Rattle.trimming.proofs.MarkLaws.{marked-goes, marked-stays, gone-stays, all-marked, marked-entries, has-literal, keep-keep, every-all}
 use Rattle.trimming.proofs.SetLaws.{kept-literals-of, marked-none-has, marked-other-has}
 use Rattle.trimming.proofs.EndLaws.{every-front}
-use Rattle.trimming.proofs.NamedLaws.{NamedAt, named, gone-without, standing-has, standing-listed, none-listed, list-empty, here-named, first-named, lists}
+use Rattle.trimming.proofs.NamedLaws.{NamedAt, named, gone-without, standing-has, standing-listed, none-listed, list-empty, here-named, first-named}
+use Rattle.trimming.proofs.NamedLaws.{lists}
 use Rattle.trimming.proofs.OneLaws.{toward-begins, toward-ends, toward-more, Marks, after-length, after-list, after-fewer, Becomes, except-changed}
 
 -- ---- a clause that a code's list names
@@ -100,7 +102,8 @@ module _ {table : List ℕ} {c s : ℕ} (p : Spot table c s) where
           fine-ys = p .fine-ys;
           fine-b = p .fine;
           fine-d = all-marked (p .es) (p .fine);
-          made = sym (map-append (marked 0 511) (p .es) (0 ∷ []) ∙ ap (λ (x : ℕ). map (marked 0 511) (p .es) ++ (x ∷ [])) (marked-goes 0 511 0 (omega arith) (omega arith) (omega arith)));
+          made = sym (map-append (marked 0 511) (p .es) (0 ∷ []) ∙ ap (λ (x : ℕ). map (marked 0 511) (p .es) ++ (x ∷ []))
+              (marked-goes 0 511 0 (omega arith) (omega arith) (omega arith)));
           written = e;
         }
 
@@ -123,7 +126,8 @@ module _ {table : List ℕ} {c s : ℕ} (p : Spot table c s) where
           fine-ys = p .fine-ys;
           fine-b = p .fine;
           fine-d = marked-entries o o (p .es) (p .fine);
-          made = sym (map-append (marked o o) (p .es) (0 ∷ []) ∙ ap (λ (x : ℕ). map (marked o o) (p .es) ++ (x ∷ [])) (marked-stays o o 0 (λ a b r. omega arith)));
+          made = sym (map-append (marked o o) (p .es) (0 ∷ []) ∙ ap (λ (x : ℕ). map (marked o o) (p .es) ++ (x ∷ []))
+              (marked-stays o o 0 (λ a b r. omega arith)));
           written = e;
         }
 
@@ -159,7 +163,13 @@ module _ (code : ℕ) (two : 2 ≤ code) (small : code < last-code + 1) where
 
   pub thinning-begins : (table index : List ℕ) → Laid table → length table ≤ max-entries → Indexed table index → Thinning table table index
   thinning-begins table index l few indexed =
-      record { toward = toward-begins (without-clauses (literal-of code)) table l; few = few; indexed = indexed; irreducible = λ kinds p. p; units = λ kinds firsts u. u }
+      record {
+        toward = toward-begins (without-clauses (literal-of code)) table l;
+        few = few;
+        indexed = indexed;
+        irreducible = λ kinds p. p;
+        units = λ kinds firsts u. u;
+      }
 
   module _ {table₀ table index : List ℕ} (t : Thinning table₀ table index) where
     pub next-here : (start : ℕ) → ltb (begin-of index code) (end-of index code) ≡ true → start ≡ getD index (begin-of index code) 0 → Here table index start
@@ -168,7 +178,8 @@ module _ (code : ℕ) (two : 2 ≤ code) (small : code < last-code + 1) where
         (here-named (t .toward .laid-out) (t .few) (t .indexed) code (getD index (begin-of index code) 0) small
         (first-named (t .toward .laid-out) (t .few) (t .indexed) code (omega arith) more))
 
-    module _ (start : ℕ) (more : ltb (begin-of index code) (end-of index code) ≡ true) (es : start ≡ getD index (begin-of index code) 0) (table′ index′ : List ℕ)
+    module _ (start : ℕ) (more : ltb (begin-of index code) (end-of index code) ≡ true) (es : start ≡ getD index (begin-of index code) 0)
+        (table′ index′ : List ℕ)
         (e : table′ ≡ marked-at 0 511 start table) (indexed′ : Indexed table′ index′) where
       in-list : In start (listed code table)
       in-list = subst (λ (s : ℕ). In s (listed code table)) (sym es) (first-named (t .toward .laid-out) (t .few) (t .indexed) code (omega arith) more)
@@ -183,26 +194,32 @@ module _ (code : ℕ) (two : 2 ≤ code) (small : code < last-code + 1) where
             toward = toward-more (goes p table′ e) (without-clauses (literal-of code)) (clauses-local (literal-of code)) shown-none (t .toward);
             few = let a = after-length (goes p table′ e) in let f = t .few in omega arith;
             indexed = indexed′;
-            irreducible = λ kinds all. except-changed (Irreducible kinds) [] [] start (λ o other i. i) 0 511 (t .irreducible kinds all) (spot-inside p) (spot-begins p) table′ e (λ xs ys b fx fy fb is here. becomes kinds xs ys b fx fy fb is here);
-            units = λ kinds firsts u. units-changed kinds firsts [] [] [] [] (code / 2) start 0 511 (t .units kinds firsts u) (spot-inside p) (spot-begins p) (λ o other i. i) (λ o i. i) table′ e (λ xs ys b fx fy fb is here. no-unit-left kinds firsts b fb) (λ xs ys b fx fy fb is here v other f. no-unit kinds firsts [] code two small xs ys b fx fy fb is start here in-list v other f);
+            irreducible = λ kinds all. except-changed (Irreducible kinds) [] [] start (λ o other i. i) 0 511 (t .irreducible kinds all) (spot-inside p)
+                (spot-begins p) table′ e (λ xs ys b fx fy fb is here. becomes kinds xs ys b fx fy fb is here);
+            units = λ kinds firsts u. units-changed kinds firsts [] [] [] [] (code / 2) start 0 511 (t .units kinds firsts u) (spot-inside p) (spot-begins p)
+                (λ o other i. i) (λ o i. i) table′ e (λ xs ys b fx fy fb is here. no-unit-left kinds firsts b fb)
+                (λ xs ys b fx fy fb is here v other f. no-unit kinds firsts [] code two small xs ys b fx fy fb is start here in-list v other f);
           }
         where
           shown-none : without-clauses (literal-of code) [] ≡ without-clauses (literal-of code) (map literal-of (keep is-left (p .es)) ∷ [])
           shown-none =
               sym (ap (λ (b : Bool). cond (not b) (map literal-of (keep is-left (p .es)) ∷ []) []) (has-literal code two small (p .es) (p .fine) ∙ p .has))
 
-          becomes : (kinds : List ℕ) (xs ys : List Block) (b : Block) → Every Fine xs → Every Fine ys → Fine b → table ≡ around xs b ys → start ≡ length (laid xs) → Becomes (Irreducible kinds) [] start 0 511 b
+          becomes : (kinds : List ℕ) (xs ys : List Block) (b : Block) → Every Fine xs → Every Fine ys → Fine b → table ≡ around xs b ys →
+              start ≡ length (laid xs) → Becomes (Irreducible kinds) [] start 0 511 b
           becomes kinds xs ys (standing cl) fx fy fb is here =
               record {
                 after = gone (map (marked 0 511) cl);
-                made = sym (map-append (marked 0 511) cl (0 ∷ []) ∙ ap (λ (x : ℕ). map (marked 0 511) cl ++ (x ∷ [])) (marked-goes 0 511 0 (omega arith) (omega arith) (omega arith)));
+                made = sym (map-append (marked 0 511) cl (0 ∷ []) ∙ ap (λ (x : ℕ). map (marked 0 511) cl ++ (x ∷ []))
+                    (marked-goes 0 511 0 (omega arith) (omega arith) (omega arith)));
                 fine = all-marked cl fb;
                 then = inr refl;
               }
           becomes kinds xs ys (gone cl) fx fy fb is here =
               record {
                 after = gone cl;
-                made = sym (map-append (marked 0 511) cl (512 ∷ []) ∙ ap₂ _++_ (gone-stays 0 511 cl fb) (ap (λ (x : ℕ). x ∷ []) (marked-stays 0 511 512 (λ a b r. omega arith))));
+                made = sym (map-append (marked 0 511) cl (512 ∷ []) ∙ ap₂ _++_ (gone-stays 0 511 cl fb)
+                    (ap (λ (x : ℕ). x ∷ []) (marked-stays 0 511 512 (λ a b r. omega arith))));
                 fine = fb;
                 then = inr refl;
               }
@@ -211,14 +228,16 @@ module _ (code : ℕ) (two : 2 ≤ code) (small : code < last-code + 1) where
           no-unit-left kinds firsts (standing cl) fb =
               record {
                 after = gone (map (marked 0 511) cl);
-                made = sym (map-append (marked 0 511) cl (0 ∷ []) ∙ ap (λ (x : ℕ). map (marked 0 511) cl ++ (x ∷ [])) (marked-goes 0 511 0 (omega arith) (omega arith) (omega arith)));
+                made = sym (map-append (marked 0 511) cl (0 ∷ []) ∙ ap (λ (x : ℕ). map (marked 0 511) cl ++ (x ∷ []))
+                    (marked-goes 0 511 0 (omega arith) (omega arith) (omega arith)));
                 fine = all-marked cl fb;
                 then = inr (λ some-unit. absurd (some-unit (gone-unit kinds (map (marked 0 511) cl) (all-marked cl fb))));
               }
           no-unit-left kinds firsts (gone cl) fb =
               record {
                 after = gone cl;
-                made = sym (map-append (marked 0 511) cl (512 ∷ []) ∙ ap₂ _++_ (gone-stays 0 511 cl fb) (ap (λ (x : ℕ). x ∷ []) (marked-stays 0 511 512 (λ a b r. omega arith))));
+                made = sym (map-append (marked 0 511) cl (512 ∷ []) ∙ ap₂ _++_ (gone-stays 0 511 cl fb)
+                    (ap (λ (x : ℕ). x ∷ []) (marked-stays 0 511 512 (λ a b r. omega arith))));
                 fine = fb;
                 then = inr (λ some-unit. absurd (some-unit (gone-unit kinds cl fb)));
               }
@@ -227,10 +246,12 @@ module _ (code : ℕ) (two : 2 ≤ code) (small : code < last-code + 1) where
       unfolding p
       thinning-less = let a = ap length (goes-from-list p table′ e (omega arith)) in let b = without-in start (listed code table) in-list in omega arith
 
-    pub thinning-ends : ltb (begin-of index code) (end-of index code) ≡ false → Dropped (without-clauses (literal-of code)) (code / 2) [] table₀ table index × (listed code table ≡ [])
+    pub thinning-ends : ltb (begin-of index code) (end-of index code) ≡ false → Dropped (without-clauses (literal-of code)) (code / 2) [] table₀ table index ×
+        (listed code table ≡ [])
     thinning-ends over = (
       record {
-        passed = toward-ends (without-clauses (literal-of code)) (t .toward) (without-clauses-none (literal-of code) (clauses-left table) (none-listed (t .toward .laid-out) code two small (list-empty (t .toward .laid-out) (t .few) (t .indexed) code (omega arith) over)));
+        passed = toward-ends (without-clauses (literal-of code)) (t .toward) (without-clauses-none (literal-of code) (clauses-left table)
+            (none-listed (t .toward .laid-out) code two small (list-empty (t .toward .laid-out) (t .few) (t .indexed) code (omega arith) over)));
         indexed = t .indexed;
         standing = tt;
         irreducible = t .irreducible;
@@ -248,7 +269,8 @@ and-same : (b : Bool) → b ≡ (b && b)
 and-same true = refl
 and-same false = refl
 
-pub all-but-more : (P : ℕ → Block → Type 0) (names names′ : List ℕ) → ((o : ℕ) → In o names → In o names′) → (o : ℕ) (bs : List Block) → AllBut P names o bs → AllBut P names′ o bs
+pub all-but-more : (P : ℕ → Block → Type 0) (names names′ : List ℕ) → ((o : ℕ) → In o names → In o names′) → (o : ℕ) (bs : List Block) → AllBut P names o bs →
+    AllBut P names′ o bs
 all-but-more P names names′ more o [] all = tt
 all-but-more P names names′ more o (b ∷ bs) all = (still (all .0), all-but-more P names names′ more (o + length (whole b)) bs (all .1))
   where
@@ -263,8 +285,10 @@ except-more P {names} {names′} more p = record { blocks = p .blocks; is = p .i
 pub in-names : (c : ℕ) (xs : List Block) (b : Block) (ys : List Block) → block-has c b ≡ true → In (length (laid xs)) (names-from c 0 (xs ++ (b ∷ ys)))
 in-names c xs b ys h =
     subst (In (length (laid xs))) (sym (names-append c 0 xs (b ∷ ys)))
-    (later (names-from c 0 xs) (cond (block-has c b) ((0 + length (laid xs)) ∷ names-from c ((0 + length (laid xs)) + length (whole b)) ys) (names-from c ((0 + length (laid xs)) + length (whole b)) ys))
-    (subst (λ (t : Bool). In (length (laid xs)) (cond t ((0 + length (laid xs)) ∷ names-from c ((0 + length (laid xs)) + length (whole b)) ys) (names-from c ((0 + length (laid xs)) + length (whole b)) ys))) (sym h) (inl (let e : length (laid xs) ≡ 0 + length (laid xs) = omega arith in e))))
+    (later (names-from c 0 xs) (cond (block-has c b) ((0 + length (laid xs)) ∷ names-from c ((0 + length (laid xs)) + length (whole b)) ys)
+    (names-from c ((0 + length (laid xs)) + length (whole b)) ys))
+    (subst (λ (t : Bool). In (length (laid xs)) (cond t ((0 + length (laid xs)) ∷ names-from c ((0 + length (laid xs)) + length (whole b)) ys)
+    (names-from c ((0 + length (laid xs)) + length (whole b)) ys))) (sym h) (inl (let e : length (laid xs) ≡ 0 + length (laid xs) = omega arith in e))))
   where
     later : (l m : List ℕ) → In (length (laid xs)) m → In (length (laid xs)) (l ++ m)
     later [] m i = i
@@ -273,9 +297,14 @@ in-names c xs b ys h =
 pub listed-standing : {table : List ℕ} → Laid table → (c s : ℕ) → 2 ≤ c → c < last-code + 1 → In s (listed c table) → In s (listed 1 table)
 listed-standing {table} l c s two small i =
     let p = spot l c s two small i in
-    let whole-table : Laid table = record { blocks = p .xs ++ (standing (p .es) ∷ p .ys); is = p .is ∙ sym (laid-around (p .xs) (standing (p .es)) (p .ys)); fine = every-append Fine (p .xs) (standing (p .es) ∷ p .ys) (p .fine-xs) (p .fine, p .fine-ys) } in
+    let whole-table : Laid table = record {
+      blocks = p .xs ++ (standing (p .es) ∷ p .ys);
+      is = p .is ∙ sym (laid-around (p .xs) (standing (p .es)) (p .ys));
+      fine = every-append Fine (p .xs) (standing (p .es) ∷ p .ys) (p .fine-xs) (p .fine, p .fine-ys);
+    } in
     subst (In s) (sym (lists whole-table 1))
-    (subst (λ (n : ℕ). In n (names-from 1 0 (p .xs ++ (standing (p .es) ∷ p .ys)))) (sym (p .here)) (in-names 1 (p .xs) (standing (p .es)) (p .ys) (standing-listed (p .es))))
+    (subst (λ (n : ℕ). In n (names-from 1 0 (p .xs ++ (standing (p .es) ∷ p .ys)))) (sym (p .here))
+    (in-names 1 (p .xs) (standing (p .es)) (p .ys) (standing-listed (p .es))))
 
 pub without-front : (s : ℕ) (l : List ℕ) → without s (s ∷ l) ≡ l
 without-front s l = rw (eq-eqb s s refl)
@@ -304,16 +333,22 @@ module _ (o : ℕ) (two : 2 ≤ o) (small : o < last-code + 1) where
           own = loses-own q o two small table′ e ∙ ap (without start) (t .own) ∙ without-front start rest;
           others = λ d h other. loses-no-other q o two small table′ e d h other ∙ t .others d h other;
           known = λ s i. t .known s (inr i);
-          irreducible = λ kinds all. except-changed (Irreducible kinds) (listed o table₀) (listed o table₀) start (λ n other i. i) o o (t .irreducible kinds all) (spot-inside q) (spot-begins q) table′ e (λ xs ys b fx fy fb is here. becomes kinds b fb);
-          units = λ kinds firsts u. units-changed kinds firsts (listed o table₀) (listed o table₀) (listed o table₀) (listed o table₀) (o / 2) start o o (t .units kinds firsts u) (spot-inside q) (spot-begins q) (λ n other i. i) (λ n i. i) table′ e (λ xs ys b fx fy fb is here. named-still kinds firsts b fb) (λ xs ys b fx fy fb is here v other f. f .apart (t .known start (inl refl)));
+          irreducible = λ kinds all. except-changed (Irreducible kinds) (listed o table₀) (listed o table₀) start (λ n other i. i) o o
+              (t .irreducible kinds all) (spot-inside q) (spot-begins q) table′ e (λ xs ys b fx fy fb is here. becomes kinds b fb);
+          units = λ kinds firsts u. units-changed kinds firsts (listed o table₀) (listed o table₀) (listed o table₀) (listed o table₀) (o / 2) start o o
+              (t .units kinds firsts u) (spot-inside q) (spot-begins q) (λ n other i. i) (λ n i. i) table′ e
+              (λ xs ys b fx fy fb is here. named-still kinds firsts b fb) (λ xs ys b fx fy fb is here v other f. f .apart (t .known start (inl refl)));
         }
       where
-        shown-same : without-literal (literal-of o) (map literal-of (keep is-left (map (marked o o) (q .es))) ∷ []) ≡ without-literal (literal-of o) (map literal-of (keep is-left (q .es)) ∷ [])
+        shown-same : without-literal (literal-of o) (map literal-of (keep is-left (map (marked o o) (q .es))) ∷ []) ≡ without-literal (literal-of o)
+            (map literal-of (keep is-left (q .es)) ∷ [])
         shown-same =
             ap (λ (c : Clause). keep (λ y. not (Trimming.same (literal-of o) y)) c ∷ []) (kept-literals-of o two small (q .es) (q .fine))
             ∙ ap (λ (c : Clause). c ∷ [])
-            (sym (keep-keep (λ y. not (Trimming.same (literal-of o) y)) (λ y. not (Trimming.same (literal-of o) y)) (λ y. not (Trimming.same (literal-of o) y)) (map literal-of (keep is-left (q .es)))
-            (every-all (λ y. not (Trimming.same (literal-of o) y) ≡ (not (Trimming.same (literal-of o) y) && not (Trimming.same (literal-of o) y))) (λ y. and-same (not (Trimming.same (literal-of o) y))) (map literal-of (keep is-left (q .es))))))
+            (sym (keep-keep (λ y. not (Trimming.same (literal-of o) y)) (λ y. not (Trimming.same (literal-of o) y)) (λ y. not (Trimming.same (literal-of o) y))
+            (map literal-of (keep is-left (q .es)))
+            (every-all (λ y. not (Trimming.same (literal-of o) y) ≡ (not (Trimming.same (literal-of o) y) && not (Trimming.same (literal-of o) y)))
+            (λ y. and-same (not (Trimming.same (literal-of o) y))) (map literal-of (keep is-left (q .es))))))
 
         becomes : (kinds : List ℕ) (b : Block) → Fine b → Becomes (Irreducible kinds) (listed o table₀) start o o b
         becomes kinds (standing cl) fb =
@@ -326,7 +361,8 @@ module _ (o : ℕ) (two : 2 ≤ o) (small : o < last-code + 1) where
         becomes kinds (gone cl) fb =
             record {
               after = gone cl;
-              made = sym (map-append (marked o o) cl (512 ∷ []) ∙ ap₂ _++_ (gone-stays o o cl fb) (ap (λ (x : ℕ). x ∷ []) (marked-stays o o 512 (λ a b r. omega arith))));
+              made = sym (map-append (marked o o) cl (512 ∷ []) ∙ ap₂ _++_ (gone-stays o o cl fb)
+                  (ap (λ (x : ℕ). x ∷ []) (marked-stays o o 512 (λ a b r. omega arith))));
               fine = fb;
               then = inl (t .known start (inl refl));
             }
@@ -342,25 +378,31 @@ module _ (o : ℕ) (two : 2 ≤ o) (small : o < last-code + 1) where
         named-still kinds firsts (gone cl) fb =
             record {
               after = gone cl;
-              made = sym (map-append (marked o o) cl (512 ∷ []) ∙ ap₂ _++_ (gone-stays o o cl fb) (ap (λ (x : ℕ). x ∷ []) (marked-stays o o 512 (λ a b r. omega arith))));
+              made = sym (map-append (marked o o) cl (512 ∷ []) ∙ ap₂ _++_ (gone-stays o o cl fb)
+                  (ap (λ (x : ℕ). x ∷ []) (marked-stays o o 512 (λ a b r. omega arith))));
               fine = fb;
               then = inl (t .known start (inl refl));
             }
 
-  pub clearing-ends : {table₀ table index : List ℕ} → Cleared o table₀ table [] → length table₀ ≤ max-entries → Laid table₀ → Indexed table₀ index → Dropped (without-literal (literal-of o)) (o / 2) (listed o table₀) table₀ table (cleared index o)
+  pub clearing-ends : {table₀ table index : List ℕ} → Cleared o table₀ table [] → length table₀ ≤ max-entries → Laid table₀ → Indexed table₀ index →
+      Dropped (without-literal (literal-of o)) (o / 2) (listed o table₀) table₀ table (cleared index o)
   clearing-ends {table₀} {table} {index} t few l indexed =
       record {
-        passed = toward-ends (without-literal (literal-of o)) (t .toward) (without-literal-none (literal-of o) (clauses-left table) (none-listed (t .toward .laid-out) o two small (t .own)));
+        passed = toward-ends (without-literal (literal-of o)) (t .toward)
+            (without-literal-none (literal-of o) (clauses-left table) (none-listed (t .toward .laid-out) o two small (t .own)));
         indexed = ap (λ (i : List ℕ). cleared i o) indexed ∙ index-cleared table₀ table few (t .toward .same-codes) o (omega arith) (t .others) (t .own);
-        standing = every-from (λ s. In s (listed 1 table)) (listed o table₀) (λ s i. subst (In s) (sym (t .others 1 (omega arith) (λ e. omega arith))) (listed-standing l o s two small i));
+        standing = every-from (λ s. In s (listed 1 table)) (listed o table₀) (λ s i. subst (In s) (sym (t .others 1 (omega arith) (λ e. omega arith)))
+            (listed-standing l o s two small i));
         irreducible = t .irreducible;
         units = t .units;
       }
 
 -- ---- both
 
-pub both-dropped : (code : ℕ) → 2 ≤ code → (opp : ℕ) → opp ≡ opposite code → {names table₀ table₁ table₂ index₁ index₂ : List ℕ} → Dropped (without-clauses (literal-of code)) (code / 2) [] table₀ table₁ index₁
-    → Dropped (without-literal (literal-of opp)) (opp / 2) names table₁ table₂ index₂ → Dropped (set-true (literal-of code)) (code / 2) names table₀ table₂ index₂
+pub both-dropped : (code : ℕ) → 2 ≤ code → (opp : ℕ) → opp ≡ opposite code → {names table₀ table₁ table₂ index₁ index₂ : List ℕ} →
+    Dropped (without-clauses (literal-of code)) (code / 2) [] table₀ table₁ index₁
+    → Dropped (without-literal (literal-of opp)) (opp / 2) names table₁ table₂ index₂ → Dropped (set-true (literal-of code)) (code / 2) names table₀ table₂
+    index₂
 both-dropped code two opp e {names} {table₀} {table₁} {table₂} a b =
     record {
       passed =
@@ -371,12 +413,14 @@ both-dropped code two opp e {names} {table₀} {table₁} {table₂} a b =
             changed =
                 b .passed .changed
                 ∙ ap (without-literal (literal-of opp)) (a .passed .changed)
-                ∙ ap (λ (z : ℤ). without-literal z (without-clauses (literal-of code) (clauses-left table₀))) (ap literal-of e ∙ sym (opposite-literal code two));
+                ∙ ap (λ (z : ℤ). without-literal z (without-clauses (literal-of code) (clauses-left table₀)))
+                (ap literal-of e ∙ sym (opposite-literal code two));
           };
       indexed = b .indexed;
       standing = b .standing;
       irreducible = λ kinds all. b .irreducible kinds (a .irreducible kinds all);
-      units = λ kinds firsts u. subst (λ (n : ℕ). Units kinds firsts names names n table₂) half (b .units kinds firsts (subst (λ (n : ℕ). Units kinds firsts [] [] n table₁) (sym half) (a .units kinds firsts u)));
+      units = λ kinds firsts u. subst (λ (n : ℕ). Units kinds firsts names names n table₂) half
+          (b .units kinds firsts (subst (λ (n : ℕ). Units kinds firsts [] [] n table₁) (sym half) (a .units kinds firsts u)));
     }
   where
     half : opp / 2 ≡ code / 2

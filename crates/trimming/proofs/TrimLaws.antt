@@ -25,7 +25,8 @@ use Rattle.trimming.proofs.BlockLaws.{map-append, left-entries, laid-cl
 
 -- ---- rule 1, then the rounds
 
-pub all-rules : (kinds : List ℕ) {table₁ table₂ table₃ : List ℕ} → Passed untrue table₁ table₂ → Passed (rounds (length table₂ + 1) (prefix kinds)) table₂ table₃
+pub all-rules : (kinds : List ℕ) {table₁ table₂ table₃ : List ℕ} → Passed untrue table₁ table₂ →
+    Passed (rounds (length table₂ + 1) (prefix kinds)) table₂ table₃
     → Passed (λ cs. rounds (length table₁ + 1) (prefix kinds) (untrue cs)) table₁ table₃
 all-rules kinds {table₁} {table₂} a b =
     record {
@@ -82,7 +83,8 @@ module _ (kinds : List ℕ) (literals : List ℤ) (a : Accepted kinds literals) 
 
   pub filled-codes : (table : List ℕ) → length table ≡ length literals → entry-by-entry literals table ≡ map code-of literals
   filled-codes table sized =
-      ap (λ (b : Bool). cond b table (map code-of literals ++ drop (length literals) table)) (accepted literals (length table) (omega arith) (λ i below. named i))
+      ap (λ (b : Bool). cond b table (map code-of literals ++ drop (length literals) table))
+      (accepted literals (length table) (omega arith) (λ i below. named i))
       ∙ ap (λ (l : List ℕ). map code-of literals ++ l) (drop-of-length-le table {i = length literals} (omega arith))
       ∙ append-nil (map code-of literals)
 
@@ -96,7 +98,8 @@ module _ (kinds : List ℕ) (literals : List ℤ) (a : Accepted kinds literals) 
 
   -- ---- the table at the end
 
-  module _ (table₁ table₂ : List ℕ) (filled : table₁ ≡ map code-of literals) (settled : Passed (λ cs. rounds (length table₁ + 1) (prefix kinds) (untrue cs)) table₁ table₂) where
+  module _ (table₁ table₂ : List ℕ) (filled : table₁ ≡ map code-of literals) (settled : Passed (λ cs. rounds (length table₁ + 1) (prefix kinds) (untrue cs))
+      table₁ table₂) where
     as-many : length table₁ ≡ length literals
     as-many = ap length filled ∙ length-map literals code-of
 

@@ -32,7 +32,8 @@ only-found : (x : ℕ) → x ≢ 0 → (c : List ℕ) → only x c ≡ one (x �
 only-found x other [] = refl
 only-found x other (y ∷ c) = go (is-left y) (only-found x other c)
   where
-    go : (t : Bool) → only x c ≡ one (x ∷ keep is-left c) → cond t (cond (eqb x 0) (only y c) 0) (only x c) ≡ one (x ∷ cond t (y ∷ keep is-left c) (keep is-left c))
+    go : (t : Bool) → only x c ≡ one (x ∷ keep is-left c) →
+        cond t (cond (eqb x 0) (only y c) 0) (only x c) ≡ one (x ∷ cond t (y ∷ keep is-left c) (keep is-left c))
     go true later = ap (λ (b : Bool). cond b (only y c) 0) (ne-eqb x 0 other)
     go false later = later
 
@@ -50,7 +51,8 @@ every-left : (c : List ℕ) → Every Entry c → Every (λ x. (2 ≤ x) × (x <
 every-left [] all = tt
 every-left (x ∷ c) all = go (is-left x) refl (every-left c (all .1))
   where
-    go : (t : Bool) → is-left x ≡ t → Every (λ x. (2 ≤ x) × (x < last-code + 1)) (keep is-left c) → Every (λ x. (2 ≤ x) × (x < last-code + 1)) (cond t (x ∷ keep is-left c) (keep is-left c))
+    go : (t : Bool) → is-left x ≡ t → Every (λ x. (2 ≤ x) × (x < last-code + 1)) (keep is-left c) →
+        Every (λ x. (2 ≤ x) × (x < last-code + 1)) (cond t (x ∷ keep is-left c) (keep is-left c))
     go true l later = (left-code x (all .0) l, later)
     go false l later = later
 
@@ -65,7 +67,8 @@ some-literal zero two = absurd (omega arith)
 some-literal (suc x) two = refl
 
 module _ (kinds : List ℕ) where
-  unit-list : (l : List ℕ) → Every (λ x. (2 ≤ x) × (x < last-code + 1)) l → Picked (Trimming.unit (prefix kinds) (map literal-of l)) (cond (is-universal kinds (one l)) 0 (one l))
+  unit-list : (l : List ℕ) → Every (λ x. (2 ≤ x) × (x < last-code + 1)) l →
+      Picked (Trimming.unit (prefix kinds) (map literal-of l)) (cond (is-universal kinds (one l)) 0 (one l))
   unit-list [] all = go (is-universal kinds 0)
     where
       go : (t : Bool) → Picked none (cond t 0 0)
@@ -91,7 +94,8 @@ module _ (kinds : List ℕ) where
   lower-none (some z) = refl
 
   pub unit-block : (b : Block) → Fine b → Picked (lowest-unit (prefix kinds) (shown b)) (unit kinds (inner b))
-  unit-block (standing c) f = let u = unit-clause c f in record { chosen = u .chosen; is = u .is ∙ sym (lower-none (Trimming.unit (prefix kinds) (map literal-of (keep is-left c)))) }
+  unit-block (standing c) f = let u = unit-clause c f in record
+      { chosen = u .chosen; is = u .is ∙ sym (lower-none (Trimming.unit (prefix kinds) (map literal-of (keep is-left c)))) }
   unit-block (gone c) f =
       let u = unit-clause c (entries-of (gone c) f) in
       record { chosen = u .chosen; is = u .is ∙ ap (λ (l : List ℕ). Trimming.unit (prefix kinds) (map literal-of l)) (gone-none c f) }

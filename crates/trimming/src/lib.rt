@@ -26,7 +26,9 @@ ghost use Rattle.trimming_rules.specs.Private.Rounds.{untrue, reduced, rounds};
 ghost use Rattle.trimming_rules.specs.Proved.{Proved};
 ghost use Rattle.formula.specs.Lists.{Every, In};
 ghost use Rattle.trimming.specs.Outcome.{formula-cause, cause as cause-of, outcome, output-after, number};
-ghost use Rattle.trimming.specs.Private.Table.{literal-of, left, codes as codes-of, clauses-left, Laid, Passed, Chosen, Picked, Found, pure-code, Next, true-from, Indexed, Here, marked-at, times, Dropping, At, left-from, Irreducible, Except, Units, noted-unit, Pending, Dropped, Cleared};
+ghost use Rattle.trimming.specs.Private.Table.{literal-of, left, codes as codes-of, clauses-left, Laid, Passed, Chosen, Picked, Found, pure-code, Next};
+ghost use Rattle.trimming.specs.Private.Table.{true-from, Indexed, Here, marked-at, times, Dropping, At, left-from, Irreducible, Except, Units};
+ghost use Rattle.trimming.specs.Private.Table.{noted-unit, Pending, Dropped, Cleared};
 
 // The entries used, zeros included; a refusal has the number of its cause.
 pub enum Trimmed {
@@ -107,7 +109,8 @@ fn in_table(kinds: &[u8], literals: &[i32], output: &mut [i32], table: &mut [u16
 // All rules, with an index that is made before the first change.
 fn with_index(kinds: &[u8], table: &mut [u16], index: &mut [u16])
     requires { ⌜ Laid (now table) × (length (now kinds) ≤ max-unknowns) × (length (now table) ≤ max-entries) × (length (now index) ≡ index-size) ⌝ }
-    ensures { λ _. ⌜ Passed (λ cs. rounds (length (now (table .entry)) + 1) (prefix (now (kinds .entry))) (untrue cs)) (now (table .entry)) (now (table .exit)) ⌝ }
+    ensures { λ _. ⌜ Passed (λ cs. rounds (length (now (table .entry)) + 1) (prefix (now (kinds .entry))) (untrue cs)) (now (table .entry)) (now (table .exit))
+        ⌝ }
 {
     index::fill(table, index);
     drop_true(table, index);
@@ -140,7 +143,8 @@ fn drop_entries(table: &mut [u16], index: &mut [u16], start: usize, low: u16) ->
 // How often each code stands in the clause.
 fn count(table: &[u16], start: usize, counts: &mut [u16; CODES])
     requires { ⌜ (length (now table) ≤ max-entries) × (now counts ≡ replicate (last-code + 1) 0) ⌝ }
-    ensures { λ _. ⌜ (length (now (counts .exit)) ≡ last-code + 1) × ((y : ℕ) → y < last-code + 1 → getD (now (counts .exit)) y 0 ≡ times y (first-clause (drop start (now (table .entry))))) ⌝ }
+    ensures { λ _. ⌜ (length (now (counts .exit)) ≡ last-code + 1) × ((y : ℕ) → y < last-code + 1 → getD (now (counts .exit)) y 0 ≡ times y
+        (first-clause (drop start (now (table .entry))))) ⌝ }
 {
     let mut i = start;
     while i < table.len() {
@@ -211,7 +215,8 @@ fn forget(index: &mut [u16], counts: &mut [u16; CODES], start: usize, x: u16)
 
 fn count_one(counts: &mut [u16; CODES], x: u16)
     requires { ⌜ (length (now counts) ≡ last-code + 1) × ((y : ℕ) → getD (now counts) y 0 < max-entries) ⌝ }
-    ensures { λ _. ⌜ (length (now (counts .exit)) ≡ last-code + 1) × ((y : ℕ) → y < last-code + 1 → getD (now (counts .exit)) y 0 ≡ getD (now (counts .entry)) y 0 + times y (x ∷ [])) ⌝ }
+    ensures { λ _. ⌜ (length (now (counts .exit)) ≡ last-code + 1) × ((y : ℕ) → y < last-code + 1 → getD (now (counts .exit)) y 0 ≡ getD (now (counts .entry)) y
+        0 + times y (x ∷ [])) ⌝ }
 {
     let code = x as usize;
     if code < CODES {
@@ -248,7 +253,8 @@ fn drop_true(table: &mut [u16], index: &mut [u16])
 
 fn drop_if_true(table: &mut [u16], index: &mut [u16], start: usize)
     requires { ⌜ At (now table) start × (start < length (now table)) × Indexed (now table) (now index) × (length (now table) ≤ max-entries) ⌝ }
-    ensures { λ _. ⌜ (now (table .exit) ≡ marked-at (true-from (first-clause (drop start (now (table .entry))))) 511 start (now (table .entry))) × Indexed (now (table .exit)) (now (index .exit)) ⌝ }
+    ensures { λ _. ⌜ (now (table .exit) ≡ marked-at (true-from (first-clause (drop start (now (table .entry))))) 511 start (now (table .entry))) × Indexed
+        (now (table .exit)) (now (index .exit)) ⌝ }
 {
     if trimming_marks::is_always_true(table, start) {
         drop_clause(table, index, start);
@@ -264,8 +270,10 @@ fn settle(
     names: &mut [u16],
     firsts: &mut [u16; NAMES],
 )
-    requires { ⌜ Laid (now table) × Indexed (now table) (now index) × (length (now kinds) ≤ max-unknowns) × (length (now table) ≤ max-entries) × (length (now names) ≡ max-entries) × (now firsts ≡ replicate (max-unknowns + 1) 65535) ⌝ }
-    ensures { λ _. ⌜ Passed (rounds (length (now (table .entry)) + 1) (prefix (now (kinds .entry)))) (now (table .entry)) (now (table .exit)) × Indexed (now (table .exit)) (now (index .exit)) ⌝ }
+    requires { ⌜ Laid (now table) × Indexed (now table) (now index) × (length (now kinds) ≤ max-unknowns) × (length (now table) ≤ max-entries) ×
+        (length (now names) ≡ max-entries) × (now firsts ≡ replicate (max-unknowns + 1) 65535) ⌝ }
+    ensures { λ _. ⌜ Passed (rounds (length (now (table .entry)) + 1) (prefix (now (kinds .entry)))) (now (table .entry)) (now (table .exit)) × Indexed
+        (now (table .exit)) (now (index .exit)) ⌝ }
 {
     let mut rounds = table.len() + 1;
     let mut count = save(index, 1, names);
@@ -285,8 +293,11 @@ fn settle(
 // Rule 2 over the clauses that are named. A universal literal that is dropped follows nothing, so once is enough.
 fn reduce(kinds: &[u8], table: &mut [u16], index: &mut [u16], names: &[u16], count: usize)
     requires { ⌜ Pending (now kinds) (take count (now names)) (now table) (now index) × (count ≤ max-entries) × (length (now names) ≡ max-entries) ⌝ }
-    ensures { λ _. ⌜ Passed (reduced (prefix (now (kinds .entry)))) (now (table .entry)) (now (table .exit)) × Indexed (now (table .exit)) (now (index .exit)) × Except (Irreducible (now (kinds .entry))) [] (now (table .exit)) ⌝ }
-    ensures { λ _. ⌜ ((firsts : List ℕ) → Units (now (kinds .entry)) firsts (take count (now (names .entry))) (take count (now (names .entry))) 0 (now (table .entry)) → Units (now (kinds .entry)) firsts (take count (now (names .entry))) (take count (now (names .entry))) 0 (now (table .exit))) × (listed 1 (now (table .exit)) ≡ listed 1 (now (table .entry))) ⌝ }
+    ensures { λ _. ⌜ Passed (reduced (prefix (now (kinds .entry)))) (now (table .entry)) (now (table .exit)) × Indexed (now (table .exit)) (now (index .exit)) ×
+        Except (Irreducible (now (kinds .entry))) [] (now (table .exit)) ⌝ }
+    ensures { λ _. ⌜ ((firsts : List ℕ) → Units (now (kinds .entry)) firsts (take count (now (names .entry))) (take count (now (names .entry))) 0
+        (now (table .entry)) → Units (now (kinds .entry)) firsts (take count (now (names .entry))) (take count (now (names .entry))) 0 (now (table .exit))) ×
+        (listed 1 (now (table .exit)) ≡ listed 1 (now (table .entry))) ⌝ }
 {
     let mut i = 0; // from the first that is named
     while i < count {
@@ -298,7 +309,8 @@ fn reduce(kinds: &[u8], table: &mut [u16], index: &mut [u16], names: &[u16], cou
 
 fn reduce_clause(kinds: &[u8], table: &mut [u16], index: &mut [u16], start: usize)
     requires { ⌜ Here (now table) (now index) start ⌝ }
-    ensures { λ _. ⌜ (now (table .exit) ≡ marked-at (reducible-from (now (kinds .entry)) 2 (first-clause (drop start (now (table .entry))))) 511 start (now (table .entry))) × Indexed (now (table .exit)) (now (index .exit)) ⌝ }
+    ensures { λ _. ⌜ (now (table .exit) ≡ marked-at (reducible-from (now (kinds .entry)) 2 (first-clause (drop start (now (table .entry))))) 511 start
+        (now (table .entry))) × Indexed (now (table .exit)) (now (index .exit)) ⌝ }
 {
     let low = trimming_marks::reducible(kinds, table, start);
     if has_from(table, start, low) {
@@ -335,7 +347,8 @@ fn is_left_from(x: u16, low: u16) -> bool
 
 // The code whose literal rule 3 or rule 4 makes true, or 0. A universal unknown in one sign loses its literal: the opposite one is made true.
 fn next(kinds: &[u8], table: &[u16], index: &[u16], firsts: &[u16; NAMES]) -> u16
-    requires { ⌜ Laid (now table) × Indexed (now table) (now index) × (length (now table) ≤ max-entries) × (length (now kinds) ≤ max-unknowns) × Units (now kinds) (now firsts) [] [] 0 (now table) ⌝ }
+    requires { ⌜ Laid (now table) × Indexed (now table) (now index) × (length (now table) ≤ max-entries) × (length (now kinds) ≤ max-unknowns) × Units
+        (now kinds) (now firsts) [] [] 0 (now table) ⌝ }
     ensures { λ r. ⌜ Next (prefix (now (kinds .entry))) (clauses-left (now (table .entry))) r ⌝ }
 {
     let unit = lowest_unit(kinds, table, firsts);
@@ -369,7 +382,9 @@ fn lowest_unit(kinds: &[u8], table: &[u16], firsts: &[u16; NAMES]) -> u16
 
 // Notes the clauses of one entry among those that are named.
 fn note_units(kinds: &[u8], table: &[u16], names: &[u16], count: usize, firsts: &mut [u16; NAMES])
-    requires { ⌜ Laid (now table) × (length (now table) ≤ max-entries) × Every (λ s. In s (listed 1 (now table))) (take count (now names)) × Units (now kinds) (now firsts) (take count (now names)) [] 0 (now table) × (length (now firsts) ≡ max-unknowns + 1) × (count ≤ max-entries) × (length (now names) ≡ max-entries) ⌝ }
+    requires { ⌜ Laid (now table) × (length (now table) ≤ max-entries) × Every (λ s. In s (listed 1 (now table))) (take count (now names)) × Units (now kinds)
+        (now firsts) (take count (now names)) [] 0 (now table) × (length (now firsts) ≡ max-unknowns + 1) × (count ≤ max-entries) ×
+        (length (now names) ≡ max-entries) ⌝ }
     ensures { λ _. ⌜ Units (now (kinds .entry)) (now (firsts .exit)) [] [] 0 (now (table .entry)) × (length (now (firsts .exit)) ≡ max-unknowns + 1) ⌝ }
 {
     let mut i = 0;
@@ -442,8 +457,10 @@ fn pure_at(index: &[u16], position: usize) -> u16
 // Rules 3 and 4: clauses that have the literal are dropped, and its opposite elsewhere. The clauses that are shortened by that are named in the
 // table of names, and their number is returned.
 fn set_true(table: &mut [u16], index: &mut [u16], code: u16, names: &mut [u16]) -> usize
-    requires { ⌜ Laid (now table) × Indexed (now table) (now index) × (length (now table) ≤ max-entries) × (length (now names) ≡ max-entries) × (2 ≤ code) × (code < last-code + 1) ⌝ }
-    ensures { λ r. ⌜ Dropped (set-true (literal-of code)) (code / 2) (take r (now (names .exit))) (now (table .entry)) (now (table .exit)) (now (index .exit)) × (r ≤ max-entries) × (listed code (now (table .exit)) ≡ []) × (listed (code-opposite code) (now (table .exit)) ≡ []) ⌝ }
+    requires { ⌜ Laid (now table) × Indexed (now table) (now index) × (length (now table) ≤ max-entries) × (length (now names) ≡ max-entries) × (2 ≤ code) ×
+        (code < last-code + 1) ⌝ }
+    ensures { λ r. ⌜ Dropped (set-true (literal-of code)) (code / 2) (take r (now (names .exit))) (now (table .entry)) (now (table .exit)) (now (index .exit)) ×
+        (r ≤ max-entries) × (listed code (now (table .exit)) ≡ []) × (listed (code-opposite code) (now (table .exit)) ≡ []) ⌝ }
 {
     drop_clauses(table, index, code);
     drop_literals(table, index, opposite(code), names)
@@ -452,7 +469,8 @@ fn set_true(table: &mut [u16], index: &mut [u16], code: u16, names: &mut [u16]) 
 // Drops the clauses that have a literal.
 fn drop_clauses(table: &mut [u16], index: &mut [u16], code: u16)
     requires { ⌜ Laid (now table) × Indexed (now table) (now index) × (length (now table) ≤ max-entries) × (2 ≤ code) × (code < last-code + 1) ⌝ }
-    ensures { λ _. ⌜ Dropped (without-clauses (literal-of code)) (code / 2) [] (now (table .entry)) (now (table .exit)) (now (index .exit)) × (listed code (now (table .exit)) ≡ []) ⌝ }
+    ensures { λ _. ⌜ Dropped (without-clauses (literal-of code)) (code / 2) [] (now (table .entry)) (now (table .exit)) (now (index .exit)) ×
+        (listed code (now (table .exit)) ≡ []) ⌝ }
 {
     while has_names(index, code as usize) {
         let start = first_name(index, code as usize);
@@ -474,8 +492,11 @@ fn first_name(index: &[u16], code: usize) -> usize
 
 // Drops a literal wherever it stands; its list, which is cleared, is saved.
 fn drop_literals(table: &mut [u16], index: &mut [u16], code: u16, names: &mut [u16]) -> usize
-    requires { ⌜ Laid (now table) × Indexed (now table) (now index) × (length (now table) ≤ max-entries) × (length (now names) ≡ max-entries) × (2 ≤ code) × (code < last-code + 1) ⌝ }
-    ensures { λ r. ⌜ Dropped (without-literal (literal-of code)) (code / 2) (take r (now (names .exit))) (now (table .entry)) (now (table .exit)) (now (index .exit)) × (r ≤ max-entries) × (listed code (now (table .exit)) ≡ []) × ((d : ℕ) → d < code-count → (d ≡ code → ⊥) → listed d (now (table .exit)) ≡ listed d (now (table .entry))) ⌝ }
+    requires { ⌜ Laid (now table) × Indexed (now table) (now index) × (length (now table) ≤ max-entries) × (length (now names) ≡ max-entries) × (2 ≤ code) ×
+        (code < last-code + 1) ⌝ }
+    ensures { λ r. ⌜ Dropped (without-literal (literal-of code)) (code / 2) (take r (now (names .exit))) (now (table .entry)) (now (table .exit))
+        (now (index .exit)) × (r ≤ max-entries) × (listed code (now (table .exit)) ≡ []) ×
+        ((d : ℕ) → d < code-count → (d ≡ code → ⊥) → listed d (now (table .exit)) ≡ listed d (now (table .entry))) ⌝ }
 {
     let count = save(index, code as usize, names);
     mark_each(table, names, count, code);
@@ -485,8 +506,10 @@ fn drop_literals(table: &mut [u16], index: &mut [u16], code: u16, names: &mut [u
 
 // Copies the list of a code, and returns its length.
 fn save(index: &[u16], code: usize, names: &mut [u16]) -> usize
-    requires { ⌜ (begin-of (now index) code ≤ end-of (now index) code) × (end-of (now index) code ≤ length (now index)) × (end-of (now index) code ≤ begin-of (now index) code + length (now names)) × (length (now index) ≤ index-size) ⌝ }
-    ensures { λ r. ⌜ (begin-of (now (index .entry)) code + r ≡ end-of (now (index .entry)) code) × ((k : ℕ) → k < r → getD (now (names .exit)) k 0 ≡ getD (now (index .entry)) (begin-of (now (index .entry)) code + k) 0) ⌝ }
+    requires { ⌜ (begin-of (now index) code ≤ end-of (now index) code) × (end-of (now index) code ≤ length (now index)) ×
+        (end-of (now index) code ≤ begin-of (now index) code + length (now names)) × (length (now index) ≤ index-size) ⌝ }
+    ensures { λ r. ⌜ (begin-of (now (index .entry)) code + r ≡ end-of (now (index .entry)) code) ×
+        ((k : ℕ) → k < r → getD (now (names .exit)) k 0 ≡ getD (now (index .entry)) (begin-of (now (index .entry)) code + k) 0) ⌝ }
 {
     let from = index::begin(index, code);
     let count = index::end(index, code) - from;
@@ -499,7 +522,8 @@ fn save(index: &[u16], code: usize, names: &mut [u16]) -> usize
 }
 
 fn mark_each(table: &mut [u16], names: &[u16], count: usize, code: u16)
-    requires { ⌜ Laid (now table) × (take count (now names) ≡ listed code (now table)) × (count ≤ length (now names)) × (length (now names) ≡ max-entries) × (2 ≤ code) × (code < last-code + 1) ⌝ }
+    requires { ⌜ Laid (now table) × (take count (now names) ≡ listed code (now table)) × (count ≤ length (now names)) × (length (now names) ≡ max-entries) ×
+        (2 ≤ code) × (code < last-code + 1) ⌝ }
     ensures { λ _. ⌜ Cleared code (now (table .entry)) (now (table .exit)) [] ⌝ }
 {
     let mut i = 0;

@@ -23,7 +23,8 @@ unfolding noted-one
 noted-one-stands seen x c size small = go (ltb x (last-code + 1)) refl (eqb c x) refl
   where
     go : (fits : Bool) → ltb x (last-code + 1) ≡ fits → (e : Bool) → eqb c x ≡ e → stands (cond fits (set seen x 1) seen) c ≡ (e || stands seen c)
-    go true f true e = ap (λ (y : ℕ). eqb y 1) (ap (λ (k : ℕ). getD (set seen x 1) k 0) (eqb-true c x e) ∙ getD-set-same seen x 1 0 (let l = ltb-true x (last-code + 1) f in omega arith))
+    go true f true e = ap (λ (y : ℕ). eqb y 1) (ap (λ (k : ℕ). getD (set seen x 1) k 0) (eqb-true c x e) ∙ getD-set-same seen x 1 0
+        (let l = ltb-true x (last-code + 1) f in omega arith))
     go true f false e = ap (λ (y : ℕ). eqb y 1) (getD-set-other seen x c 1 0 (eqb-false c x e))
     go false f true e = absurd (let l = ltb-false x (last-code + 1) f in let s = eqb-true c x e in omega arith)
     go false f false e = refl
@@ -42,7 +43,8 @@ or-swap true false c = refl
 or-swap false true c = refl
 or-swap false false c = refl
 
-pub noted-stands : (clause seen : List ℕ) (c : ℕ) → length seen ≡ last-code + 1 → c < last-code + 1 → stands (noted seen clause) c ≡ (has c clause || stands seen c)
+pub noted-stands : (clause seen : List ℕ) (c : ℕ) → length seen ≡ last-code + 1 → c < last-code + 1 →
+    stands (noted seen clause) c ≡ (has c clause || stands seen c)
 noted-stands [] seen c size small = refl
 noted-stands (x ∷ xs) seen c size small =
     noted-stands xs (noted-one seen x) c (length-noted-one seen x ∙ size) small
@@ -53,7 +55,8 @@ noted-clash-is : (clause : List ℕ) (x : ℕ) → noted-clash (noted (replicate
 unfolding noted-clash
 noted-clash-is clause x = go (ltb x (last-code + 1)) refl
   where
-    go : (small : Bool) → ltb x (last-code + 1) ≡ small → (small && stands (noted (replicate (last-code + 1) 0) clause) (opposite x)) ≡ (small && has (opposite x) clause)
+    go : (small : Bool) → ltb x (last-code + 1) ≡ small →
+        (small && stands (noted (replicate (last-code + 1) 0) clause) (opposite x)) ≡ (small && has (opposite x) clause)
     go true s =
         let o = opposite-below x (ltb-true x (last-code + 1) s) in
         noted-stands clause (replicate (last-code + 1) 0) (opposite x) (length-replicate {A = ℕ} (last-code + 1) 0) o

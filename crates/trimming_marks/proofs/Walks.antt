@@ -44,9 +44,11 @@ module _ (t : List ℕ) (i : ℕ) (inside : i < length t) where
         set-split t i v inside
         ∙ ap (λ (n : ℕ). take i t ++ (v ∷ drop n t)) (sym (add-one i))
         ∙ ap (λ (x : ℕ). take i t ++ (x ∷ drop (i + 1) t)) by
-        ∙ sym (ap (λ (l : List ℕ). take i t ++ mark-clause low high l) front ∙ ap (λ (b : Bool). take i t ++ (marked low high (getD t i 0) ∷ cond b (drop (i + 1) t) (mark-clause low high (drop (i + 1) t)))) e)
+        ∙ sym (ap (λ (l : List ℕ). take i t ++ mark-clause low high l) front ∙ ap
+        (λ (b : Bool). take i t ++ (marked low high (getD t i 0) ∷ cond b (drop (i + 1) t) (mark-clause low high (drop (i + 1) t)))) e)
 
-    pub mark-more : ends (getD t i 0) ≡ false → take i t ++ mark-clause low high (drop i t) ≡ take (i + 1) (set t i v) ++ mark-clause low high (drop (i + 1) (set t i v))
+    pub mark-more : ends (getD t i 0) ≡ false →
+        take i t ++ mark-clause low high (drop i t) ≡ take (i + 1) (set t i v) ++ mark-clause low high (drop (i + 1) (set t i v))
     mark-more e =
         ap (λ (l : List ℕ). take i t ++ mark-clause low high l) front
         ∙ ap (λ (b : Bool). take i t ++ (marked low high (getD t i 0) ∷ cond b (drop (i + 1) t) (mark-clause low high (drop (i + 1) t)))) e

@@ -8,7 +8,9 @@ ghost use mathlib.Core.List.{_++_};
 ghost use lib.ListN.{length, take, drop};
 ghost use Rattle.formula.specs.Causes.{any};
 ghost use Rattle.codes.specs.Codes.{last-code, opposite as code-opposite};
-ghost use Rattle.trimming_marks.specs.Marks.{ends, first-clause, first-length, is-universal as universal-code, marked as marked-entry, mark-clause, always-true, reducible-from, raised as raised-by, only as only-left, unit as unit-code, noted-one, noted, noted-clash};
+ghost use Rattle.trimming_marks.specs.Marks.{ends, first-clause, first-length, is-universal as universal-code, marked as marked-entry, mark-clause};
+ghost use Rattle.trimming_marks.specs.Marks.{always-true, reducible-from, raised as raised-by, only as only-left, unit as unit-code, noted-one, noted};
+ghost use Rattle.trimming_marks.specs.Marks.{noted-clash};
 
 // How many codes there are, with 0 and 1.
 pub const CODES: usize = LAST_CODE + 1;

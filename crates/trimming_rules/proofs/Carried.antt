@@ -23,7 +23,8 @@ module _ (kinds : List ℕ) (literals : List ℤ) (a : Accepted kinds literals) 
   unfolding verdict
   carried l o = ap₂ meaning (o .kinds-stay) (o .trimmed-first) ∙ verdict-kept kinds literals a
 
-  claimed : (claim : Bool) (rows : List Row) → accepted claim (prefix kinds) (matrix (clauses (trimmed kinds literals))) rows ≡ true → verdict kinds literals ≡ claim
+  claimed : (claim : Bool) (rows : List Row) → accepted claim (prefix kinds) (matrix (clauses (trimmed kinds literals))) rows ≡ true →
+      verdict kinds literals ≡ claim
   unfolding verdict
   claimed claim rows e = sym (verdict-kept kinds literals a) ∙ judged.accepted-verdict claim (prefix kinds) (matrix (clauses (trimmed kinds literals))) rows e
 

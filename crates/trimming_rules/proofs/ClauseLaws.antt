@@ -14,7 +14,8 @@ use Rattle.formula.specs.Formula.{Clause}
 pub use Rattle.formula.specs.Lists.{Every, In}
 use Rattle.formula.specs.Causes.{any}
 use Rattle.formula.specs.Meaning.{literal, clause, matrix}
-use Rattle.trimming_rules.specs.Trimming.{same, has, position, keep, behind, without-first, always-true, without-clauses, without-literal, set-true, found}
+use Rattle.trimming_rules.specs.Trimming.{same, has, position, keep, behind, without-first, always-true, without-clauses, without-literal, set-true}
+use Rattle.trimming_rules.specs.Trimming.{found}
 use Rattle.trimming_rules.proofs.MeaningLaws.{Below, AgreeOff, Ignores, literal-at}
 
 -- ---- tests
@@ -133,14 +134,16 @@ module _ {A : Type 0} where
   any-in test [] e = absurd (false≢true e)
   any-in test (x ∷ xs) e = go (test x) refl e (any-in test xs)
     where
-      go : (t : Bool) → test x ≡ t → (t || any test xs) ≡ true → (any test xs ≡ true → (a : A) × In a xs × (test a ≡ true)) → (a : A) × In a (x ∷ xs) × (test a ≡ true)
+      go : (t : Bool) → test x ≡ t → (t || any test xs) ≡ true → (any test xs ≡ true → (a : A) × In a xs × (test a ≡ true)) → (a : A) × In a (x ∷ xs) ×
+          (test a ≡ true)
       go true p e later = (x, inl refl, p)
       go false p e later = let l = later e in (l .0, inr (l .1), l .2)
 
   pub keep-in : (test : A → Bool) (xs : List A) (a : A) → In a (keep test xs) → In a xs × (test a ≡ true)
   keep-in test (x ∷ xs) a i = go (test x) refl i (keep-in test xs a)
     where
-      go : (t : Bool) → test x ≡ t → In a (cond t (x ∷ keep test xs) (keep test xs)) → (In a (keep test xs) → In a xs × (test a ≡ true)) → In a (x ∷ xs) × (test a ≡ true)
+      go : (t : Bool) → test x ≡ t → In a (cond t (x ∷ keep test xs) (keep test xs)) → (In a (keep test xs) → In a xs × (test a ≡ true)) → In a (x ∷ xs) ×
+          (test a ≡ true)
       go true p (inl e) later = (inl e, ap test e ∙ p)
       go true p (inr i) later = let l = later i in (inr (l .0), l .1)
       go false p i later = let l = later i in (inr (l .0), l .1)
@@ -182,7 +185,8 @@ pub in-clause : (vs : List Bool) (c : Clause) → clause vs c ≡ true → (z : 
 in-clause vs [] e = absurd (false≢true e)
 in-clause vs (y ∷ c) e = go (literal vs y) refl e (in-clause vs c)
   where
-    go : (t : Bool) → literal vs y ≡ t → (t || clause vs c) ≡ true → (clause vs c ≡ true → (z : ℤ) × In z c × (literal vs z ≡ true)) → (z : ℤ) × In z (y ∷ c) × (literal vs z ≡ true)
+    go : (t : Bool) → literal vs y ≡ t → (t || clause vs c) ≡ true → (clause vs c ≡ true → (z : ℤ) × In z c × (literal vs z ≡ true)) → (z : ℤ) × In z (y ∷ c) ×
+        (literal vs z ≡ true)
     go true p e later = (y, inl refl, p)
     go false p e later = let l = later e in (l .0, inr (l .1), l .2)
 
@@ -232,7 +236,8 @@ pub without-literal-clause : (vs : List Bool) (z : ℤ) (c : Clause) → literal
 without-literal-clause vs z [] f = refl
 without-literal-clause vs z (y ∷ c) f = go (same z y) refl (without-literal-clause vs z c f)
   where
-    go : (t : Bool) → same z y ≡ t → clause vs (keep (λ y. not (same z y)) c) ≡ clause vs c → clause vs (cond (not t) (y ∷ keep (λ y. not (same z y)) c) (keep (λ y. not (same z y)) c)) ≡ clause vs (y ∷ c)
+    go : (t : Bool) → same z y ≡ t → clause vs (keep (λ y. not (same z y)) c) ≡ clause vs c →
+        clause vs (cond (not t) (y ∷ keep (λ y. not (same z y)) c) (keep (λ y. not (same z y)) c)) ≡ clause vs (y ∷ c)
     go true p later = later ∙ sym (ap (λ b. b || clause vs c) (ap (literal vs) (sym (same-is z y p)) ∙ f))
     go false p later = ap (λ b. literal vs y || b) later
 
@@ -245,7 +250,8 @@ pub without-clauses-matrix : (vs : List Bool) (z : ℤ) (cs : List Clause) → l
 without-clauses-matrix vs z [] t = refl
 without-clauses-matrix vs z (c ∷ cs) t = go (has z c) refl (without-clauses-matrix vs z cs t)
   where
-    go : (h : Bool) → has z c ≡ h → matrix (without-clauses z cs) vs ≡ matrix cs vs → matrix (cond (not h) (c ∷ without-clauses z cs) (without-clauses z cs)) vs ≡ matrix (c ∷ cs) vs
+    go : (h : Bool) → has z c ≡ h → matrix (without-clauses z cs) vs ≡ matrix cs vs →
+        matrix (cond (not h) (c ∷ without-clauses z cs) (without-clauses z cs)) vs ≡ matrix (c ∷ cs) vs
     go true p later = later ∙ sym (ap (λ b. b && matrix cs vs) (clause-in vs c z (has-in z c p) t))
     go false p later = ap (λ b. clause vs c && b) later
 

@@ -10,7 +10,9 @@ use mathlib.Core.Option.{Option, none, some}
 use lib.IntN.{ℤ, negℤ}
 use Rattle.formula.specs.Formula.{Kind, existential, universal, Clause}
 use Rattle.formula.specs.Causes.{any}
-use Rattle.trimming_rules.specs.Trimming.{has, is-universal, kind-at, keep, behind, first-of, without-first, always-true, rule-1, follows, reducible, rule-2, lowest-unit, without-clauses, without-literal, set-true, if-some, rule-3, lowest-pure, dropped, rule-4, step, from-step, steps}
+use Rattle.trimming_rules.specs.Trimming.{has, is-universal, kind-at, keep, behind, first-of, without-first, always-true, rule-1, follows, reducible}
+use Rattle.trimming_rules.specs.Trimming.{rule-2, lowest-unit, without-clauses, without-literal, set-true, if-some, rule-3, lowest-pure, dropped, rule-4}
+use Rattle.trimming_rules.specs.Trimming.{step, from-step, steps}
 use Rattle.trimming_rules.specs.Private.Rounds.{untrue, reduced-clause, reduced, rounds}
 use Rattle.trimming_rules.proofs.ClauseLaws.{Every, In, every-in, every-from, in-any, any-in, has-in, in-has, keep-in, true-or-false, never-both}
 use Rattle.trimming_rules.proofs.RuleLaws.{none-not-some, some-is}
@@ -32,7 +34,8 @@ steps-enough (suc m) zero ks cs p q = go (step ks cs) refl
     go (some ds) e = absurd (let f = step-less ks 0 cs ds e .falls in omega arith)
 steps-enough (suc m) (suc l) ks cs p q = go (step ks cs) refl (λ ds. steps-enough m l ks ds)
   where
-    go : (o : Option (List Clause)) → step ks cs ≡ o → ((ds : List Clause) → size ds ≤ m → size ds ≤ l → steps m ks ds ≡ steps l ks ds) → from-step o (steps m ks) cs ≡ from-step o (steps l ks) cs
+    go : (o : Option (List Clause)) → step ks cs ≡ o → ((ds : List Clause) → size ds ≤ m → size ds ≤ l → steps m ks ds ≡ steps l ks ds) →
+        from-step o (steps m ks) cs ≡ from-step o (steps l ks) cs
     go none e later = refl
     go (some ds) e later = let f = step-less ks 0 cs ds e .falls in later ds (omega arith) (omega arith)
 
@@ -68,7 +71,8 @@ every-append Q [] ys p q = q
 every-append Q (x ∷ xs) ys p q = (p .0, every-append Q xs ys (p .1) q)
 
 -- A test that fails in front passes over it.
-without-past : {A : Type 0} (test : A → Bool) (xs : List A) (a : A) (ys : List A) → Every (λ x. test x ≡ false) xs → test a ≡ true → without-first test (xs ++ (a ∷ ys)) ≡ some (xs ++ ys)
+without-past : {A : Type 0} (test : A → Bool) (xs : List A) (a : A) (ys : List A) → Every (λ x. test x ≡ false) xs → test a ≡ true →
+    without-first test (xs ++ (a ∷ ys)) ≡ some (xs ++ ys)
 without-past test [] a ys fails passes = rw passes
 without-past test (x ∷ xs) a ys fails passes = rw (fails .0) (ap (behind x) (without-past test xs a ys (fails .1) passes))
 
@@ -95,7 +99,8 @@ untrue-past ks done (c ∷ cs) known = go (always-true c) refl (untrue-past ks d
     go : (t : Bool) → always-true c ≡ t → settled ks (done ++ cs) ≡ settled ks (done ++ untrue cs)
         → (Every Untrue (done ++ (c ∷ [])) → settled ks ((done ++ (c ∷ [])) ++ cs) ≡ settled ks ((done ++ (c ∷ [])) ++ untrue cs))
         → settled ks (done ++ (c ∷ cs)) ≡ settled ks (done ++ cond (not t) (c ∷ untrue cs) (untrue cs))
-    go true p later deeper = settled-step ks (done ++ (c ∷ cs)) (done ++ cs) (step-1 ks (done ++ (c ∷ cs)) (done ++ cs) (without-past always-true done c cs known p)) ∙ later
+    go true p later deeper = settled-step ks (done ++ (c ∷ cs)) (done ++ cs)
+        (step-1 ks (done ++ (c ∷ cs)) (done ++ cs) (without-past always-true done c cs known p)) ∙ later
     go false p later deeper =
         ap (settled ks) (sym (append-one done c cs))
         ∙ deeper (every-append Untrue done (c ∷ []) known (p, tt))
@@ -119,7 +124,8 @@ untrue-part c d part u = go (true-or-false (always-true d))
     go (inr f) = f
     go (inl t) =
         let i = any-in (λ z. has (negℤ z) d) d t in
-        absurd (never-both (in-any (λ z. has (negℤ z) c) c (i .0) (part (i .0) (i .1)) (in-has (negℤ (i .0)) c (part (negℤ (i .0)) (has-in (negℤ (i .0)) d (i .2))))) u)
+        absurd (never-both (in-any (λ z. has (negℤ z) c) c (i .0) (part (i .0) (i .1))
+        (in-has (negℤ (i .0)) c (part (negℤ (i .0)) (has-in (negℤ (i .0)) d (i .2))))) u)
 
 -- ---- reduction
 
@@ -144,7 +150,8 @@ any-skip test [] z q f = rw f
 any-skip test (x ∷ p) z q f = ap (λ b. test x || b) (any-skip test p z q f)
 
 -- So what is dropped leaves the others as they were.
-reducible-skip : (ks : List Kind) (p : Clause) (z : ℤ) (q : Clause) → is-universal (kind-at ks z) ≡ true → (y : ℤ) → reducible ks (p ++ (z ∷ q)) y ≡ reducible ks (p ++ q) y
+reducible-skip : (ks : List Kind) (p : Clause) (z : ℤ) (q : Clause) → is-universal (kind-at ks z) ≡ true → (y : ℤ) →
+    reducible ks (p ++ (z ∷ q)) y ≡ reducible ks (p ++ q) y
 reducible-skip ks p z q u y = ap (λ b. is-universal (kind-at ks y) && not b) (any-skip (follows ks y) p z q (universal-follows-none ks z y u))
 
 in-skip : (p : Clause) (z : ℤ) (q : Clause) (y : ℤ) → In y (p ++ q) → In y (p ++ (z ∷ q))
@@ -157,7 +164,8 @@ first-true true b e = refl
 first-true false b e = absurd (false≢true e)
 
 -- One clause, whose literals in p stay; `test` says which of the others go.
-module _ (ks : List Kind) (done rest : List Clause) (known : Every Untrue done) (still : Every (Irreducible ks) done) (later : Every Untrue rest) (test : ℤ → Bool) where
+module _ (ks : List Kind) (done rest : List Clause) (known : Every Untrue done) (still : Every (Irreducible ks) done) (later : Every Untrue rest)
+    (test : ℤ → Bool) where
   -- what one clause comes to
   pub record Finished (p q : Clause) : Type 0 where
     pub same : settled ks (done ++ ((p ++ q) ∷ rest)) ≡ settled ks (done ++ ((p ++ keep (λ z. not (test z)) q) ∷ rest))
@@ -169,33 +177,39 @@ module _ (ks : List Kind) (done rest : List Clause) (known : Every Untrue done) 
       record {
         same = refl;
         untrue = u;
-        irreducible = without-none (reducible ks (p ++ [])) (p ++ []) (every-from (λ y. reducible ks (p ++ []) y ≡ false) (p ++ []) (λ y i. agree y ∙ every-in (λ y. test y ≡ false) p y stays (subst (λ (l : Clause). In y l) (append-nil p) i)));
+        irreducible = without-none (reducible ks (p ++ [])) (p ++ []) (every-from (λ y. reducible ks (p ++ []) y ≡ false) (p ++ [])
+            (λ y i. agree y ∙ every-in (λ y. test y ≡ false) p y stays (subst (λ (l : Clause). In y l) (append-nil p) i)));
       }
   finish p (z ∷ q) agree stays u = go (test z) refl (finish p q) (finish (p ++ (z ∷ [])) q)
     where
       go : (t : Bool) → test z ≡ t
           → (((y : ℤ) → reducible ks (p ++ q) y ≡ test y) → Every (λ y. test y ≡ false) p → Untrue (p ++ q) → Finished p q)
-          → (((y : ℤ) → reducible ks ((p ++ (z ∷ [])) ++ q) y ≡ test y) → Every (λ y. test y ≡ false) (p ++ (z ∷ [])) → Untrue ((p ++ (z ∷ [])) ++ q) → Finished (p ++ (z ∷ [])) q)
+          → (((y : ℤ) → reducible ks ((p ++ (z ∷ [])) ++ q) y ≡ test y) → Every (λ y. test y ≡ false) (p ++ (z ∷ [])) → Untrue ((p ++ (z ∷ [])) ++ q) → Finished
+          (p ++ (z ∷ [])) q)
           → Finished p (z ∷ q)
       go true e dropped kept =
           let own : is-universal (kind-at ks z) ≡ true = first-true (is-universal (kind-at ks z)) (not (any (follows ks z) (p ++ (z ∷ q)))) (agree z ∙ e) in
           let less : Untrue (p ++ q) = untrue-part (p ++ (z ∷ q)) (p ++ q) (in-skip p z q) u in
           let f = dropped (λ y. sym (reducible-skip ks p z q own y) ∙ agree y) stays less in
-          let fails : Every (λ y. reducible ks (p ++ (z ∷ q)) y ≡ false) p = every-from (λ y. reducible ks (p ++ (z ∷ q)) y ≡ false) p (λ y i. agree y ∙ every-in (λ y. test y ≡ false) p y stays i) in
+          let fails : Every (λ y. reducible ks (p ++ (z ∷ q)) y ≡ false) p = every-from (λ y. reducible ks (p ++ (z ∷ q)) y ≡ false) p
+          (λ y i. agree y ∙ every-in (λ y. test y ≡ false) p y stays i) in
           let change : step ks (done ++ ((p ++ (z ∷ q)) ∷ rest)) ≡ some (done ++ ((p ++ q) ∷ rest)) =
           step-2 ks (done ++ ((p ++ (z ∷ q)) ∷ rest)) (done ++ ((p ++ q) ∷ rest))
           (without-none always-true (done ++ ((p ++ (z ∷ q)) ∷ rest)) (every-append Untrue done ((p ++ (z ∷ q)) ∷ rest) known (u, later)))
           (rule-2-past ks done (p ++ (z ∷ q)) (p ++ q) rest still (without-past (reducible ks (p ++ (z ∷ q))) p z q fails (agree z ∙ e))) in
           let tail : keep (λ z. not (test z)) (z ∷ q) ≡ keep (λ z. not (test z)) q = rw e refl in
           record {
-            same = settled-step ks (done ++ ((p ++ (z ∷ q)) ∷ rest)) (done ++ ((p ++ q) ∷ rest)) change ∙ f .same ∙ ap (λ l. settled ks (done ++ ((p ++ l) ∷ rest))) (sym tail);
+            same = settled-step ks (done ++ ((p ++ (z ∷ q)) ∷ rest)) (done ++ ((p ++ q) ∷ rest)) change ∙ f .same ∙ ap
+                (λ l. settled ks (done ++ ((p ++ l) ∷ rest))) (sym tail);
             untrue = ap (λ l. always-true (p ++ l)) tail ∙ f .untrue;
             irreducible = ap (λ l. without-first (reducible ks (p ++ l)) (p ++ l)) tail ∙ f .irreducible;
           }
       go false e dropped kept =
           let whole : (p ++ (z ∷ [])) ++ q ≡ p ++ (z ∷ q) = append-one p z q in
-          let f = kept (λ y. ap (λ l. reducible ks l y) whole ∙ agree y) (every-append (λ y. test y ≡ false) p (z ∷ []) stays (e, tt)) (ap always-true whole ∙ u) in
-          let tail : (p ++ (z ∷ [])) ++ keep (λ z. not (test z)) q ≡ p ++ keep (λ z. not (test z)) (z ∷ q) = append-one p z (keep (λ z. not (test z)) q) ∙ ap (λ l. p ++ l) (sym (rw e refl)) in
+          let f = kept (λ y. ap (λ l. reducible ks l y) whole ∙ agree y) (every-append (λ y. test y ≡ false) p (z ∷ []) stays (e, tt))
+          (ap always-true whole ∙ u) in
+          let tail : (p ++ (z ∷ [])) ++ keep (λ z. not (test z)) q ≡ p ++ keep (λ z. not (test z)) (z ∷ q) = append-one p z (keep (λ z. not (test z)) q) ∙ ap
+          (λ l. p ++ l) (sym (rw e refl)) in
           record {
             same = ap (λ l. settled ks (done ++ (l ∷ rest))) (sym whole) ∙ f .same ∙ ap (λ l. settled ks (done ++ (l ∷ rest))) tail;
             untrue = ap always-true (sym tail) ∙ f .untrue;
@@ -218,7 +232,8 @@ reduce-all ks done [] known still all =
 reduce-all ks done (c ∷ cs) known still all =
     let f = finish ks done cs known still (all .1) (reducible ks c) [] c (λ y. refl) tt (all .0) in
     let d : Clause = reduced-clause ks c in
-    let r = reduce-all ks (done ++ (d ∷ [])) cs (every-append Untrue done (d ∷ []) known (f .untrue, tt)) (every-append (Irreducible ks) done (d ∷ []) still (f .irreducible, tt)) (all .1) in
+    let r = reduce-all ks (done ++ (d ∷ [])) cs (every-append Untrue done (d ∷ []) known (f .untrue, tt))
+    (every-append (Irreducible ks) done (d ∷ []) still (f .irreducible, tt)) (all .1) in
     let whole : (done ++ (d ∷ [])) ++ reduced ks cs ≡ done ++ (d ∷ reduced ks cs) = append-one done d (reduced ks cs) in
     record {
       same = f .same ∙ ap (settled ks) (sym (append-one done d cs)) ∙ r .same ∙ ap (settled ks) whole;
@@ -233,8 +248,11 @@ untrue-clauses z cs all = every-from Untrue (without-clauses z cs) (λ c i. ever
 
 untrue-literal : (z : ℤ) (cs : List Clause) → Every Untrue cs → Every Untrue (without-literal z cs)
 untrue-literal z [] all = tt
-untrue-literal z (c ∷ cs) all =
-    (untrue-part c (keep (λ y. not (Rattle.trimming_rules.specs.Trimming.same z y)) c) (λ y i. keep-in (λ y. not (Rattle.trimming_rules.specs.Trimming.same z y)) c y i .0) (all .0), untrue-literal z cs (all .1))
+untrue-literal z (c ∷ cs) all = (
+  untrue-part c (keep (λ y. not (Rattle.trimming_rules.specs.Trimming.same z y)) c)
+      (λ y i. keep-in (λ y. not (Rattle.trimming_rules.specs.Trimming.same z y)) c y i .0) (all .0),
+  untrue-literal z cs (all .1),
+)
 
 untrue-set : (ks : List Kind) (cs ds : List Clause) → Every Untrue cs → first-of (rule-3 ks cs) (rule-4 ks cs) ≡ some ds → Every Untrue ds
 untrue-set ks cs ds all e = unit-or-pure (lowest-unit ks cs) refl e
@@ -276,12 +294,14 @@ settled-rounds (suc m) ks cs few all = go (first-of (rule-3 ks ds) (rule-4 ks ds
     go : (o : Option (List Clause)) → first-of (rule-3 ks (reduced ks cs)) (rule-4 ks (reduced ks cs)) ≡ o
         → ((es : List Clause) → size es < m → Every Untrue es → settled ks es ≡ rounds m ks es)
         → settled ks cs ≡ from-step (first-of (rule-3 ks (reduced ks cs)) (rule-4 ks (reduced ks cs))) (rounds m ks) (reduced ks cs)
-    go none e later = r .same ∙ settled-none ks (reduced ks cs) (step-later ks (reduced ks cs) no-1 no-2 ∙ e) ∙ sym (ap (λ o. from-step o (rounds m ks) (reduced ks cs)) e)
+    go none e later = r .same ∙ settled-none ks (reduced ks cs) (step-later ks (reduced ks cs) no-1 no-2 ∙ e) ∙ sym
+        (ap (λ o. from-step o (rounds m ks) (reduced ks cs)) e)
     go (some es) e later =
         let s = step-later ks (reduced ks cs) no-1 no-2 ∙ e in
         r .same
         ∙ settled-step ks (reduced ks cs) es s
-        ∙ later es (let f = step-less ks 0 (reduced ks cs) es s .falls in let g = reduced-size ks cs in omega arith) (untrue-set ks (reduced ks cs) es (r .untrue) e)
+        ∙ later es (let f = step-less ks 0 (reduced ks cs) es s .falls in let g = reduced-size ks cs in omega arith)
+        (untrue-set ks (reduced ks cs) es (r .untrue) e)
         ∙ sym (ap (λ o. from-step o (rounds m ks) (reduced ks cs)) e)
 
 -- The changes one at a time, and the rounds.

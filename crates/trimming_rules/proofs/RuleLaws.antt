@@ -14,9 +14,14 @@ use lib.ListN.{length, getD}
 use Rattle.formula.specs.Formula.{Kind, existential, universal, Clause}
 use Rattle.formula.specs.Causes.{any}
 use Rattle.formula.specs.Meaning.{literal, clause, matrix, meaning}
-use Rattle.trimming_rules.specs.Trimming.{has, is-universal, position, kind-at, behind, first-of, without-first, always-true, rule-1, follows, reducible, in-front, rule-2, unit, lower, lowest-unit, without-clauses, without-literal, set-true, if-some, rule-3, found, one-of, lowest-pure, dropped, rule-4, step}
+use Rattle.trimming_rules.specs.Trimming.{has, is-universal, position, kind-at, behind, first-of, without-first, always-true, rule-1, follows, reducible}
+use Rattle.trimming_rules.specs.Trimming.{in-front, rule-2, unit, lower, lowest-unit, without-clauses, without-literal, set-true, if-some, rule-3, found}
+use Rattle.trimming_rules.specs.Trimming.{one-of, lowest-pure, dropped, rule-4, step}
 use Rattle.trimming_rules.proofs.MeaningLaws.{Matrix, Below, both, with-literal, literal-at, meaning-same, meaning-set, meaning-reduced}
-use Rattle.trimming_rules.proofs.ClauseLaws.{Named, Every, In, sign, true-or-false, never-both, every-in, every-from, in-any, any-in, has-in, in-has, keep-in, without-in, clause-in, always-true-is, clause-ignores, literal-is, literal-set, one-name, opposite-named, opposite-position, position-below, matrix-in, set-true-matrix, set-true-ignores, without-clauses-below, without-literal-below, without-literal-none, without-clauses-none}
+use Rattle.trimming_rules.proofs.ClauseLaws.{Named, Every, In, sign, true-or-false, never-both, every-in, every-from, in-any, any-in, has-in, in-has}
+use Rattle.trimming_rules.proofs.ClauseLaws.{keep-in, without-in, clause-in, always-true-is, clause-ignores, literal-is, literal-set, one-name}
+use Rattle.trimming_rules.proofs.ClauseLaws.{opposite-named, opposite-position, position-below, matrix-in, set-true-matrix, set-true-ignores}
+use Rattle.trimming_rules.proofs.ClauseLaws.{without-clauses-below, without-literal-below, without-literal-none, without-clauses-none}
 
 -- Every literal names one of n unknowns.
 abbrev pub Within : ℕ → List Clause → Type 0
@@ -98,7 +103,8 @@ kind-universal existential e = absurd (false≢true e)
 kind-universal universal e = refl
 
 -- The clause c loses a literal and becomes d, beside r.
-module _ (ks : List Kind) (c d : Clause) (names : Every (Named (length ks)) c) (possible : always-true c ≡ false) (e : without-first (reducible ks c) c ≡ some d) (r : Matrix) where
+module _ (ks : List Kind) (c d : Clause) (names : Every (Named (length ks)) c) (possible : always-true c ≡ false)
+    (e : without-first (reducible ks c) c ≡ some d) (r : Matrix) where
   it : Taken (reducible ks c) c d
   it = taken-first (reducible ks c) c d e
 
@@ -132,7 +138,8 @@ module _ (ks : List Kind) (c d : Clause) (names : Every (Named (length ks)) c) (
   behind-it : (j : ℕ) → position z < j → getD ks j existential ≡ existential → (y : ℤ) → In y d → position y ≡ j → ⊥
   behind-it j above is y i p =
       never-both
-      (in-any (follows ks z) c y (subset y i) (rw (ap (getD ks y-place) refl, kind-y, lt-ltb (position z) (position y) (subst (λ (x : ℕ). position z < x) (sym p) above))))
+      (in-any (follows ks z) c y (subset y i)
+      (rw (ap (getD ks y-place) refl, kind-y, lt-ltb (position z) (position y) (subst (λ (x : ℕ). position z < x) (sym p) above))))
       none-follows
     where
       y-place : ℕ
@@ -148,13 +155,15 @@ module _ (ks : List Kind) (c d : Clause) (names : Every (Named (length ks)) c) (
       worth vs = it .worth vs
 
       go : (has z d ≡ true) ⊎ (has z d ≡ false) → meaning ks (λ vs. r vs && clause vs c) ≡ meaning ks (λ vs. r vs && clause vs d)
-      go (inl again) = meaning-same ks (λ vs. r vs && clause vs c) (λ vs. r vs && clause vs d) (λ vs. ap (λ b. r vs && b) (worth vs ∙ absorbed vs (true-or-false (literal vs z))))
+      go (inl again) = meaning-same ks (λ vs. r vs && clause vs c) (λ vs. r vs && clause vs d)
+          (λ vs. ap (λ b. r vs && b) (worth vs ∙ absorbed vs (true-or-false (literal vs z))))
         where
           absorbed : (vs : List Bool) → (literal vs z ≡ true) ⊎ (literal vs z ≡ false) → (literal vs z || clause vs d) ≡ clause vs d
           absorbed vs (inl t) = rw t (sym (clause-in vs d z (has-in z d again) t))
           absorbed vs (inr f) = rw f
       go (inr absent) =
-          meaning-same ks (λ vs. r vs && clause vs c) (with-literal r (literal-at (position z) (sign z)) (λ vs. clause vs d)) (λ vs. ap (λ b. r vs && b) (worth vs ∙ ap (λ b. b || clause vs d) (literal-is (length ks) z named vs)))
+          meaning-same ks (λ vs. r vs && clause vs c) (with-literal r (literal-at (position z) (sign z)) (λ vs. clause vs d))
+          (λ vs. ap (λ b. r vs && b) (worth vs ∙ ap (λ b. b || clause vs d) (literal-is (length ks) z named vs)))
           ∙ meaning-reduced ks (position z) (position-below (length ks) z named) is-own (sign z) r (λ vs. clause vs d)
           (clause-ignores (position z) d (every-from (λ y. position y ≡ position z → ⊥) d (off absent)))
           (λ j above below is. clause-ignores j d (every-from (λ y. position y ≡ j → ⊥) d (behind-it j above is)))
@@ -175,10 +184,13 @@ rule-2-beside : (ks : List Kind) (cs ds : List Clause) → Within (length ks) cs
     → meaning ks (both r (matrix cs)) ≡ meaning ks (both r (matrix ds))
 rule-2-beside ks [] ds within possible e r = absurd (none-not-some e)
 rule-2-beside ks (c ∷ cs) ds within possible e r =
-    go (without-first (reducible ks c) c) refl e (rule-2 ks cs) refl (λ rest f. rule-2-beside ks cs rest (within .1) (possible .1) f (λ vs. r vs && clause vs c))
+    go (without-first (reducible ks c) c) refl e (rule-2 ks cs) refl (λ rest f. rule-2-beside ks cs rest (within .1) (possible .1) f
+    (λ vs. r vs && clause vs c))
   where
-    go : (o : Option Clause) → without-first (reducible ks c) c ≡ o → first-of (in-front cs o) (behind c (rule-2 ks cs)) ≡ some ds → (l : Option (List Clause)) → rule-2 ks cs ≡ l
-        → ((rest : List Clause) → rule-2 ks cs ≡ some rest → meaning ks (both (λ vs. r vs && clause vs c) (matrix cs)) ≡ meaning ks (both (λ vs. r vs && clause vs c) (matrix rest)))
+    go : (o : Option Clause) → without-first (reducible ks c) c ≡ o → first-of (in-front cs o) (behind c (rule-2 ks cs)) ≡ some ds →
+        (l : Option (List Clause)) → rule-2 ks cs ≡ l
+        → ((rest : List Clause) → rule-2 ks cs ≡ some rest → meaning ks (both (λ vs. r vs && clause vs c) (matrix cs)) ≡ meaning ks
+        (both (λ vs. r vs && clause vs c) (matrix rest)))
         → meaning ks (both r (matrix (c ∷ cs))) ≡ meaning ks (both r (matrix ds))
     go (some d) p e l f later =
         meaning-same ks (both r (matrix (c ∷ cs))) (λ vs. (r vs && matrix cs vs) && clause vs c) (λ vs. and-swap (r vs) (clause vs c) (matrix cs vs))
@@ -189,17 +201,20 @@ rule-2-beside ks (c ∷ cs) ds within possible e r =
     go none p e (some rest) f later =
         meaning-same ks (both r (matrix (c ∷ cs))) (both (λ vs. r vs && clause vs c) (matrix cs)) (λ vs. and-assoc (r vs) (clause vs c) (matrix cs vs))
         ∙ later rest f
-        ∙ meaning-same ks (both (λ vs. r vs && clause vs c) (matrix rest)) (both r (matrix (c ∷ rest))) (λ vs. sym (and-assoc (r vs) (clause vs c) (matrix rest vs)))
+        ∙ meaning-same ks (both (λ vs. r vs && clause vs c) (matrix rest)) (both r (matrix (c ∷ rest)))
+        (λ vs. sym (and-assoc (r vs) (clause vs c) (matrix rest vs)))
         ∙ ap (λ x. meaning ks (both r (matrix x))) (some-is (c ∷ rest) ds (sym (ap (behind c) f) ∙ e))
 
-pub rule-2-kept : (ks : List Kind) (cs ds : List Clause) → Within (length ks) cs → rule-1 cs ≡ none → rule-2 ks cs ≡ some ds → meaning ks (matrix cs) ≡ meaning ks (matrix ds)
+pub rule-2-kept : (ks : List Kind) (cs ds : List Clause) → Within (length ks) cs → rule-1 cs ≡ none → rule-2 ks cs ≡ some ds →
+    meaning ks (matrix cs) ≡ meaning ks (matrix ds)
 rule-2-kept ks cs ds within one e = rule-2-beside ks cs ds within (rule-1-none cs one) e (λ vs. true)
 
 -- ---- rules 3 and 4: an unknown is set
 
 -- The literal z is made true: no loss for an existential unknown where more is true then, nor for a universal one where less is.
 module _ (ks : List Kind) (z : ℤ) (named : Named (length ks) z) (cs : List Clause) (within : Within (length ks) cs) where
-  set-kept : (k : Kind) → kind-at ks z ≡ k → (existential ≡ k → Below (matrix cs) (matrix (set-true z cs))) → (universal ≡ k → Below (matrix (set-true z cs)) (matrix cs))
+  set-kept : (k : Kind) → kind-at ks z ≡ k → (existential ≡ k → Below (matrix cs) (matrix (set-true z cs))) →
+      (universal ≡ k → Below (matrix (set-true z cs)) (matrix cs))
       → meaning ks (matrix cs) ≡ meaning ks (matrix (set-true z cs))
   set-kept existential is f g =
       meaning-set ks (position z) existential (position-below (length ks) z named) is (sign z) (matrix cs) (matrix (set-true z cs))
@@ -240,7 +255,8 @@ unit-stands ks (c ∷ cs) z e = go (unit ks c) refl (lowest-unit ks cs) refl e (
     pick true y x p u e = here y p (some-is y z e)
     pick false y x p u e = there x u (some-is x z e)
 
-    go : (a : Option ℤ) → unit ks c ≡ a → (b : Option ℤ) → lowest-unit ks cs ≡ b → lower a b ≡ some z → ((y : ℤ) → lowest-unit ks cs ≡ some y → Unit-of ks cs y) → Unit-of ks (c ∷ cs) z
+    go : (a : Option ℤ) → unit ks c ≡ a → (b : Option ℤ) → lowest-unit ks cs ≡ b → lower a b ≡ some z →
+        ((y : ℤ) → lowest-unit ks cs ≡ some y → Unit-of ks cs y) → Unit-of ks (c ∷ cs) z
     go none p b q e later = there z (later z (q ∙ e)) refl
     go (some y) p none q e later = here y p (some-is y z e)
     go (some y) p (some x) q e later = pick (leb (position y) (position x)) y x p (later x q) e
@@ -277,7 +293,8 @@ pub record Pure-of (ks : List Kind) (cs : List Clause) (z : ℤ) : Type 0 where
 abbrev PureFrom : ℕ → List Clause → ℤ → Type 0
 PureFrom m cs z = Named m z × (found z cs ≡ true) × (found (negℤ z) cs ≡ false)
 
-pure-here : (m k : ℕ) (cs : List Clause) (z : ℤ) → k < m → (a b : Bool) → found (pos (suc k)) cs ≡ a → found (negsuc k) cs ≡ b → one-of a b k ≡ some z → PureFrom m cs z
+pure-here : (m k : ℕ) (cs : List Clause) (z : ℤ) → k < m → (a b : Bool) → found (pos (suc k)) cs ≡ a → found (negsuc k) cs ≡ b → one-of a b k ≡ some z →
+    PureFrom m cs z
 pure-here m k cs z lt true true p q e = absurd (none-not-some e)
 pure-here m k cs z lt false false p q e = absurd (none-not-some e)
 pure-here m k cs z lt true false p q e =
@@ -290,7 +307,8 @@ pure-from m k [] cs z len e = absurd (none-not-some e)
 pure-from m k (x ∷ ks) cs z len e =
     go (one-of (found (pos (suc k)) cs) (found (negsuc k) cs) k) refl e (λ f. pure-from m (suc k) ks cs z (omega arith) f)
   where
-    go : (o : Option ℤ) → one-of (found (pos (suc k)) cs) (found (negsuc k) cs) k ≡ o → first-of o (lowest-pure (suc k) ks cs) ≡ some z → (lowest-pure (suc k) ks cs ≡ some z → PureFrom m cs z) → PureFrom m cs z
+    go : (o : Option ℤ) → one-of (found (pos (suc k)) cs) (found (negsuc k) cs) k ≡ o → first-of o (lowest-pure (suc k) ks cs) ≡ some z →
+        (lowest-pure (suc k) ks cs ≡ some z → PureFrom m cs z) → PureFrom m cs z
     go none p e later = later e
     go (some y) p e later = pure-here m k cs z (omega arith) (found (pos (suc k)) cs) (found (negsuc k) cs) refl refl (p ∙ e)
 
@@ -311,13 +329,15 @@ rule-4-kept ks cs ds within e = go (lowest-pure zero ks cs) refl e
         alike : set-true z cs ≡ without-clauses z cs
         alike = without-literal-none (negℤ z) (without-clauses z cs) (go-absent (true-or-false (found (negℤ z) (without-clauses z cs))))
           where
-            go-absent : (found (negℤ z) (without-clauses z cs) ≡ true) ⊎ (found (negℤ z) (without-clauses z cs) ≡ false) → found (negℤ z) (without-clauses z cs) ≡ false
+            go-absent : (found (negℤ z) (without-clauses z cs) ≡ true) ⊎ (found (negℤ z) (without-clauses z cs) ≡ false) →
+                found (negℤ z) (without-clauses z cs) ≡ false
             go-absent (inr f) = f
             go-absent (inl t) =
                 let i = any-in (has (negℤ z)) (without-clauses z cs) t in
                 absurd (never-both (in-any (has (negℤ z)) cs (i .0) (keep-in (λ c. not (has z c)) cs (i .0) (i .1) .0) (i .2)) (p .absent))
     by-kind z p universal is =
-        set-kept ks (negℤ z) (opposite-named (length ks) z (p .named)) cs within universal (ap (λ x. getD ks x existential) (opposite-position (length ks) z (p .named)) ∙ is)
+        set-kept ks (negℤ z) (opposite-named (length ks) z (p .named)) cs within universal
+        (ap (λ x. getD ks x existential) (opposite-position (length ks) z (p .named)) ∙ is)
         (λ q. absurd (let z : _≡_ {A = ℕ} 0 1 = cc in omega arith))
         (λ q. subst (λ (x : List Clause). Below (matrix x) (matrix cs)) (sym alike) (without-literal-below z cs))
         ∙ ap (λ x. meaning ks (matrix x)) alike

@@ -11,9 +11,13 @@ use lib.IntN.{ℤ, pos, negℤ}
 use lib.ListN.{length, length-append}
 use Rattle.formula.specs.Formula.{Kind, existential, universal, Clause}
 use Rattle.formula.specs.Meaning.{matrix, meaning}
-use Rattle.trimming_rules.specs.Trimming.{same, has, kind-at, keep, behind, first-of, without-first, always-true, rule-1, reducible, in-front, rule-2, lowest-unit, without-clauses, without-literal, set-true, if-some, rule-3, lowest-pure, dropped, rule-4, step, from-step, steps, entries}
-use Rattle.trimming_rules.proofs.ClauseLaws.{Named, Every, In, every-in, every-from, any-in, has-in, in-has, same-itself, keep-in, without-in, never-both}
-use Rattle.trimming_rules.proofs.RuleLaws.{Within, none-not-some, some-is, unit-stands, Pure-of, pure-stands, By, by-1, by-2, by-3, by-4, step-by, step-kept}
+use Rattle.trimming_rules.specs.Trimming.{same, has, kind-at, keep, behind, first-of, without-first, always-true, rule-1, reducible, in-front, rule-2}
+use Rattle.trimming_rules.specs.Trimming.{lowest-unit, without-clauses, without-literal, set-true, if-some, rule-3, lowest-pure, dropped, rule-4, step}
+use Rattle.trimming_rules.specs.Trimming.{from-step, steps, entries}
+use Rattle.trimming_rules.proofs.ClauseLaws.{Named, Every, In, every-in, every-from, any-in, has-in, in-has, same-itself, keep-in, without-in}
+use Rattle.trimming_rules.proofs.ClauseLaws.{never-both}
+use Rattle.trimming_rules.proofs.RuleLaws.{Within, none-not-some, some-is, unit-stands, Pure-of, pure-stands, By, by-1, by-2, by-3, by-4, step-by}
+use Rattle.trimming_rules.proofs.RuleLaws.{step-kept}
 
 -- The number of entries, zeros included.
 abbrev pub size : List Clause → ℕ
@@ -89,7 +93,8 @@ less-2 : (ks : List Kind) (n : ℕ) (cs ds : List Clause) → rule-2 ks cs ≡ s
 less-2 ks n [] ds e = absurd (none-not-some e)
 less-2 ks n (c ∷ cs) ds e = go (without-first (reducible ks c) c) refl e (rule-2 ks cs) refl (less-2 ks n cs)
   where
-    go : (o : Option Clause) → without-first (reducible ks c) c ≡ o → first-of (in-front cs o) (behind c (rule-2 ks cs)) ≡ some ds → (l : Option (List Clause)) → rule-2 ks cs ≡ l
+    go : (o : Option Clause) → without-first (reducible ks c) c ≡ o → first-of (in-front cs o) (behind c (rule-2 ks cs)) ≡ some ds →
+        (l : Option (List Clause)) → rule-2 ks cs ≡ l
         → ((rest : List Clause) → rule-2 ks cs ≡ some rest → Less n cs rest) → Less n (c ∷ cs) ds
     go (some d) p e l f later =
         subst (Less n (c ∷ cs)) (some-is (d ∷ cs) ds e)
@@ -124,7 +129,10 @@ without-literal-more n z (c ∷ cs) =
     record {
       falls = let h = l .falls in omega arith;
       clauses = let h = l .clauses in omega arith;
-      within = λ w. (every-from (Named n) (keep (λ y. not (same z y)) c) (λ y i. every-in (Named n) c y (w .0) (keep-in (λ y. not (same z y)) c y i .0)), l .within (w .1));
+      within = λ w. (
+        every-from (Named n) (keep (λ y. not (same z y)) c) (λ y i. every-in (Named n) c y (w .0) (keep-in (λ y. not (same z y)) c y i .0)),
+        l .within (w .1),
+      );
     }
 
 without-clauses-falls : (z : ℤ) (cs : List Clause) (c : Clause) → In c cs → has z c ≡ true → size (without-clauses z cs) < size cs
@@ -212,7 +220,8 @@ pub steps-kept : (m : ℕ) (ks : List Kind) (cs : List Clause) → Within (lengt
 steps-kept zero ks cs w = refl
 steps-kept (suc m) ks cs w = go (step ks cs) refl (steps-kept m ks)
   where
-    go : (o : Option (List Clause)) → step ks cs ≡ o → ((ds : List Clause) → Within (length ks) ds → meaning ks (matrix ds) ≡ meaning ks (matrix (steps m ks ds)))
+    go : (o : Option (List Clause)) → step ks cs ≡ o →
+        ((ds : List Clause) → Within (length ks) ds → meaning ks (matrix ds) ≡ meaning ks (matrix (steps m ks ds)))
         → meaning ks (matrix cs) ≡ meaning ks (matrix (from-step o (steps m ks) cs))
     go none p later = refl
     go (some ds) p later = step-kept ks cs ds w p ∙ later ds (step-less ks (length ks) cs ds p .within w)
@@ -226,7 +235,8 @@ steps-end zero ks cs le = nothing (step ks cs) refl
     nothing (some ds) p = absurd (let l = step-less ks 0 cs ds p .falls in omega arith)
 steps-end (suc m) ks cs le = go (step ks cs) refl (steps-end m ks)
   where
-    go : (o : Option (List Clause)) → step ks cs ≡ o → ((ds : List Clause) → size ds ≤ m → step ks (steps m ks ds) ≡ none) → step ks (from-step o (steps m ks) cs) ≡ none
+    go : (o : Option (List Clause)) → step ks cs ≡ o → ((ds : List Clause) → size ds ≤ m → step ks (steps m ks ds) ≡ none) →
+        step ks (from-step o (steps m ks) cs) ≡ none
     go none p later = p
     go (some ds) p later = later ds (let l = step-less ks 0 cs ds p .falls in omega arith)
 

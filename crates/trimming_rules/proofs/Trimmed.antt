@@ -65,8 +65,10 @@ size-clauses (pos zero ∷ []) e = refl
 size-clauses (pos (suc v) ∷ []) e = absurd (false≢true e)
 size-clauses (negsuc v ∷ []) e = absurd (false≢true e)
 size-clauses (pos zero ∷ y ∷ zs) e = let h = size-clauses (y ∷ zs) (sym (ended-behind (pos zero) y zs) ∙ e) in omega arith
-size-clauses (pos (suc v) ∷ y ∷ zs) e = size-onto (pos (suc v)) (clauses (y ∷ zs)) (started y zs) ∙ ap suc (size-clauses (y ∷ zs) (sym (ended-behind (pos (suc v)) y zs) ∙ e))
-size-clauses (negsuc v ∷ y ∷ zs) e = size-onto (negsuc v) (clauses (y ∷ zs)) (started y zs) ∙ ap suc (size-clauses (y ∷ zs) (sym (ended-behind (negsuc v) y zs) ∙ e))
+size-clauses (pos (suc v) ∷ y ∷ zs) e = size-onto (pos (suc v)) (clauses (y ∷ zs)) (started y zs) ∙ ap suc
+    (size-clauses (y ∷ zs) (sym (ended-behind (pos (suc v)) y zs) ∙ e))
+size-clauses (negsuc v ∷ y ∷ zs) e = size-onto (negsuc v) (clauses (y ∷ zs)) (started y zs) ∙ ap suc
+    (size-clauses (y ∷ zs) (sym (ended-behind (negsuc v) y zs) ∙ e))
 
 -- Entries that end in 0 are those of their clauses.
 onto-entries : (z : ℤ) (cs : List Clause) → Started cs → entries (onto z cs) ≡ z ∷ entries cs
@@ -80,15 +82,19 @@ entries-clauses (pos (suc v) ∷ []) e = absurd (false≢true e)
 entries-clauses (negsuc v ∷ []) e = absurd (false≢true e)
 entries-clauses (pos zero ∷ y ∷ zs) e = ap (λ (l : List ℤ). pos 0 ∷ l) (entries-clauses (y ∷ zs) (sym (ended-behind (pos zero) y zs) ∙ e))
 entries-clauses (pos (suc v) ∷ y ∷ zs) e =
-    onto-entries (pos (suc v)) (clauses (y ∷ zs)) (started y zs) ∙ ap (λ (l : List ℤ). pos (suc v) ∷ l) (entries-clauses (y ∷ zs) (sym (ended-behind (pos (suc v)) y zs) ∙ e))
+    onto-entries (pos (suc v)) (clauses (y ∷ zs)) (started y zs) ∙ ap (λ (l : List ℤ). pos (suc v) ∷ l)
+    (entries-clauses (y ∷ zs) (sym (ended-behind (pos (suc v)) y zs) ∙ e))
 entries-clauses (negsuc v ∷ y ∷ zs) e =
-    onto-entries (negsuc v) (clauses (y ∷ zs)) (started y zs) ∙ ap (λ (l : List ℤ). negsuc v ∷ l) (entries-clauses (y ∷ zs) (sym (ended-behind (negsuc v) y zs) ∙ e))
+    onto-entries (negsuc v) (clauses (y ∷ zs)) (started y zs) ∙ ap (λ (l : List ℤ). negsuc v ∷ l)
+    (entries-clauses (y ∷ zs) (sym (ended-behind (negsuc v) y zs) ∙ e))
 
 pub within-clauses : (n : ℕ) (zs : List ℤ) → ((i : ℕ) → natAbs (getD zs i (pos 0)) ≤ n) → Within n (clauses zs)
 within-clauses n [] h = tt
 within-clauses n (pos zero ∷ zs) h = (tt, within-clauses n zs (λ i. h (suc i)))
-within-clauses n (pos (suc v) ∷ zs) h = within-onto n (pos (suc v)) (clauses zs) (record { from-one = omega arith; to-last = h zero }) (within-clauses n zs (λ i. h (suc i)))
-within-clauses n (negsuc v ∷ zs) h = within-onto n (negsuc v) (clauses zs) (record { from-one = omega arith; to-last = h zero }) (within-clauses n zs (λ i. h (suc i)))
+within-clauses n (pos (suc v) ∷ zs) h = within-onto n (pos (suc v)) (clauses zs) (record { from-one = omega arith; to-last = h zero })
+    (within-clauses n zs (λ i. h (suc i)))
+within-clauses n (negsuc v ∷ zs) h = within-onto n (negsuc v) (clauses zs) (record { from-one = omega arith; to-last = h zero })
+    (within-clauses n zs (λ i. h (suc i)))
 
 -- ---- entries of clauses: as many zeros as clauses, the last entry is 0, and none is beyond the names
 
@@ -174,7 +180,8 @@ module _ (kinds : List ℕ) (literals : List ℤ) (a : Accepted kinds literals) 
   pub trimmed-twice : trimmed kinds (trimmed kinds literals) ≡ trimmed kinds literals
   unfolding trimmed
   trimmed-twice =
-      ap entries (steps-still (length (entries result)) (prefix kinds) (clauses (entries result)) (ap (step (prefix kinds)) back ∙ steps-end (length literals) (prefix kinds) (clauses literals) few))
+      ap entries (steps-still (length (entries result)) (prefix kinds) (clauses (entries result)) (ap (step (prefix kinds)) back ∙ steps-end (length literals)
+      (prefix kinds) (clauses literals) few))
       ∙ ap entries back
 
   -- 'A formula to which none of the causes 1 to 3 applies.'
@@ -186,8 +193,10 @@ module _ (kinds : List ℕ) (literals : List ℤ) (a : Accepted kinds literals) 
         few-unknowns = a .few-unknowns;
         kinds-known = a .kinds-known;
         few-entries = let f = more .falls in let g = few in let h = a .few-entries in let e = length-entries result in omega arith;
-        few-clauses = let f = more .clauses in let h = a .few-clauses in let g = a .clauses-are-zeros in let e = zeros-entries (length (prefix kinds)) result result-within in omega arith;
-        clauses-are-zeros = ap length (clauses-entries (length (prefix kinds)) result result-within) ∙ sym (zeros-entries (length (prefix kinds)) result result-within);
+        few-clauses = let f = more .clauses in let h = a .few-clauses in let g = a .clauses-are-zeros in let e = zeros-entries (length (prefix kinds)) result
+            result-within in omega arith;
+        clauses-are-zeros = ap length (clauses-entries (length (prefix kinds)) result result-within) ∙ sym
+            (zeros-entries (length (prefix kinds)) result result-within);
         last-is-zero = zero-known (getD (entries result) (length (entries result) - 1) (pos 0)) (ended-entries result);
         within = λ i. subst (λ (n : ℕ). natAbs (getD (entries result) i (pos 0)) ≤ n) unknowns (names-entries (length (prefix kinds)) result result-within i);
       }

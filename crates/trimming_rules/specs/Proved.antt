@@ -34,4 +34,5 @@ pub record Proved (kinds : List ℕ) (literals : List ℤ) : Type 0 where
   pub run-true : (l : Lent) (limit : ℕ) → Over kinds literals l → run l limit .answer ≡ is-true → verdict kinds literals ≡ true
   pub run-false : (l : Lent) (limit : ℕ) → Over kinds literals l → run l limit .answer ≡ is-false → verdict kinds literals ≡ false
   -- .. 'and the judge is given that one': a claim that it accepts over the trimmed formula is the lent one's verdict.
-  pub claim-carried : (claim : Bool) (rows : List Row) → accepted claim (prefix kinds) (matrix (clauses (trimmed kinds literals))) rows ≡ true → verdict kinds literals ≡ claim
+  pub claim-carried : (claim : Bool) (rows : List Row) → accepted claim (prefix kinds) (matrix (clauses (trimmed kinds literals))) rows ≡ true →
+      verdict kinds literals ≡ claim

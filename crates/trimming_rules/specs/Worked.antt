@@ -30,23 +30,32 @@ reduced-and-set-to-false = case (0 ∷ 1 ∷ []) ((pos 2 ∷ pos 1 ∷ []) ∷ (
 
 -- Reduced behind the last existential literal: 1 0 1 1; 1 2 3 -4, -1 -2 3, -1 2 4, 1 -2 -4; left 1 2, -1 -2, -1 2, 1 -2.
 abbrev pub reduced-behind-the-last-existential-literal : WorkedTrimming
-reduced-behind-the-last-existential-literal = case (1 ∷ 0 ∷ 1 ∷ 1 ∷ []) ((pos 1 ∷ pos 2 ∷ pos 3 ∷ negsuc 3 ∷ []) ∷ (negsuc 0 ∷ negsuc 1 ∷ pos 3 ∷ []) ∷ (negsuc 0 ∷ pos 2 ∷ pos 4 ∷ []) ∷ (pos 1 ∷ negsuc 1 ∷ negsuc 3 ∷ []) ∷ []) ((pos 1 ∷ pos 2 ∷ []) ∷ (negsuc 0 ∷ negsuc 1 ∷ []) ∷ (negsuc 0 ∷ pos 2 ∷ []) ∷ (pos 1 ∷ negsuc 1 ∷ []) ∷ [])
+reduced-behind-the-last-existential-literal = case (1 ∷ 0 ∷ 1 ∷ 1 ∷ []) ((pos 1 ∷ pos 2 ∷ pos 3 ∷ negsuc 3 ∷ []) ∷ (negsuc 0 ∷ negsuc 1 ∷ pos 3 ∷ []) ∷
+    (negsuc 0 ∷ pos 2 ∷ pos 4 ∷ []) ∷ (pos 1 ∷ negsuc 1 ∷ negsuc 3 ∷ []) ∷ []) ((pos 1 ∷ pos 2 ∷ []) ∷ (negsuc 0 ∷ negsuc 1 ∷ []) ∷ (negsuc 0 ∷ pos 2 ∷ []) ∷
+    (pos 1 ∷ negsuc 1 ∷ []) ∷ [])
 
 -- The prefix's order, not the clause's: 0 1 0; 3 2, -3 -2, 2 1 -3, -1 3 -2; left 3 2, -3 -2, 2 1 -3, -1 3 -2.
 abbrev pub the-prefix-order-not-the-clause : WorkedTrimming
-the-prefix-order-not-the-clause = case (0 ∷ 1 ∷ 0 ∷ []) ((pos 3 ∷ pos 2 ∷ []) ∷ (negsuc 2 ∷ negsuc 1 ∷ []) ∷ (pos 2 ∷ pos 1 ∷ negsuc 2 ∷ []) ∷ (negsuc 0 ∷ pos 3 ∷ negsuc 1 ∷ []) ∷ []) ((pos 3 ∷ pos 2 ∷ []) ∷ (negsuc 2 ∷ negsuc 1 ∷ []) ∷ (pos 2 ∷ pos 1 ∷ negsuc 2 ∷ []) ∷ (negsuc 0 ∷ pos 3 ∷ negsuc 1 ∷ []) ∷ [])
+the-prefix-order-not-the-clause = case (0 ∷ 1 ∷ 0 ∷ []) ((pos 3 ∷ pos 2 ∷ []) ∷ (negsuc 2 ∷ negsuc 1 ∷ []) ∷ (pos 2 ∷ pos 1 ∷ negsuc 2 ∷ []) ∷
+    (negsuc 0 ∷ pos 3 ∷ negsuc 1 ∷ []) ∷ []) ((pos 3 ∷ pos 2 ∷ []) ∷ (negsuc 2 ∷ negsuc 1 ∷ []) ∷ (pos 2 ∷ pos 1 ∷ negsuc 2 ∷ []) ∷
+    (negsuc 0 ∷ pos 3 ∷ negsuc 1 ∷ []) ∷ [])
 
 -- The first of two units gives the sign: 0 0 0; -1, 1, 1 2 3, -1 -2 3, 2 -3, -2 -3; left (empty), 2 3, 2 -3, -2 -3.
 abbrev pub the-first-of-two-units-gives-the-sign : WorkedTrimming
-the-first-of-two-units-gives-the-sign = case (0 ∷ 0 ∷ 0 ∷ []) ((negsuc 0 ∷ []) ∷ (pos 1 ∷ []) ∷ (pos 1 ∷ pos 2 ∷ pos 3 ∷ []) ∷ (negsuc 0 ∷ negsuc 1 ∷ pos 3 ∷ []) ∷ (pos 2 ∷ negsuc 2 ∷ []) ∷ (negsuc 1 ∷ negsuc 2 ∷ []) ∷ []) ([] ∷ (pos 2 ∷ pos 3 ∷ []) ∷ (pos 2 ∷ negsuc 2 ∷ []) ∷ (negsuc 1 ∷ negsuc 2 ∷ []) ∷ [])
+the-first-of-two-units-gives-the-sign = case (0 ∷ 0 ∷ 0 ∷ []) ((negsuc 0 ∷ []) ∷ (pos 1 ∷ []) ∷ (pos 1 ∷ pos 2 ∷ pos 3 ∷ []) ∷
+    (negsuc 0 ∷ negsuc 1 ∷ pos 3 ∷ []) ∷ (pos 2 ∷ negsuc 2 ∷ []) ∷ (negsuc 1 ∷ negsuc 2 ∷ []) ∷ [])
+    ([] ∷ (pos 2 ∷ pos 3 ∷ []) ∷ (pos 2 ∷ negsuc 2 ∷ []) ∷ (negsuc 1 ∷ negsuc 2 ∷ []) ∷ [])
 
 -- Twice the same literal is no unit: 0; 1 1, -1 -1; left 1 1, -1 -1.
 abbrev pub twice-the-same-literal-is-no-unit : WorkedTrimming
-twice-the-same-literal-is-no-unit = case (0 ∷ []) ((pos 1 ∷ pos 1 ∷ []) ∷ (negsuc 0 ∷ negsuc 0 ∷ []) ∷ []) ((pos 1 ∷ pos 1 ∷ []) ∷ (negsuc 0 ∷ negsuc 0 ∷ []) ∷ [])
+twice-the-same-literal-is-no-unit = case (0 ∷ []) ((pos 1 ∷ pos 1 ∷ []) ∷ (negsuc 0 ∷ negsuc 0 ∷ []) ∷ [])
+    ((pos 1 ∷ pos 1 ∷ []) ∷ (negsuc 0 ∷ negsuc 0 ∷ []) ∷ [])
 
 -- Every place of the opposite literal: 0 0 0; -1, 1 2 1 3, -2 -3, 2 -3, -2 3 1; left 2 3, -2 -3, 2 -3, -2 3.
 abbrev pub every-place-of-the-opposite-literal : WorkedTrimming
-every-place-of-the-opposite-literal = case (0 ∷ 0 ∷ 0 ∷ []) ((negsuc 0 ∷ []) ∷ (pos 1 ∷ pos 2 ∷ pos 1 ∷ pos 3 ∷ []) ∷ (negsuc 1 ∷ negsuc 2 ∷ []) ∷ (pos 2 ∷ negsuc 2 ∷ []) ∷ (negsuc 1 ∷ pos 3 ∷ pos 1 ∷ []) ∷ []) ((pos 2 ∷ pos 3 ∷ []) ∷ (negsuc 1 ∷ negsuc 2 ∷ []) ∷ (pos 2 ∷ negsuc 2 ∷ []) ∷ (negsuc 1 ∷ pos 3 ∷ []) ∷ [])
+every-place-of-the-opposite-literal = case (0 ∷ 0 ∷ 0 ∷ []) ((negsuc 0 ∷ []) ∷ (pos 1 ∷ pos 2 ∷ pos 1 ∷ pos 3 ∷ []) ∷ (negsuc 1 ∷ negsuc 2 ∷ []) ∷
+    (pos 2 ∷ negsuc 2 ∷ []) ∷ (negsuc 1 ∷ pos 3 ∷ pos 1 ∷ []) ∷ []) ((pos 2 ∷ pos 3 ∷ []) ∷ (negsuc 1 ∷ negsuc 2 ∷ []) ∷ (pos 2 ∷ negsuc 2 ∷ []) ∷
+    (negsuc 1 ∷ pos 3 ∷ []) ∷ [])
 
 -- The lowest unit, not the first: 0 0; -1 -2, 2, 1, 2; left (empty), (empty).
 abbrev pub the-lowest-unit-not-the-first : WorkedTrimming
@@ -74,11 +83,13 @@ an-empty-clause-stops-nothing = case (0 ∷ 0 ∷ []) ([] ∷ (pos 1 ∷ []) ∷
 
 -- 01's K12: 1 0 1 0; 1 2 4, -1 -2 4, 3 -4; left 1 2, -1 -2.
 abbrev pub K12 : WorkedTrimming
-K12 = case (1 ∷ 0 ∷ 1 ∷ 0 ∷ []) ((pos 1 ∷ pos 2 ∷ pos 4 ∷ []) ∷ (negsuc 0 ∷ negsuc 1 ∷ pos 4 ∷ []) ∷ (pos 3 ∷ negsuc 3 ∷ []) ∷ []) ((pos 1 ∷ pos 2 ∷ []) ∷ (negsuc 0 ∷ negsuc 1 ∷ []) ∷ [])
+K12 = case (1 ∷ 0 ∷ 1 ∷ 0 ∷ []) ((pos 1 ∷ pos 2 ∷ pos 4 ∷ []) ∷ (negsuc 0 ∷ negsuc 1 ∷ pos 4 ∷ []) ∷ (pos 3 ∷ negsuc 3 ∷ []) ∷ [])
+    ((pos 1 ∷ pos 2 ∷ []) ∷ (negsuc 0 ∷ negsuc 1 ∷ []) ∷ [])
 
 -- A universal unknown of one sign: 1 0 0; -1 2 3, -1 -3 -2, -2 3, 2 -3; left 2 3, -3 -2, -2 3, 2 -3.
 abbrev pub a-universal-unknown-of-one-sign : WorkedTrimming
-a-universal-unknown-of-one-sign = case (1 ∷ 0 ∷ 0 ∷ []) ((negsuc 0 ∷ pos 2 ∷ pos 3 ∷ []) ∷ (negsuc 0 ∷ negsuc 2 ∷ negsuc 1 ∷ []) ∷ (negsuc 1 ∷ pos 3 ∷ []) ∷ (pos 2 ∷ negsuc 2 ∷ []) ∷ []) ((pos 2 ∷ pos 3 ∷ []) ∷ (negsuc 2 ∷ negsuc 1 ∷ []) ∷ (negsuc 1 ∷ pos 3 ∷ []) ∷ (pos 2 ∷ negsuc 2 ∷ []) ∷ [])
+a-universal-unknown-of-one-sign = case (1 ∷ 0 ∷ 0 ∷ []) ((negsuc 0 ∷ pos 2 ∷ pos 3 ∷ []) ∷ (negsuc 0 ∷ negsuc 2 ∷ negsuc 1 ∷ []) ∷ (negsuc 1 ∷ pos 3 ∷ []) ∷
+    (pos 2 ∷ negsuc 2 ∷ []) ∷ []) ((pos 2 ∷ pos 3 ∷ []) ∷ (negsuc 2 ∷ negsuc 1 ∷ []) ∷ (negsuc 1 ∷ pos 3 ∷ []) ∷ (pos 2 ∷ negsuc 2 ∷ []) ∷ [])
 
 abbrev pub worked-trimmings : List WorkedTrimming
 worked-trimmings =

@@ -1,4 +1,4 @@
--- The program takes in one byte more than a map and two counts of 16 bits can ask for (`judgement::FILE`), and so does `vulzhenn_judge_gates`. What is
+-- The program takes in one byte more than a map and two counts of 16 bits can ask for (`judgement::FILE`). What is
 -- found of that is what is found of the whole file, however long it is, of whatever is read of the text. Assumes nothing.
 use Prim.Native.Nat.{ℕ, _<_}
 use mathlib.Core.Path.{_≡_}

@@ -12,7 +12,8 @@ use Rattle.witness.specs.declared.Reading.{Reading}
 use Rattle.witness.specs.declared.Reading.the-variants.{Taken, Refused}
 use Rattle.witness.specs.declared.Written.{Written}
 use Rattle.witness.specs.declared.Written.the-variants.{Length, Refused as Not-written}
-use Rattle.witness.specs.File.{made, record-of, file-cause, size, write-cause, reading, reading-number, record-read, read-record, writing, writing-number, length-written, written-length}
+use Rattle.witness.specs.File.{made, record-of, file-cause, size, write-cause, reading, reading-number, record-read, read-record, writing, writing-number}
+use Rattle.witness.specs.File.{length-written, written-length}
 
 module _ (f : List ℕ) where
   abbrev read-by : Bool → Reading

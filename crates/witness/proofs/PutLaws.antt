@@ -81,7 +81,8 @@ pub length-rows-field : (there : Bool) (count : ℕ) (rows : List ℕ) → (ther
 length-rows-field true count rows fits = ap (λ (k : ℕ). suc (suc k)) (length-take-le (16 * count) rows (fits refl)) ∙ omega arith
 length-rows-field false count rows fits = refl
 
-both-numbers : (there : Bool) (n m : ℕ) (l : List ℕ) → part there (two-bytes n) ++ (part there (two-bytes m) ++ l) ≡ part there (two-bytes n ++ two-bytes m) ++ l
+both-numbers : (there : Bool) (n m : ℕ) (l : List ℕ) →
+    part there (two-bytes n) ++ (part there (two-bytes m) ++ l) ≡ part there (two-bytes n ++ two-bytes m) ++ l
 both-numbers true n m l = refl
 both-numbers false n m l = refl
 
@@ -89,7 +90,8 @@ both-numbers false n m l = refl
 pub fields-file : (r : Record) (universal existential : List ℕ) → all-fields r universal existential ≡ file r universal existential
 unfolding file
 fields-file r universal existential =
-    let rows = part (stands 2 (r .map)) (rows-field (r .universal) universal) ++ (part (stands 3 (r .map)) (rows-field (r .existential) existential) ++ part (stands 4 (r .map)) (two-bytes (r .rounds))) in
+    let rows = part (stands 2 (r .map)) (rows-field (r .universal) universal) ++ (part (stands 3 (r .map)) (rows-field (r .existential) existential) ++ part
+    (stands 4 (r .map)) (two-bytes (r .rounds))) in
     ap (λ (l : List ℕ). r .map ∷ l)
     (append-assoc (part (stands 0 (r .map)) (r .claim ∷ [])) _ rows
     ∙ ap (λ (l : List ℕ). part (stands 0 (r .map)) (r .claim ∷ []) ++ l)
@@ -100,8 +102,10 @@ pub length-head : (r : Record) → length (head r) ≡ 1 + if-stands (stands 0 (
 length-head r =
     omega (
       arith,
-      length-append (r .map ∷ []) (part (stands 0 (r .map)) (r .claim ∷ []) ++ (part (stands 1 (r .map)) (two-bytes (r .unknowns)) ++ part (stands 1 (r .map)) (two-bytes (r .clauses)))),
-      length-append (part (stands 0 (r .map)) (r .claim ∷ [])) (part (stands 1 (r .map)) (two-bytes (r .unknowns)) ++ part (stands 1 (r .map)) (two-bytes (r .clauses))),
+      length-append (r .map ∷ []) (part (stands 0 (r .map)) (r .claim ∷ []) ++ (part (stands 1 (r .map)) (two-bytes (r .unknowns)) ++ part (stands 1 (r .map))
+          (two-bytes (r .clauses)))),
+      length-append (part (stands 0 (r .map)) (r .claim ∷ [])) (part (stands 1 (r .map)) (two-bytes (r .unknowns)) ++ part (stands 1 (r .map))
+          (two-bytes (r .clauses))),
       length-append (part (stands 1 (r .map)) (two-bytes (r .unknowns))) (part (stands 1 (r .map)) (two-bytes (r .clauses))),
       length-part (stands 0 (r .map)) (r .claim ∷ []),
       length-part (stands 1 (r .map)) (two-bytes (r .unknowns)),

@@ -11,7 +11,9 @@ use borrow.Author.Tests.{eq-eqb, ne-eqb, le-ltb}
 use lib.Seq.{length-take-le, take-at, drop-at, drop-drop, drop-cons, getD-drop, take-take}
 use Rattle.witness.specs.declared.Record.{Record}
 use Rattle.witness.specs.declared.Written.the-variants.{Length}
-use Rattle.witness.specs.File.{stands, part, if-stands, two-bytes, word, rows-field, file, has, sizes-at, universal-at, universal-count, existential-at, existential-count, rounds-at, end-of, record-of, side-rows, bad-claim, bad-count, bad-counts, content-cause, file-cause, over-lent, write-cause, rows-back, out-after, kept}
+use Rattle.witness.specs.File.{stands, part, if-stands, two-bytes, word, rows-field, file, has, sizes-at, universal-at, universal-count, existential-at}
+use Rattle.witness.specs.File.{existential-count, rounds-at, end-of, record-of, side-rows, bad-claim, bad-count, bad-counts, content-cause, file-cause}
+use Rattle.witness.specs.File.{over-lent, write-cause, rows-back, out-after, kept}
 use Rattle.witness.specs.RoundTrip.{WrittenAgain, ReadAgain, RoundTrip}
 use Rattle.witness.specs.Private.Steps.{Fitting}
 use Rattle.witness.proofs.TestLaws.{stop, pass, passed, accepted, write-taken}
@@ -52,7 +54,8 @@ module _ (f : List ℕ) (bytes : Bytes f) where
       → drop at f ≡ part b (two-bytes (if-stands b (word (drop at f))) ++ two-bytes (if-stands b (word (drop (at + 2) f)))) ++ drop (at + if-stands b 4) f
   sizes-part true at h =
       word-at at (omega arith)
-      ∙ ap (λ (l : List ℕ). two-bytes (word (drop at f)) ++ l) (word-at (at + 2) (omega arith) ∙ ap (λ (l : List ℕ). two-bytes (word (drop (at + 2) f)) ++ l) (same-drop (at + 2 + 2) (at + 4) (omega arith)))
+      ∙ ap (λ (l : List ℕ). two-bytes (word (drop at f)) ++ l) (word-at (at + 2) (omega arith) ∙ ap (λ (l : List ℕ). two-bytes (word (drop (at + 2) f)) ++ l)
+      (same-drop (at + 2 + 2) (at + 4) (omega arith)))
       ∙ sym (append-assoc (two-bytes (word (drop at f))) (two-bytes (word (drop (at + 2) f))) (drop (at + 4) f))
   sizes-part false at h = same-drop at (at + 0) (omega arith)
 
@@ -62,11 +65,13 @@ module _ (f : List ℕ) (bytes : Bytes f) where
       word-at at (omega arith)
       ∙ ap₂ (λ (n : ℕ) (l : List ℕ). two-bytes n ++ l) (sym e)
       (sym (take-append-drop (16 * count) (drop (at + 2) f))
-      ∙ ap₂ _++_ (sym (take-take (16 * count) (16 * count) (drop (at + 2) f) (omega arith))) (drop-drop (16 * count) (at + 2) f ∙ same-drop (at + 2 + 16 * count) (at + (2 + 16 * count)) (omega arith)))
+      ∙ ap₂ _++_ (sym (take-take (16 * count) (16 * count) (drop (at + 2) f) (omega arith)))
+      (drop-drop (16 * count) (at + 2) f ∙ same-drop (at + 2 + 16 * count) (at + (2 + 16 * count)) (omega arith)))
       ∙ sym (append-assoc (two-bytes count) (take (16 * count) (take (16 * count) (drop (at + 2) f))) (drop (at + (2 + 16 * count)) f))
   rows-part false at count e h = same-drop at (at + 0) (omega arith)
 
-  rounds-part : (b : Bool) (at : ℕ) → at + if-stands b 2 ≤ length f → drop at f ≡ part b (two-bytes (if-stands b (word (drop at f)))) ++ drop (at + if-stands b 2) f
+  rounds-part : (b : Bool) (at : ℕ) → at + if-stands b 2 ≤ length f →
+      drop at f ≡ part b (two-bytes (if-stands b (word (drop at f)))) ++ drop (at + if-stands b 2) f
   rounds-part true at h = word-at at h
   rounds-part false at h = same-drop at (at + 0) (omega arith)
 
@@ -80,13 +85,15 @@ module _ (f : List ℕ) (bytes : Bytes f) where
       (claim-at (has 0 f) (omega arith)
       ∙ ap (λ (l : List ℕ). part (has 0 f) (if-stands (has 0 f) (getD f 1 0) ∷ []) ++ l)
       (sizes-part (has 1 f) (sizes-at f) (omega arith)
-      ∙ ap (λ (l : List ℕ). part (has 1 f) (two-bytes (if-stands (has 1 f) (word (drop (sizes-at f) f))) ++ two-bytes (if-stands (has 1 f) (word (drop (sizes-at f + 2) f)))) ++ l)
+      ∙ ap (λ (l : List ℕ). part (has 1 f) (two-bytes (if-stands (has 1 f) (word (drop (sizes-at f) f))) ++ two-bytes
+      (if-stands (has 1 f) (word (drop (sizes-at f + 2) f)))) ++ l)
       (rows-part (has 2 f) (universal-at f) (universal-count f) refl (omega arith)
       ∙ ap (λ (l : List ℕ). part (has 2 f) (rows-field (universal-count f) (side-rows true f)) ++ l)
       (rows-part (has 3 f) (existential-at f) (existential-count f) refl (omega arith)
       ∙ ap (λ (l : List ℕ). part (has 3 f) (rows-field (existential-count f) (side-rows false f)) ++ l)
       (rounds-part (has 4 f) (rounds-at f) (omega arith)
-      ∙ ap (λ (l : List ℕ). part (has 4 f) (two-bytes (if-stands (has 4 f) (word (drop (rounds-at f) f)))) ++ l) (drop-of-length-le f {i = end-of f} (omega arith))
+      ∙ ap (λ (l : List ℕ). part (has 4 f) (two-bytes (if-stands (has 4 f) (word (drop (rounds-at f) f)))) ++ l)
+      (drop-of-length-le f {i = end-of f} (omega arith))
       ∙ append-nil (part (has 4 f) (two-bytes (if-stands (has 4 f) (word (drop (rounds-at f) f))))))))))
       )
 
@@ -106,7 +113,8 @@ word-there : (f : List ℕ) (b : Bool) (at n : ℕ) (p l : List ℕ) → drop at
 word-there f true at n p l e = ap word e ∙ word-back n (p ++ l)
 word-there f false at n p l e = refl
 
-second-there : (f : List ℕ) (b : Bool) (at n m : ℕ) (l : List ℕ) → drop at f ≡ part b (two-bytes n ++ two-bytes m) ++ l → if-stands b (word (drop (at + 2) f)) ≡ if-stands b m
+second-there : (f : List ℕ) (b : Bool) (at n m : ℕ) (l : List ℕ) → drop at f ≡ part b (two-bytes n ++ two-bytes m) ++ l →
+    if-stands b (word (drop (at + 2) f)) ≡ if-stands b m
 second-there f true at n m l e = ap word (sym (drop-drop 2 at f) ∙ ap (drop 2) e) ∙ word-back m l
 second-there f false at n m l e = refl
 
@@ -125,7 +133,8 @@ rows-behind f true at n rows l e fits =
     (ap (λ (k : ℕ). suc (suc k)) (length-take-le (16 * n) rows (fits refl)) ∙ omega (arith, word-there f true at n (take (16 * n) rows) l e))
 rows-behind f false at n rows l e fits = behind f false at 0 [] l e refl
 
-rows-within : (f : List ℕ) (b : Bool) (at n : ℕ) (rows l : List ℕ) → drop at f ≡ part b (rows-field n rows) ++ l → (b ≡ true → 16 * n ≤ length rows) → at ≤ length f
+rows-within : (f : List ℕ) (b : Bool) (at n : ℕ) (rows l : List ℕ) → drop at f ≡ part b (rows-field n rows) ++ l → (b ≡ true → 16 * n ≤ length rows) →
+    at ≤ length f
     → at + if-stands b (2 + 16 * if-stands b (word (drop at f))) ≤ length f
 rows-within f true at n rows l e fits k =
     within f true at (2 + 16 * word (drop at f)) (rows-field n rows) l e

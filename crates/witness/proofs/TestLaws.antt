@@ -71,8 +71,10 @@ write-taken r universal existential room e =
     let size-passed = passed (ltb room (size r)) 17 _ (map-passed .1) in
     let claim-passed = passed (bad-claim r) 6 _ (size-passed .1) in
     let counts-passed = passed (bad-counts r) 3 _ (claim-passed .1) in
-    let lent-passed = passed (over-lent (stands 2 (r .map)) (r .universal) universal || over-lent (stands 3 (r .map)) (r .existential) existential) 3 0 (counts-passed .1) in
-    let both = or-false (over-lent (stands 2 (r .map)) (r .universal) universal) (over-lent (stands 3 (r .map)) (r .existential) existential) (lent-passed .0) in
+    let lent-passed = passed (over-lent (stands 2 (r .map)) (r .universal) universal || over-lent (stands 3 (r .map)) (r .existential) existential) 3 0
+    (counts-passed .1) in
+    let both = or-false (over-lent (stands 2 (r .map)) (r .universal) universal) (over-lent (stands 3 (r .map)) (r .existential) existential)
+    (lent-passed .0) in
     record {
       map-fits = ltb-false 31 (r .map) (map-passed .0);
       fitting =

@@ -9,7 +9,9 @@ ghost use mathlib.Core.List.{[], _∷_};
 ghost use Prim.Native.Nat.{_+_, _*_, _/_, _%_, _^_, _≤_, _<_};
 ghost use lib.Dec.{eqb};
 ghost use lib.ListN.{length, getD, take, drop};
-ghost use Rattle.witness.specs.File.{stands as bit-stands, part, if-stands, two-bytes, word, rows-field, end-of, record-of, bad-claim, bad-count, bad-counts, content-cause, file-cause, size, over-lent, write-cause, reading, reading-number, record-read, read-record, rows-back, rows-start, writing, writing-number, length-written, written-length, out-after};
+ghost use Rattle.witness.specs.File.{stands as bit-stands, part, if-stands, two-bytes, word, rows-field, end-of, record-of, bad-claim, bad-count};
+ghost use Rattle.witness.specs.File.{bad-counts, content-cause, file-cause, size, over-lent, write-cause, reading, reading-number, record-read};
+ghost use Rattle.witness.specs.File.{read-record, rows-back, rows-start, writing, writing-number, length-written, written-length, out-after};
 ghost use Rattle.witness.specs.RoundTrip.{RoundTrip};
 ghost use Rattle.witness.specs.Private.Steps.{Placed, Put, Fitting, head, all-fields};
 
@@ -246,7 +248,8 @@ fn write_cause(record: Record, universal: &[u8], existential: &[u8], room: usize
 }
 
 fn lent_too_few(record: Record, universal: &[u8], existential: &[u8]) -> bool
-    ensures { λ r. ⌜ r ≡ (over-lent (bit-stands 2 («record» .map)) («record» .universal) (now (universal .entry)) || over-lent (bit-stands 3 («record» .map)) («record» .existential) (now (existential .entry))) ⌝ }
+    ensures { λ r. ⌜ r ≡ (over-lent (bit-stands 2 («record» .map)) («record» .universal) (now (universal .entry)) || over-lent (bit-stands 3 («record» .map))
+        («record» .existential) (now (existential .entry))) ⌝ }
 {
     let map = record.map;
     let universal_count = record.universal;

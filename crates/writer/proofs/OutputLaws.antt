@@ -19,7 +19,7 @@ use Rattle.report.specs.Report.{put, put-count}
 use Rattle.report.proofs.Lengths.{decimal-short}
 use Rattle.writing.specs.Writing.{p-line, prefix-lines, clause-lines, written}
 use Rattle.writing.specs.WritingRight.{WritingRight}
-use Rattle.writing.proofs.DigitLaws.{decimal-most}
+use Rattle.numerals.proofs.DigitLaws.{decimal-most}
 use Rattle.writing.proofs.Lengths.{Small, prefix-most, clauses-most}
 use Rattle.writing.proofs.WritingRight.{writing-right}
 use Rattle.writer.specs.Output.{output}
@@ -32,7 +32,7 @@ parts-fit kinds literals names variables clauses a same small short =
     let few = a .few-unknowns in
     let few-clauses = a .few-clauses in
     let few-entries = a .few-entries in
-    omega (arith, p-line-length variables clauses, decimal-short variables small .most, decimal-most clauses (omega arith), prefix-most kinds names short, clauses-most names literals short)
+    omega (arith, p-line-length variables clauses, decimal-short variables small .most, decimal-most 4 clauses (omega arith), prefix-most kinds names short, clauses-most names literals short)
 
 pub clauses-counted : (kinds : List ℕ) (literals : List ℤ) (f : Formula) → checked kinds literals ≡ Passed f → f .clauses ≡ zeros literals
 clauses-counted kinds literals f e = ap (λ (g : Formula). g .clauses) (accepted-sizes kinds literals e)

@@ -47,10 +47,17 @@ module _ (before kind name : ℕ) where
 
   pub unknown-length : (kind ≡ before → ⊥) → length (unknown before kind name) ≡ 2 + (length (letter kind) + length (decimal name ++ ascii " "))
   unknown-length other =
-      omega (arith, ap length (unknown-other other), length-append (ascii "0\n" ++ letter kind) (decimal name ++ ascii " "), length-append (ascii "0\n") (letter kind))
+      omega (
+        arith,
+        ap length (unknown-other other),
+        length-append (ascii "0\n" ++ letter kind) (decimal name ++ ascii " "),
+        length-append (ascii "0\n")
+            (letter kind),
+      )
 
 pub next-unknown : (before : ℕ) (kinds names : List ℕ) (i : ℕ) → length names ≡ length kinds → i < length kinds
-    → blocks before (drop i kinds) (drop i names) ≡ unknown before (getD kinds i 0) (getD names i 0) ++ blocks (getD kinds i 0) (drop (i + 1) kinds) (drop (i + 1) names)
+    → blocks before (drop i kinds) (drop i names) ≡ unknown before (getD kinds i 0) (getD names i 0) ++ blocks (getD kinds i 0) (drop (i + 1) kinds)
+    (drop (i + 1) names)
 next-unknown before kinds names i same below = rw (drop-front kinds i 0 below, drop-front names i 0 (omega arith)) refl
 
 pub no-unknown : (before : ℕ) (kinds names : List ℕ) (i : ℕ) → length kinds ≤ i → blocks before (drop i kinds) (drop i names) ≡ ascii "0\n" ++ []
@@ -76,7 +83,8 @@ module _ (names : List ℕ) where
   entry-positive minus zero e other = absurd (other refl)
   entry-positive minus (suc m) e other = rw e (simp sub-one)
 
-  pub entry-negative : (minus : Bool) (m : ℕ) → minus ≡ true → (m ≡ 0 → ⊥) → entry names (signed minus m) ≡ ascii "-" ++ (decimal (getD names (m - 1) 0) ++ ascii " ")
+  pub entry-negative : (minus : Bool) (m : ℕ) → minus ≡ true → (m ≡ 0 → ⊥) →
+      entry names (signed minus m) ≡ ascii "-" ++ (decimal (getD names (m - 1) 0) ++ ascii " ")
   entry-negative minus zero e other = absurd (other refl)
   entry-negative minus (suc m) e other = rw e (simp sub-one)
 

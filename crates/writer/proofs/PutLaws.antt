@@ -45,7 +45,8 @@ pub record Left (all : Bytes) (place : ℕ) (before rest : Bytes) (end : ℕ) (a
 pub left-all : (all : Bytes) (place : ℕ) (before : Bytes) → Left all place before all place before
 left-all all place before = record { sized = refl; counted = refl; so-far = refl }
 
-pub left-next : {all : Bytes} {place : ℕ} {before part rest whole : Bytes} {end next : ℕ} {now after : Bytes} → whole ≡ part ++ rest → Left all place before whole end now
+pub left-next : {all : Bytes} {place : ℕ} {before part rest whole : Bytes} {end next : ℕ} {now after : Bytes} → whole ≡ part ++ rest →
+    Left all place before whole end now
     → Put part end now next after → length after ≡ length now → Left all place before rest next after
 left-next {all} {place} {before} {part} {rest} {whole} {end} {next} {now} {after} e l p same =
     let one = p .ends in
@@ -63,14 +64,16 @@ left-none {all} {place} {before} {end} {after} l =
     record { ends = omega arith; stands = sym (append-nil (take end after)) ∙ l .so-far }
 
 -- There is room for the next part, and for what is left.
-pub left-room : (part rest : Bytes) {all : Bytes} {place : ℕ} {before whole : Bytes} {end : ℕ} {now : Bytes} → whole ≡ part ++ rest → Left all place before whole end now
+pub left-room : (part rest : Bytes) {all : Bytes} {place : ℕ} {before whole : Bytes} {end : ℕ} {now : Bytes} → whole ≡ part ++ rest →
+    Left all place before whole end now
     → place + length all ≤ length before → end + length part ≤ length now
 left-room part rest e l room =
     let a = l .sized in
     let b = l .counted in
     omega (arith, ap length e ∙ length-append part rest)
 
-pub left-ends : {all : Bytes} {place : ℕ} {before rest : Bytes} {end : ℕ} {after : Bytes} → rest ≡ [] → Left all place before rest end after → Put all place before end after
+pub left-ends : {all : Bytes} {place : ℕ} {before rest : Bytes} {end : ℕ} {after : Bytes} → rest ≡ [] → Left all place before rest end after →
+    Put all place before end after
 left-ends {all} {place} {before} {rest} {end} {after} e l = left-none (subst (λ (x : Bytes). Left all place before x end after) e l)
 
 -- What was put from the start on stands within.

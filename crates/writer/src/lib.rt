@@ -47,7 +47,8 @@ fn fill(
     clauses: usize,
     text: &mut [u8],
 ) -> usize
-    requires { ⌜ AcceptedFormula (now kinds) (now literals) × (length (now names) ≡ length (now kinds)) × (clauses ≡ zeros (now literals)) × (58651 ≤ length (now text)) ⌝ }
+    requires { ⌜ AcceptedFormula (now kinds) (now literals) × (length (now names) ≡ length (now kinds)) × (clauses ≡ zeros (now literals)) ×
+        (58651 ≤ length (now text)) ⌝ }
     ensures { λ r. ⌜ Put (written (now (kinds .entry)) (now (literals .entry)) (now (names .entry)) variables) 0 (now (text .entry)) r (now (text .exit)) ⌝ }
 {
     let a = put_p_line(text, variables, clauses);

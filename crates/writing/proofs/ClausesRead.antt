@@ -27,8 +27,8 @@ use Rattle.trimming_rules.proofs.ClauseLaws.{Named, Every}
 use Rattle.trimming_rules.proofs.RuleLaws.{Within}
 use Rattle.writing.specs.Writing.{literal-word, clause-lines}
 use Rattle.writing.specs.WritingRight.{Range}
-use Rattle.writing.proofs.DigitLaws.{and-so, decimal-digits, decimal-front, number-decimal, zero-word}
-use Rattle.writing.proofs.LineLaws.{Word, Words, decimal-word, zero-is-word, line-of, words-line, line-no-end, line-trimmed}
+use Rattle.numerals.proofs.DigitLaws.{and-so, decimal-digits, decimal-front, number-decimal, zero-word}
+use Rattle.numerals.proofs.LineLaws.{Word, Words, decimal-word, zero-is-word, line-of, words-line, line-no-end, line-trimmed}
 use Rattle.writing.proofs.ReadLaws.{at, Reads, one-line, zero-is-zero, decimal-name, decimal-not-zero}
 
 -- An entry by position, by its name.
@@ -134,15 +134,15 @@ module _ (variables : ℕ) (names : List ℕ) (few : variables < 100000) (ranged
       let v = getD names p 0 in
       let r = range-at variables names p (omega arith) ranged in
       let small : v < 100000 = omega (arith, r .1) in
-      let front = decimal-front v small in
+      let front = decimal-front v (omega (arith, small)) in
       let plain : negative (decimal v) ≡ false = ne-eqb (getD (decimal v) 0 0) 45 (λ e. omega arith) in
-      literal-read variables names (decimal v) false v small (decimal-word v small) (decimal-not-zero v (r .0) small) (front-low (decimal v) (decimal-digits v small)) plain (rw plain refl) (r .0) (r .1) (in-at names p (omega arith))
+      literal-read variables names (decimal v) false v small (decimal-word v) (decimal-not-zero v (r .0) small) (front-low (decimal v) (decimal-digits v)) plain (rw plain refl) (r .0) (r .1) (in-at names p (omega arith))
   literal-words (negsuc p) h =
       let last = h .to-last in
       let v = getD names p 0 in
       let r = range-at variables names p (omega arith) ranged in
       let small : v < 100000 = omega (arith, r .1) in
-      let w = decimal-word v small in
+      let w = decimal-word v in
       literal-read variables names (45 ∷ decimal v) true v small (record { some = omega arith; no-space = (refl, w .no-space); no-end = (refl, w .no-end) }) (minus-not-zero (decimal v)) (omega arith) refl refl (r .0) (r .1) (in-at names p (omega arith))
 
   -- ---- a clause line

@@ -8,7 +8,7 @@ use lib.IntN.{ℤ, pos, negsuc}
 use lib.ListN.{length, getD, length-append}
 use Rattle.report.specs.Report.{ascii, decimal}
 use Rattle.writing.specs.Writing.{p-line, letter, unknown, blocks, prefix-lines, literal-word, word-end, clause-lines}
-use Rattle.writing.proofs.DigitLaws.{decimal-most}
+use Rattle.numerals.proofs.DigitLaws.{decimal-most}
 
 -- Every name has at most five digits.
 abbrev pub Small : List ℕ → Type 0
@@ -23,9 +23,9 @@ unknown-most before kind name small =
     go (eqb kind before)
   where
     go : (b : Bool) → length (cond b [] (ascii "0\n" ++ letter kind) ++ decimal name ++ ascii " ") ≤ 10
-    go true = omega (arith, length-append (decimal name) (ascii " "), decimal-most name small)
+    go true = omega (arith, length-append (decimal name) (ascii " "), decimal-most 4 name small)
     go false =
-        omega (arith, length-append (ascii "0\n" ++ letter kind ++ decimal name) (ascii " "), length-append (ascii "0\n" ++ letter kind) (decimal name), letter-most kind, decimal-most name small)
+        omega (arith, length-append (ascii "0\n" ++ letter kind ++ decimal name) (ascii " "), length-append (ascii "0\n" ++ letter kind) (decimal name), letter-most kind, decimal-most 4 name small)
 
 pub blocks-most : (before : ℕ) (kinds names : List ℕ) → Small names → length (blocks before kinds names) ≤ 10 * length kinds + 2
 blocks-most before [] names small = omega arith
@@ -40,8 +40,8 @@ prefix-most (k ∷ ks) names small =
 
 pub word-most : (names : List ℕ) (z : ℤ) → Small names → length (literal-word names z ++ word-end z) ≤ 7
 word-most names (pos zero) small = omega arith
-word-most names (pos (suc p)) small = omega (arith, length-append (decimal (getD names p 0)) (ascii " "), decimal-most (getD names p 0) (small p))
-word-most names (negsuc p) small = omega (arith, length-append (decimal (getD names p 0)) (ascii " "), decimal-most (getD names p 0) (small p))
+word-most names (pos (suc p)) small = omega (arith, length-append (decimal (getD names p 0)) (ascii " "), decimal-most 4 (getD names p 0) (small p))
+word-most names (negsuc p) small = omega (arith, length-append (decimal (getD names p 0)) (ascii " "), decimal-most 4 (getD names p 0) (small p))
 
 pub clauses-most : (names : List ℕ) (literals : List ℤ) → Small names → length (clause-lines names literals) ≤ 7 * length literals
 clauses-most names [] small = omega arith
@@ -57,6 +57,6 @@ p-line-most variables clauses a b =
       length-append (ascii "p cnf " ++ decimal variables ++ ascii " ") (decimal clauses),
       length-append (ascii "p cnf " ++ decimal variables) (ascii " "),
       length-append (ascii "p cnf ") (decimal variables),
-      decimal-most variables a,
-      decimal-most clauses b,
+      decimal-most 4 variables a,
+      decimal-most 4 clauses b,
     )

@@ -21,8 +21,8 @@ use Rattle.text.specs.Reading.{State, went, name-cause, bind-all, kind-of-word,
 use Rattle.text.proofs.BodyLaws.{body-prefix}
 use Rattle.writing.specs.Writing.{letter, blocks, prefix-lines}
 use Rattle.writing.specs.WritingRight.{Range}
-use Rattle.writing.proofs.DigitLaws.{and-so, number-decimal, zero-word}
-use Rattle.writing.proofs.LineLaws.{Word, Words, line-of, words-line, line-no-end, line-trimmed, zero-is-word}
+use Rattle.numerals.proofs.DigitLaws.{and-so, number-decimal, zero-word}
+use Rattle.numerals.proofs.LineLaws.{Word, Words, line-of, words-line, line-no-end, line-trimmed, zero-is-word}
 use Rattle.writing.proofs.ReadLaws.{at, Reads, one-line, zero-is-zero, decimal-name, decimal-not-zero, range-words, range-front, range-behind}
 
 -- ---- the first block of the rest of a prefix

@@ -12,8 +12,8 @@ use Rattle.lines.specs.Numbers.{number-shape, number-within, no-number, is-zero
 use Rattle.report.specs.Report.{decimal}
 use Rattle.text.specs.Reading.{State, Step, went, body-line, whole, go-on, clause-list, body}
 use Rattle.writing.specs.WritingRight.{Range}
-use Rattle.writing.proofs.DigitLaws.{and-so, number-decimal, zero-word}
-use Rattle.writing.proofs.LineLaws.{No, Words, lines-more, decimal-word}
+use Rattle.numerals.proofs.DigitLaws.{and-so, number-decimal, zero-word}
+use Rattle.numerals.proofs.LineLaws.{No, Words, lines-more, decimal-word}
 
 -- V and C, kinds and names of the blocks so far, entries so far, and clauses so far.
 abbrev pub at : ℕ → ℕ → List ℕ → List ℕ → List ℤ → ℕ → State
@@ -47,7 +47,7 @@ decimal-not-zero n some small = rw (number-decimal n small) (ne-eqb n 0 (λ e. o
 
 pub range-words : (variables : ℕ) (names : List ℕ) → variables < 100000 → Range variables names → Words (map decimal names)
 range-words variables [] small r = tt
-range-words variables (v ∷ vs) small r = (decimal-word v (omega (arith, r .1)), range-words variables vs small (r .2))
+range-words variables (v ∷ vs) small r = (decimal-word v, range-words variables vs small (r .2))
 
 pub range-front : (variables : ℕ) (xs ys : List ℕ) → Range variables (xs ++ ys) → Range variables xs
 range-front variables [] ys r = tt

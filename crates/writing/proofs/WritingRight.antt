@@ -24,8 +24,8 @@ use Rattle.text.proofs.TextLaws.{OfText, scan-whole, Passes, read-passes, Resul
 use Rattle.trimming_rules.proofs.Trimmed.{entries-clauses, within-clauses}
 use Rattle.writing.specs.Writing.{p-line, prefix-lines, clause-lines, written}
 use Rattle.writing.specs.WritingRight.{Range, Writable, again, WritingRight, ReadWritable}
-use Rattle.writing.proofs.DigitLaws.{number-decimal}
-use Rattle.writing.proofs.LineLaws.{Word, Words, decimal-word, line-of, words-line, line-no-end, line-trimmed, lines-more}
+use Rattle.numerals.proofs.DigitLaws.{number-decimal}
+use Rattle.numerals.proofs.LineLaws.{Word, Words, decimal-word, line-of, words-line, line-no-end, line-trimmed, lines-more}
 use Rattle.writing.proofs.Lengths.{Small, prefix-most, clauses-most, p-line-most}
 use Rattle.writing.proofs.ReadLaws.{at, Reads, decimal-number}
 use Rattle.writing.proofs.PrefixRead.{prefix-reads}
@@ -64,12 +64,12 @@ module _ (variables many : ℕ) (few : variables ≤ max-variables) (few-clauses
     record { some = omega arith; no-space = (refl, tt); no-end = (refl, tt) },
     (
       record { some = omega arith; no-space = (refl, (refl, (refl, tt))); no-end = (refl, (refl, (refl, tt))) },
-      (decimal-word variables (omega arith), tt),
+      (decimal-word variables, tt),
     ),
   )
 
   last : Word (decimal many)
-  last = decimal-word many (omega arith)
+  last = decimal-word many
 
   split : words line ≡ p-word ∷ cnf-word ∷ decimal variables ∷ decimal many ∷ []
   split = words-line ws (decimal many) good last

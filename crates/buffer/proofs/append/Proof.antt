@@ -7,6 +7,12 @@ use Rattle.buffer.proofs.Laws.{appended-fits, behind-fits, appended-sho
 use Rattle.buffer.proofs.append.Statement.{statement}
 use Rattle.buffer.proofs.append.Tie as tie
 
+-- Back along the path, to the place behind a call.
+abbrev back-to-start : tie.After-slice-known2 → tie.Start
+back-to-start at =
+    let after-shared-slice-known = at .before .before .before .before .before .before in
+    after-shared-slice-known .before .before
+
 returns : tie.Need-returns
 returns c =
     let given = c .before .before .before .args in (
@@ -35,7 +41,7 @@ same-length c = search needs
 
 returns-3 : tie.Need-returns-3
 returns-3 c =
-    let given = c .before .before .before .before .before .before .before .before .args in (
+    let given = (back-to-start c) .args in (
       sym (behind-fits (given .out .now) (given .at) (given .part .now) (omega arith)),
       c .before .before .copy .ensures ∙ sym (appended-fits (given .out .now) (given .at) (given .part .now) (omega arith)),
     )

@@ -36,9 +36,10 @@ loop-less c = omega arith
 
 loop-again : tie.Need-loop-again Inv-loop μ-loop
 loop-again c =
-    let out₀ = c .before .before .before .args .out .now in
-    let part = c .before .before .before .args .part .now in
-    let at = c .before .before .before .args .at in
+    let given = c .before .before .before .args in
+    let out₀ = given .out .now in
+    let part = given .part .now in
+    let at = given .at in
     let i = c .before .before .loop .i in (
       omega arith,
       simp length-set (omega arith),

@@ -33,11 +33,12 @@ loop-less c = omega arith
 
 loop-again : tie.Need-loop-again Inv-loop μ-loop
 loop-again c =
+    let loop = c .before .loop in
     let given = c .before .before .args in (
       omega arith,
       omega arith,
-      length-set (c .before .loop .codes) (c .before .loop .i) 0 ∙ c .before .loop .inv .2,
-      zeros-more (take (given .end) (given .codes .now)) (c .before .loop .codes) (given .end) (c .before .loop .i) (c .before .loop .inv .3) (c .before .loop .inv .0) (omega arith),
+      length-set (loop .codes) (loop .i) 0 ∙ loop .inv .2,
+      zeros-more (take (given .end) (given .codes .now)) (loop .codes) (given .end) (loop .i) (loop .inv .3) (loop .inv .0) (omega arith),
     )
 
 same-length : tie.Need-same-length Inv-loop μ-loop
@@ -45,8 +46,10 @@ same-length c = c .before .loop .inv .2
 
 returns : tie.Need-returns Inv-loop μ-loop
 returns c =
+    let loop = c .before .loop in
     let given = c .before .before .args in
-    zeros-all (take (given .end) (given .codes .now)) (c .before .loop .codes) (given .end) (c .before .loop .i) (c .before .loop .inv .3) (length (given .codes .now)) (c .before .loop .inv .2) (omega arith)
+    zeros-all (take (given .end) (given .codes .now)) (loop .codes) (given .end) (loop .i) (loop .inv .3) (length (given .codes .now)) (loop .inv .2)
+    (omega arith)
 
 pub clear-behind-spec : {M : Type 1} → statement M
 clear-behind-spec =

@@ -12,8 +12,12 @@ sub-name c =
     opposite-fits-word (c .before .args .literal) (c .before .fits .literal) (c .before .pre)
 
 cast-result : tie.Need-cast-result
-cast-result c =
-    (rw (opposite-bits (c .before .args .literal) (c .before .fits .literal) (c .before .pre)) (nonNeg-opposite (c .before .args .literal) (rw (toZ-ofZ (c .before .fits .literal)) at (c .if1 .taken))), rw (opposite-name (c .before .args .literal) (c .before .fits .literal) (c .before .pre)) (record { fits = omega (arith, c .before .pre) }))
+cast-result c = (
+  rw (opposite-bits (c .before .args .literal) (c .before .fits .literal) (c .before .pre))
+      (nonNeg-opposite (c .before .args .literal) (rw (toZ-ofZ (c .before .fits .literal)) at (c .if1 .taken))),
+  rw (opposite-name (c .before .args .literal)
+      (c .before .fits .literal) (c .before .pre)) (record { fits = omega (arith, c .before .pre) }),
+)
 
 mul-result : tie.Need-mul-result
 mul-result c =
@@ -28,8 +32,12 @@ cast-result-2 c =
     rw (opposite-name (c .before .args .literal) (c .before .fits .literal) (c .before .pre)) (record { fits = omega (arith, c .before .pre) })
 
 cast-result-3 : tie.Need-cast-result-3
-cast-result-3 c =
-    (rw (toZ-ofZ (c .before .fits .literal)) (nonNeg-other (c .before .args .literal) (rw (toZ-ofZ (c .before .fits .literal)) at (c .if1 .left))), rw (name-bits (c .before .args .literal) (c .before .fits .literal) (c .before .pre)) (record { fits = omega (arith, c .before .pre) }))
+cast-result-3 c = (
+  rw (toZ-ofZ (c .before .fits .literal))
+      (nonNeg-other (c .before .args .literal) (rw (toZ-ofZ (c .before .fits .literal)) at (c .if1 .left))),
+  rw (name-bits (c .before .args .literal)
+      (c .before .fits .literal) (c .before .pre)) (record { fits = omega (arith, c .before .pre) }),
+)
 
 mul-result-2 : tie.Need-mul-result-2
 mul-result-2 c =
@@ -41,11 +49,13 @@ cast-result-4 c =
 
 returns : tie.Need-returns
 returns c =
-    rw (opposite-name (c .before .args .literal) (c .before .fits .literal) (c .before .pre)) (code-of-negative (c .before .args .literal) (rw (toZ-ofZ (c .before .fits .literal)) at (c .if1 .taken)))
+    rw (opposite-name (c .before .args .literal) (c .before .fits .literal) (c .before .pre))
+    (code-of-negative (c .before .args .literal) (rw (toZ-ofZ (c .before .fits .literal)) at (c .if1 .taken)))
 
 returns-2 : tie.Need-returns-2
 returns-2 c =
-    rw (name-bits (c .before .args .literal) (c .before .fits .literal) (c .before .pre)) (code-of-positive (c .before .args .literal) (rw (toZ-ofZ (c .before .fits .literal)) at (c .if1 .left)))
+    rw (name-bits (c .before .args .literal) (c .before .fits .literal) (c .before .pre))
+    (code-of-positive (c .before .args .literal) (rw (toZ-ofZ (c .before .fits .literal)) at (c .if1 .left)))
 
 pub code-of-spec : {M : Type 1} → statement M
 code-of-spec =

@@ -9,6 +9,23 @@ use borrow.Author.Needs.{needs}
 use Rattle.codes.proofs.encode.Statement.{statement}
 use Rattle.codes.proofs.encode.Tie as tie
 
+-- Back along the path, to the place behind a call.
+abbrev back-to-else1 : tie.After-clear-behind-arg → tie.Else1
+back-to-else1 at =
+    let after-has-beyond = at .before .before .before .before .before .before in
+    after-has-beyond .before
+
+abbrev back-to-else2 : tie.After-slice-known3 → tie.Else2
+back-to-else2 at =
+    let after-encode-clauses = at .before .before .before .before .before .before in
+    after-encode-clauses .before .before
+
+abbrev back-to-has-beyond : tie.After-slice-known3 → tie.After-has-beyond
+back-to-has-beyond at = (back-to-else2 at) .before
+
+abbrev back-to-start : tie.After-clear-behind-arg → tie.Start
+back-to-start at = (back-to-else1 at) .before .before
+
 returns : tie.Need-returns
 returns c =
     let given = c .before .before .args in
@@ -24,22 +41,35 @@ returns-2 c =
     (refused-beyond (given .literals .now) (length (given .codes .now)) (sym (c .before .has-beyond .ensures) ∙ c .if2 .taken))
 
 encode-clauses-requires : tie.Need-encode-clauses-requires
-encode-clauses-requires c κs =
-    (c .before .before .before .if1 .left, names-all max-unknowns (c .before .before .before .before .before .args .literals .now) (sym (c .before .before .has-beyond .ensures) ∙ c .before .if2 .left))
+encode-clauses-requires c κs = (
+  c .before .before .before .if1 .left,
+  names-all max-unknowns (c .before .before .before .before .before .args .literals .now)
+      (sym (c .before .before .has-beyond .ensures) ∙ c .before .if2 .left),
+)
 
 clear-behind-requires : tie.Need-clear-behind-requires
 clear-behind-requires c κs =
-    omega (arith, encoding-length (c .before .before .before .before .before .before .before .before .before .args .literals .now), c .before .before .before .encode-clauses .ensures .0, c .before .before .before .encode-clauses .kept .1 .0, c .before .before .before .before .before .before .before .if1 .left)
+    let encode-clauses-call = c .before .before .before .encode-clauses in
+    omega (
+      arith,
+      encoding-length ((back-to-start c) .args .literals .now),
+      encode-clauses-call .ensures .0,
+      encode-clauses-call .kept .1 .0,
+      (back-to-else1 c) .if1 .left,
+    )
 
 same-length : tie.Need-same-length
 same-length c = search needs
 
 returns-3 : tie.Need-returns-3
 returns-3 c =
-    let given = c .before .before .before .before .before .before .before .before .before .before .before .before .args in
-    all-made (given .literals .now) (given .codes .now) (c .before .before .before .before .before .before .encode-clauses .last .1 .0) (c .before .before .clear-behind .last .0) (c .before .before .before .before .before .before .encode-clauses .result)
-    (refused-neither (given .literals .now) (length (given .codes .now)) (c .before .before .before .before .before .before .before .before .before .before .if1 .left) (sym (c .before .before .before .before .before .before .before .before .before .has-beyond .ensures) ∙ c .before .before .before .before .before .before .before .before .if2 .left))
-    (c .before .before .before .before .before .before .encode-clauses .ensures .0) (c .before .before .before .before .before .before .encode-clauses .ensures .1) (c .before .before .before .before .before .before .encode-clauses .kept .1 .0) (c .before .before .clear-behind .ensures)
+    let encode-clauses-call = c .before .before .before .before .before .before .encode-clauses in
+    let given = (back-to-start (c .before .before .before)) .args in
+    all-made (given .literals .now) (given .codes .now) (encode-clauses-call .last .1 .0) (c .before .before .clear-behind .last .0)
+    (encode-clauses-call .result)
+    (refused-neither (given .literals .now) (length (given .codes .now)) ((back-to-else1 (c .before .before .before)) .if1 .left)
+    (sym ((back-to-has-beyond c) .has-beyond .ensures) ∙ (back-to-else2 c) .if2 .left))
+    (encode-clauses-call .ensures .0) (encode-clauses-call .ensures .1) (encode-clauses-call .kept .1 .0) (c .before .before .clear-behind .ensures)
 
 pub encode-spec : {M : Type 1} → statement M
 encode-spec =

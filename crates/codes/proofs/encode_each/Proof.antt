@@ -28,13 +28,22 @@ shared-slice-copy-out-code-of : tie.Need-shared-slice-copy-out-code-of Inv-loop 
 shared-slice-copy-out-code-of c = search needs
 
 code-of-requires : tie.Need-code-of-requires Inv-loop μ-loop
-code-of-requires c κs = rw (bits natAbs (getD (c .before .before .before .before .args .literals .now) (c .before .before .loop .i) (pos 0)) (c .code-of-arg .given)) (c .before .before .before .before .pre .1 (c .before .before .loop .i) (c .before .loop-test .taken))
+code-of-requires c κs = rw (bits natAbs (getD (c .before .before .before .before .args .literals .now) (c .before .before .loop .i) (pos 0))
+    (c .code-of-arg .given)) (c .before .before .before .before .pre .1 (c .before .before .loop .i) (c .before .loop-test .taken))
 
 mul-codes : tie.Need-mul-codes Inv-loop μ-loop
-mul-codes c = let l = length-each (c .before .before .before .before .before .args .literals .now) (c .before .before .before .before .before .args .codes .now) (c .before .before .before .before .before .pre .0) (c .before .before .before .loop .i) (c .before .before .before .loop .codes) (c .before .before .before .loop .inv .0) (c .before .before .before .loop .inv .1) in omega (arith, c .before .before .before .before .before .pre .0)
+mul-codes c =
+    let loop = c .before .before .before .loop in
+    let given = c .before .before .before .before .before .args in
+    let pre = c .before .before .before .before .before .pre in
+    let l = length-each (given .literals .now) (given .codes .now) (pre .0) (loop .i) (loop .codes) (loop .inv .0) (loop .inv .1) in omega (arith, pre .0)
 
 slice-write-codes : tie.Need-slice-write-codes Inv-loop μ-loop
-slice-write-codes c = let l = length-each (c .before .before .before .before .before .args .literals .now) (c .before .before .before .before .before .args .codes .now) (c .before .before .before .before .before .pre .0) (c .before .before .before .loop .i) (c .before .before .before .loop .codes) (c .before .before .before .loop .inv .0) (c .before .before .before .loop .inv .1) in omega (arith, c .before .before .before .before .before .pre .0)
+slice-write-codes c =
+    let loop = c .before .before .before .loop in
+    let given = c .before .before .before .before .before .args in
+    let pre = c .before .before .before .before .before .pre in
+    let l = length-each (given .literals .now) (given .codes .now) (pre .0) (loop .i) (loop .codes) (loop .inv .0) (loop .inv .1) in omega (arith, pre .0)
 
 add-i : tie.Need-add-i Inv-loop μ-loop
 add-i c = omega arith
@@ -44,16 +53,26 @@ loop-less c = omega arith
 
 loop-again : tie.Need-loop-again Inv-loop μ-loop
 loop-again c =
-    let z = getD (c .before .before .before .before .before .args .literals .now) (c .before .before .before .loop .i) (pos 0) in (
+    let loop = c .before .before .before .loop in
+    let given = c .before .before .before .before .before .args in
+    let z = getD (given .literals .now) (loop .i) (pos 0) in (
       omega arith,
-      each-more (c .before .before .before .before .before .args .literals .now) (c .before .before .before .before .before .args .codes .now) (c .before .before .before .before .before .pre .0) (c .before .before .before .loop .i) (c .before .before .before .loop .codes) (c .code-of .result) (c .before .before .loop-test .taken) (c .before .before .before .loop .inv .1) (c .code-of .ensures ∙ bits code-of z (c .before .code-of-arg .given)),
+      each-more (given .literals .now) (given .codes .now) (c .before .before .before .before .before .pre .0) (loop .i) (loop .codes) (c .code-of .result)
+          (c .before .before .loop-test .taken) (loop .inv .1) (c .code-of .ensures ∙ bits code-of z (c .before .code-of-arg .given)),
     )
 
 same-length : tie.Need-same-length Inv-loop μ-loop
-same-length c = length-each (c .before .before .before .args .literals .now) (c .before .before .before .args .codes .now) (c .before .before .before .pre .0) (c .before .loop .i) (c .before .loop .codes) (c .before .loop .inv .0) (c .before .loop .inv .1)
+same-length c =
+    let loop = c .before .loop in
+    let given = c .before .before .before .args in
+    length-each (given .literals .now) (given .codes .now) (c .before .before .before .pre .0) (loop .i) (loop .codes) (loop .inv .0) (loop .inv .1)
 
 returns : tie.Need-returns Inv-loop μ-loop
-returns c = each-all (c .before .before .before .args .literals .now) (c .before .before .before .args .codes .now) (c .before .before .before .pre .0) (c .before .loop .i) (c .before .loop .codes) (c .loop-test .left) (c .before .loop .inv .0) (c .before .loop .inv .1)
+returns c =
+    let loop = c .before .loop in
+    let given = c .before .before .before .args in
+    each-all (given .literals .now) (given .codes .now) (c .before .before .before .pre .0) (loop .i) (loop .codes) (c .loop-test .left) (loop .inv .0)
+    (loop .inv .1)
 
 pub encode-each-spec : {M : Type 1} → statement M
 encode-each-spec =

@@ -9,6 +9,12 @@ use Rattle.codes.proofs.ReadLaws.{names-all}
 use Rattle.codes.proofs.encode_entries.Statement.{statement}
 use Rattle.codes.proofs.encode_entries.Tie as tie
 
+-- Back along the path, to the place behind a call.
+abbrev back-to-start : tie.After-slice-known2 → tie.Start
+back-to-start at =
+    let else1 = at .before .before .before .before .before .before in
+    else1 .before .before
+
 returns : tie.Need-returns
 returns c = rw (refused-longer (c .before .before .args .literals .now) (length (c .before .before .args .codes .now)) (omega arith))
 
@@ -16,16 +22,26 @@ has-beyond-requires : tie.Need-has-beyond-requires
 has-beyond-requires c κs = search needs
 
 returns-2 : tie.Need-returns-2
-returns-2 c = rw (refused-beyond (c .before .before .before .before .args .literals .now) (length (c .before .before .before .before .args .codes .now)) (sym (c .before .has-beyond .ensures) ∙ c .if2 .taken))
+returns-2 c =
+    let given = c .before .before .before .before .args in
+    rw (refused-beyond (given .literals .now) (length (given .codes .now)) (sym (c .before .has-beyond .ensures) ∙ c .if2 .taken))
 
 encode-each-requires : tie.Need-encode-each-requires
-encode-each-requires c κs = (c .before .before .before .if1 .left, names-all max-unknowns (c .before .before .before .before .before .args .literals .now) (sym (c .before .before .has-beyond .ensures) ∙ c .before .if2 .left))
+encode-each-requires c κs = (
+  c .before .before .before .if1 .left,
+  names-all max-unknowns (c .before .before .before .before .before .args .literals .now)
+      (sym (c .before .before .has-beyond .ensures) ∙ c .before .if2 .left),
+)
 
 same-length : tie.Need-same-length
 same-length c = search needs
 
 returns-3 : tie.Need-returns-3
-returns-3 c = rw (refused-neither (c .before .before .before .before .before .before .before .before .args .literals .now) (length (c .before .before .before .before .before .before .before .before .args .codes .now)) (c .before .before .before .before .before .before .if1 .left) (sym (c .before .before .before .before .before .has-beyond .ensures) ∙ c .before .before .before .before .if2 .left)) (c .before .before .encode-each .ensures)
+returns-3 c =
+    let given = (back-to-start c) .args in
+    rw (refused-neither (given .literals .now) (length (given .codes .now)) (c .before .before .before .before .before .before .if1 .left)
+    (sym (c .before .before .before .before .before .has-beyond .ensures) ∙ c .before .before .before .before .if2 .left))
+    (c .before .before .encode-each .ensures)
 
 pub encode-entries-spec : {M : Type 1} → statement M
 encode-entries-spec =

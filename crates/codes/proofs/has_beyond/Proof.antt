@@ -42,18 +42,21 @@ loop-less c = omega arith
 
 loop-again : tie.Need-loop-again Inv-loop μ-loop
 loop-again c =
+    let loop-test = c .before .before .before .loop-test in
+    let loop = c .before .before .before .before .loop in
     let l = c .before .before .before .before .before .args .literals .now in
-    let i = c .before .before .before .before .loop .i in
+    let i = loop .i in
     let told = sym (bits (beyond max-unknowns) (getD l i (pos 0)) (c .before .before .is-beyond-arg .given)) ∙ sym (c .before .is-beyond .ensures) in (
       omega arith,
       ⊎-elim
-          (λ w. any-found (beyond max-unknowns) l (c .before .before .before .before .loop .found) i (c .before .before .before .before .loop .inv .1) (pos 0) (c .if1 .found) (c .before .before .before .loop-test .taken) (told ∙ w .0 .taken) (w .1))
-          (λ w. any-passed (beyond max-unknowns) l (c .before .before .before .before .loop .found) i (c .before .before .before .before .loop .inv .1) (pos 0) (c .if1 .found) (c .before .before .before .loop-test .taken) (told ∙ w .0 .left) (w .1))
+          (λ w. any-found (beyond max-unknowns) l (loop .found) i (loop .inv .1) (pos 0) (c .if1 .found) (loop-test .taken) (told ∙ w .0 .taken) (w .1))
+          (λ w. any-passed (beyond max-unknowns) l (loop .found) i (loop .inv .1) (pos 0) (c .if1 .found) (loop-test .taken) (told ∙ w .0 .left) (w .1))
           (c .if1 .came),
     )
 
 returns : tie.Need-returns Inv-loop μ-loop
-returns c = any-all (beyond max-unknowns) (c .before .before .args .literals .now) (c .before .loop .found) (c .before .loop .i) (c .before .loop .inv .1) (c .loop-test .left)
+returns c = any-all (beyond max-unknowns) (c .before .before .args .literals .now) (c .before .loop .found) (c .before .loop .i) (c .before .loop .inv .1)
+    (c .loop-test .left)
 
 pub has-beyond-spec : {M : Type 1} → statement M
 has-beyond-spec =

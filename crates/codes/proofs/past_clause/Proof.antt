@@ -15,7 +15,8 @@ use Rattle.codes.proofs.past_clause.Statement.{statement}
 use Rattle.codes.proofs.past_clause.Tie as tie
 
 abbrev Inv-loop : tie.InvT-loop
-Inv-loop literals from i₀ i = (from ≤ i) × (i ≤ length literals) × (encoding-from always-true (drop from literals) ≡ encoding-from always-true (drop i literals))
+Inv-loop literals from i₀ i = (from ≤ i) × (i ≤ length literals) × (encoding-from always-true (drop from literals) ≡ encoding-from always-true
+    (drop i literals))
 
 abbrev μ-loop : tie.MeasureT-loop
 μ-loop literals from i₀ i = length literals - i
@@ -34,12 +35,14 @@ add-result c = omega arith
 
 returns : tie.Need-returns Inv-loop μ-loop
 returns c =
+    let loop = c .before .before .before .loop in
     let l = c .before .before .before .before .args .literals .now in
-    let i = c .before .before .before .loop .i in
+    let i = loop .i in
     record {
       ahead = omega arith;
       inside = omega arith;
-      same = c .before .before .before .loop .inv .2 ∙ ap (encoding-from always-true) (drop-front l i (pos 0) (c .before .before .loop-test .taken)) ∙ encoding-end always-true (getD l i (pos 0)) (drop (i + 1) l) (code-of-zero (getD l i (pos 0)) (c .before .if12 .given) (omega arith));
+      same = loop .inv .2 ∙ ap (encoding-from always-true) (drop-front l i (pos 0) (c .before .before .loop-test .taken)) ∙ encoding-end always-true
+          (getD l i (pos 0)) (drop (i + 1) l) (code-of-zero (getD l i (pos 0)) (c .before .if12 .given) (omega arith));
     }
 
 add-i : tie.Need-add-i Inv-loop μ-loop
@@ -50,9 +53,14 @@ loop-less c = omega arith
 
 loop-again : tie.Need-loop-again Inv-loop μ-loop
 loop-again c =
+    let loop = c .before .before .before .loop in
     let l = c .before .before .before .before .args .literals .now in
-    let i = c .before .before .before .loop .i in
-    (omega arith, omega arith, c .before .before .before .loop .inv .2 ∙ ap (encoding-from always-true) (drop-front l i (pos 0) (c .before .before .loop-test .taken)) ∙ encoding-more always-true (getD l i (pos 0)) (drop (i + 1) l) (code-of-other (getD l i (pos 0)) (c .if1 .left)))
+    let i = loop .i in (
+      omega arith,
+      omega arith,
+      loop .inv .2 ∙ ap (encoding-from always-true) (drop-front l i (pos 0) (c .before .before .loop-test .taken)) ∙ encoding-more
+          always-true (getD l i (pos 0)) (drop (i + 1) l) (code-of-other (getD l i (pos 0)) (c .if1 .left)),
+    )
 
 returns-2 : tie.Need-returns-2 Inv-loop μ-loop
 returns-2 c =
@@ -60,7 +68,8 @@ returns-2 c =
     record {
       ahead = omega arith;
       inside = c .before .loop .inv .1;
-      same = c .before .loop .inv .2 ∙ ap (encoding-from always-true) (drop-of-length-le l (c .loop-test .left)) ∙ sym (ap (encoding-from (so-far [])) (drop-of-length-le l (c .loop-test .left)));
+      same = c .before .loop .inv .2 ∙ ap (encoding-from always-true) (drop-of-length-le l (c .loop-test .left)) ∙ sym
+          (ap (encoding-from (so-far [])) (drop-of-length-le l (c .loop-test .left)));
     }
 
 pub past-clause-spec : {M : Type 1} → statement M

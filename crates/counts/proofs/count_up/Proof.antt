@@ -19,13 +19,20 @@ abbrev μ-loop : tie.MeasureT-loop
 μ-loop rows stand yielded number counts₀ end i₀ counts i = end - i
 
 -- The count that is read is the one that was lent.
-counted : (came : ℕ → Bool) (i : ℕ) (counts₀ counts : List ℕ) (n : ℕ) (yes-no : Bool) → counts ≡ counted-up came i counts₀ → n ≡ one-more yes-no (getD counts i 0)
+counted : (came : ℕ → Bool) (i : ℕ) (counts₀ counts : List ℕ) (n : ℕ) (yes-no : Bool) → counts ≡ counted-up came i counts₀ →
+    n ≡ one-more yes-no (getD counts i 0)
     → yes-no ≡ came i → n ≡ one-more (came i) (getD counts₀ i 0)
 counted came i counts₀ counts n yes-no inv is told =
     is
     ∙ ap (λ (v : Bool). one-more v (getD counts i 0)) told
     ∙ ap (λ (l : List ℕ). one-more (came i) (getD l i 0)) inv
     ∙ ap (one-more (came i)) (counted-up-there came i counts₀)
+
+-- Back along the path, to the place behind a call.
+abbrev back-to-start : tie.After-one-more Inv-loop μ-loop → tie.Start Inv-loop μ-loop
+back-to-start at =
+    let after-slice-known = at .before .before .before .before .before .before in
+    after-slice-known .before .before .before
 
 at-most-requires : tie.Need-at-most-requires Inv-loop μ-loop
 at-most-requires c κs = tt
@@ -59,11 +66,12 @@ loop-less c = omega arith
 
 loop-again : tie.Need-loop-again Inv-loop μ-loop
 loop-again c =
-    let given = c .before .before .before .before .before .before .before .before .before .args in
+    let given = (back-to-start c) .args in
     let loop = c .before .before .before .before .loop in
     let came = was-yielded (given .rows .now) (given .yielded .now) (given .number) in (
       ap (λ (l : List ℕ). set l (loop .i) (c .one-more .result)) (loop .inv .0)
-          ∙ ap (λ (n : ℕ). set (counted-up came (loop .i) (given .counts .now)) (loop .i) n) (counted came (loop .i) (given .counts .now) (loop .counts) _ _ (loop .inv .0) (c .one-more .ensures) (c .before .before .is-yielded .ensures))
+          ∙ ap (λ (n : ℕ). set (counted-up came (loop .i) (given .counts .now)) (loop .i) n) (counted came (loop .i) (given .counts .now) (loop .counts) _ _
+          (loop .inv .0) (c .one-more .ensures) (c .before .before .is-yielded .ensures))
           ∙ counted-up-next came (loop .i) (given .counts .now) (omega arith),
       omega arith,
       length-set (loop .counts) (loop .i) (c .one-more .result) ∙ loop .inv .2,
@@ -76,7 +84,8 @@ returns : tie.Need-returns Inv-loop μ-loop
 returns c =
     let given = c .before .before .before .before .before .before .args in
     let loop = c .before .loop in
-    loop .inv .0 ∙ counted-up-most (was-yielded (given .rows .now) (given .yielded .now) (given .number)) (given .stand) (loop .i) (given .counts .now) (omega arith)
+    loop .inv .0 ∙ counted-up-most (was-yielded (given .rows .now) (given .yielded .now) (given .number)) (given .stand) (loop .i) (given .counts .now)
+    (omega arith)
 
 pub count-up-spec : {M : Type 1} → statement M
 count-up-spec =

@@ -24,7 +24,8 @@ Wide m rows = (i : ℕ) → i < length rows → length (getD rows i []) ≡ m
 
 pub table-of-append : (rows more : List Row) → table-of (rows ++ more) ≡ table-of rows ++ table-of more
 table-of-append [] more = refl
-table-of-append (r ∷ rows) more = ap (λ (l : List ℕ). bytes-of r ++ l) (table-of-append rows more) ∙ sym (append-assoc (bytes-of r) (table-of rows) (table-of more))
+table-of-append (r ∷ rows) more = ap (λ (l : List ℕ). bytes-of r ++ l) (table-of-append rows more) ∙ sym
+    (append-assoc (bytes-of r) (table-of rows) (table-of more))
 
 -- ---- rows at the start of a table
 

@@ -204,7 +204,8 @@ module _ (kinds : List ℕ) (t : Table) (found found-marks R M : List ℕ) (held
     unfolding rows-given-up marks-given-up row-bytes mark-numbers
     given-up u counted-u after =
         let in-room : length u ≤ room found = omega (arith, after .in-rows .in-room, from .same-room) in
-        let rows-long : length R′ ≡ length (from .behind) = ap length (after .in-rows .in-bytes) ∙ length-row-bytes u (from .behind) (after .in-rows .in-room) in
+        let rows-long : length R′ ≡ length (from .behind) = ap length (after .in-rows .in-bytes) ∙ length-row-bytes u (from .behind)
+        (after .in-rows .in-room) in
         let marks-long : length M′ ≡ length (from .marks-behind) =
         ap length (after .in-marks) ∙ length-mark-numbers u (from .marks-behind) (omega (arith, after .one-a-row, after .in-rows .in-room)) in
         let all : places-below R′ M′ n ≡ length t =
@@ -217,14 +218,16 @@ module _ (kinds : List ℕ) (t : Table) (found found-marks R M : List ℕ) (held
                 sized = after .in-rows .sized;
                 in-bytes =
                     (λ d. zeroed-from (16 * counted-u d) (16 * all d) (after .in-rows .in-bytes d))
-                    ∙ subst (λ (m : ℕ). zeroed-from m (16 * length t) (table-of (rows u) ++ drop m (from .behind)) ≡ table-of (rows u) ++ drop m (zeroed (16 * length t) (from .behind))) (length-bytes u)
+                    ∙ subst (λ (m : ℕ). zeroed-from m (16 * length t) (table-of (rows u) ++ drop m (from .behind)) ≡ table-of (rows u) ++ drop m
+                    (zeroed (16 * length t) (from .behind))) (length-bytes u)
                     (given-up-behind (table-of (rows u)) (from .behind) (16 * length t))
                     ∙ ap (row-bytes u) (from .zeroed-rows);
               };
           one-a-row = held .one-a-row;
           in-marks =
               (λ d. zeroed-from (counted-u d) (all d) (after .in-marks d))
-              ∙ subst (λ (m : ℕ). zeroed-from m (length t) (map (λ (x : Entry). x .mark) u ++ drop m (from .marks-behind)) ≡ map (λ (x : Entry). x .mark) u ++ drop m (zeroed (length t) (from .marks-behind))) (length-marks u)
+              ∙ subst (λ (m : ℕ). zeroed-from m (length t) (map (λ (x : Entry). x .mark) u ++ drop m (from .marks-behind)) ≡ map (λ (x : Entry). x .mark) u ++
+              drop m (zeroed (length t) (from .marks-behind))) (length-marks u)
               (given-up-behind (map (λ (x : Entry). x .mark) u) (from .marks-behind) (length t))
               ∙ ap (mark-numbers u) (from .zeroed-marks);
         }
@@ -264,10 +267,12 @@ module _ (kinds : List ℕ) (literals : List ℤ) (preferences others : List ℕ
     made =
         subst (λ (m : ℕ). Extended kinds universal q (half-of kinds literals preferences universal m mark from q) (on .behind) (on .marks-behind) step R′ M′ W)
         (on .same-room ∙ room-is)
-        (extends from q from-found (on .behind) (on .marks-behind) passes counted-from (kept-is ∙ counted-kept t counted (clears clear-every r)) held-from (on .held) long)
+        (extends from q from-found (on .behind) (on .marks-behind) passes counted-from (kept-is ∙ counted-kept t counted (clears clear-every r)) held-from
+        (on .held) long)
 
     stopped-so : (step .end ≡ 2 → ⊥)
-        → Extended kinds universal t (half-of kinds literals preferences universal place mark from q) found found-marks (record { end = step .end; count = n }) R′ M′ W
+        → Extended kinds universal t (half-of kinds literals preferences universal place mark from q) found found-marks (record { end = step .end; count = n })
+        R′ M′ W
     stopped-so = stopped kinds t found found-marks R M held blank q on _ n counted step R′ M′ W made
 
     grown-so : step .end ≡ 2
@@ -281,7 +286,8 @@ module _ (kinds : List ℕ) (literals : List ℤ) (preferences others : List ℕ
 
   pub universal-grown : step .end ≡ 2 → (rows-left marks-left : List ℕ) → rows-left ≡ rows-given-up R′ M′ (step .count) n
       → marks-left ≡ marks-given-up R′ M′ (step .count) n → Result (record { end = step .end; count = step .count }) rows-left marks-left
-  universal-grown goes rows-left marks-left on-rows on-marks from t from-found found found-marks place passes counted-from counted held-from held blank room-is long =
+  universal-grown goes rows-left marks-left on-rows on-marks from t from-found found found-marks place passes counted-from counted held-from held blank room-is
+      long =
       let made-so = grown-so from t from-found found found-marks place passes counted-from counted held-from held blank room-is long goes in
       record {
         ended = made-so .ended;

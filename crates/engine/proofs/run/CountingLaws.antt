@@ -34,7 +34,8 @@ use Rattle.rounds.proofs.GrowthLaws.{sized-found}
 use Rattle.rounds.proofs.TableLaws.{rows-under-mark, stands-in, stands-append}
 use Rattle.engine.specs.declared.run.Step.{Step}
 use Rattle.engine.specs.Outcome.{row-bytes}
-use Rattle.engine.specs.Private.Growing.{HoldsRows, Half, no-model, no-room, grows, half, half-fit, half-table, half-end, Extended, Extends, ExtendsUniversal}
+use Rattle.engine.specs.Private.Growing.{HoldsRows, Half, no-model, no-room, grows, half, half-fit, half-table, half-end, Extended, Extends}
+use Rattle.engine.specs.Private.Growing.{ExtendsUniversal}
 use Rattle.engine.specs.Private.Counting.{Packed, Packs, tallied, Counted, half-came, stood, Tallies, TalliesUniversal}
 use Rattle.engine.proofs.run.ByteLaws.{Wide, at-in, absent-not-in}
 use Rattle.engine.proofs.run.GrowingLaws.{wide-of-sized}
@@ -120,7 +121,8 @@ module _ (t : Table) (came : Row → ℕ) (base counts : List ℕ) (counted : Co
     tally-grown r R found wide is fits =
         let more = map (under-mark r) (fresh (rows t) new) in
         ap (updated (yields R) (length t) (length (grown r t new)) (length t)) (counted .in-counts)
-        ∙ updated-grown (λ (x : Entry). half-came false (grows (grown r t new)) (some new) came (x .row)) (yields R) (λ (x : Entry). came (x .row)) t base more fits
+        ∙ updated-grown (λ (x : Entry). half-came false (grows (grown r t new)) (some new) came (x .row)) (yields R) (λ (x : Entry). came (x .row)) t base more
+        fits
         (λ i x s. counted-there (grown r t new) wide R found is i x (stands-append t more i x s))
         (λ i x s.
         let h = stands-fresh r (fresh (rows t) new) i x s in
@@ -132,7 +134,8 @@ module _ (t : Table) (came : Row → ℕ) (base counts : List ℕ) (counted : Co
         ≡ tallied (half-came true (grows (grown r [] new)) (some new) came) (grown r [] new) base
     tally-cleared r R long blank fits =
         ap (updated (yields R) 0 (length (grown r [] new)) (length t)) (counted .in-counts)
-        ∙ updated-cleared (λ (x : Entry). half-came true (grows (grown r [] new)) (some new) came (x .row)) (yields R) (λ (x : Entry). came (x .row)) t base (grown r [] new)
+        ∙ updated-cleared (λ (x : Entry). half-came true (grows (grown r [] new)) (some new) came (x .row)) (yields R) (λ (x : Entry). came (x .row)) t base
+        (grown r [] new)
         fits long blank
         (λ i x s. came-once (x .row) new 0 refl (fresh-in (x .row) [] new (stands-fresh r (fresh [] new) i x s)))
 
@@ -211,7 +214,8 @@ module _ (t : Table) (came : Row → ℕ) (base counts : List ℕ) (counted : Co
         → Tallied s (updated (was-yielded R W n) (stood (result .end) (length (cond cleared [] t)) (length t)) (result .count) (length t) counts)
     search-tallied none n yields packed made found-one = absurd (found-one (made .ended))
     search-tallied (some new) n yields packed made found-one =
-        ap (λ (k : ℕ). updated (was-yielded R W k) (stood (result .end) (length (cond cleared [] t)) (length t)) (result .count) (length t) counts) (yields new refl .1)
+        ap (λ (k : ℕ). updated (was-yielded R W k) (stood (result .end) (length (cond cleared [] t)) (length t)) (result .count) (length t) counts)
+        (yields new refl .1)
         ∙ found-tallied new (yields new refl .0) packed made
 
 -- ---- the two sides' steps
@@ -229,7 +233,8 @@ packs kinds literals preferences others n side? work work′ e from from-found p
 
 -- What a search over the rows of a table yields: rows of the side's width, as many as the table has.
 yielded-rows : (kinds : List ℕ) (literals : List ℤ) (preferences : List ℕ) (side : Kind) (from : Table) (n : ℕ) → n ≡ length from → (new : List Row)
-    → search (prefer preferences) side (prefix kinds) (matrix (clauses literals)) (rows from) ≡ some new → Sized (count side (prefix kinds)) new × (n ≡ length new)
+    → search (prefer preferences) side (prefix kinds) (matrix (clauses literals)) (rows from) ≡ some new → Sized (count side (prefix kinds)) new ×
+    (n ≡ length new)
 yielded-rows kinds literals preferences side from n counted new e =
     let model = search-answers (prefer preferences) side (prefix kinds) (matrix (clauses literals)) (rows from) new e in (
       sized-found (prefer preferences) side (prefix kinds) (matrix (clauses literals)) (rows from) new e,
@@ -258,8 +263,10 @@ module _ (kinds : List ℕ) (literals : List ℤ) (preferences others : List ℕ
   module _ (extends : Extends kinds literals preferences others other-count false R M n mark W step R′ M′ W′) where
     pub existential-uncounted : step .end ≡ 0 → Tallies kinds literals preferences others other-count R M n mark W C C
     existential-uncounted e from t from-found found found-marks base came passes counted counted-t held held-t long one-a-row counts =
-        stopped-tallied t came base C counts kinds existential (few-unknowns kinds literals passes existential) (room found) mark false found found-marks one-a-row
-        (held-t .in-rows .in-room) (λ f. absurd (false≢true f)) step R′ M′ W′ (yielded-by existential from) (extends from t from-found found found-marks passes counted counted-t held held-t long) e
+        stopped-tallied t came base C counts kinds existential (few-unknowns kinds literals passes existential) (room found) mark false found found-marks
+        one-a-row
+        (held-t .in-rows .in-room) (λ f. absurd (false≢true f)) step R′ M′ W′ (yielded-by existential from)
+        (extends from t from-found found found-marks passes counted counted-t held held-t long) e
 
     pub existential-counted : Packs kinds literals preferences others other-count false W W′ → (step .end ≡ 0 → ⊥) → (C′ : List ℕ) → C′ ≡ update-to n
         → Tallies kinds literals preferences others other-count R M n mark W C C′
@@ -267,24 +274,34 @@ module _ (kinds : List ℕ) (literals : List ℤ) (preferences others : List ℕ
         is
         ∙ (λ d. updated (was-yielded R′ W′ other-count) (counted-t d) (step .count) (counted-t d) C)
         ∙ ap (λ (k : ℕ). updated (was-yielded R′ W′ other-count) k (step .count) (length t) C) (stood-all (step .end) (length t))
-        ∙ search-tallied t came base C counts kinds existential (few-unknowns kinds literals passes existential) (room found) mark false found found-marks one-a-row
-        (held-t .in-rows .in-room) (λ f. absurd (false≢true f)) step R′ M′ W′ (yielded-by existential from) other-count (yielded-rows kinds literals preferences existential from other-count counted)
+        ∙ search-tallied t came base C counts kinds existential (few-unknowns kinds literals passes existential) (room found) mark false found found-marks
+        one-a-row
+        (held-t .in-rows .in-room) (λ f. absurd (false≢true f)) step R′ M′ W′ (yielded-by existential from) other-count
+        (yielded-rows kinds literals preferences existential from other-count counted)
         (packs from from-found passes counted held long) (extends from t from-found found found-marks passes counted counted-t held held-t long) found-one
 
   module _ (clear-every r : ℕ) (extends : ExtendsUniversal kinds literals preferences others other-count R M n clear-every r mark W step R′ M′ W′) where
     pub universal-uncounted : step .end ≡ 0 → TalliesUniversal kinds literals preferences others other-count R M n clear-every r mark W C C
     universal-uncounted e from t from-found found found-marks base place came passes counted counted-t held held-t blank same long one-a-row base-blank counts =
-        stopped-tallied t came base C counts kinds universal (few-unknowns kinds literals passes universal) place mark (clears clear-every r) found found-marks one-a-row
-        (held-t .in-rows .in-room) (λ _. base-blank) step R′ M′ W′ (yielded-by universal from) (extends from t from-found found found-marks place passes counted counted-t held held-t blank same long) e
+        stopped-tallied t came base C counts kinds universal (few-unknowns kinds literals passes universal) place mark (clears clear-every r) found found-marks
+        one-a-row
+        (held-t .in-rows .in-room) (λ _. base-blank) step R′ M′ W′ (yielded-by universal from) (extends from t from-found found found-marks place passes counted
+        counted-t held held-t blank same long) e
 
     pub universal-counted : Packs kinds literals preferences others other-count true W W′ → (step .end ≡ 0 → ⊥) → (stand : ℕ)
         → stand ≡ stood (step .end) (cond (clears clear-every r) 0 n) n → (C′ : List ℕ) → C′ ≡ update-to stand
         → TalliesUniversal kinds literals preferences others other-count R M n clear-every r mark W C C′
-    universal-counted packs found-one stand stands C′ is from t from-found found found-marks base place came passes counted counted-t held held-t blank same long one-a-row base-blank counts =
+    universal-counted packs found-one stand stands C′ is from t from-found found found-marks base place came passes counted counted-t held held-t blank same
+        long one-a-row base-blank counts =
         is
         ∙ ap (λ (k : ℕ). updated (was-yielded R′ W′ other-count) k (step .count) n C) stands
-        ∙ (λ d. updated (was-yielded R′ W′ other-count) (stood (step .end) (cond (clears clear-every r) 0 (counted-t d)) (counted-t d)) (step .count) (counted-t d) C)
-        ∙ ap (λ (k : ℕ). updated (was-yielded R′ W′ other-count) (stood (step .end) k (length t)) (step .count) (length t) C) (length-kept (clears clear-every r) t)
-        ∙ search-tallied t came base C counts kinds universal (few-unknowns kinds literals passes universal) place mark (clears clear-every r) found found-marks one-a-row
-        (held-t .in-rows .in-room) (λ _. base-blank) step R′ M′ W′ (yielded-by universal from) other-count (yielded-rows kinds literals preferences universal from other-count counted)
-        (packs from from-found passes counted held long) (extends from t from-found found found-marks place passes counted counted-t held held-t blank same long) found-one
+        ∙ (λ d. updated (was-yielded R′ W′ other-count) (stood (step .end) (cond (clears clear-every r) 0 (counted-t d)) (counted-t d)) (step .count)
+        (counted-t d) C)
+        ∙ ap (λ (k : ℕ). updated (was-yielded R′ W′ other-count) (stood (step .end) k (length t)) (step .count) (length t) C)
+        (length-kept (clears clear-every r) t)
+        ∙ search-tallied t came base C counts kinds universal (few-unknowns kinds literals passes universal) place mark (clears clear-every r) found found-marks
+        one-a-row
+        (held-t .in-rows .in-room) (λ _. base-blank) step R′ M′ W′ (yielded-by universal from) other-count
+        (yielded-rows kinds literals preferences universal from other-count counted)
+        (packs from from-found passes counted held long) (extends from t from-found found found-marks place passes counted counted-t held held-t blank same
+        long) found-one

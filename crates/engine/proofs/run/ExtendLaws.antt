@@ -82,7 +82,8 @@ module _ (kinds : List ℕ) (literals : List ℤ) (preferences others : List ℕ
       let clean : stray-rows (count (other (side-of side?)) (prefix kinds)) n others ≡ false =
       ap (stray-rows (count (other (side-of side?)) (prefix kinds)) n) (holds .in-bytes)
       ∙ ap (λ (k : ℕ). stray-rows (count (other (side-of side?)) (prefix kinds)) k (row-bytes from from-found)) as-rows
-      ∙ no-stray-rows (count (other (side-of side?)) (prefix kinds)) (few-unknowns kinds literals passes (other (side-of side?))) (rows from) (drop (16 * length from) from-found) (holds .sized) in
+      ∙ no-stray-rows (count (other (side-of side?)) (prefix kinds)) (few-unknowns kinds literals passes (other (side-of side?))) (rows from)
+      (drop (16 * length from) from-found) (holds .sized) in
       let inside : n ≤ room others = omega (arith, holds .in-room, same-length) in
       rw (passes, fits, eq-eqb (length work) work-size long, le-ltb (room others) n inside, clean)
 
@@ -155,7 +156,14 @@ module _ (kinds : List ℕ) (literals : List ℤ) (preferences others : List ℕ
       work-long′ =
           let short : n ≤ max-rows = omega (arith, holds .in-room, most-bytes from-found (holds .fits)) in
           ap length packed
-          ∙ omega (arith, length-append (table-of new) (replicate (work-size - length (table-of new)) 0), length-replicate {A = ℕ} (work-size - length (table-of new)) 0, length-table-of new, length-new)
+          ∙ omega (
+            arith,
+            length-append (table-of new) (replicate (work-size - length (table-of new)) 0),
+            length-replicate {A = ℕ}
+                (work-size - length (table-of new)) 0,
+            length-table-of new,
+            length-new,
+          )
 
       total-is : k + count-below n (λ j. is-new R k work′ j) ≡ length (grown r t new)
       unfolding rest
@@ -164,7 +172,8 @@ module _ (kinds : List ℕ) (literals : List ℤ) (preferences others : List ℕ
           ap (λ (a : List ℕ). count-below n (λ j. is-new a k work′ j)) (held .in-rows .in-bytes)
           ∙ ap (λ (c : ℕ). count-below n (λ j. is-new (row-bytes t found) c work′ j)) counted-t
           ∙ ap (λ (w : List ℕ). count-below n (λ j. is-new (row-bytes t found) (length t) w j)) packed
-          ∙ counted-fresh (count (side-of side?) (prefix kinds)) few found found-marks (held .one-a-row) new rest new-sized t sized n (omega (arith, length-new)) in
+          ∙ counted-fresh (count (side-of side?) (prefix kinds)) few found found-marks (held .one-a-row) new rest new-sized t sized n
+          (omega (arith, length-new)) in
           let all : length (fresh (rows t) (take n new)) ≡ length (fresh (rows t) new) =
           ap (λ (l : List Row). length (fresh (rows t) l)) (take-all n new (omega (arith, length-new))) in
           omega (arith, length-append t (map (under-mark r) (fresh (rows t) new)), length-map (fresh (rows t) new) (under-mark r))
@@ -196,14 +205,17 @@ module _ (kinds : List ℕ) (literals : List ℤ) (preferences others : List ℕ
           let end : with-new-rows work′ r n (bytes R M k) ≡ image found found-marks u =
           ap (λ (b : Bytes). with-new-rows work′ r n b) start
           ∙ ap (λ (w : List ℕ). with-new-rows w r n (image found found-marks t)) packed
-          ∙ added-image (count (side-of side?) (prefix kinds)) few found found-marks (held .one-a-row) new rest new-sized t sized r fits n (omega (arith, length-new))
+          ∙ added-image (count (side-of side?) (prefix kinds)) few found found-marks (held .one-a-row) new rest new-sized t sized r fits n
+          (omega (arith, length-new))
           ∙ ap (λ (l : List Row). image found found-marks (grown r t l)) (take-all n new (omega (arith, length-new))) in
           let all-new : take (length new) new ≡ new = take-all (length new) new (omega arith) in
           let wide : Wide (count (side-of side?) (prefix kinds)) (rows u) =
           wide-of-sized (count (side-of side?) (prefix kinds)) (rows u)
           (subst (λ (l : List Row). Sized (count (side-of side?) (prefix kinds)) (rows (grown r t l))) all-new
-          (sized-grown (count (side-of side?) (prefix kinds)) few found found-marks (held .one-a-row) new rest new-sized t sized r (length new) (omega arith))) in
-          subst (λ (o : Option Table). Extended kinds (side-of side?) t (half-fit o) found found-marks (record { end = 2; count = after .number }) (after .row-part) (after .mark-part) work′) (sym under)
+          (sized-grown (count (side-of side?) (prefix kinds)) few found found-marks (held .one-a-row) new rest new-sized t sized r (length new) (omega arith)))
+          in
+          subst (λ (o : Option Table). Extended kinds (side-of side?) t (half-fit o) found found-marks (record { end = 2; count = after .number })
+          (after .row-part) (after .mark-part) work′) (sym under)
           (record {
             ended = refl;
             counted = ap (λ (b : Bytes). b .number) end;

@@ -82,7 +82,8 @@ module _ (u : Table) (found : List ℕ) where
       ∙ ap (λ (l : List ℕ). l ++ drop (16 * length u + 16) found) front
       ∙ ap (λ (n : ℕ). table-of (rows (u ++ (e ∷ []))) ++ drop n found) place
 
-set-mark : (u : Table) (found : List ℕ) (e : Entry) → length u < length found → set (mark-numbers u found) (length u) (e .mark) ≡ mark-numbers (u ++ (e ∷ [])) found
+set-mark : (u : Table) (found : List ℕ) (e : Entry) → length u < length found →
+    set (mark-numbers u found) (length u) (e .mark) ≡ mark-numbers (u ++ (e ∷ [])) found
 unfolding mark-numbers
 set-mark u found e h =
     let marks = map (λ (x : Entry). x .mark) u in
@@ -169,7 +170,8 @@ module _ (m : ℕ) (few : m ≤ max-unknowns) (found found-marks : List ℕ) (on
             → length (fresh (rows t) (take n new)) + weight v ≡ length (fresh (rows t) (take n new ++ (getD new n [] ∷ [])))
         by-test true e =
             let case = new-case t sized n h true e in
-            sym (ap length (fresh-new (getD new n []) (rows t) (take n new) (case .0) (case .1)) ∙ length-append (fresh (rows t) (take n new)) (getD new n [] ∷ []))
+            sym (ap length (fresh-new (getD new n []) (rows t) (take n new) (case .0) (case .1)) ∙ length-append (fresh (rows t) (take n new))
+            (getD new n [] ∷ []))
         by-test false e =
             add-zero (length (fresh (rows t) (take n new)))
             ∙ sym (ap length (fresh-old (getD new n []) (rows t) (take n new) (new-case t sized n h false e)))
@@ -221,7 +223,8 @@ module _ (m : ℕ) (few : m ≤ max-unknowns) (found found-marks : List ℕ) (on
           omega (arith, length-grown-is (take (suc n) new), length-grown-is new, length-fresh-take (rows t) new (suc n)) in
           let place : length g < room (row-bytes g found) = omega (arith, length-row-bytes g found (omega arith)) in
           ap (λ (v : Bool). cond (v && ltb (length g) (room (row-bytes g found))) (with-row area r n (image found found-marks g)) (image found found-marks g)) e
-          ∙ ap (λ (v : Bool). cond v (with-row area r n (image found found-marks g)) (image found found-marks g)) (lt-ltb (length g) (room (row-bytes g found)) place)
+          ∙ ap (λ (v : Bool). cond v (with-row area r n (image found found-marks g)) (image found found-marks g))
+          (lt-ltb (length g) (room (row-bytes g found)) place)
           ∙ with-row-image g r n room-left h
           ∙ ap (image found found-marks) (sym next)
       image-next n h false e =

@@ -14,9 +14,11 @@ use Rattle.expansion.specs.Model.{search}
 use Rattle.engine.specs.declared.run.Answer.the-variants.{Spent}
 use Rattle.engine.specs.declared.run.End.{End}
 use Rattle.engine.specs.declared.run.Step.{Step}
-use Rattle.rounds.specs.Run.{Table, rows, grown, if-fits, Lent, kept, outcome, is-false, is-true, spent, no-room-universal, no-room-existential, step-1, step-2, step-3, step-4, round-of, Outcome as RunOutcome, Answer as RunAnswer}
+use Rattle.rounds.specs.Run.{Table, rows, grown, if-fits, Lent, kept, outcome, is-false, is-true, spent, no-room-universal, no-room-existential, step-1, step-2}
+use Rattle.rounds.specs.Run.{step-3, step-4, round-of, Outcome as RunOutcome, Answer as RunAnswer}
 use Rattle.engine.specs.Outcome.{Given, lent, named}
-use Rattle.engine.specs.Private.Growing.{Holds, Half, no-model, no-room, grows, half, half-fit, half-table, half-of, Extended, said, existential-stop, universal-stop, Shows}
+use Rattle.engine.specs.Private.Growing.{Holds, Half, no-model, no-room, grows, half, half-fit, half-table, half-of, Extended, said, existential-stop}
+use Rattle.engine.specs.Private.Growing.{universal-stop, Shows}
 
 -- The outcome of round r by its steps' ends.
 unfoldable pub after-second : ℕ → Table → Table → Half → RunOutcome
@@ -97,8 +99,10 @@ module _ (g : Given) (A-base A-marks-base : List ℕ) (A S : Table) (r u x : ℕ
 
         go : (h : Half) → round-of l r A S ≡ after-first l r A S h → Extended kinds existential S h S-found S-marks-found step SR SM W
             → Made (round-of l r A S) result AR AM SR SM W
-        go no-model is m = shown (round-of l r A S) is-false A S u x AR AM SR SM W result is (by-end 0 (m .ended)) counted-A counted-S held-A (m .holds) (m .work-long)
-        go no-room is m = shown (round-of l r A S) no-room-existential A S u x AR AM SR SM W result is (by-end 1 (m .ended)) counted-A counted-S held-A (m .holds) (m .work-long)
+        go no-model is m = shown (round-of l r A S) is-false A S u x AR AM SR SM W result is (by-end 0 (m .ended)) counted-A counted-S held-A (m .holds)
+            (m .work-long)
+        go no-room is m = shown (round-of l r A S) no-room-existential A S u x AR AM SR SM W result is (by-end 1 (m .ended)) counted-A counted-S held-A
+            (m .holds) (m .work-long)
         go (grows t) is m = absurd (stops (m .ended))
 
     -- The first step has grown the existential table; what follows is the second one.
@@ -126,21 +130,26 @@ module _ (g : Given) (A-base A-marks-base : List ℕ) (A S : Table) (r u x : ℕ
           by-end : (n : ℕ) → back .end ≡ n → result ≡ said (universal-stop n) r u (step .count)
           by-end n e = told ∙ ap (λ (m : ℕ). said (universal-stop m) r u (step .count)) e
 
-          go : (S′ : Table) (h : Half) → round-of l r A S ≡ after-second r A S′ h → step .count ≡ length S′ → Holds kinds existential S′ S-found S-marks-found SR SM
+          go : (S′ : Table) (h : Half) → round-of l r A S ≡ after-second r A S′ h → step .count ≡ length S′ →
+              Holds kinds existential S′ S-found S-marks-found SR SM
               → Extended kinds universal A h A-base A-marks-base back AR′ AM′ W′ → Made (round-of l r A S) result AR′ AM′ SR SM W′
           go S′ no-model is n hS b =
               shown (round-of l r A S) is-true A S′ u (step .count) AR′ AM′ SR SM W′ result is (by-end 0 (b .ended)) counted-A n (b .holds) hS (b .work-long)
           go S′ no-room is n hS b =
-              shown (round-of l r A S) no-room-universal A S′ u (step .count) AR′ AM′ SR SM W′ result is (by-end 1 (b .ended)) counted-A n (b .holds) hS (b .work-long)
+              shown (round-of l r A S) no-room-universal A S′ u (step .count) AR′ AM′ SR SM W′ result is (by-end 1 (b .ended)) counted-A n (b .holds) hS
+              (b .work-long)
           go S′ (grows t) is n hS b = absurd (stops (b .ended))
 
       pub round-finished : back .end ≡ 2 → Made (round-of l r A S) (said Spent r (back .count) (step .count)) AR′ AM′ SR SM W′
       unfolding after-second
       round-finished goes-back = later (said Spent r (back .count) (step .count)) go
         where
-          go : (S′ : Table) (h : Half) → round-of l r A S ≡ after-second r A S′ h → step .count ≡ length S′ → Holds kinds existential S′ S-found S-marks-found SR SM
-              → Extended kinds universal A h A-base A-marks-base back AR′ AM′ W′ → Made (round-of l r A S) (said Spent r (back .count) (step .count)) AR′ AM′ SR SM W′
+          go : (S′ : Table) (h : Half) → round-of l r A S ≡ after-second r A S′ h → step .count ≡ length S′ →
+              Holds kinds existential S′ S-found S-marks-found SR SM
+              → Extended kinds universal A h A-base A-marks-base back AR′ AM′ W′ → Made (round-of l r A S) (said Spent r (back .count) (step .count)) AR′ AM′ SR
+              SM W′
           go S′ no-model is n hS b = absurd (omega (arith, b .ended))
           go S′ no-room is n hS b = absurd (omega (arith, b .ended))
           go S′ (grows A′) is n hS b =
-              shown (round-of l r A S) spent A′ S′ (back .count) (step .count) AR′ AM′ SR SM W′ (said Spent r (back .count) (step .count)) is refl (b .counted) n (b .holds) hS (b .work-long)
+              shown (round-of l r A S) spent A′ S′ (back .count) (step .count) AR′ AM′ SR SM W′ (said Spent r (back .count) (step .count)) is refl (b .counted)
+              n (b .holds) hS (b .work-long)

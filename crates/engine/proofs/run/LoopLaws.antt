@@ -24,10 +24,12 @@ use Rattle.engine.specs.declared.run.Answer.{Answer}
 use Rattle.engine.specs.declared.run.Answer.the-variants.{False, True, Spent, NoRoomUniversal, NoRoomExistential, Refused}
 use Rattle.engine.specs.declared.run.End.{End}
 use Rattle.engine.specs.declared.run.Step.{Step}
-use Rattle.rounds.specs.Run.{Table, rows, Lent, kept, highest, is-false, is-true, spent, no-room-universal, no-room-existential, round-of, run, Outcome as RunOutcome, Answer as RunAnswer}
+use Rattle.rounds.specs.Run.{Table, rows, Lent, kept, highest, is-false, is-true, spent, no-room-universal, no-room-existential, round-of, run}
+use Rattle.rounds.specs.Run.{Outcome as RunOutcome, Answer as RunAnswer}
 use Rattle.engine.specs.Outcome.{Given, lent, named, side-fits, tables-fit, row-bytes, mark-numbers}
 use Rattle.growth.specs.Growth.{with-preferred}
-use Rattle.engine.specs.Private.Growing.{Passes, Holds, half-table, half-of, Extended, Extends, ExtendsUniversal, said, existential-stop, universal-stop, HoldsBoth, Shows, ShowsRun, Ready}
+use Rattle.engine.specs.Private.Growing.{Passes, Holds, half-table, half-of, Extended, Extends, ExtendsUniversal, said, existential-stop, universal-stop}
+use Rattle.engine.specs.Private.Growing.{HoldsBoth, Shows, ShowsRun, Ready}
 use Rattle.rounds.proofs.RoundLaws.{Over}
 use Rattle.rounds.proofs.RunLaws.{run-goes-on, run-reached, run-stays}
 use Rattle.rounds.proofs.Bounds.{row-length, next-round-in-room}
@@ -138,7 +140,8 @@ module _ (g : Given) where
   abbrev S-counts-found : List ℕ
   S-counts-found = g .found .existential-counts
 
-  start-going : (universals : ℕ) (AR AM W : List ℕ) → Ready (g .kinds) (g .literals) A-found A-marks-found A-counts-found S-found S-marks-found S-counts-found W universals
+  start-going : (universals : ℕ) (AR AM W : List ℕ) →
+      Ready (g .kinds) (g .literals) A-found A-marks-found A-counts-found S-found S-marks-found S-counts-found W universals
       → AR ≡ rows-written A-found A-marks-found 0 (with-preferred (prefer (g .preferences)) universals (replicate 16 0)) 0
       → AM ≡ marks-written A-found A-marks-found 0 (with-preferred (prefer (g .preferences)) universals (replicate 16 0)) 0 0
       → Going g 0 1 0 AR AM S-found S-marks-found W
@@ -273,9 +276,11 @@ module _ (g : Given) where
       abbrev S : Table
       S = run l made .S
 
-      pub first : Extended (g .kinds) existential S (half-of (g .kinds) (g .literals) (g .preferences) existential (room S-found) (made + 1) A S) S-found S-marks-found step SR′ SM′ W′
+      pub first : Extended (g .kinds) existential S (half-of (g .kinds) (g .literals) (g .preferences) existential (room S-found) (made + 1) A S) S-found
+          S-marks-found step SR′ SM′ W′
       first =
-          extends A S (row-base g n) S-found S-marks-found (now-going .passes) (now-going .counted-A) (now-going .counted-S) (now-going .both .holds-A .in-rows) (now-going .both .holds-S)
+          extends A S (row-base g n) S-found S-marks-found (now-going .passes) (now-going .counted-A) (now-going .counted-S) (now-going .both .holds-A .in-rows)
+          (now-going .both .holds-S)
           (now-going .work-long)
 
       pub run-stopped : (step .end ≡ 2 → ⊥) → (result : End) → result ≡ said (existential-stop (step .end)) (made + 1) u x → ShowsRun g result AR AM SR′ SM′ W′
@@ -287,14 +292,17 @@ module _ (g : Given) where
           (ap (λ (o : End). goes-on (o .answer)) told ∙ existential-stops (step .end))
 
       module _ (goes : step .end ≡ 2) (back : Step) (AR′ AM′ W″ : List ℕ)
-          (extends-back : ExtendsUniversal (g .kinds) (g .literals) (g .preferences) SR′ (step .count) AR AM u (g .clear-every) (made + 1) (made + 1) W′ back AR′ AM′ W″) where
+          (extends-back : ExtendsUniversal (g .kinds) (g .literals) (g .preferences) SR′ (step .count) AR AM u (g .clear-every) (made + 1) (made + 1) W′ back
+          AR′ AM′ W″) where
         abbrev S′ : Table
         S′ = half-table S (half-of (g .kinds) (g .literals) (g .preferences) existential (room S-found) (made + 1) A S)
 
-        pub second : Extended (g .kinds) universal A (half-of (g .kinds) (g .literals) (g .preferences) universal (room A-found) (made + 1) S′ (kept l (made + 1) A))
+        pub second : Extended (g .kinds) universal A (half-of (g .kinds) (g .literals) (g .preferences) universal (room A-found) (made + 1) S′
+            (kept l (made + 1) A))
             (row-base g n) (mark-base g n) back AR′ AM′ W″
         second =
-            extends-back S′ A S-found (row-base g n) (mark-base g n) (room A-found) (now-going .passes) (first .counted) (now-going .counted-A) (first .holds .in-rows)
+            extends-back S′ A S-found (row-base g n) (mark-base g n) (room A-found) (now-going .passes) (first .counted) (now-going .counted-A)
+            (first .holds .in-rows)
             (now-going .both .holds-A) (blank-below (length A) n A-found A-marks-found (count-at-most-highest l made))
             (ap (λ (b : ℕ). b / 16) (length-zeroed (16 * n) A-found)) (first .work-long)
 

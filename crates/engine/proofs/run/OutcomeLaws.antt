@@ -31,7 +31,8 @@ use Rattle.rounds.specs.Run.{Entry, is-false, is-true, spent, no-room-universal
 use Rattle.rounds.specs.Claim.{table, Claim}
 use Rattle.rounds.specs.Counts.{came, counts}
 use Rattle.engine.specs.declared.run.Answer.the-variants.{False, True}
-use Rattle.engine.specs.Outcome.{Areas, areas, Given, given, lent, tables-fit, tables-counted, cause, accepted, reached, named, number-of, reported, refusal, returned, written, after, left}
+use Rattle.engine.specs.Outcome.{Areas, areas, Given, given, lent, tables-fit, tables-counted, cause, accepted, reached, named, number-of, reported}
+use Rattle.engine.specs.Outcome.{refusal, returned, written, after, left}
 use Rattle.engine.specs.Ended.{row-part, mark-part, count-part, count-of, TableRight, Ended}
 use Rattle.engine.specs.Private.Growing.{Passes, with-opening, ShowsRun, FirstCause}
 use Rattle.engine.specs.Private.Counting.{CountsShow}
@@ -57,7 +58,8 @@ numbered-so : (g : Given) (r : Outcome) → r ≡ returned g → number-of (r .a
 unfolding returned
 numbered-so g r e = ap (λ (o : Outcome). number-of (o .answer)) e ∙ by-test (accepted g)
   where
-    by-test : (b : Bool) → number-of (cond b (reported (prefix (g .kinds)) (reached g)) (refusal (cause g)) .answer) ≡ cond b (number (reached g .answer)) (cause g)
+    by-test : (b : Bool) →
+        number-of (cond b (reported (prefix (g .kinds)) (reached g)) (refusal (cause g)) .answer) ≡ cond b (number (reached g .answer)) (cause g)
     by-test true = number-named (reached g .answer)
     by-test false = refl
 
@@ -66,7 +68,8 @@ pub refused-so : (g : Given) (n : ℕ) (r : Outcome) → cause g ≡ n → 1 ≤
 unfolding returned left
 refused-so g n r e some-cause is =
     let not-0 : accepted g ≡ false = ne-eqb (cause g) 0 (omega arith) in
-    let value : r ≡ returned g = is ∙ ap refusal (sym e) ∙ sym (ap (λ (b : Bool). cond b (reported (prefix (g .kinds)) (reached g)) (refusal (cause g))) not-0) in
+    let value : r ≡ returned g = is ∙ ap refusal (sym e) ∙ sym (ap (λ (b : Bool). cond b (reported (prefix (g .kinds)) (reached g)) (refusal (cause g))) not-0)
+    in
     record {
       returned-so = value;
       numbered = numbered-so g r value;
@@ -126,16 +129,19 @@ after-if-never g never =
     let on-counts = drop-zeroed (highest (lent g) (g .limit)) (length (reached g .A)) (g .found .universal-counts) (omega arith) in
     let all = written (lent g) (g .limit) (g .found) in
     λ d.
-    areas (on-rows d) (on-marks d) (counts (lent g) universal (g .limit) ++ on-counts d) (all .existential-rows) (all .existential-marks) (all .existential-counts)
+    areas (on-rows d) (on-marks d) (counts (lent g) universal (g .limit) ++ on-counts d) (all .existential-rows) (all .existential-marks)
+    (all .existential-counts)
     (all .work)
 
 -- The counts below a table's count.
 counts-back : (g : Given) (side : Kind) → take (length (table side (reached g))) (count-part side (after g (g .limit))) ≡ counts (lent g) side (g .limit)
 unfolding counts
 counts-back g existential =
-    take-at (counts (lent g) existential (g .limit)) _ (length (reached g .S)) (length-map (reached g .S) (λ (x : Entry). came (lent g) existential (g .limit) (x .row)))
+    take-at (counts (lent g) existential (g .limit)) _ (length (reached g .S))
+    (length-map (reached g .S) (λ (x : Entry). came (lent g) existential (g .limit) (x .row)))
 counts-back g universal =
-    take-at (counts (lent g) universal (g .limit)) _ (length (reached g .A)) (length-map (reached g .A) (λ (x : Entry). came (lent g) universal (g .limit) (x .row)))
+    take-at (counts (lent g) universal (g .limit)) _ (length (reached g .A))
+    (length-map (reached g .A) (λ (x : Entry). came (lent g) universal (g .limit) (x .row)))
 
 -- The block is no longer than a row.
 opening-few : (kinds : List ℕ) (literals : List ℤ) → Passes kinds literals → (a : RunAnswer) → opening-length a (prefix kinds) ≤ row-bits
@@ -157,7 +163,8 @@ answered-so g no-cause some-limit end r AR AM AC SR SM SC W W′ shows counted c
     let told : r ≡ reported (prefix (g .kinds)) (reached g) =
     is
     ∙ (λ d. with-opening (shows .as-returned d) (g .kinds) (shows .both .holds-A .in-rows .in-bytes d) (shows .both .holds-S .in-rows .in-bytes d))
-    ∙ opening-read (g .kinds) (g .literals) passes (zeroed (16 * highest (lent g) (g .limit)) (g .found .universal-rows)) (g .found .existential-rows) (reached g) (opens .whole) in
+    ∙ opening-read (g .kinds) (g .literals) passes (zeroed (16 * highest (lent g) (g .limit)) (g .found .universal-rows)) (g .found .existential-rows)
+    (reached g) (opens .whole) in
     let value : r ≡ returned g = told ∙ sym (ap (λ (b : Bool). cond b (reported (prefix (g .kinds)) (reached g)) (refusal (cause g))) yes-0) in
     let answer-is : r .answer ≡ named (reached g .answer) = ap (λ (o : Outcome). o .answer) told in
     let held-A = shows .both .holds-A in
@@ -192,10 +199,12 @@ answered-so g no-cause some-limit end r AR AM AC SR SM SC W W′ shows counted c
     both : r ≡ reported (prefix (g .kinds)) (reached g) → Passes (g .kinds) (g .literals) → Claim (lent g) (g .limit) → (side : Kind)
         → TableRight g side (row-part side (areas AR AM AC SR SM SC W′)) (mark-part side (areas AR AM AC SR SM SC W′)) (count-of side r)
     both told passes holds universal =
-        table-right g passes holds universal (zeroed (highest (lent g) (g .limit)) (g .found .universal-marks)) AR AM (r .universal) (shows .both .holds-A .in-rows .in-bytes) (shows .both .holds-A .in-marks)
+        table-right g passes holds universal (zeroed (highest (lent g) (g .limit)) (g .found .universal-marks)) AR AM (r .universal)
+        (shows .both .holds-A .in-rows .in-bytes) (shows .both .holds-A .in-marks)
         (ap (λ (o : Outcome). o .universal) told)
     both told passes holds existential =
-        table-right g passes holds existential (g .found .existential-marks) SR SM (r .existential) (shows .both .holds-S .in-rows .in-bytes) (shows .both .holds-S .in-marks)
+        table-right g passes holds existential (g .found .existential-marks) SR SM (r .existential) (shows .both .holds-S .in-rows .in-bytes)
+        (shows .both .holds-S .in-marks)
         (ap (λ (o : Outcome). o .existential) told)
 
     read : r ≡ reported (prefix (g .kinds)) (reached g) → (side : Kind)
@@ -274,6 +283,13 @@ module _ (kinds : List ℕ) (literals : List ℤ) (A A-marks A-counts S S-marks 
                 first = sym (limit-cause ∙ ap (λ (b : Bool). cond b 6 0) (ne-eqb limit 0 some-limit));
                 ready =
                     λ _.
-                    record { passes = passes ∙ ap Accepted sizes-are; tables = fit; counts = one-a-row; work-long = long; counted = ap (λ (s : Formula). s .universals) sizes-are };
+                    record {
+                      passes = passes ∙ ap Accepted sizes-are;
+                      tables = fit;
+                      counts = one-a-row;
+                      work-long = long;
+                      counted = ap
+                          (λ (s : Formula). s .universals) sizes-are;
+                    };
                 some-limit = λ _. omega arith;
               }

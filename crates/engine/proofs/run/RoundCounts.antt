@@ -22,7 +22,8 @@ use Rattle.expansion.specs.Play.{Row}
 use Rattle.expansion.specs.Copies.{among}
 use Rattle.expansion.specs.Model.{search}
 use Rattle.counts.specs.Counts.{filled}
-use Rattle.rounds.specs.Run.{Entry, Table, rows, clears, kept, Answer, is-false, is-true, spent, no-room-universal, no-room-existential, Outcome, Lent, round-of, run, highest}
+use Rattle.rounds.specs.Run.{Entry, Table, rows, clears, kept, Answer, is-false, is-true, spent, no-room-universal, no-room-existential, Outcome, Lent}
+use Rattle.rounds.specs.Run.{round-of, run, highest}
 use Rattle.rounds.specs.Counts.{rows-found, is-spent, came, counts}
 use Rattle.rounds.proofs.RoundLaws.{Over}
 use Rattle.rounds.proofs.RunLaws.{run-goes-on, run-reached, run-stays}
@@ -115,7 +116,8 @@ module _ (g : Given) (made : ℕ) (going : run (lent g) made .answer ≡ spent) 
 
   -- The existential counts after the round.
   next-S : (h : Half) → o .S ≡ half-table S h → (C : List ℕ)
-      → C ≡ tallied (half-came false h (search (l .prefer) existential (l .ks) (l .phi) (rows A)) (came l existential made)) (half-table S h) (g .found .existential-counts)
+      → C ≡ tallied (half-came false h (search (l .prefer) existential (l .ks) (l .phi) (rows A)) (came l existential made)) (half-table S h)
+      (g .found .existential-counts)
       → C ≡ counts-after existential g (suc made)
   unfolding counts
   next-S h is C e =
@@ -208,13 +210,15 @@ counts-stay : (g : Given) (r : ℕ) → r ≤ g .limit → Over (run (lent g) r 
 unfolding counts
 counts-stay g r h over existential =
     λ d.
-    tallied (λ x. sym (came-stays (lent g) existential r (g .limit) h over x) d) (sym (run-stays (lent g) r (g .limit) h over) d .S) (g .found .existential-counts)
+    tallied (λ x. sym (came-stays (lent g) existential r (g .limit) h over x) d) (sym (run-stays (lent g) r (g .limit) h over) d .S)
+    (g .found .existential-counts)
 counts-stay g r h over universal =
     λ d.
     tallied (λ x. sym (came-stays (lent g) universal r (g .limit) h over x) d) (sym (run-stays (lent g) r (g .limit) h over) d .A)
     (zeroed (sym (highest-stays (lent g) r (g .limit) h over) d) (g .found .universal-counts))
 
-module _ (g : Given) (made u x : ℕ) (AR AM SR SM W : List ℕ) (now-going : Going g made u x AR AM SR SM W) (CA CS : List ℕ) (now-counts : CountsShow g made CA CS)
+module _ (g : Given) (made u x : ℕ) (AR AM SR SM W : List ℕ) (now-going : Going g made u x AR AM SR SM W) (CA CS : List ℕ)
+    (now-counts : CountsShow g made CA CS)
     {W₀ : List ℕ} {universals : ℕ} (ready : IsReady g W₀ universals) where
   fit : (length (g .found .universal-counts) ≡ room (g .found .universal-rows)) × (length (g .found .existential-counts) ≡ room (g .found .existential-rows))
   fit = counts-fitting (g .found .universal-rows) (g .found .universal-counts) (g .found .existential-rows) (g .found .existential-counts) (ready .counts)
@@ -238,7 +242,8 @@ module _ (g : Given) (made u x : ℕ) (AR AM SR SM W : List ℕ) (now-going : Go
   module _ (step : Step) (SR′ SM′ W′ CS′ : List ℕ) (extends : Extends (g .kinds) (g .literals) (g .preferences) AR u false SR SM x (made + 1) W step SR′ SM′ W′)
       (tallies : Tallies (g .kinds) (g .literals) (g .preferences) AR u SR SM x (made + 1) W CS CS′) (below : made < g .limit) where
     abbrev first-half : Half
-    first-half = half-of (g .kinds) (g .literals) (g .preferences) existential (room (g .found .existential-rows)) (made + 1) (run (lent g) made .A) (run (lent g) made .S)
+    first-half = half-of (g .kinds) (g .literals) (g .preferences) existential (room (g .found .existential-rows)) (made + 1) (run (lent g) made .A)
+        (run (lent g) made .S)
 
     first-made : Extended (g .kinds) existential (run (lent g) made .S) first-half (g .found .existential-rows) (g .found .existential-marks) step SR′ SM′ W′
     first-made = first g made u x AR AM SR SM W now-going step SR′ SM′ W′ extends below
@@ -246,7 +251,8 @@ module _ (g : Given) (made u x : ℕ) (AR AM SR SM W : List ℕ) (now-going : Go
     counts-S : CS′ ≡ counts-after existential g (suc made)
     counts-S =
         next-S g made (now-going .going) first-half
-        (ap (λ (q : Outcome). q .S) (by-first g made (now-going .going)) ∙ existential-table (lent g) (made + 1) (run (lent g) made .A) (run (lent g) made .S) first-half) CS′
+        (ap (λ (q : Outcome). q .S) (by-first g made (now-going .going)) ∙ existential-table (lent g) (made + 1) (run (lent g) made .A) (run (lent g) made .S)
+        first-half) CS′
         (tallies (run (lent g) made .A) (run (lent g) made .S) (row-base g (highest (lent g) made)) (g .found .existential-rows) (g .found .existential-marks)
         (g .found .existential-counts) (came (lent g) existential made) (now-going .passes) (now-going .counted-A) (now-going .counted-S)
         (now-going .both .holds-A .in-rows) (now-going .both .holds-S) (now-going .work-long) (fit .1) counted-S)
@@ -265,49 +271,56 @@ module _ (g : Given) (made u x : ℕ) (AR AM SR SM W : List ℕ) (now-going : Go
         ended-here (left .1) CA (left .0)
 
     module _ (goes : step .end ≡ 2) (back : Step) (AR′ AM′ W″ CA′ : List ℕ)
-        (extends-back : ExtendsUniversal (g .kinds) (g .literals) (g .preferences) SR′ (step .count) AR AM u (g .clear-every) (made + 1) (made + 1) W′ back AR′ AM′ W″)
-        (tallies-back : TalliesUniversal (g .kinds) (g .literals) (g .preferences) SR′ (step .count) AR AM u (g .clear-every) (made + 1) (made + 1) W′ CA CA′) where
-      abbrev S′ : Table
-      S′ = half-table (run (lent g) made .S) first-half
+        (extends-back : ExtendsUniversal (g .kinds) (g .literals) (g .preferences) SR′ (step .count) AR AM u (g .clear-every) (made + 1) (made + 1) W′ back AR′
+        AM′ W″)
+        (tallies-back : TalliesUniversal (g .kinds) (g .literals) (g .preferences) SR′ (step .count) AR AM u (g .clear-every) (made + 1) (made + 1) W′ CA CA′)
+      where
+        abbrev S′ : Table
+        S′ = half-table (run (lent g) made .S) first-half
 
-      abbrev second-half : Table → Half
-      second-half T =
-          half-of (g .kinds) (g .literals) (g .preferences) universal (room (g .found .universal-rows)) (made + 1) T (kept (lent g) (made + 1) (run (lent g) made .A))
+        abbrev second-half : Table → Half
+        second-half T =
+            half-of (g .kinds) (g .literals) (g .preferences) universal (room (g .found .universal-rows)) (made + 1) T
+            (kept (lent g) (made + 1) (run (lent g) made .A))
 
-      second-made : Extended (g .kinds) universal (run (lent g) made .A) (second-half S′) (row-base g (highest (lent g) made)) (mark-base g (highest (lent g) made)) back AR′ AM′ W″
-      second-made = second g made u x AR AM SR SM W now-going step SR′ SM′ W′ extends below goes back AR′ AM′ W″ extends-back
+        second-made : Extended (g .kinds) universal (run (lent g) made .A) (second-half S′) (row-base g (highest (lent g) made))
+            (mark-base g (highest (lent g) made)) back AR′ AM′ W″
+        second-made = second g made u x AR AM SR SM W now-going step SR′ SM′ W′ extends below goes back AR′ AM′ W″ extends-back
 
-      tallied-A : By-half g made (now-going .going) S′ (second-half S′) CA′
-      tallied-A =
-          let n = highest (lent g) made in
-          let A = run (lent g) made .A in
-          let same : room (row-base g n) ≡ room (g .found .universal-rows) = ap (λ (b : ℕ). b / 16) (length-zeroed (16 * n) (g .found .universal-rows)) in
-          tallies-back S′ A (g .found .existential-rows) (row-base g n) (mark-base g n) (zeroed n (g .found .universal-counts)) (room (g .found .universal-rows))
-          (came (lent g) universal made) (now-going .passes) (first-made .counted) (now-going .counted-A) (first-made .holds .in-rows) (now-going .both .holds-A)
-          (blank-below (length A) n (g .found .universal-rows) (g .found .universal-marks) (count-at-most-highest (lent g) made)) same (first-made .work-long)
-          (length-zeroed n (g .found .universal-counts) ∙ fit .0 ∙ sym same)
-          (zeroed-again (length A) n (g .found .universal-counts) (count-at-most-highest (lent g) made)) counted-A
+        tallied-A : By-half g made (now-going .going) S′ (second-half S′) CA′
+        tallied-A =
+            let n = highest (lent g) made in
+            let A = run (lent g) made .A in
+            let same : room (row-base g n) ≡ room (g .found .universal-rows) = ap (λ (b : ℕ). b / 16) (length-zeroed (16 * n) (g .found .universal-rows)) in
+            tallies-back S′ A (g .found .existential-rows) (row-base g n) (mark-base g n) (zeroed n (g .found .universal-counts))
+            (room (g .found .universal-rows))
+            (came (lent g) universal made) (now-going .passes) (first-made .counted) (now-going .counted-A) (first-made .holds .in-rows)
+            (now-going .both .holds-A)
+            (blank-below (length A) n (g .found .universal-rows) (g .found .universal-marks) (count-at-most-highest (lent g) made)) same (first-made .work-long)
+            (length-zeroed n (g .found .universal-counts) ∙ fit .0 ∙ sym same)
+            (zeroed-again (length A) n (g .found .universal-counts) (count-at-most-highest (lent g) made)) counted-A
 
-      -- The first step has grown the existential table.
-      by-second : run (lent g) (suc made) ≡ after-second (made + 1) (run (lent g) made .A) S′ (second-half S′)
-      unfolding after-first
-      by-second = go first-half (by-first g made (now-going .going)) (sym (first-made .ended) ∙ goes)
-        where
-          go : (h : Half) → run (lent g) (suc made) ≡ after-first (lent g) (made + 1) (run (lent g) made .A) (run (lent g) made .S) h → half-end h ≡ 2
-              → run (lent g) (suc made) ≡ after-second (made + 1) (run (lent g) made .A) (half-table (run (lent g) made .S) h) (second-half (half-table (run (lent g) made .S) h))
-          go no-model is e = absurd (omega arith)
-          go no-room is e = absurd (omega arith)
-          go (grows T) is e = is
+        -- The first step has grown the existential table.
+        by-second : run (lent g) (suc made) ≡ after-second (made + 1) (run (lent g) made .A) S′ (second-half S′)
+        unfolding after-first
+        by-second = go first-half (by-first g made (now-going .going)) (sym (first-made .ended) ∙ goes)
+          where
+            go : (h : Half) → run (lent g) (suc made) ≡ after-first (lent g) (made + 1) (run (lent g) made .A) (run (lent g) made .S) h → half-end h ≡ 2
+                → run (lent g) (suc made) ≡ after-second (made + 1) (run (lent g) made .A) (half-table (run (lent g) made .S) h)
+                (second-half (half-table (run (lent g) made .S) h))
+            go no-model is e = absurd (omega arith)
+            go no-room is e = absurd (omega arith)
+            go (grows T) is e = is
 
-      counts-A : CA′ ≡ counts-after universal g (suc made)
-      counts-A = second-A g made (now-going .going) S′ (second-half S′) by-second CA′ tallied-A
+        counts-A : CA′ ≡ counts-after universal g (suc made)
+        counts-A = second-A g made (now-going .going) S′ (second-half S′) by-second CA′ tallied-A
 
-      pub counts-stopped-back : (back .end ≡ 2 → ⊥) → CountsShow g (g .limit) CA′ CS′
-      counts-stopped-back stops =
-          ended-here (stopped-over g made (now-going .going) S′ (second-half S′) by-second (λ e. stops (second-made .ended ∙ e))) CA′ counts-A
+        pub counts-stopped-back : (back .end ≡ 2 → ⊥) → CountsShow g (g .limit) CA′ CS′
+        counts-stopped-back stops =
+            ended-here (stopped-over g made (now-going .going) S′ (second-half S′) by-second (λ e. stops (second-made .ended ∙ e))) CA′ counts-A
 
-      pub counts-made : CountsShow g (made + 1) CA′ CS′
-      counts-made = subst (λ (r : ℕ). CountsShow g r CA′ CS′) (sym (add-one made)) (record { counts-A = counts-A; counts-S = counts-S })
+        pub counts-made : CountsShow g (made + 1) CA′ CS′
+        counts-made = subst (λ (r : ℕ). CountsShow g r CA′ CS′) (sym (add-one made)) (record { counts-A = counts-A; counts-S = counts-S })
 
   pub counts-spent : g .limit ≤ made → CountsShow g (g .limit) CA CS
   counts-spent past = let end : made ≡ g .limit = omega (arith, now-going .to-limit) in subst (λ (r : ℕ). CountsShow g r CA CS) end now-counts

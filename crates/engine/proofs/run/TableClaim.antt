@@ -111,7 +111,8 @@ module _ (g : Given) (passes : Passes (g .kinds) (g .literals)) (claim : Claim (
   right-of-end =
       let m = count side (prefix (g .kinds)) in
       let few = few-unknowns (g .kinds) (g .literals) passes side in
-      let wide : (r : ℕ) → Wide m (rows (table side (run (lent g) r))) = λ r. wide-of-sized m (rows (table side (run (lent g) r))) (row-length (lent g) r side) in
+      let wide : (r : ℕ) → Wide m (rows (table side (run (lent g) r))) = λ r. wide-of-sized m (rows (table side (run (lent g) r))) (row-length (lent g) r side)
+      in
       let here = behind-rows side g (g .limit) in
       let in-bytes : (r : ℕ) → NewRow r (table side (run (lent g) (r - 1))) (table side (run (lent g) r)) end
       → NewBytes r (row-part side (after g (r - 1))) (length (table side (run (lent g) (r - 1)))) left-rows (mark-numbers end marks) (length end) =

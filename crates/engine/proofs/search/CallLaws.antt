@@ -28,17 +28,18 @@ use Rattle.index.specs.Occurrences.{begins}
 use Rattle.index.specs.Index.{index-size, all-codes, table-fits, index-of, filled as indexed}
 use Rattle.index.proofs.LayoutLaws.{end-is}
 use Rattle.index.proofs.IndexLaws.{read-names}
-use Rattle.search_sets.specs.Sets.{set-places, sets-size, united-words, added, has, emptied, filled, trimmed, excused, blamed}
-use Rattle.search_sets.specs.Private.Masks.{set-at, SetGrown, SetsKept, WordsUnited, Trimmed, Excused, Blamed}
-use Rattle.search_sets.proofs.SetLaws.{words-unite, add-grows, add-adds, has-is, empty-keeps, fill-keeps, fill-fills, trim-trims, excuse-excuses, blame-blames}
+use Rattle.search_sets.specs.Sets.{set-places, sets-size, united-words, added, has, emptied, filled, trimmed, resolved, reasons-added}
+use Rattle.search_sets.specs.Private.Masks.{set-at, SetGrown, SetsKept, WordsUnited, Trimmed, Resolved, ReasonsAdded}
+use Rattle.search_sets.proofs.SetLaws.{words-unite, add-grows, add-adds, has-is, empty-keeps}
+use Rattle.search_sets.proofs.SetLaws.{fill-keeps, fill-fills, trim-trims, resolve-resolves, add-reasons-adds}
 use Rattle.search_evaluation.specs.Evaluation.{look-at, matrix-in}
 use Rattle.search_evaluation.specs.Private.Looked.{Looked}
 use Rattle.search_evaluation.proofs.LookLaws.{look-looked}
 use Rattle.search_evaluation.proofs.MatrixLaws.{matrix-is}
-use Rattle.search_groups.specs.Groups.{copy-start, copy-end, parting-row, parted-at, open-position}
-use Rattle.search_groups.specs.Private.Parts.{CopyFrom, CopyTo, Parting, PartedAt, Stands}
+use Rattle.search_groups.specs.Groups.{copy-start, copy-end, split-row, split-position, open-position}
+use Rattle.search_groups.specs.Private.Parts.{CopyFrom, CopyTo, SplitRow, SplitPosition, FirstOpen}
 use Rattle.engine.specs.Private.Steps.{Listed}
-use Rattle.search_groups.proofs.PartLaws.{copy-start-from, copy-end-to, parting-row-parts, parted-at-there, open-position-stands}
+use Rattle.search_groups.proofs.PartLaws.{copy-start-from, copy-end-to, split-row-parts, split-position-there, open-position-is-first}
 
 -- ---- sets of positions
 
@@ -64,12 +65,13 @@ module _ (s : List ℕ) {t : List ℕ} (size : length s ≡ sets-size) where
   pub trims : (k n : ℕ) → k ≤ n → n ≤ max-unknowns → t ≡ trimmed s k n → Trimmed k s t
   trims k n low high e = subst (λ (x : List ℕ). Trimmed k s x) (sym e) (trim-trims s size k n low high)
 
-  pub excuses : (k at : ℕ) → at ≤ max-unknowns → t ≡ excused s max-unknowns k at → Excused k at s t
-  excuses k at high e = subst (λ (x : List ℕ). Excused k at s x) (sym e) (excuse-excuses s size k at high)
+  pub resolves : (k at : ℕ) → at ≤ max-unknowns → t ≡ resolved s max-unknowns k at → Resolved k at s t
+  resolves k at high e = subst (λ (x : List ℕ). Resolved k at s x) (sym e) (resolve-resolves s size k at high)
 
-  pub blames : (codes : List ℕ) (start to : ℕ) → to < set-places → Coded max-unknowns codes → t ≡ blamed codes s start to → Blamed (clause-of (drop start codes)) to s t
-  blames codes start to place coded e =
-      subst (λ (x : List ℕ). Blamed (clause-of (drop start codes)) to s x) (sym e) (blame-blames s size codes start to place coded)
+  pub adds-reasons : (codes : List ℕ) (start to : ℕ) → to < set-places → Coded max-unknowns codes → t ≡ reasons-added codes s start to →
+      ReasonsAdded (clause-of (drop start codes)) to s t
+  adds-reasons codes start to place coded e =
+      subst (λ (x : List ℕ). ReasonsAdded (clause-of (drop start codes)) to s x) (sym e) (add-reasons-adds s size codes start to place coded)
 
 pub has-at : (s : List ℕ) → length s ≡ sets-size → (of p : ℕ) {r : Bool} → of < set-places → p < max-unknowns → r ≡ has s of p → r ≡ set-at s of p
 has-at s size of p place below e = e ∙ has-is s size of p place below
@@ -85,29 +87,32 @@ module _ (codes w : List ℕ) (i : ℕ) (area : length w ≡ work-size) (row : i
 
 -- ---- groups of rows
 
-module _ (splits : List ℕ) where
-  pub copy-from : (k lo i : ℕ) {r : ℕ} → lo ≤ i → i < length splits → r ≡ copy-start splits k lo i → CopyFrom splits k lo i r
-  copy-from k lo i low high e = subst (λ (x : ℕ). CopyFrom splits k lo i x) (sym e) (copy-start-from splits k lo i low high)
+module _ (differences : List ℕ) where
+  pub copy-from : (k lo i : ℕ) {r : ℕ} → lo ≤ i → i < length differences → r ≡ copy-start differences k lo i → CopyFrom differences k lo i r
+  copy-from k lo i low high e = subst (λ (x : ℕ). CopyFrom differences k lo i x) (sym e) (copy-start-from differences k lo i low high)
 
-  pub copy-to : (k i hi : ℕ) {r : ℕ} → i < hi → hi ≤ length splits → r ≡ copy-end splits k i hi → CopyTo splits k i hi r
-  copy-to k i hi low high e = subst (λ (x : ℕ). CopyTo splits k i hi x) (sym e) (copy-end-to splits k i hi low high)
+  pub copy-to : (k i hi : ℕ) {r : ℕ} → i < hi → hi ≤ length differences → r ≡ copy-end differences k i hi → CopyTo differences k i hi r
+  copy-to k i hi low high e = subst (λ (x : ℕ). CopyTo differences k i hi x) (sym e) (copy-end-to differences k i hi low high)
 
-  pub parts : (lo hi : ℕ) {r : ℕ} → lo < hi → hi ≤ length splits → r ≡ parting-row splits lo hi → Parting splits lo hi r
-  parts lo hi low high e = subst (λ (x : ℕ). Parting splits lo hi x) (sym e) (parting-row-parts splits lo hi low high)
+  pub parts : (lo hi : ℕ) {r : ℕ} → lo < hi → hi ≤ length differences → r ≡ split-row differences lo hi → SplitRow differences lo hi r
+  parts lo hi low high e = subst (λ (x : ℕ). SplitRow differences lo hi x) (sym e) (split-row-parts differences lo hi low high)
 
-  pub parts-there : (lo mid n : ℕ) {r : ℕ} → mid < length splits → r ≡ parted-at splits lo mid n → PartedAt splits lo mid n r
-  parts-there lo mid n high e = subst (λ (x : ℕ). PartedAt splits lo mid n x) (sym e) (parted-at-there splits lo mid n high)
+  pub parts-there : (lo mid n : ℕ) {r : ℕ} → mid < length differences → r ≡ split-position differences lo mid n → SplitPosition differences lo mid n r
+  parts-there lo mid n high e = subst (λ (x : ℕ). SplitPosition differences lo mid n x) (sym e) (split-position-there differences lo mid n high)
 
-pub stands : (kinds w : List ℕ) (side k lo until : ℕ) {r : ℕ} → length w ≡ work-size → length kinds ≤ max-unknowns → until ≤ length kinds → k ≤ length kinds → lo < max-rows
-    → r ≡ open-position kinds w side k lo until → Stands kinds w side k lo until r
+pub stands : (kinds w : List ℕ) (side k lo until : ℕ) {r : ℕ} → length w ≡ work-size → length kinds ≤ max-unknowns → until ≤ length kinds → k ≤ length kinds →
+    lo < max-rows
+    → r ≡ open-position kinds w side k lo until → FirstOpen kinds w side k lo until r
 stands kinds w side k lo until area few within known row e =
-    subst (λ (x : ℕ). Stands kinds w side k lo until x) (sym e) (open-position-stands kinds w side k lo until area few within known row)
+    subst (λ (x : ℕ). FirstOpen kinds w side k lo until x) (sym e) (open-position-is-first kinds w side k lo until area few within known row)
 
 -- ---- cells
 
 module _ {w u : List ℕ} (area : length w ≡ work-size) where
-  pub sets-rows : (k lo hi mark : ℕ) (value : Bool) → k < max-unknowns → lo ≤ hi → hi ≤ max-rows → u ≡ rows-set k lo hi mark value w → CellsSet k lo hi mark value w u
-  sets-rows k lo hi mark value small low high e = subst (λ (x : List ℕ). CellsSet k lo hi mark value w x) (sym e) (rows-are-set k lo hi mark value w area small high low)
+  pub sets-rows : (k lo hi level : ℕ) (value : Bool) → k < max-unknowns → lo ≤ hi → hi ≤ max-rows → u ≡ rows-set k lo hi level value w →
+      CellsSet k lo hi level value w u
+  sets-rows k lo hi level value small low high e = subst (λ (x : List ℕ). CellsSet k lo hi level value w x) (sym e)
+      (rows-are-set k lo hi level value w area small high low)
 
   pub opens-rows : (lo hi bound : ℕ) → lo ≤ hi → hi ≤ max-rows → u ≡ rows-opened lo hi bound w → CellsOpened lo hi bound w u
   opens-rows lo hi bound low high e = subst (λ (x : List ℕ). CellsOpened lo hi bound w x) (sym e) (rows-are-opened lo hi bound w area high low)
@@ -118,16 +123,20 @@ pub sorts : (rows : List ℕ) (count m : ℕ) (before : List ℕ) {place : List 
     → Sorted rows count m place
 sorts rows count m before few fits e = subst (λ (x : List ℕ). Sorted rows count m x) (sym e) (places-sorted rows count m before few fits)
 
-pub compares : (kinds w : List ℕ) (count side : ℕ) (before : List ℕ) {splits : List ℕ} → length w ≡ work-size → length kinds ≤ max-unknowns → count ≤ max-rows → length before ≡ max-rows
-    → splits ≡ rows-compared kinds w count side before → (i : ℕ) → i + 1 < count → FirstDifference kinds side w i (getD splits (i + 1) 0)
+pub compares : (kinds w : List ℕ) (count side : ℕ) (before : List ℕ) {differences : List ℕ} → length w ≡ work-size → length kinds ≤ max-unknowns → count ≤
+    max-rows →
+    length before ≡ max-rows
+    → differences ≡ rows-compared kinds w count side before → (i : ℕ) → i + 1 < count → FirstDifference kinds side w i (getD differences (i + 1) 0)
 compares kinds w count side before area few most room e i less =
     subst (λ (x : List ℕ). FirstDifference kinds side w i (getD x (i + 1) 0)) (sym e) (rows-are-compared kinds w count side before area few most room i less)
 
-pub numbers : (kinds preferences place splits : List ℕ) (side : ℕ) {w u : List ℕ} → length kinds ≤ max-unknowns → length place ≤ max-rows
-    → ((i : ℕ) → i < length place → (r : ℕ) × (r < length place) × (getD place r 0 ≡ i)) → length splits ≡ max-rows → length w ≡ work-size
-    → u ≡ numbered kinds preferences place splits side w → WantsFilled kinds preferences place splits side w u
-numbers kinds preferences place splits side {w} few most met room area e =
-    subst (λ (x : List ℕ). WantsFilled kinds preferences place splits side w x) (sym e) (wants-filled kinds preferences place splits side w few most met room area)
+pub numbers : (kinds preferences place differences : List ℕ) (side : ℕ) {w u : List ℕ} → length kinds ≤ max-unknowns → length place ≤ max-rows
+    → ((i : ℕ) → i < length place → (r : ℕ) × (r < length place) × (getD place r 0 ≡ i)) → length differences ≡ max-rows → length w ≡ work-size
+    → u ≡ numbered kinds preferences place differences side w → WantsFilled kinds preferences place differences side w u
+numbers kinds preferences place differences side {w} few most met room area e =
+    subst (λ (x : List ℕ). WantsFilled kinds preferences place differences side w x) (sym e)
+    (wants-filled kinds preferences place differences side w few most met room
+    area)
 
 all-are-codes : (codes : List ℕ) → Coded max-unknowns codes → all-codes codes ≡ true
 all-are-codes [] coded = refl
@@ -138,7 +147,8 @@ all-are-codes (suc c ∷ codes) coded =
     rw (same, le-leb (suc c) last-code (omega arith), ne-eqb (suc c) 1 (λ e. omega arith)) (all-are-codes codes (λ e less. coded (suc e) (omega arith)))
 
 -- The index that is filled is the one of the codes.
-pub lists : (codes before : List ℕ) {index : List ℕ} → length codes ≤ max-entries → Coded max-unknowns codes → length before ≡ index-size → index ≡ indexed codes before → index ≡ index-of codes
+pub lists : (codes before : List ℕ) {index : List ℕ} → length codes ≤ max-entries → Coded max-unknowns codes → length before ≡ index-size →
+    index ≡ indexed codes before → index ≡ index-of codes
 unfolding indexed table-fits
 lists codes before few coded size e = e ∙ whole
   where

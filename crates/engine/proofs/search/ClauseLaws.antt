@@ -54,7 +54,8 @@ pub record Reading (codes misses : List ℕ) (start rows left e : ℕ) : Type 0 
 pub reading-start : (codes misses : List ℕ) (start rows : ℕ) → Reading codes misses start rows rows start
 reading-start codes misses start rows = record { so-far = record { every = λ l h. inl h }; rest = λ l s. s }
 
-module _ {codes misses : List ℕ} {start rows left e : ℕ} (reading : Reading codes misses start rows left e) (c : ℕ) (inside : e < length codes) (is : c ≡ getD codes e 0) (some : c ≡ 0 → ⊥) where
+module _ {codes misses : List ℕ} {start rows left e : ℕ} (reading : Reading codes misses start rows left e) (c : ℕ) (inside : e < length codes)
+    (is : c ≡ getD codes e 0) (some : c ≡ 0 → ⊥) where
   pub reading-passed : Reading codes misses start rows left (e + 1)
   reading-passed = record { so-far = reading .so-far; rest = λ l. some-later codes e c inside is (Hits misses l) some (reading .rest l) }
 
@@ -85,7 +86,8 @@ module _ (Q : List ℕ → Type 0) where
     where
       shape : (cs : List ℕ) → HasEnd cs → code-clauses cs ≡ clause-of cs ∷ behind-first (code-clauses cs)
       shape (zero ∷ cs) h = refl
-      shape (suc c ∷ cs) h = ap (code-onto (suc c)) (shape cs h) ∙ ap (λ (xs : List (List ℕ)). (suc c ∷ clause-of cs) ∷ xs) (sym (behind-onto (suc c) (code-clauses cs)))
+      shape (suc c ∷ cs) h = ap (code-onto (suc c)) (shape cs h) ∙ ap (λ (xs : List (List ℕ)). (suc c ∷ clause-of cs) ∷ xs)
+          (sym (behind-onto (suc c) (code-clauses cs)))
 
   every-behind : (codes : List ℕ) → Ended codes → ((e : ℕ) → suc e < length codes → getD codes e 0 ≡ 0 → Q (clause-of (drop (suc e) codes)))
       → Every Q (behind-first (code-clauses codes))

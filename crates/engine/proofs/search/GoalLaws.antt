@@ -16,7 +16,7 @@ use Rattle.search_evaluation.specs.Evaluation.{look-at}
 use Rattle.search_evaluation.specs.Private.Looked.{IsAt, Looked}
 use Rattle.search_evaluation.proofs.LookLaws.{look-looked}
 use Rattle.search_sets.proofs.MaskLaws.{kept-trans}
-use Rattle.engine.specs.Private.Live.{FalseFound}
+use Rattle.engine.specs.Private.Satisfied.{FalseFound}
 use Rattle.search_sets.specs.Private.Masks.{set-at, SetsKept}
 use Rattle.engine.specs.Private.Steps.{Reached}
 
@@ -54,7 +54,8 @@ module _ (codes : List ℕ) (w : List ℕ) (i : ℕ) (area : length w ≡ work-s
   matrix-false : (start : ℕ) → Begins codes start → look-at codes w i start ≡ 0 → matrix-at code-true (code-clauses codes) (cells w .value i) ≡ false
   matrix-false start begins found =
       ⊎-elim
-      (λ yes-true. absurd (never-both (true-clause code-true (cells w .value i) (code-clauses codes) clause yes-true (clause-among codes start begins (looked .ends other))) none-true))
+      (λ yes-true. absurd (never-both (true-clause code-true (cells w .value i) (code-clauses codes) clause yes-true
+      (clause-among codes start begins (looked .ends other))) none-true))
       (λ no-false. no-false)
       (true-or-false (matrix-at code-true (code-clauses codes) (cells w .value i)))
     where
@@ -74,7 +75,8 @@ module _ (codes : List ℕ) (w : List ℕ) (i : ℕ) (area : length w ≡ work-s
       none-true : clause-at code-true (cells w .value i) clause ≡ false
       none-true =
           clause-false code-true (cells w .value i) clause
-          (every-both (λ c. (2 ≤ c) × (position c < max-unknowns)) (λ c. (c ≡ 0) ⊎ IsAt w i false c) (λ c. code-true (cells w .value i) c ≡ false) is-false clause
+          (every-both (λ c. (2 ≤ c) × (position c < max-unknowns)) (λ c. (c ≡ 0) ⊎ IsAt w i false c) (λ c. code-true (cells w .value i) c ≡ false) is-false
+          clause
           (clause-coded max-unknowns codes start coded) (looked .rest other))
 
   pub reached-false : (side : ℕ) (s t : List ℕ) {r : Bool} → (side ≡ 0 → ⊥) → FalseFound codes w i s t r → r ≡ true → Reached codes side w i s t true
@@ -88,5 +90,6 @@ module _ (codes : List ℕ) (w : List ℕ) (i : ℕ) (area : length w ≡ work-s
       at q = matrix-false (q .0) (q .1) (q .2)
 
 -- after a look for a false clause
-pub reached-after : (codes : List ℕ) (side : ℕ) (w : List ℕ) (i : ℕ) (s t u : List ℕ) {r : Bool} → SetsKept s t → Reached codes side w i t u r → Reached codes side w i s u r
+pub reached-after : (codes : List ℕ) (side : ℕ) (w : List ℕ) (i : ℕ) (s t u : List ℕ) {r : Bool} → SetsKept s t → Reached codes side w i t u r →
+    Reached codes side w i s u r
 reached-after codes side w i s t u kept reached = record { kept = kept-trans kept (reached .kept); goal = reached .goal; full = reached .full }

@@ -1,4 +1,4 @@
--- What a store, a false clause, a clause with one open literal, a decision and a failure give the row that is searched alone. Assumes nothing.
+-- What a store, a false clause, a clause with one open literal, a decision and a conflict give the row that is searched alone. Assumes nothing.
 use Prim.Native.Nat.{ℕ, _%_, _≤_, _<_}
 use mathlib.Core.Path.{_≡_, refl, sym, _∙_, ap, subst}
 use mathlib.Core.Logic.{_≢_, _⊎_, inl, inr, ⊎-elim}
@@ -17,7 +17,7 @@ use Rattle.expansion.proofs.ClauseCuts.{Every, clause-at, clause-false, unit-tr
 use Rattle.codes.specs.Private.Clauses.{position, code-true, code-clauses, clause-of, Begins, Coded}
 use Rattle.codes.proofs.CodeLaws.{code-sign, clause-among, clause-coded, every-both, row-position-is}
 use Rattle.search_cells.specs.Cells.{cells}
-use Rattle.search_sets.specs.Private.Masks.{set-at, SetsKept, Blamed}
+use Rattle.search_sets.specs.Private.Masks.{set-at, SetsKept, ReasonsAdded}
 use Rattle.engine.specs.Private.Reasons.{Fixed, Keeps, IsReason}
 use Rattle.engine.specs.Private.Held.{Model, Implied, Denied, Held, LineSet, LineOpened, IsFalse, FalseBut, SetsBut}
 
@@ -76,7 +76,8 @@ module _ (codes w s : List ℕ) (i : ℕ) where
       clause-solved D f m = true-clause code-true f (code-clauses codes) clause (m .solves) (clause-among codes start begins (looked .ends))
 
       -- a literal that is false, and whose position's set lies in D, is false in every model of D
-      literal-false : (D : Mask) (f : ℕ → Bool) (c : ℕ) → 2 ≤ c → position c < max-unknowns → IsFalse a c → ((l : ℕ) → set-at o (position c) l ≡ true → D l ≡ true)
+      literal-false : (D : Mask) (f : ℕ → Bool) (c : ℕ) → 2 ≤ c → position c < max-unknowns → IsFalse a c →
+          ((l : ℕ) → set-at o (position c) l ≡ true → D l ≡ true)
           → Model codes w s i D f → code-true f c ≡ false
       literal-false D f c two lt at within m =
           let there = row-position-is c two lt in
@@ -86,18 +87,21 @@ module _ (codes w s : List ℕ) (i : ℕ) where
 
       literals : Every (λ c. ((2 ≤ c) × (position c < max-unknowns)) × ((c ≡ found) ⊎ IsFalse a c)) clause
       literals =
-          every-both (λ c. (2 ≤ c) × (position c < max-unknowns)) (λ c. (c ≡ found) ⊎ IsFalse a c) (λ c. ((2 ≤ c) × (position c < max-unknowns)) × ((c ≡ found) ⊎ IsFalse a c))
+          every-both (λ c. (2 ≤ c) × (position c < max-unknowns)) (λ c. (c ≡ found) ⊎ IsFalse a c)
+          (λ c. ((2 ≤ c) × (position c < max-unknowns)) × ((c ≡ found) ⊎ IsFalse a c))
           (λ c x y. (x, y)) clause (clause-coded max-unknowns codes start coded) (looked .rest)
 
       -- all its literals are false: its set is denied
-      pub denied-false : found ≡ 0 → (r q : List ℕ) → SetsKept o r → Blamed clause max-unknowns r q → Denied codes w s i (set-at q max-unknowns)
-      denied-false none r q kept blamed f m =
+      pub denied-false : found ≡ 0 → (r q : List ℕ) → SetsKept o r → ReasonsAdded clause max-unknowns r q → Denied codes w s i (set-at q max-unknowns)
+      denied-false none r q kept reasons-added f m =
           never-both (clause-solved (set-at q max-unknowns) f m)
           (clause-false code-true f clause
-          (every-both (λ c. ((2 ≤ c) × (position c < max-unknowns)) × ((c ≡ found) ⊎ IsFalse a c)) (λ c. (position c ≡ max-unknowns) ⊎ ((l : ℕ) → set-at r (position c) l ≡ true → set-at q max-unknowns l ≡ true))
-          (λ c. code-true f c ≡ false) each clause literals (blamed .takes)))
+          (every-both (λ c. ((2 ≤ c) × (position c < max-unknowns)) × ((c ≡ found) ⊎ IsFalse a c))
+          (λ c. (position c ≡ max-unknowns) ⊎ ((l : ℕ) → set-at r (position c) l ≡ true → set-at q max-unknowns l ≡ true))
+          (λ c. code-true f c ≡ false) each clause literals (reasons-added .takes)))
         where
-          each : (c : ℕ) → ((2 ≤ c) × (position c < max-unknowns)) × ((c ≡ found) ⊎ IsFalse a c) → (position c ≡ max-unknowns) ⊎ ((l : ℕ) → set-at r (position c) l ≡ true → set-at q max-unknowns l ≡ true)
+          each : (c : ℕ) → ((2 ≤ c) × (position c < max-unknowns)) × ((c ≡ found) ⊎ IsFalse a c) →
+              (position c ≡ max-unknowns) ⊎ ((l : ℕ) → set-at r (position c) l ≡ true → set-at q max-unknowns l ≡ true)
               → code-true f c ≡ false
           each c x (inl e) = absurd (let p : position c < max-unknowns = x .0 .1 in omega arith)
           each c x (inr takes) =
@@ -107,14 +111,15 @@ module _ (codes w s : List ℕ) (i : ℕ) where
               (x .1)
 
       -- all are false but the open one that was found: it is true by the others' sets
-      pub implied-open : (p : ℕ) → position found ≡ p → getD a p 0 ≡ 0 → (r q : List ℕ) → SetsBut p o r → Blamed clause p r q
+      pub implied-open : (p : ℕ) → position found ≡ p → getD a p 0 ≡ 0 → (r q : List ℕ) → SetsBut p o r → ReasonsAdded clause p r q
           → Implied codes w s i (set-at q p) p (eqb (found % 2) 0)
-      implied-open p there unset r q others blamed f m =
+      implied-open p there unset r q others reasons-added f m =
           ap f (sym there)
           ∙ code-sign found f
           (unit-true code-true f found clause (clause-solved (set-at q p) f m)
-          (every-both (λ c. ((2 ≤ c) × (position c < max-unknowns)) × ((c ≡ found) ⊎ IsFalse a c)) (λ c. (position c ≡ p) ⊎ ((l : ℕ) → set-at r (position c) l ≡ true → set-at q p l ≡ true))
-          (λ c. (c ≡ found) ⊎ (code-true f c ≡ false)) each clause literals (blamed .takes)))
+          (every-both (λ c. ((2 ≤ c) × (position c < max-unknowns)) × ((c ≡ found) ⊎ IsFalse a c))
+          (λ c. (position c ≡ p) ⊎ ((l : ℕ) → set-at r (position c) l ≡ true → set-at q p l ≡ true))
+          (λ c. (c ≡ found) ⊎ (code-true f c ≡ false)) each clause literals (reasons-added .takes)))
         where
           apart : (c : ℕ) → 2 ≤ c → position c < max-unknowns → IsFalse a c → position c ≢ p
           apart c two lt at e =
@@ -162,6 +167,7 @@ module _ (codes w s : List ℕ) (i : ℕ) where
         (true-or-false _);
   }
     where
-      at : (f : ℕ → Bool) → ((l : ℕ) → l < k → D l ≡ true → f l ≡ cells w .value i l) → (l : ℕ) → l < max-unknowns → D l ≡ true → Dec (l < k) → f l ≡ cells w .value i l
+      at : (f : ℕ → Bool) → ((l : ℕ) → l < k → D l ≡ true → f l ≡ cells w .value i l) → (l : ℕ) → l < max-unknowns → D l ≡ true → Dec (l < k) →
+          f l ≡ cells w .value i l
       at f heeds l lt d (yes less) = heeds l less d
       at f heeds l lt d (no n) = absurd (never-both d (before l (omega arith) lt))

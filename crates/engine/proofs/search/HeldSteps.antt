@@ -21,14 +21,15 @@ use Rattle.codes.specs.Codes.{last-code, row-position}
 use Rattle.codes.specs.Private.Clauses.{position, clause-of, HasEnd, Begins, Coded}
 use Rattle.codes.proofs.CodeLaws.{row-position-is, clause-step, clause-stop}
 use Rattle.search_cells.specs.Cells.{cells}
-use Rattle.search_sets.specs.Sets.{set-places, sets-size, added, has, emptied, blamed}
-use Rattle.search_sets.specs.Private.Masks.{set-at, SetGrown, SetsKept, Put, Blamed}
-use Rattle.search_sets.proofs.SetLaws.{add-grows, add-adds, has-is, empty-empties, empty-keeps, blame-blames}
+use Rattle.search_sets.specs.Sets.{set-places, sets-size, added, has, emptied, reasons-added}
+use Rattle.search_sets.specs.Private.Masks.{set-at, SetGrown, SetsKept, Put, ReasonsAdded}
+use Rattle.search_sets.proofs.SetLaws.{add-grows, add-adds, has-is, empty-empties, empty-keeps, add-reasons-adds}
 use Rattle.search_sets.proofs.MaskLaws.{store-elsewhere}
 use Rattle.search_evaluation.specs.Evaluation.{has-row, level-in}
 use Rattle.engine.specs.Private.Reasons.{Fixed, IsReason, Shorter}
 use Rattle.engine.specs.Private.Held.{LineSet, LineOpened, IsFalse, FalseBut, Held, Moved, Moves, StepsOn, SetsBut, Inheriting, Inherited, Same}
-use Rattle.engine.proofs.search.HeldLaws.{held-same, held-store, held-open, denied-false, implied-open, implied-fixed, implied-decided, implied-turned, denied-reason}
+use Rattle.engine.proofs.search.HeldLaws.{held-same, held-store, held-open, denied-false, implied-open, implied-fixed, implied-decided, implied-turned}
+use Rattle.engine.proofs.search.HeldLaws.{denied-reason}
 
 -- ---- sets that stay
 
@@ -69,14 +70,17 @@ module _ (o : List ℕ) {q : List ℕ} (size : length o ≡ sets-size) where
   pub adds : (p l : ℕ) → p < max-unknowns → l < max-unknowns → q ≡ added o p l → set-at q p l ≡ true
   adds p l pl ll e = subst (λ (x : List ℕ). set-at x p l ≡ true) (sym e) (add-adds o size p l (omega arith) ll)
 
-  pub blames : (codes : List ℕ) (start p : ℕ) → p < set-places → Coded max-unknowns codes → q ≡ blamed codes o start p → Blamed (clause-of (drop start codes)) p o q
-  blames codes start p place coded e = subst (λ (x : List ℕ). Blamed (clause-of (drop start codes)) p o x) (sym e) (blame-blames o size codes start p place coded)
+  pub adds-reasons : (codes : List ℕ) (start p : ℕ) → p < set-places → Coded max-unknowns codes → q ≡ reasons-added codes o start p →
+      ReasonsAdded (clause-of (drop start codes)) p o q
+  adds-reasons codes start p place coded e = subst (λ (x : List ℕ). ReasonsAdded (clause-of (drop start codes)) p o x) (sym e)
+      (add-reasons-adds o size codes start p place coded)
 
 pub has-at : (o : List ℕ) → length o ≡ sets-size → (l : ℕ) {r : Bool} → l < max-unknowns → r ≡ has o max-unknowns l → r ≡ set-at o max-unknowns l
 has-at o size l below e = e ∙ has-is o size max-unknowns l (omega arith) below
 
 -- no position passed is in the set, nor the next one
-pub none-more : (o : List ℕ) (k l : ℕ) → ((j : ℕ) → k ≤ j → j < l → set-at o max-unknowns j ≡ false) → set-at o max-unknowns l ≡ false → (j : ℕ) → k ≤ j → j < l + 1 → set-at o max-unknowns j ≡ false
+pub none-more : (o : List ℕ) (k l : ℕ) → ((j : ℕ) → k ≤ j → j < l → set-at o max-unknowns j ≡ false) → set-at o max-unknowns l ≡ false → (j : ℕ) → k ≤ j →
+    j < l + 1 → set-at o max-unknowns j ≡ false
 none-more o k l none here j low high = go (ℕ-discrete j l)
   where
     go : Dec (j ≡ l) → set-at o max-unknowns j ≡ false
@@ -106,7 +110,8 @@ opened-more {a} {b} p r so-far inside within = record { each = λ j. go j (ℕ-d
         let here = ap (λ (x : ℕ). getD (set b p r) x 0) e ∙ getD-set-same b p r 0 inside in
         ⊎-elim
         (λ z. inl (here ∙ z))
-        (λ z. ⊎-elim (λ q. inl (here ∙ z ∙ ap (λ (x : ℕ). getD b x 0) (sym e) ∙ q)) (λ q. inr (here ∙ z ∙ ap (λ (x : ℕ). getD b x 0) (sym e) ∙ q)) (so-far .each j))
+        (λ z. ⊎-elim (λ q. inl (here ∙ z ∙ ap (λ (x : ℕ). getD b x 0) (sym e) ∙ q)) (λ q. inr (here ∙ z ∙ ap (λ (x : ℕ). getD b x 0) (sym e) ∙ q))
+        (so-far .each j))
         within
     go j (no n) =
         let same = getD-set-other b p j r 0 n in
@@ -192,39 +197,43 @@ moves-at {codes} {a} {b} {o} {q} e moves = subst (λ (x : Bool). Moves codes a b
 
 -- a clause that is false
 pub false-moves : (codes a o q1 q : List ℕ) (start c : ℕ) → length o ≡ sets-size → length q1 ≡ sets-size → Begins codes start → FalseBut codes a start c → c ≡ 0
-    → q1 ≡ emptied o max-unknowns → q ≡ blamed codes q1 start max-unknowns → Moves codes a a o q false
+    → q1 ≡ emptied o max-unknowns → q ≡ reasons-added codes q1 start max-unknowns → Moves codes a a o q false
 false-moves codes a o q1 q start c size size1 begins looked none e1 e2 = record { on = moved }
   where
     moved : (w s : List ℕ) (i : ℕ) → Coded max-unknowns codes → Held codes w s i a o → Moved codes w s i a q false
     moved w s i coded held = record {
-      held = held-same codes w s i a o held q (record { same = λ p lt l. blamed .grown .others p (λ e. omega arith) l ∙ kept-emptied o size e1 .same p lt l });
+      held = held-same codes w s i a o held q (record
+          { same = λ p lt l. reasons-added .grown .others p (λ e. omega arith) l ∙ kept-emptied o size e1 .same p lt l });
       denied = λ e.
-          denied-false codes w s i a o held coded start c begins looked none q1 q (kept-emptied o size e1) blamed;
+          denied-false codes w s i a o held coded start c begins looked none q1 q (kept-emptied o size e1) reasons-added;
     }
       where
-        blamed : Blamed (clause-of (drop start codes)) max-unknowns q1 q
-        blamed = blames q1 size1 codes start max-unknowns (omega arith) coded e2
+        reasons-added : ReasonsAdded (clause-of (drop start codes)) max-unknowns q1 q
+        reasons-added = adds-reasons q1 size1 codes start max-unknowns (omega arith) coded e2
 
 -- a clause with one open literal
-module _ (codes a o b q1 q2 q : List ℕ) (p start c : ℕ) (size : length o ≡ sets-size) (size1 : length q1 ≡ sets-size) (small : p < max-unknowns) (two : 2 ≤ c) (last : c ≤ last-code)
-    (ep : p ≡ row-position c) (unset : getD a p 0 ≡ 0) (e1 : q1 ≡ emptied o p) (e2 : q2 ≡ blamed codes q1 start p) (stored : LineSet p (eqb (c % 2) 0) a b) (noted : SetsKept q2 q)
+module _ (codes a o b q1 q2 q : List ℕ) (p start c : ℕ) (size : length o ≡ sets-size) (size1 : length q1 ≡ sets-size) (small : p < max-unknowns) (two : 2 ≤ c)
+    (last : c ≤ last-code)
+    (ep : p ≡ row-position c) (unset : getD a p 0 ≡ 0) (e1 : q1 ≡ emptied o p) (e2 : q2 ≡ reasons-added codes q1 start p)
+    (stored : LineSet p (eqb (c % 2) 0) a b)
+    (noted : SetsKept q2 q)
     (begins : Begins codes start) (looked : FalseBut codes a start c) where
   there : position c ≡ p
   there = sym (row-position-is c two (omega arith)) ∙ sym ep
 
   module _ (w s : List ℕ) (i : ℕ) (coded : Coded max-unknowns codes) (held : Held codes w s i a o) where
-    blamed-there : Blamed (clause-of (drop start codes)) p q1 q2
-    blamed-there = blames q1 size1 codes start p (omega arith) coded e2
+    reasons-added-there : ReasonsAdded (clause-of (drop start codes)) p q1 q2
+    reasons-added-there = adds-reasons q1 size1 codes start p (omega arith) coded e2
 
     others : SetsBut p o q2
-    others = record { same = λ j lt n l. blamed-there .grown .others j n l ∙ but-emptied o size p small e1 .same j lt n l }
+    others = record { same = λ j lt n l. reasons-added-there .grown .others j n l ∙ but-emptied o size p small e1 .same j lt n l }
 
     open-moved : Moved codes w s i b q true
     open-moved = record {
       held =
           held-same codes w s i b q2
           (held-store codes w s i a o held b q2 p (eqb (c % 2) 0) stored others
-          (implied-open codes w s i a o held coded start c begins looked p there unset q1 q2 (but-emptied o size p small e1) blamed-there))
+          (implied-open codes w s i a o held coded start c begins looked p there unset q1 q2 (but-emptied o size p small e1) reasons-added-there))
           q noted;
       denied = λ e. absurd (never-both refl e);
     }
@@ -232,7 +241,7 @@ module _ (codes a o b q1 q2 q : List ℕ) (p start c : ℕ) (size : length o ≡
   pub open-moves : Moves codes a b o q true
   open-moves = record { on = open-moved }
 
--- ---- a decision, and its other value after a failure
+-- ---- a decision, and its other value after a conflict
 
 pub decides : (codes w a b b′ o q1 q2 q3 q : List ℕ) (i : ℕ) (r : Bool) → Same o q1
     → ((codes s : List ℕ) → Held codes w s i a q1 → Held codes w s i b q2) → SetsKept q2 q3 → Moves codes b b′ q3 q r
@@ -241,7 +250,8 @@ decides codes w a b b′ o q1 q2 q3 q i r same put kept moves = record {
   on = λ s coded moved. moves .on w s i coded (held-same codes w s i b q2 (put codes s (held-same codes w s i a o (moved .held) q1 (same-kept same))) q3 kept);
 }
 
-pub turns : (codes w a a1 b b′ o q1 q2 q : List ℕ) (i p : ℕ) (y r : Bool) → LineOpened a a1 → Inherited p o q1 → y ≡ not (cells w .value i p) → LineSet p y a1 b → SetsKept q1 q2
+pub turns : (codes w a a1 b b′ o q1 q2 q : List ℕ) (i p : ℕ) (y r : Bool) → LineOpened a a1 → Inherited p o q1 → y ≡ not (cells w .value i p) →
+    LineSet p y a1 b → SetsKept q1 q2
     → Moves codes b b′ q2 q r → StepsOn codes w i a b′ o q false r
 turns codes w a a1 b b′ o q1 q2 q i p y r opened inherited ey stored kept moves = record {
   on = λ s coded moved.
@@ -254,7 +264,8 @@ turns codes w a a1 b b′ o q1 q2 q i p y r opened inherited ey stored kept move
       q2 kept);
 }
 
-pub steps-at : {codes w : List ℕ} {i : ℕ} {a b o q : List ℕ} {going going′ r : Bool} → going ≡ going′ → StepsOn codes w i a b o q going r → StepsOn codes w i a b o q going′ r
+pub steps-at : {codes w : List ℕ} {i : ℕ} {a b o q : List ℕ} {going going′ r : Bool} → going ≡ going′ → StepsOn codes w i a b o q going r →
+    StepsOn codes w i a b o q going′ r
 steps-at {codes} {w} {i} {a} {b} {o} {q} {going} {going′} {r} e steps = subst (λ (x : Bool). StepsOn codes w i a b o q x r) e steps
 
 -- ---- the set at p as it is taken from the one behind

@@ -54,7 +54,11 @@ entry-made kinds codes terms j start t size small has = record { entered = λ e.
           subst (λ (x : ℕ). HasTerm kinds codes after x e) (sym (getD-set-same (set terms j start) (max-clauses + j) t 0 (simp length-set (omega arith))))
           (subst (λ (x : ℕ). HasTerm kinds codes after t x) (sym same)
           (⊎-elim (λ o. inl o)
-          (λ s. inr (s .0, subst (λ (first : ℕ). StandsFor kinds codes first start) (sym (others-kept (2 * max-clauses + t) (λ z. let lt = s .0 in omega arith) (λ z. let lt = s .0 in omega arith))) (s .1)))
+          (λ s. inr (
+            s .0,
+            subst (λ (first : ℕ). StandsFor kinds codes first start)
+                (sym (others-kept (2 * max-clauses + t) (λ z. let lt = s .0 in omega arith) (λ z. let lt = s .0 in omega arith))) (s .1),
+          ))
           has));
     }
 
@@ -97,7 +101,8 @@ listed-all {kinds} {codes} {terms} {j} {start} size small all so-far = record {
 pub closed-stored : (terms : List ℕ) (last end : ℕ) → length terms ≡ table-size → last < max-clauses
     → Closed last end (set (set (set terms last end) (max-clauses + last) others) (2 * max-clauses + (others + 1)) (last + 1))
 closed-stored terms last end size small = record {
-  there = far last (λ z. omega arith) ∙ getD-set-other first (max-clauses + last) last others 0 (λ z. omega arith) ∙ getD-set-same terms last end 0 (omega arith);
+  there = far last (λ z. omega arith) ∙ getD-set-other first (max-clauses + last) last others 0 (λ z. omega arith) ∙ getD-set-same terms last end 0
+      (omega arith);
   term = far (max-clauses + last) (λ z. omega arith) ∙ getD-set-same first (max-clauses + last) others 0 (simp length-set (omega arith));
   listed = getD-set-same second (2 * max-clauses + (others + 1)) (last + 1) 0 (simp length-set (omega arith));
 }

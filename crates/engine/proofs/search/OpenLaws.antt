@@ -57,7 +57,8 @@ module _ {kinds codes terms work before after misses : List ℕ} {w count all : 
           (λ s.
           inr
           (subst (λ (x : ℕ). Some (GivenTrue kinds work x) (clause-of (drop (start-of terms j) codes))) row
-          (hit-given (looked .missed) l (omega arith) (clause-of (drop (start-of terms j) codes)) (clause-coded (length kinds) codes (start-of terms j) coded) s)))
+          (hit-given (looked .missed) l (omega arith) (clause-of (drop (start-of terms j) codes)) (clause-coded (length kinds) codes (start-of terms j) coded)
+          s)))
           (word .listed fits .every j l below place (looked .ones l (omega arith)))
 
 -- ---- the clauses that stand for the terms
@@ -80,7 +81,8 @@ named-more {terms} {before} {after} {n} v so-far inside is = record {
 
 -- ---- the promise
 
-pub opened-all : {kinds codes terms work before after : List ℕ} {count : ℕ} → count ≤ max-rows → Listed kinds codes terms → Filled kinds codes terms work count before
+pub opened-all : {kinds codes terms work before after : List ℕ} {count : ℕ} → count ≤ max-rows → Listed kinds codes terms →
+    Filled kinds codes terms work count before
     → Named terms others before after → Opened kinds codes work count after
 opened-all {kinds} {codes} {terms} {work} {before} {after} {count} fits listed filled named = record {
   every = λ i row start inside b. ⊎-elim (go i start row) (λ e. nowhere i start (go i (length codes) row e)) (listed .every start inside b);
@@ -92,7 +94,8 @@ opened-all {kinds} {codes} {terms} {work} {before} {after} {count} fits listed f
     kept : (i t : ℕ) → i < count → t ≤ others → is-open before t i ≡ true → is-open after t i ≡ true
     kept i t row few h = subst (λ (x : ℕ). bit x (i % 64) ≡ true) (sym (named .rows (row-words * t + i / 64) (omega arith))) h
 
-    placed : (i start : ℕ) → i < count → (entered : Entered kinds codes terms (listed-in terms) start) → is-open before (term-of terms (entered .entry)) i ≡ true → Row i start
+    placed : (i start : ℕ) → i < count → (entered : Entered kinds codes terms (listed-in terms) start) →
+        is-open before (term-of terms (entered .entry)) i ≡ true → Row i start
     placed i start row entered h =
         ⊎-elim
         (λ e. inr (inr (kept i others row (omega arith) (subst (λ (x : ℕ). is-open before x i ≡ true) e h))))
@@ -125,7 +128,8 @@ opened-all {kinds} {codes} {terms} {work} {before} {after} {count} fits listed f
         inside = t .stands .inside;
         begins = t .stands .begins;
         within =
-            every-map (λ c. own kinds c ≡ true → Some (λ d. d ≡ c) (clause-of (drop (length codes) codes))) (λ c. own kinds c ≡ true → Some (λ d. d ≡ c) (clause-of (drop start codes)))
+            every-map (λ c. own kinds c ≡ true → Some (λ d. d ≡ c) (clause-of (drop (length codes) codes)))
+            (λ c. own kinds c ≡ true → Some (λ d. d ≡ c) (clause-of (drop start codes)))
             (λ c f o. absurd (none-there (λ d. d ≡ c) (f o))) (clause-of (drop (name-of after (t .term)) codes)) (t .stands .within);
       };
     }))
@@ -142,17 +146,20 @@ pub row-covered : {kinds codes work opened : List ℕ} (i : ℕ) → RowOpened k
 row-covered {kinds} {codes} {work} {opened} i promised ended Q given terms none =
     every-start (Some Q) codes ended (λ start inside b. go start (promised start inside b))
   where
-    moved : (start : ℕ) (c : ℕ) → (own kinds c ≡ true → Some (λ d. d ≡ c) (clause-of (drop start codes))) → (own kinds c ≡ true) × Q c → Some Q (clause-of (drop start codes))
+    moved : (start : ℕ) (c : ℕ) → (own kinds c ≡ true → Some (λ d. d ≡ c) (clause-of (drop start codes))) → (own kinds c ≡ true) × Q c →
+        Some Q (clause-of (drop start codes))
     moved start c within here =
         some-map (λ d. d ≡ c) Q (λ d e. subst Q (sym e) (here .1)) (clause-of (drop start codes)) (within (here .0))
 
     through : (start : ℕ) → TermOpen kinds codes opened i start → Some Q (clause-of (drop start codes))
     through start open-there =
-        every-some (λ c. own kinds c ≡ true → Some (λ d. d ≡ c) (clause-of (drop start codes))) (λ c. (own kinds c ≡ true) × Q c) (Some Q (clause-of (drop start codes)))
+        every-some (λ c. own kinds c ≡ true → Some (λ d. d ≡ c) (clause-of (drop start codes))) (λ c. (own kinds c ≡ true) × Q c)
+        (Some Q (clause-of (drop start codes)))
         (moved start) (clause-of (drop (name-of opened (open-there .term)) codes)) (open-there .stands .within)
         (terms (open-there .term) (open-there .below) (open-there .there))
 
-    go : (start : ℕ) → Some (GivenTrue kinds work i) (clause-of (drop start codes)) ⊎ TermOpen kinds codes opened i start ⊎ (is-open opened others i ≡ true) → Some Q (clause-of (drop start codes))
+    go : (start : ℕ) → Some (GivenTrue kinds work i) (clause-of (drop start codes)) ⊎ TermOpen kinds codes opened i start ⊎ (is-open opened others i ≡ true) →
+        Some Q (clause-of (drop start codes))
     go start (inl s) = some-map (GivenTrue kinds work i) Q given (clause-of (drop start codes)) s
     go start (inr (inl open-there)) = through start open-there
     go start (inr (inr h)) = absurd (never-both h none)

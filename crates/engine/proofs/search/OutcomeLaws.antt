@@ -58,7 +58,8 @@ module _ (rows : List ℕ) (lent others : ℕ) (work : List ℕ) where
 pub fits-few : (rows : List ℕ) → table-fits rows ≡ true → room rows ≤ max-rows
 unfolding table-fits
 fits-few rows e =
-    let a : leb 16 (length rows) && leb (length rows) (max-rows * 16) ≡ true = and-eq-true-iff (leb 16 (length rows) && leb (length rows) (max-rows * 16)) (eqb (length rows % 16) 0) .0 e .0 in
+    let a : leb 16 (length rows) && leb (length rows) (max-rows * 16) ≡ true = and-eq-true-iff (leb 16 (length rows) && leb (length rows) (max-rows * 16))
+    (eqb (length rows % 16) 0) .0 e .0 in
     let b : leb (length rows) (max-rows * 16) ≡ true = and-eq-true-iff (leb 16 (length rows)) (leb (length rows) (max-rows * 16)) .0 a .1 in
     let c : length rows ≤ max-rows * 16 = leb-true (length rows) (max-rows * 16) b in
     omega arith
@@ -66,26 +67,33 @@ fits-few rows e =
 -- ---- answers over tables that fit
 
 module _ (kinds codes index terms preferences own : List ℕ) (known : ℕ) (rows : List ℕ) (lent others side : ℕ) (w : List ℕ) where
-  pub answered-refused : (n : ℕ) → later-cause rows lent others w ≡ suc n → Answered kinds codes index terms preferences own known rows lent others side w w (Refused (suc n))
+  pub answered-refused : (n : ℕ) → later-cause rows lent others w ≡ suc n →
+      Answered kinds codes index terms preferences own known rows lent others side w w (Refused (suc n))
   answered-refused n e = record {
     refused = λ f. (ap Refused (sym e), refl);
     answered = λ z. absurd (omega arith);
   }
 
-  pub answered-found : (u : List ℕ) (b : Bool) → later-cause rows lent others w ≡ 0 → Finds kinds codes index terms preferences own known rows lent others side b u → b ≡ true → Answered kinds codes index terms preferences own known rows lent others side w u Found
+  pub answered-found : (u : List ℕ) (b : Bool) → later-cause rows lent others w ≡ 0 →
+      Finds kinds codes index terms preferences own known rows lent others side b u → b ≡ true →
+      Answered kinds codes index terms preferences own known rows lent others side w u Found
   answered-found u b z found-is e = record {
     refused = λ f. absurd (f z);
-    answered = λ q literals of leads. go (search (prefer preferences) (side-kind side) (prefix kinds) (matrix (clauses literals)) (rows-of others lent rows)) (found-is literals of leads);
+    answered = λ q literals of leads. go (search (prefer preferences) (side-kind side) (prefix kinds) (matrix (clauses literals)) (rows-of others lent rows))
+        (found-is literals of leads);
   }
     where
       go : (o : Option (List Row)) → FoundIs o b u → (Found ≡ answer o) × (u ≡ left o)
       go none f = absurd (never-both e (f .0))
       go (some ys) f = (refl, f .1)
 
-  pub answered-none : (u : List ℕ) (b : Bool) → later-cause rows lent others w ≡ 0 → Finds kinds codes index terms preferences own known rows lent others side b u → b ≡ false → Answered kinds codes index terms preferences own known rows lent others side w u NoModel
+  pub answered-none : (u : List ℕ) (b : Bool) → later-cause rows lent others w ≡ 0 →
+      Finds kinds codes index terms preferences own known rows lent others side b u → b ≡ false →
+      Answered kinds codes index terms preferences own known rows lent others side w u NoModel
   answered-none u b z found-is e = record {
     refused = λ f. absurd (f z);
-    answered = λ q literals of leads. go (search (prefer preferences) (side-kind side) (prefix kinds) (matrix (clauses literals)) (rows-of others lent rows)) (found-is literals of leads);
+    answered = λ q literals of leads. go (search (prefer preferences) (side-kind side) (prefix kinds) (matrix (clauses literals)) (rows-of others lent rows))
+        (found-is literals of leads);
   }
     where
       go : (o : Option (List Row)) → FoundIs o b u → (NoModel ≡ answer o) × (u ≡ left o)
@@ -114,7 +122,8 @@ module _ (kinds : List ℕ) (literals : List ℤ) (preferences rows : List ℕ) 
       go true = refl
       go false = refl
 
-  searched : (r : Search) (u : List ℕ) → r ≡ outcome kinds literals preferences rows lent universal? w → u ≡ work-after kinds literals preferences rows lent universal? w
+  searched : (r : Search) (u : List ℕ) → r ≡ outcome kinds literals preferences rows lent universal? w →
+      u ≡ work-after kinds literals preferences rows lent universal? w
       → Searched kinds literals preferences rows lent universal? w r u
   searched r u e f =
       record {
@@ -140,8 +149,10 @@ module _ (kinds : List ℕ) (literals : List ℤ) (preferences rows : List ℕ) 
   pub refused-searched : (n : ℕ) → checked kinds literals ≡ Turned n → Searched kinds literals preferences rows lent universal? w (Refused n) w
   refused-searched n e = searched (Refused n) w (refused-outcome n e) (refused-work n e)
 
-  module _ (f : Formula) (passed : checked kinds literals ≡ Passed f) (others side : ℕ) (same-side : side-kind side ≡ side-of universal?) (others-known : others ≡ count (other (side-kind side)) (prefix kinds))
-      (codes index terms own : List ℕ) (known : ℕ) (of : TablesOf kinds literals codes index terms) (leads : KnownLeads kinds literals preferences own known rows lent universal?) where
+  module _ (f : Formula) (passed : checked kinds literals ≡ Passed f) (others side : ℕ) (same-side : side-kind side ≡ side-of universal?)
+      (others-known : others ≡ count (other (side-kind side)) (prefix kinds))
+      (codes index terms own : List ℕ) (known : ℕ) (of : TablesOf kinds literals codes index terms)
+      (leads : KnownLeads kinds literals preferences own known rows lent universal?) where
     others-same : count (other (side-of universal?)) (prefix kinds) ≡ others
     others-same = ap (λ (s : Kind). count (other s) (prefix kinds)) (sym same-side) ∙ sym others-known
 
@@ -149,7 +160,8 @@ module _ (kinds : List ℕ) (literals : List ℤ) (preferences rows : List ℕ) 
     unfolding cause later-cause
     cause-later = rw (passed, others-same)
 
-    found-same : found kinds literals preferences rows lent universal? ≡ search (prefer preferences) (side-kind side) (prefix kinds) (matrix (clauses literals)) (rows-of others lent rows)
+    found-same : found kinds literals preferences rows lent universal? ≡ search (prefer preferences) (side-kind side) (prefix kinds) (matrix (clauses literals))
+        (rows-of others lent rows)
     unfolding found lent-rows
     found-same = rw (others-same, ← same-side)
 
@@ -159,19 +171,24 @@ module _ (kinds : List ℕ) (literals : List ℤ) (preferences rows : List ℕ) 
         subst (λ (s : Kind). LastLeads kinds literals preferences own known s (rows-of others lent rows)) (sym same-side)
         (subst (λ (n : ℕ). LastLeads kinds literals preferences own known (side-of universal?) (rows-of n lent rows)) others-same leads)
 
-    answered-outcome : (u : List ℕ) (r : Search) → Answered kinds codes index terms preferences own known rows lent others side w u r → r ≡ outcome kinds literals preferences rows lent universal? w
+    answered-outcome : (u : List ℕ) (r : Search) → Answered kinds codes index terms preferences own known rows lent others side w u r →
+        r ≡ outcome kinds literals preferences rows lent universal? w
     unfolding outcome
     answered-outcome u r a = go (later-cause rows lent others w) refl
       where
-        go : (n : ℕ) → later-cause rows lent others w ≡ n → r ≡ cond (eqb (cause kinds literals rows lent universal? w) 0) (answer (found kinds literals preferences rows lent universal?)) (Refused (cause kinds literals rows lent universal? w))
+        go : (n : ℕ) → later-cause rows lent others w ≡ n →
+            r ≡ cond (eqb (cause kinds literals rows lent universal? w) 0) (answer (found kinds literals preferences rows lent universal?))
+            (Refused (cause kinds literals rows lent universal? w))
         go zero e = a .answered e literals of leads-same .0 ∙ sym (rw (cause-later, e, found-same))
         go (suc n) e = a .refused (λ z. omega arith) .0 ∙ sym (rw (cause-later, e, ne-eqb (suc n) 0 (λ z. omega arith)))
 
-    answered-work : (u : List ℕ) (r : Search) → Answered kinds codes index terms preferences own known rows lent others side w u r → u ≡ work-after kinds literals preferences rows lent universal? w
+    answered-work : (u : List ℕ) (r : Search) → Answered kinds codes index terms preferences own known rows lent others side w u r →
+        u ≡ work-after kinds literals preferences rows lent universal? w
     unfolding work-after
     answered-work u r a = go (later-cause rows lent others w) refl
       where
-        go : (n : ℕ) → later-cause rows lent others w ≡ n → u ≡ cond (eqb (cause kinds literals rows lent universal? w) 0) (left (found kinds literals preferences rows lent universal?)) w
+        go : (n : ℕ) → later-cause rows lent others w ≡ n →
+            u ≡ cond (eqb (cause kinds literals rows lent universal? w) 0) (left (found kinds literals preferences rows lent universal?)) w
         go zero e = a .answered e literals of leads-same .1 ∙ sym (rw (cause-later, e, found-same))
         go (suc n) e = a .refused (λ z. omega arith) .1 ∙ sym (rw (cause-later, e, ne-eqb (suc n) 0 (λ z. omega arith)))
 

@@ -50,7 +50,8 @@ module _ (kinds : List ℕ) (literals : List ℤ) (of : Accepted kinds literals)
       → (take used codes-then ≡ encoding literals) × (index-then ≡ index-of (take used codes-then))
   tables-made codes index used codes-then index-then room place e f g = (
     made,
-    lists (take used codes-then) index (subst (λ (l : List ℕ). length l ≤ max-entries) (sym made) codes-few) (subst (λ (l : List ℕ). Coded max-unknowns l) (sym made) codes-coded) place g,
+    lists (take used codes-then) index (subst (λ (l : List ℕ). length l ≤ max-entries) (sym made) codes-few)
+        (subst (λ (l : List ℕ). Coded max-unknowns l) (sym made) codes-coded) place g,
   )
     where
       made : take used codes-then ≡ encoding literals
@@ -182,7 +183,8 @@ module _ (kinds : List ℕ) where
       go false q = refl
 
   one-accepted : (literals : List ℤ) → Accepted kinds literals → (n : ℕ) → checked kinds one ≡ Turned n → ⊥
-  one-accepted literals of n e = let z : Passed (sizes kinds one) ≡ Turned n = sym (accepting kinds one with-one) ∙ e in let y : _≡_ {A = ℕ} 0 1 = cc in omega arith
+  one-accepted literals of n e = let z : Passed (sizes kinds one) ≡ Turned n = sym (accepting kinds one with-one) ∙ e in let y : _≡_ {A = ℕ} 0 1 = cc in omega
+      arith
     where
       zero-there : (i : ℕ) → natAbs (getD one i (pos 0)) ≤ length kinds
       zero-there zero = omega arith
@@ -235,26 +237,31 @@ module _ (kinds codes index terms : List ℕ) where
     unfolding cause-over
     cause-of-tables e f = rw (e, f)
 
-    pub over-refused-kinds : (n : ℕ) → checked kinds one ≡ Turned n → SearchedOver kinds codes index terms preferences own known rows lent universal? w (Refused n) w
+    pub over-refused-kinds : (n : ℕ) → checked kinds one ≡ Turned n →
+        SearchedOver kinds codes index terms preferences own known rows lent universal? w (Refused n) w
     over-refused-kinds n e = record {
       prepared = λ literals p _. absurd (one-accepted kinds literals (accepted kinds literals (p .accepted)) n e);
       refused = λ _. (ap Refused (one-refused kinds n e .1 ∙ sym (cause-of-kinds (one-refused kinds n e .0))), refl);
     }
 
     module _ (f : Formula) (passed : checked kinds one ≡ Passed f) where
-      pub over-refused-tables : tables-fit codes (length index) ≡ false → SearchedOver kinds codes index terms preferences own known rows lent universal? w (Refused 2) w
+      pub over-refused-tables : tables-fit codes (length index) ≡ false →
+          SearchedOver kinds codes index terms preferences own known rows lent universal? w (Refused 2) w
       over-refused-tables unfit = record {
         prepared = λ literals p _. absurd (true≢false (sym (prepared-fit literals p) ∙ unfit));
         refused = λ _. (ap Refused (sym (cause-of-tables (one-passed kinds f passed) unfit)), refl);
       }
 
-      module _ (fits : tables-fit codes (length index) ≡ true) (others side : ℕ) (same-side : side-kind side ≡ side-of universal?) (others-known : others ≡ count (other (side-kind side)) (prefix kinds)) where
+      module _ (fits : tables-fit codes (length index) ≡ true) (others side : ℕ) (same-side : side-kind side ≡ side-of universal?)
+          (others-known : others ≡ count (other (side-kind side)) (prefix kinds)) where
         later : cause-over kinds codes index rows lent universal? w ≡ later-cause rows lent others w
         unfolding cause-over
         later = rw (one-passed kinds f passed, fits, ← same-side, ← others-known)
 
-        pub over-answered : (u : List ℕ) (r : Search) → Answered kinds codes index terms preferences own known rows lent others side w u r → SearchedOver kinds codes index terms preferences own known rows lent universal? w r u
+        pub over-answered : (u : List ℕ) (r : Search) → Answered kinds codes index terms preferences own known rows lent others side w u r →
+            SearchedOver kinds codes index terms preferences own known rows lent universal? w r u
         over-answered u r a = record {
-          prepared = λ literals p leads. answered-searched kinds literals preferences rows lent universal? w (sizes kinds literals) (p .accepted) others side same-side others-known codes index terms own known (tables-of literals p) leads u r a;
+          prepared = λ literals p leads. answered-searched kinds literals preferences rows lent universal? w (sizes kinds literals) (p .accepted) others side
+              same-side others-known codes index terms own known (tables-of literals p) leads u r a;
           refused = λ cause. let q = a .refused (λ z. cause (later ∙ z)) in (q .0 ∙ ap Refused (sym later), q .1);
         }

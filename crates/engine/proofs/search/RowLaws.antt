@@ -31,7 +31,8 @@ told-own kind work k from rows fits = record { true-there = λ l lt. inl (full-b
 pub told-none : (kind : ℕ) (work : List ℕ) (k from on off : ℕ) → Told kind work k from 0 on off
 told-none kind work k from on off = record { true-there = λ l lt. absurd (omega arith); false-there = λ l lt. absurd (omega arith) }
 
-module _ {kind : ℕ} {work : List ℕ} {k from l on off : ℕ} (so-far : Told kind work k from l on off) (given : kind ≡ 1 → ⊥) (small : k < max-unknowns) (row : from + l < max-rows) (fits : l < 64)
+module _ {kind : ℕ} {work : List ℕ} {k from l on off : ℕ} (so-far : Told kind work k from l on off) (given : kind ≡ 1 → ⊥) (small : k < max-unknowns)
+    (row : from + l < max-rows) (fits : l < 64)
     (v : ℕ) (is : v ≡ getD work (flags + (max-unknowns * (from + l) + k)) 0 % 2) where
   here-is : cells work .value (from + l) k ≡ eqb v 1
   here-is = value-at (from + l) k row small work ∙ ap (λ (x : ℕ). eqb x 1) (sym is)
@@ -39,15 +40,18 @@ module _ {kind : ℕ} {work : List ℕ} {k from l on off : ℕ} (so-far : Told k
   pub told-more : Told kind work k from (l + 1) (bitOr on (v * 2 ^ l % 2 ^ 64)) (bitOr off ((1 - v) * 2 ^ l % 2 ^ 64))
   told-more = record { true-there = λ m lt. go m lt (ℕ-discrete m l) (ℕ-discrete v 1); false-there = λ m lt. back m lt (ℕ-discrete m l) (ℕ-discrete v 1) }
     where
-      go : (m : ℕ) → m < l + 1 → Dec (m ≡ l) → Dec (v ≡ 1) → (bit (bitOr on (v * 2 ^ l % 2 ^ 64)) m ≡ true) ⊎ ((kind ≡ 1 → ⊥) × (cells work .value (from + m) k ≡ false))
+      go : (m : ℕ) → m < l + 1 → Dec (m ≡ l) → Dec (v ≡ 1) → (bit (bitOr on (v * 2 ^ l % 2 ^ 64)) m ≡ true) ⊎ ((kind ≡ 1 → ⊥) ×
+          (cells work .value (from + m) k ≡ false))
       go m lt (yes same) (yes one) =
           inl (subst (λ (x : ℕ). bit (bitOr on (v * 2 ^ l % 2 ^ 64)) x ≡ true) (sym same) (or-right on (v * 2 ^ l % 2 ^ 64) l (shifted-bit v l one fits)))
       go m lt (yes same) (no n) = inr (given, ap (λ (x : ℕ). cells work .value (from + x) k) same ∙ here-is ∙ ne-eqb v 1 n)
       go m lt (no n) d = ⊎-elim (λ b. inl (or-left on (v * 2 ^ l % 2 ^ 64) m b)) (λ r. inr r) (so-far .true-there m (omega arith))
 
-      back : (m : ℕ) → m < l + 1 → Dec (m ≡ l) → Dec (v ≡ 1) → (bit (bitOr off ((1 - v) * 2 ^ l % 2 ^ 64)) m ≡ true) ⊎ ((kind ≡ 1 → ⊥) × (cells work .value (from + m) k ≡ true))
+      back : (m : ℕ) → m < l + 1 → Dec (m ≡ l) → Dec (v ≡ 1) → (bit (bitOr off ((1 - v) * 2 ^ l % 2 ^ 64)) m ≡ true) ⊎ ((kind ≡ 1 → ⊥) ×
+          (cells work .value (from + m) k ≡ true))
       back m lt (yes same) (no n) =
-          inl (subst (λ (x : ℕ). bit (bitOr off ((1 - v) * 2 ^ l % 2 ^ 64)) x ≡ true) (sym same) (or-right off ((1 - v) * 2 ^ l % 2 ^ 64) l (shifted-bit (1 - v) l (omega arith) fits)))
+          inl (subst (λ (x : ℕ). bit (bitOr off ((1 - v) * 2 ^ l % 2 ^ 64)) x ≡ true) (sym same)
+          (or-right off ((1 - v) * 2 ^ l % 2 ^ 64) l (shifted-bit (1 - v) l (omega arith) fits)))
       back m lt (yes same) (yes one) = inr (given, ap (λ (x : ℕ). cells work .value (from + x) k) same ∙ here-is ∙ eq-eqb v 1 one)
       back m lt (no n) d = ⊎-elim (λ b. inl (or-left off ((1 - v) * 2 ^ l % 2 ^ 64) m b)) (λ r. inr r) (so-far .false-there m (omega arith))
 
@@ -68,7 +72,8 @@ true-odd f k e =
     ap (λ (b : Bool). cond b (f (position (2 * k + 3))) (not (f (position (2 * k + 3))))) (ne-eqb ((2 * k + 3) % 2) 0 (λ z. omega arith))
     ∙ ap (λ (x : ℕ). not (f x)) (let same : position (2 * k + 3) ≡ k = omega arith in same) ∙ ap not e
 
-module _ {kinds work misses : List ℕ} {from rows k : ℕ} (so-far : Missed kinds work from rows k misses) (size : length misses ≡ last-code + 1) (small : k < max-unknowns)
+module _ {kinds work misses : List ℕ} {from rows k : ℕ} (so-far : Missed kinds work from rows k misses) (size : length misses ≡ last-code + 1)
+    (small : k < max-unknowns)
     (kind on off : ℕ) (is : kind ≡ getD kinds k 0) (told : Told kind work k from rows on off) where
   not-own : (c : ℕ) → position c ≡ k → 2 ≤ c → (kind ≡ 1 → ⊥) → own kinds c ≡ false
   unfolding own
@@ -82,7 +87,8 @@ module _ {kinds work misses : List ℕ} {from rows k : ℕ} (so-far : Missed kin
       after = set (set misses (2 * k + 2) off) (2 * k + 3) on
 
       even-word : getD after (2 * k + 2) 0 ≡ off
-      even-word = getD-set-other (set misses (2 * k + 2) off) (2 * k + 3) (2 * k + 2) on 0 (λ z. omega arith) ∙ getD-set-same misses (2 * k + 2) off 0 (omega arith)
+      even-word = getD-set-other (set misses (2 * k + 2) off) (2 * k + 3) (2 * k + 2) on 0 (λ z. omega arith) ∙ getD-set-same misses (2 * k + 2) off 0
+          (omega arith)
 
       odd-word : getD after (2 * k + 3) 0 ≡ on
       odd-word = getD-set-same (set misses (2 * k + 2) off) (2 * k + 3) on 0 (simp length-set (omega arith))
@@ -166,7 +172,8 @@ module _ {codes terms misses : List ℕ} {w all n : ℕ} {before now after : Lis
           let place : t ≡ term-of terms j = omega arith in
           subst (λ (x : ℕ). At l x (start-of terms j)) place
           (subst (λ (x : ℕ). At l t x) (there ∙ ap (start-of terms) (sym same)) (new l h))
-      go j l lt few h (no other) = ⊎-elim (λ b. inl (joined .grown .keeps (row-words * term-of terms j + w) l b)) (λ s. inr s) (so-far .visited .every j l (omega arith) few h)
+      go j l lt few h (no other) = ⊎-elim (λ b. inl (joined .grown .keeps (row-words * term-of terms j + w) l b)) (λ s. inr s)
+          (so-far .visited .every j l (omega arith) few h)
 
 pub visited-all : {codes terms misses : List ℕ} {w all n : ℕ} {before after : List ℕ} → (listed-in terms ≤ max-clauses → n ≡ listed-in terms)
     → Visiting codes terms misses w all n before after → WordFilled codes terms misses w all before after

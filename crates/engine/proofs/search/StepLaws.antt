@@ -1,4 +1,4 @@
--- Steps of a search follow one another: settled after settled, and the pieces of which a search of a group is made.
+-- Steps of a search follow one another: propagated after propagated, and the pieces of which a search of a group is made.
 -- Assumes nothing.
 use Prim.Native.Nat.{ℕ, _≤_, _<_}
 use mathlib.Core.Path.{_≡_, refl, sym, _∙_, ap, subst}
@@ -15,7 +15,7 @@ use Rattle.expansion.proofs.Steps.{node-same}
 use Rattle.search_cells.specs.Cells.{cells}
 use Rattle.search_cells.specs.Private.Changes.{SameWants}
 use Rattle.search_sets.specs.Private.Masks.{set-at, masks, SetGrown, SetsKept}
-use Rattle.engine.specs.Private.Steps.{Settled, Settles, Steps}
+use Rattle.engine.specs.Private.Steps.{Propagated, Propagates, Steps}
 
 -- ---- masks
 
@@ -28,7 +28,8 @@ unfolding masks
 masks-behind s p le = ap (λ (b : Bool). cond {A = Mask} b (set-at s p) (λ l. false)) (le-ltb p max-unknowns le)
 
 -- what no set of a position loses, no mask loses
-pub masks-within : (k : ℕ) (s t : List ℕ) → ((p : ℕ) → p < max-unknowns → (l : ℕ) → l < k → set-at s p l ≡ true → set-at t p l ≡ true) → MasksWithin k (masks s) (masks t)
+pub masks-within : (k : ℕ) (s t : List ℕ) → ((p : ℕ) → p < max-unknowns → (l : ℕ) → l < k → set-at s p l ≡ true → set-at t p l ≡ true) →
+    MasksWithin k (masks s) (masks t)
 masks-within k s t keeps p l lk h = go (decLt p max-unknowns)
   where
     go : Dec (p < max-unknowns) → masks t p l ≡ true
@@ -57,22 +58,25 @@ masks-kept k s t g = masks-within k s t (λ p lt l lk h. g .same p lt l ∙ h)
 pub wants-trans : (w u x : List ℕ) → SameWants w u → SameWants u x → SameWants w x
 wants-trans w u x a b i k = b i k ∙ a i k
 
--- ---- settled after settled
+-- ---- propagated after propagated
 
-pub settled-refl : (P : Problem) (k lo hi : ℕ) (v : ℕ → Bool) (mark : ℕ) (w s t : List ℕ) → Node P k lo hi v (cells w) (masks s) → MasksWithin k (masks s) (masks t) → Settled P k lo hi v mark w w s t true
-settled-refl P k lo hi v mark w s t A m = record {
-  grown = grown-refl mark lo hi (cells w);
+pub propagated-refl : (P : Problem) (k lo hi : ℕ) (v : ℕ → Bool) (level : ℕ) (w s t : List ℕ) → Node P k lo hi v (cells w) (masks s) →
+    MasksWithin k (masks s) (masks t) → Propagated P k lo hi v level w w s t true
+propagated-refl P k lo hi v level w s t A m = record {
+  grown = grown-refl level lo hi (cells w);
   wanted = λ i j. refl;
   masked = m;
   kept = λ e. node-same P k lo hi v (cells w) (cells w) (masks s) (masks t) (λ i j p q. (refl, λ h. refl)) m A;
   failed = λ e. absurd (never-both refl e);
 }
 
-pub settled-then : (P : Problem) (k lo hi : ℕ) (v : ℕ → Bool) (mark : ℕ) (w u x s t y : List ℕ) (r : Bool) → 0 < mark → Settled P k lo hi v mark w u s t true → (Node P k lo hi v (cells u) (masks t) → Settled P k lo hi v mark u x t y r) → Settled P k lo hi v mark w x s y r
-settled-then P k lo hi v mark w u x s t y r pos a b =
-    let c : Settled P k lo hi v mark u x t y r = b (a .kept refl) in
+pub propagated-then : (P : Problem) (k lo hi : ℕ) (v : ℕ → Bool) (level : ℕ) (w u x s t y : List ℕ) (r : Bool) → 0 < level → Propagated P k lo hi v level w
+    u s t true →
+    (Node P k lo hi v (cells u) (masks t) → Propagated P k lo hi v level u x t y r) → Propagated P k lo hi v level w x s y r
+propagated-then P k lo hi v level w u x s t y r pos a b =
+    let c : Propagated P k lo hi v level u x t y r = b (a .kept refl) in
     record {
-      grown = grown-trans mark lo hi (cells w) (cells u) (cells x) pos (a .grown) (c .grown);
+      grown = grown-trans level lo hi (cells w) (cells u) (cells x) pos (a .grown) (c .grown);
       wanted = wants-trans w u x (a .wanted) (c .wanted);
       masked = within-trans k (masks s) (masks t) (masks y) (a .masked) (c .masked);
       kept = c .kept;
@@ -80,9 +84,12 @@ settled-then P k lo hi v mark w u x s t y r pos a b =
     }
 
 -- the same of steps over every problem
-pub settles-refl : (side : ℕ) (splits codes : List ℕ) (lo hi mark : ℕ) (w s t : List ℕ) → ((k : ℕ) → MasksWithin k (masks s) (masks t)) → Settles side splits codes lo hi mark w w s t true
-settles-refl side splits codes lo hi mark w s t m P kinds k v F A pos le = settled-refl P k lo hi v mark w s t A (m k)
+pub propagates-refl : (side : ℕ) (differences codes : List ℕ) (lo hi level : ℕ) (w s t : List ℕ) → ((k : ℕ) → MasksWithin k (masks s) (masks t)) →
+    Propagates side differences codes lo hi level w w s t true
+propagates-refl side differences codes lo hi level w s t m P kinds k v F A pos le = propagated-refl P k lo hi v level w s t A (m k)
 
-pub settles-then : (side : ℕ) (splits codes : List ℕ) (lo hi mark : ℕ) (w u x s t y : List ℕ) (r : Bool) → Settles side splits codes lo hi mark w u s t true → Settles side splits codes lo hi mark u x t y r → Settles side splits codes lo hi mark w x s y r
-settles-then side splits codes lo hi mark w u x s t y r a b P kinds k v F A pos le =
-    settled-then P k lo hi v mark w u x s t y r pos (a P kinds k v F A pos le) (λ N. b P kinds k v F N pos le)
+pub propagates-then : (side : ℕ) (differences codes : List ℕ) (lo hi level : ℕ) (w u x s t y : List ℕ) (r : Bool) → Propagates side differences codes lo hi
+    level w u s t true →
+    Propagates side differences codes lo hi level u x t y r → Propagates side differences codes lo hi level w x s y r
+propagates-then side differences codes lo hi level w u x s t y r a b P kinds k v F A pos le =
+    propagated-then P k lo hi v level w u x s t y r pos (a P kinds k v F A pos le) (λ N. b P kinds k v F N pos le)

@@ -1,4 +1,4 @@
--- A row is lost if each term that is open there has a true own literal. Assumes nothing.
+-- A row is satisfied if each term that is open there has a true own literal. Assumes nothing.
 use Prim.Native.Nat.{ℕ, _+_, _≤_, _<_}
 use mathlib.Core.Path.{_≡_, refl, sym, _∙_, subst}
 use mathlib.Core.Logic.{_⊎_, inl, inr, ⊎-elim}
@@ -22,8 +22,10 @@ use Rattle.engine.specs.Private.TermTables.{others, is-open, name-of}
 use Rattle.engine.specs.Private.Terms.{own, GivenTrue}
 use Rattle.engine.proofs.search.ClauseLaws.{some-here, some-later}
 use Rattle.engine.proofs.search.OpenLaws.{row-covered}
-use Rattle.engine.specs.Private.Live.{IsGiven, IsOwn, TakenIn, TrueBy, RowKnown, RowLost, OwnMet, TermMet, TermPassed, TermsMet, OwnTrue, TakesIn, RowTold, RowLooked}
-use Rattle.engine.proofs.search.LiveRows.{coded-every, every-some-with, known-coded, dead-lost, lost-before}
+use Rattle.engine.specs.Private.Satisfied.{IsGiven, IsOwn, TakenIn, TrueBy, RowKnown, RowSatisfied}
+use Rattle.engine.specs.Private.Satisfied.{OwnMet, TermMet, TermPassed, TermsMet, OwnTrue, TakesIn}
+use Rattle.engine.specs.Private.Satisfied.{RowTold, RowLooked}
+use Rattle.engine.proofs.search.SatisfiedRows.{coded-every, every-some-with, known-coded, all-satisfied-row, row-satisfied-before}
 
 -- ---- one literal
 
@@ -52,17 +54,20 @@ module _ (kinds codes w : List ℕ) (i start : ℕ) where
   earliest-next e best c d inside is some told so-far = record {
     found = ⊎-elim
         (λ same. subst (λ (p : ℕ). (p ≡ max-unknowns) ⊎ OwnTrue kinds codes w i start p) (sym same) (so-far .found))
-        (λ here. inr (some-here codes e c inside is (λ x. (d ≡ row-position x) × (own kinds x ≡ true) × (satisfied-at w i x ≡ true)) some (so-far .rest d) here))
+        (λ here. inr (some-here codes e c inside is (λ x. (d ≡ row-position x) × (own kinds x ≡ true) × (satisfied-at w i x ≡ true)) some (so-far .rest d)
+        here))
         told;
     rest = λ p. some-later codes e c inside is (λ x. (p ≡ row-position x) × (own kinds x ≡ true) × (satisfied-at w i x ≡ true)) some (so-far .rest p);
   }
 
 -- the set of its position is taken in
-pub term-met : (kinds codes w : List ℕ) (i start best : ℕ) (s t : List ℕ) → (best ≡ max-unknowns) ⊎ OwnTrue kinds codes w i start best → (best ≡ max-unknowns → ⊥)
+pub term-met : (kinds codes w : List ℕ) (i start best : ℕ) (s t : List ℕ) → (best ≡ max-unknowns) ⊎ OwnTrue kinds codes w i start best →
+    (best ≡ max-unknowns → ⊥)
     → TakesIn best s t → TermMet kinds codes w i start s t true
 term-met kinds codes w i start best s t found other taken = record {
   grown = taken .grown;
-  met = λ yes-true. ⊎-elim (λ e. absurd (other e)) (λ here. some-map (λ c. (best ≡ row-position c) × (own kinds c ≡ true) × (satisfied-at w i c ≡ true)) (OwnMet kinds w i s t) met-there (clause-of (drop start codes)) here) found;
+  met = λ yes-true. ⊎-elim (λ e. absurd (other e)) (λ here. some-map (λ c. (best ≡ row-position c) × (own kinds c ≡ true) × (satisfied-at w i c ≡ true))
+      (OwnMet kinds w i s t) met-there (clause-of (drop start codes)) here) found;
 }
   where
     met-there : (c : ℕ) → (best ≡ row-position c) × (own kinds c ≡ true) × (satisfied-at w i c ≡ true) → OwnMet kinds w i s t c
@@ -144,47 +149,57 @@ module _ (kinds codes opened w : List ℕ) (i : ℕ) (s : List ℕ) where
 
 -- ---- the row
 
-module _ (kinds codes opened w : List ℕ) (i : ℕ) (s t : List ℕ) (terms : TermsMet kinds codes opened w i s t true) (known : RowKnown kinds codes opened w i) where
-  abbrev Literal : ℕ → Type 0
-  Literal c = (2 ≤ c) × (position c < length kinds)
+module _ (kinds codes opened w : List ℕ) (i : ℕ) (s t : List ℕ) (terms : TermsMet kinds codes opened w i s t true) (known : RowKnown kinds codes opened w i)
+  where
+    abbrev Literal : ℕ → Type 0
+    Literal c = (2 ≤ c) × (position c < length kinds)
 
-  same : (c : ℕ) → Literal c → row-position c ≡ position c
-  same c lit = row-position-is c (lit .0) (let a : position c < length kinds = lit .1 in let b : length kinds ≤ max-unknowns = known .unknowns in omega arith)
+    same : (c : ℕ) → Literal c → row-position c ≡ position c
+    same c lit = row-position-is c (lit .0) (let a : position c < length kinds = lit .1 in let b : length kinds ≤ max-unknowns = known .unknowns in omega arith)
 
-  by-given : (c : ℕ) → GivenTrue kinds w i c → Literal c → TrueBy kinds w i s t c
-  by-given c g lit =
-      let given : IsGiven kinds (position c) = subst (λ (p : ℕ). IsGiven kinds p) (same c lit) (own-of kinds c (g .given)) in
-      (record { set = known .set (position c) (lit .1) given; is = g .is }, inl given)
+    by-given : (c : ℕ) → GivenTrue kinds w i c → Literal c → TrueBy kinds w i s t c
+    by-given c g lit =
+        let given : IsGiven kinds (position c) = subst (λ (p : ℕ). IsGiven kinds p) (same c lit) (own-of kinds c (g .given)) in
+        (record { set = known .set (position c) (lit .1) given; is = g .is }, inl given)
 
-  by-own : (c : ℕ) → OwnMet kinds w i s t c → (own kinds c ≡ true) × (Literal c → TrueBy kinds w i s t c)
-  by-own c q = (
-    q .owned,
-    λ lit. (
-      satisfied-is-at w i c (lit .0, let a : position c < length kinds = lit .1 in let b : length kinds ≤ max-unknowns = known .unknowns in omega arith) (q .satisfied),
-      inr (subst (λ (p : ℕ). TakenIn s t p) (same c lit) (q .taken)),
-    ),
-  )
+    by-own : (c : ℕ) → OwnMet kinds w i s t c → (own kinds c ≡ true) × (Literal c → TrueBy kinds w i s t c)
+    by-own c q = (
+      q .owned,
+      λ lit. (
+        satisfied-is-at w i c (lit .0, let a : position c < length kinds = lit .1 in let b : length kinds ≤ max-unknowns = known .unknowns in omega arith)
+            (q .satisfied),
+        inr (subst (λ (p : ℕ). TakenIn s t p) (same c lit) (q .taken)),
+      ),
+    )
 
-  every-true : Every (Some (TrueBy kinds w i s t)) (code-clauses codes)
-  every-true =
-      every-map (Some (λ c. Literal c × (Literal c → TrueBy kinds w i s t c))) (Some (TrueBy kinds w i s t))
-      (λ x. some-map (λ c. Literal c × (Literal c → TrueBy kinds w i s t c)) (TrueBy kinds w i s t) (λ c q. q .1 (q .0)) x)
-      (code-clauses codes)
-      (every-some-with Literal (λ c. Literal c → TrueBy kinds w i s t c) (code-clauses codes) (coded-every (length kinds) codes (known .coded))
-      (row-covered i (known .terms) (known .ended) (λ c. Literal c → TrueBy kinds w i s t c) by-given
-      (λ p lt o. some-map (OwnMet kinds w i s t) (λ c. (own kinds c ≡ true) × (Literal c → TrueBy kinds w i s t c)) by-own (clause-of (drop (name-of opened p) codes)) (terms .met refl p lt o))
-      (terms .none refl)))
+    every-true : Every (Some (TrueBy kinds w i s t)) (code-clauses codes)
+    every-true =
+        every-map (Some (λ c. Literal c × (Literal c → TrueBy kinds w i s t c))) (Some (TrueBy kinds w i s t))
+        (λ x. some-map (λ c. Literal c × (Literal c → TrueBy kinds w i s t c)) (TrueBy kinds w i s t) (λ c q. q .1 (q .0)) x)
+        (code-clauses codes)
+        (every-some-with Literal (λ c. Literal c → TrueBy kinds w i s t c) (code-clauses codes) (coded-every (length kinds) codes (known .coded))
+        (row-covered i (known .terms) (known .ended) (λ c. Literal c → TrueBy kinds w i s t c) by-given
+        (λ p lt o. some-map (OwnMet kinds w i s t) (λ c. (own kinds c ≡ true) × (Literal c → TrueBy kinds w i s t c)) by-own
+        (clause-of (drop (name-of opened p) codes)) (terms .met refl p lt o))
+        (terms .none refl)))
 
 -- the sets were emptied behind the positions before
-pub row-told : (kinds codes opened w : List ℕ) (i : ℕ) (s t u : List ℕ) {r : Bool} → SetsKept s t → TermsMet kinds codes opened w i t u r → r ≡ true → RowTold kinds codes opened w i s u true
+pub row-told : (kinds codes opened w : List ℕ) (i : ℕ) (s t u : List ℕ) {r : Bool} → SetsKept s t → TermsMet kinds codes opened w i t u r → r ≡ true →
+    RowTold kinds codes opened w i s u true
 row-told kinds codes opened w i s t u emptied met e = record {
   kept = kept-trans emptied (kept-grown (omega arith) (met .grown));
-  dead = λ yes-true. lost-before kinds codes opened w i s t u emptied (every-true kinds codes opened w i t u (subst (λ (b : Bool). TermsMet kinds codes opened w i t u b) e met));
+  satisfied = λ yes-true. row-satisfied-before kinds codes opened w i s t u emptied
+      (every-true kinds codes opened w i t u (subst (λ (b : Bool). TermsMet kinds codes opened w i t u b) e met));
 }
 
 -- .. and all clauses were read
-pub row-read : (kinds codes opened w : List ℕ) (i : ℕ) (s t u x : List ℕ) {q r : Bool} → SetsKept s t → TermsMet kinds codes opened w i t u q → RowLooked kinds codes w i u x r
+pub row-read : (kinds codes opened w : List ℕ) (i : ℕ) (s t u x : List ℕ) {q r : Bool} → SetsKept s t → TermsMet kinds codes opened w i t u q →
+    RowLooked kinds codes w i u x r
     → RowTold kinds codes opened w i s x r
 row-read kinds codes opened w i s t u x emptied met looked =
     let before : SetsKept s u = kept-trans emptied (kept-grown (omega arith) (met .grown)) in
-    record { kept = kept-trans before (looked .kept); dead = λ e. lost-before kinds codes opened w i s u x before (dead-lost kinds codes opened w i u x (looked .dead e)) }
+    record {
+      kept = kept-trans before (looked .kept);
+      satisfied = λ e. row-satisfied-before kinds codes opened w i s u x before
+          (all-satisfied-row kinds codes opened w i u x (looked .satisfied e));
+    }

@@ -30,13 +30,14 @@ use Rattle.expansion.proofs.ClauseCuts.{Every, matrix-at}
 use Rattle.expansion.specs.Cells.{others-before, tabulate}
 use Rattle.expansion.proofs.Leading.{wanted}
 use Rattle.expansion.proofs.Memory.{counted-in-block, model-led}
-use Rattle.expansion.proofs.Engine.{restriction-of-values, values-of-restriction, literal-at, goal-at, Names, Places, problem, problem-sound, refuted-is-none, won-is-first}
+use Rattle.expansion.proofs.Engine.{restriction-of-values, values-of-restriction, literal-at, goal-at, Names, Places, problem, problem-sound, refuted-is-none}
+use Rattle.expansion.proofs.Engine.{won-is-first}
 use Rattle.search_cells.specs.Cells.{cells, wants, owned}
 use Rattle.search_cells.specs.Private.Changes.{Filled, FirstDifference}
 use Rattle.codes.specs.Private.Clauses.{Coded, code-true, code-clauses, code-goal, Encoded}
 use Rattle.search_order.specs.Private.Sorted.{up-to, Sorted}
 use Rattle.engine.specs.Private.Prepared.{LastLeads}
-use Rattle.engine.specs.Private.Memory.{said, Remembered, Reads}
+use Rattle.engine.specs.Private.FirstBlock.{said, Remembered, Reads}
 use Rattle.engine.specs.Private.Steps.{Fits, FromStart}
 use Rattle.engine.specs.Private.Whole.{side-kind}
 use Rattle.search_numbering.specs.Private.Wants.{WantsFilled}
@@ -68,21 +69,24 @@ pub flags-owned : (side : ℕ) (kinds : List ℕ) → side ≤ 1 → ((k : ℕ) 
 flags-owned side [] a h = refl
 flags-owned side (k ∷ kinds) a h = ap₂ {C = List Bool} (λ x xs. x ∷ xs) (own-kind side k a (h 0)) (flags-owned side kinds a (λ i. h (suc i)))
 
-goal-of-codes : (side : ℕ) (literals : List ℤ) (codes : List ℕ) → ((f : ℕ → Bool) → matrix-at literal-at (clauses literals) f ≡ matrix-at code-true (code-clauses codes) f) → (f : ℕ → Bool) → goal-at (side-kind side) (clauses literals) f ≡ code-goal side codes f
+goal-of-codes : (side : ℕ) (literals : List ℤ) (codes : List ℕ) →
+    ((f : ℕ → Bool) → matrix-at literal-at (clauses literals) f ≡ matrix-at code-true (code-clauses codes) f) → (f : ℕ → Bool) →
+    goal-at (side-kind side) (clauses literals) f ≡ code-goal side codes f
 unfolding code-goal
 goal-of-codes zero literals codes h f = h f
 goal-of-codes (suc s) literals codes h f = ap not (h f)
 
 -- ---- the problem of a search
 
-module _ (kinds : List ℕ) (literals : List ℤ) (preferences rows place all splits codes : List ℕ) (side count m : ℕ) (side-fits : side ≤ 1) (accepted : Accepted kinds literals)
+module _ (kinds : List ℕ) (literals : List ℤ) (preferences rows place all differences codes : List ℕ) (side count m : ℕ) (side-fits : side ≤ 1)
+    (accepted : Accepted kinds literals)
     (inside : count ≤ room rows) (some-row : 0 < count)
     (sorted : Sorted rows count m place)
     (others-fit : (k : ℕ) → k < length kinds → getD (owned kinds side) k false ≡ false → others-before (owned kinds side) k < m)
-    (encoded : Encoded literals codes) (placed : length place ≡ count) (split : length splits ≡ count)
+    (encoded : Encoded literals codes) (placed : length place ≡ count) (split : length differences ≡ count)
     (z w w2 : List ℕ) (filled : Filled kinds rows place side z w) (empty : (i j : ℕ) → cells z .level i j ≡ 0)
-    (differences : (i : ℕ) → i + 1 < count → FirstDifference kinds side w i (getD splits (i + 1) 0))
-    (wanting : WantsFilled kinds preferences place all side w w2) (same-splits : (i : ℕ) → i < count → getD all i 0 ≡ getD splits i 0) where
+    (compared : (i : ℕ) → i + 1 < count → FirstDifference kinds side w i (getD differences (i + 1) 0))
+    (wanting : WantsFilled kinds preferences place all side w w2) (same-differences : (i : ℕ) → i < count → getD all i 0 ≡ getD differences i 0) where
   abbrev row : ℕ → ℕ
   row = sorted .row
 
@@ -98,13 +102,16 @@ module _ (kinds : List ℕ) (literals : List ℤ) (preferences rows place all sp
 
   places : Places (length lent) row (λ r. getD place r 0)
   places = record {
-    row-below = λ i lt. subst (λ (x : ℕ). row i < x) (sym (length-rows-of m count rows)) (sorted .row-below i (subst (λ (x : ℕ). i < x) (length-rows-of m count rows) lt));
-    place-below = λ r lt. subst (λ (x : ℕ). getD place r 0 < x) (sym (length-rows-of m count rows)) (sorted .place-below r (subst (λ (x : ℕ). r < x) (length-rows-of m count rows) lt));
+    row-below = λ i lt. subst (λ (x : ℕ). row i < x) (sym (length-rows-of m count rows))
+        (sorted .row-below i (subst (λ (x : ℕ). i < x) (length-rows-of m count rows) lt));
+    place-below = λ r lt. subst (λ (x : ℕ). getD place r 0 < x) (sym (length-rows-of m count rows))
+        (sorted .place-below r (subst (λ (x : ℕ). r < x) (length-rows-of m count rows) lt));
     row-of-place = λ r lt. sorted .row-of-place r (subst (λ (x : ℕ). r < x) (length-rows-of m count rows) lt);
   }
 
   named : Every (Every (Names (length (prefix kinds)))) (clauses literals)
-  named = named-clauses (length (prefix kinds)) literals (λ i. subst (λ (x : ℕ). natAbs (getD literals i (pos 0)) ≤ x) (sym (length-map kinds kind-of)) (accepted .within i))
+  named = named-clauses (length (prefix kinds)) literals (λ i. subst (λ (x : ℕ). natAbs (getD literals i (pos 0)) ≤ x) (sym (length-map kinds kind-of))
+      (accepted .within i))
 
   known : P .n ≡ length kinds
   unfolding problem
@@ -139,39 +146,43 @@ module _ (kinds : List ℕ) (literals : List ℤ) (preferences rows place all sp
       ap (λ (x : ℕ). cells w .level x k) (sym (sorted .place-of-row i lt))
       ∙ filled .there (row i) k (subst (λ (x : ℕ). row i < x) (sym placed) (sorted .row-below i lt)) lk (sym (own-is k) ∙ o) .0
 
-  differ-at : (i k : ℕ) → i + 1 < length splits → k ≤ length kinds → (k ≤ getD splits (i + 1) 0) ↔ Agree P i (i + 1) k
+  differ-at : (i k : ℕ) → i + 1 < length differences → k ≤ length kinds → (k ≤ getD differences (i + 1) 0) ↔ Agree P i (i + 1) k
   differ-at i k lt lk = (forth, back)
     where
       next : i + 1 < count
       next = omega arith
 
-      D : FirstDifference kinds side w i (getD splits (i + 1) 0)
-      D = differences i (omega arith)
+      D : FirstDifference kinds side w i (getD differences (i + 1) 0)
+      D = compared i (omega arith)
 
-      forth : k ≤ getD splits (i + 1) 0 → Agree P i (i + 1) k
+      forth : k ≤ getD differences (i + 1) 0 → Agree P i (i + 1) k
       forth h l ll o =
           given-value i l (omega arith) (omega arith) o
           ∙ D .same l (omega arith) (sym (own-is l) ∙ o)
           ∙ sym (given-value (i + 1) l (omega arith) (omega arith) o)
 
-      back : Agree P i (i + 1) k → k ≤ getD splits (i + 1) 0
-      back a = go (decLt (getD splits (i + 1) 0) k)
+      back : Agree P i (i + 1) k → k ≤ getD differences (i + 1) 0
+      back a = go (decLt (getD differences (i + 1) 0) k)
         where
-          go : Dec (getD splits (i + 1) 0 < k) → k ≤ getD splits (i + 1) 0
+          go : Dec (getD differences (i + 1) 0 < k) → k ≤ getD differences (i + 1) 0
           go (no n) = omega arith
           go (yes h) =
-              let o : P .own (getD splits (i + 1) 0) ≡ false = own-is (getD splits (i + 1) 0) ∙ D .other (omega arith) in
+              let o : P .own (getD differences (i + 1) 0) ≡ false = own-is (getD differences (i + 1) 0) ∙ D .other (omega arith) in
               absurd
               (D .unlike (omega arith)
-              (sym (given-value i (getD splits (i + 1) 0) (omega arith) (omega arith) o)
-              ∙ a (getD splits (i + 1) 0) h o
-              ∙ given-value (i + 1) (getD splits (i + 1) 0) (omega arith) (omega arith) o))
+              (sym (given-value i (getD differences (i + 1) 0) (omega arith) (omega arith) o)
+              ∙ a (getD differences (i + 1) 0) h o
+              ∙ given-value (i + 1) (getD differences (i + 1) 0) (omega arith) (omega arith) o))
 
-  same-restriction : (i h k : ℕ) → Agree P i h k → restriction (flags (side-kind side) (prefix kinds)) k (getD lent (row i) []) ≡ restriction (flags (side-kind side) (prefix kinds)) k (getD lent (row h) [])
+  same-restriction : (i h k : ℕ) → Agree P i h k →
+      restriction (flags (side-kind side) (prefix kinds)) k (getD lent (row i) []) ≡ restriction (flags (side-kind side) (prefix kinds)) k
+      (getD lent (row h) [])
   unfolding problem
   same-restriction i h k a = restriction-of-values (flags (side-kind side) (prefix kinds)) k (getD lent (row i) []) (getD lent (row h) []) a
 
-  same-agree : (i h k : ℕ) → k ≤ length kinds → restriction (flags (side-kind side) (prefix kinds)) k (getD lent (row i) []) ≡ restriction (flags (side-kind side) (prefix kinds)) k (getD lent (row h) []) → Agree P i h k
+  same-agree : (i h k : ℕ) → k ≤ length kinds →
+      restriction (flags (side-kind side) (prefix kinds)) k (getD lent (row i) []) ≡ restriction (flags (side-kind side) (prefix kinds)) k
+      (getD lent (row h) []) → Agree P i h k
   unfolding problem
   same-agree i h k lk e l ll o =
       values-of-restriction (flags (side-kind side) (prefix kinds)) k (getD lent (row i) []) (getD lent (row h) []) e l ll
@@ -180,12 +191,13 @@ module _ (kinds : List ℕ) (literals : List ℤ) (preferences rows place all sp
   in-order : (i h : ℕ) → i ≤ h → h < count → up-to (getD lent (row i) []) (getD lent (row h) []) ≡ true
   in-order i h le lt = ap₂ up-to (lent-row i (omega arith)) (lent-row h lt) ∙ sorted .in-order i h le lt
 
-  together-at : (i h g k : ℕ) → i ≤ h → h ≤ g → g < length splits → k ≤ length kinds → Agree P i g k → Agree P i h k
+  together-at : (i h g k : ℕ) → i ≤ h → h ≤ g → g < length differences → k ≤ length kinds → Agree P i g k → Agree P i h k
   together-at i h g k ih hg lt lk a =
       same-agree i h k lk
-      (sandwich (flags (side-kind side) (prefix kinds)) k (getD lent (row i) []) (getD lent (row h) []) (getD lent (row g) []) (in-order i h ih (omega arith)) (in-order h g hg (omega arith)) (same-restriction i g k a))
+      (sandwich (flags (side-kind side) (prefix kinds)) k (getD lent (row i) []) (getD lent (row h) []) (getD lent (row g) []) (in-order i h ih (omega arith))
+      (in-order h g hg (omega arith)) (same-restriction i g k a))
 
-  fits : Fits P kinds splits codes side
+  fits : Fits P kinds differences codes side
   unfolding problem
   fits = record {
     unknowns = known;
@@ -199,9 +211,11 @@ module _ (kinds : List ℕ) (literals : List ℤ) (preferences rows place all sp
     coded = subst (λ (x : ℕ). Coded x codes) (sym known) (encoded .coded (length kinds) (λ i lt. accepted .within i));
   }
 
-  differ-restriction : (i k : ℕ) → i + 1 < length place → k ≤ length (owned kinds side) → (k ≤ getD all (i + 1) 0) ↔ (restriction (owned kinds side) k (getD lent (row i) []) ≡ restriction (owned kinds side) k (getD lent (row (i + 1)) []))
+  differ-restriction : (i k : ℕ) → i + 1 < length place → k ≤ length (owned kinds side) →
+      (k ≤ getD all (i + 1) 0) ↔ (restriction (owned kinds side) k (getD lent (row i) []) ≡ restriction (owned kinds side) k (getD lent (row (i + 1)) []))
   differ-restriction i k lt lk =
-      subst (λ (ts : List Bool). (k ≤ getD all (i + 1) 0) ↔ (restriction ts k (getD lent (row i) []) ≡ restriction ts k (getD lent (row (i + 1)) []))) same-flags (
+      subst (λ (ts : List Bool). (k ≤ getD all (i + 1) 0) ↔ (restriction ts k (getD lent (row i) []) ≡ restriction ts k (getD lent (row (i + 1)) [])))
+      same-flags (
         λ h. same-restriction i (i + 1) k (differ-at i k (omega arith) short .0 (subst (λ (x : ℕ). k ≤ x) here h)),
         λ e. subst (λ (x : ℕ). k ≤ x) (sym here) (differ-at i k (omega arith) short .1 (same-agree i (i + 1) k short e)),
       )
@@ -209,8 +223,8 @@ module _ (kinds : List ℕ) (literals : List ℤ) (preferences rows place all sp
       short : k ≤ length kinds
       short = let e : length (owned kinds side) ≡ length kinds = length-owned kinds side in omega arith
 
-      here : getD all (i + 1) 0 ≡ getD splits (i + 1) 0
-      here = same-splits (i + 1) (omega arith)
+      here : getD all (i + 1) 0 ≡ getD differences (i + 1) 0
+      here = same-differences (i + 1) (omega arith)
 
   placed-rows : Placed (owned kinds side) lent place all row
   placed-rows = record {
@@ -222,7 +236,8 @@ module _ (kinds : List ℕ) (literals : List ℤ) (preferences rows place all sp
     differ = differ-restriction;
     together = λ i h g k ih hg lt lk e.
         subst (λ (ts : List Bool). restriction ts k (getD lent (row i) []) ≡ restriction ts k (getD lent (row h) [])) same-flags
-        (same-restriction i h k (together-at i h g k ih hg (omega arith) (let q : length (owned kinds side) ≡ length kinds = length-owned kinds side in omega arith)
+        (same-restriction i h k (together-at i h g k ih hg (omega arith) (let q : length (owned kinds side) ≡ length kinds = length-owned kinds side in omega
+        arith)
         (same-agree i g k (let q : length (owned kinds side) ≡ length kinds = length-owned kinds side in omega arith)
         (subst (λ (ts : List Bool). restriction ts k (getD lent (row i) []) ≡ restriction ts k (getD lent (row g) [])) (sym same-flags) e))));
   }
@@ -230,7 +245,8 @@ module _ (kinds : List ℕ) (literals : List ℤ) (preferences rows place all sp
   wants-right : (i j : ℕ) → i < P .count → j < P .n → P .own j ≡ true → wants w2 i j ≡ P .wanted i j
   unfolding problem
   wants-right i j lt lj o =
-      wants-of-copies kinds preferences place all side w w2 lent row wanting placed-rows i j (omega (arith, counted, placed)) (omega (arith, known)) (sym (ap (λ (ts : List Bool). getD ts j false) same-flags) ∙ o)
+      wants-of-copies kinds preferences place all side w w2 lent row wanting placed-rows i j (omega (arith, counted, placed)) (omega (arith, known))
+      (sym (ap (λ (ts : List Bool). getD ts j false) same-flags) ∙ o)
       ∙ ap (λ (ts : List Bool). wanted (prefer preferences) ts lent j (restriction ts j (getD lent (row i) []))) (sym same-flags)
 
   filled-right : (i j : ℕ) → i < P .count → j < P .n → P .own j ≡ false → (cells w2 .level i j ≡ 1) × (cells w2 .value i j ≡ P .given i j)
@@ -249,24 +265,25 @@ module _ (kinds : List ℕ) (literals : List ℤ) (preferences rows place all sp
       kept (no a) b o = filled .unplaced i j (λ r lr e. a (subst (λ (x : ℕ). x < count) (sym e) (sorted .place-below r (omega (arith, placed))))) .0
 
   -- what is known of the first block holds of the problem
-  module _ (own-rows : List ℕ) (known-rows : ℕ) (memory : List ℕ) (reads : Reads kinds own-rows known-rows side memory (length memory))
+  module _ (own-rows : List ℕ) (known-rows : ℕ) (block : List ℕ) (reads : Reads kinds own-rows known-rows side block (length block))
       (leads : LastLeads kinds literals preferences own-rows known-rows (side-kind side) lent) where
     abbrev known-row : Row
     known-row = row-of (unknowns (side-kind side) (prefix kinds)) (row-at own-rows (known-rows - 1))
 
-    own-there : (k : ℕ) → k < length memory → P .own k ≡ true
+    own-there : (k : ℕ) → k < length block → P .own k ≡ true
     own-there k lt = own-is k ∙ owned-at kinds side k (omega (arith, reads .inside)) ∙ eq-eqb (getD kinds k 0) side (reads .of-side k lt)
 
-    own-up-to : (k : ℕ) → k < length memory → (j : ℕ) → j ≤ k → P .own j ≡ true
+    own-up-to : (k : ℕ) → k < length block → (j : ℕ) → j ≤ k → P .own j ≡ true
     own-up-to k lt j le = own-there j (omega arith)
 
-    known-value : (k : ℕ) → k < length memory → getD known-row k false ≡ said memory k
+    known-value : (k : ℕ) → k < length block → getD known-row k false ≡ said block k
     unfolding problem
     known-value k lt =
-        getD-row-of (unknowns (side-kind side) (prefix kinds)) (row-at own-rows (known-rows - 1)) k (counted-in-block (side-kind side) (prefix kinds) k (own-up-to k lt))
+        getD-row-of (unknowns (side-kind side) (prefix kinds)) (row-at own-rows (known-rows - 1)) k
+        (counted-in-block (side-kind side) (prefix kinds) k (own-up-to k lt))
         ∙ sym (reads .values k lt)
 
-    remembered : Remembered P memory
+    remembered : Remembered P block
     remembered = record {
       inside = omega (arith, known, reads .inside);
       own = own-there;
@@ -274,20 +291,28 @@ module _ (kinds : List ℕ) (literals : List ℤ) (preferences rows place all sp
           ⊎-elim
           (λ e. inl (sym (known-value k lt) ∙ e))
           (λ e. inr (sym (known-value k lt) ∙ e))
-          (model-led (prefer preferences) (side-kind side) (prefix kinds) (clauses literals) lent row (λ r. getD place r 0) named places known-row (leads (reads .some-known (omega arith))) f M
+          (model-led (prefer preferences) (side-kind side) (prefix kinds) (clauses literals) lent row (λ r. getD place r 0) named places known-row
+          (leads (reads .some-known (omega arith))) f M
           (omega (arith, length-rows-of m count rows, some-row)) k (own-up-to k lt) (λ j less. known-value j (omega arith) ∙ before j less));
     }
 
     -- what the search returns is what the definition gives
-    pub searched-none : (u : List ℕ) → FromStart kinds splits codes memory side w2 u false → search (prefer preferences) (side-kind side) (prefix kinds) (matrix (clauses literals)) lent ≡ none
+    pub searched-none : (u : List ℕ) → FromStart kinds differences codes block side w2 u false →
+        search (prefer preferences) (side-kind side) (prefix kinds) (matrix (clauses literals)) lent ≡ none
     searched-none u from =
         let refuted : (D : Mask) × Refuted P 0 (λ j. false) D 0 = from P fits wants-right filled-right open-right remembered .1 refl (λ j. false) in
-        refuted-is-none (prefer preferences) (side-kind side) (prefix kinds) (clauses literals) lent row (λ r. getD place r 0) named places (λ j. false) (refuted .0) (subst (λ (x : ℕ). 0 < x) (sym (length-rows-of m count rows)) some-row) (refuted .1)
+        refuted-is-none (prefer preferences) (side-kind side) (prefix kinds) (clauses literals) lent row (λ r. getD place r 0) named places (λ j. false)
+        (refuted .0) (subst (λ (x : ℕ). 0 < x) (sym (length-rows-of m count rows)) some-row) (refuted .1)
 
-    pub searched-some : (u : List ℕ) → FromStart kinds splits codes memory side w2 u true → search (prefer preferences) (side-kind side) (prefix kinds) (matrix (clauses literals)) lent ≡ some (tabulate count (λ r. part (owned kinds side) (tabulate (length kinds) (cells u .value (getD place r 0)))))
+    pub searched-some : (u : List ℕ) → FromStart kinds differences codes block side w2 u true →
+        search (prefer preferences) (side-kind side) (prefix kinds) (matrix (clauses literals)) lent ≡ some
+        (tabulate count (λ r. part (owned kinds side) (tabulate (length kinds) (cells u .value (getD place r 0)))))
     unfolding problem
     searched-some u from =
-        won-is-first (prefer preferences) (side-kind side) (prefix kinds) (clauses literals) lent row (λ r. getD place r 0) named places (cells u) (from P fits wants-right filled-right open-right remembered .0 refl)
-        ∙ ap (λ (x : ℕ). some (tabulate x (λ r. part (flags (side-kind side) (prefix kinds)) (tabulate (length (prefix kinds)) (cells u .value (getD place r 0)))))) (length-rows-of m count rows)
+        won-is-first (prefer preferences) (side-kind side) (prefix kinds) (clauses literals) lent row (λ r. getD place r 0) named places (cells u)
+        (from P fits wants-right filled-right open-right remembered .0 refl)
+        ∙ ap (λ (x : ℕ). some
+        (tabulate x (λ r. part (flags (side-kind side) (prefix kinds)) (tabulate (length (prefix kinds)) (cells u .value (getD place r 0))))))
+        (length-rows-of m count rows)
         ∙ ap (λ (ts : List Bool). some (tabulate count (λ r. part ts (tabulate (length (prefix kinds)) (cells u .value (getD place r 0)))))) same-flags
         ∙ ap (λ (x : ℕ). some (tabulate count (λ r. part (owned kinds side) (tabulate x (cells u .value (getD place r 0)))))) (length-map kinds kind-of)

@@ -31,7 +31,7 @@ use Rattle.search_cells.proofs.FillLaws.{rows-are-filled}
 use Rattle.search_cells.proofs.PackLaws.{packed-inside}
 use Rattle.engine.specs.Private.Steps.{Tabled, FromStart}
 use Rattle.engine.specs.Private.Prepared.{LastLeads}
-use Rattle.engine.specs.Private.Whole.{side-kind, TablesOf, Ready, Arranged, Decided, OverPlaces, FoundIs}
+use Rattle.engine.specs.Private.Whole.{side-kind, TablesOf, Ready, Arranged, OverCells, OverPlaces, FoundIs}
 use Rattle.search_cells.proofs.OwnedLaws.{length-owned}
 use Rattle.engine.proofs.search.CallLaws.{zero-at}
 use Rattle.engine.proofs.search.TopLaws.{searched-none, searched-some}
@@ -50,7 +50,8 @@ others-below (true ∷ ts) (suc k) lt o = others-below ts k (omega arith) o
 others-below (false ∷ ts) zero lt o = omega arith
 others-below (false ∷ ts) (suc k) lt o = let r : others-before ts k < others-before ts (length ts) = others-below ts k (omega arith) o in omega arith
 
-others-all : (kinds : List ℕ) (side : ℕ) → side ≤ 1 → ((k : ℕ) → getD kinds k 0 ≤ 1) → others-before (owned kinds side) (length (owned kinds side)) ≡ count (other (side-kind side)) (prefix kinds)
+others-all : (kinds : List ℕ) (side : ℕ) → side ≤ 1 → ((k : ℕ) → getD kinds k 0 ≤ 1) →
+    others-before (owned kinds side) (length (owned kinds side)) ≡ count (other (side-kind side)) (prefix kinds)
 others-all [] zero a h = refl
 others-all [] (suc s) a h = refl
 others-all (k ∷ kinds) side a h = go k side (h 0) a (others-all kinds side a (λ i. h (suc i)))
@@ -98,7 +99,8 @@ module _ (rows : List ℕ) (lent m : ℕ) (place : List ℕ) (long : lent ≤ le
   place-inside : (r : ℕ) → r < length (take lent place) → getD (take lent place) r 0 < length (take lent place)
   place-inside r lt = subst (λ (x : ℕ). getD (take lent place) r 0 < x) (sym cut-length) (cut-sorted .place-below r (omega (arith, cut-length)))
 
-pub arranged : (kinds codes index rows : List ℕ) (lent others side : ℕ) (w₀ place z : List ℕ) → Ready kinds codes index rows lent others side w₀ → 0 < lent → lent ≤ length place
+pub arranged : (kinds codes index rows : List ℕ) (lent others side : ℕ) (w₀ place z : List ℕ) → Ready kinds codes index rows lent others side w₀ → 0 < lent →
+    lent ≤ length place
     → Sorted rows lent others place → length z ≡ length w₀ → Arranged kinds codes index (take lent place) side z
 arranged kinds codes index rows lent others side w₀ place z ready some-row long sorted same = record {
   tables = ready .tables;
@@ -134,10 +136,13 @@ module _ (kinds : List ℕ) (literals : List ℤ) (preferences rows : List ℕ) 
   abbrev result : Option (List Row)
   result = search (prefer preferences) (side-kind side) (prefix kinds) (matrix (clauses literals)) (rows-of others lent rows)
 
-  module _ (codes index terms own-rows : List ℕ) (known-rows : ℕ) (w₀ place z x : List ℕ) (ready : Ready kinds codes index rows lent others side w₀) (some-row : 0 < lent) (long : lent ≤ length place) (sorted : Sorted rows lent others place)
-      (cleared : z ≡ replicate (length w₀) 0) (r : Bool) (over : OverPlaces kinds codes index terms preferences own-rows known-rows rows (take lent place) side z x r) (of : TablesOf kinds literals codes index terms)
+  module _ (codes index terms own-rows : List ℕ) (known-rows : ℕ) (w₀ place z x : List ℕ) (ready : Ready kinds codes index rows lent others side w₀)
+      (some-row : 0 < lent) (long : lent ≤ length place) (sorted : Sorted rows lent others place)
+      (cleared : z ≡ replicate (length w₀) 0) (r : Bool) (over : OverPlaces kinds codes index terms preferences own-rows known-rows rows (take lent place) side
+      z x r) (of : TablesOf kinds literals codes index terms)
       (leads : LastLeads kinds literals preferences own-rows known-rows (side-kind side) (rows-of others lent rows)) where
-    abbrev decided : Decided kinds codes index terms preferences own-rows known-rows (take lent place) side (rows-filled kinds rows (take lent place) side z) (over .searched) r
+    abbrev decided : OverCells kinds codes index terms preferences own-rows known-rows (take lent place) side (rows-filled kinds rows (take lent place) side z)
+        (over .searched) r
     decided = over .decided
 
     abbrev w : List ℕ
@@ -161,18 +166,20 @@ module _ (kinds : List ℕ) (literals : List ℤ) (preferences rows : List ℕ) 
 
     others-fit : (k : ℕ) → k < length kinds → getD (owned kinds side) k false ≡ false → others-before (owned kinds side) k < others
     others-fit k lt o =
-        let a : others-before (owned kinds side) k < others-before (owned kinds side) (length (owned kinds side)) = others-below (owned kinds side) k (let q : length (owned kinds side) ≡ length kinds = length-owned kinds side in omega arith) o in
-        let b : others-before (owned kinds side) (length (owned kinds side)) ≡ count (other (side-kind side)) (prefix kinds) = others-all kinds side (ready .side-fits) (of .accepted .kinds-known) in
+        let a : others-before (owned kinds side) k < others-before (owned kinds side) (length (owned kinds side)) = others-below (owned kinds side) k
+        (let q : length (owned kinds side) ≡ length kinds = length-owned kinds side in omega arith) o in
+        let b : others-before (owned kinds side) (length (owned kinds side)) ≡ count (other (side-kind side)) (prefix kinds) = others-all kinds side
+        (ready .side-fits) (of .accepted .kinds-known) in
         let c : others ≡ count (other (side-kind side)) (prefix kinds) = ready .others-known in
         omega arith
 
-    same-splits : (i : ℕ) → i < lent → getD (decided .all) i 0 ≡ getD (take (length (take lent place)) (decided .all)) i 0
-    same-splits i lt = sym (getD-take (length (take lent place)) (decided .all) i 0 (let q : length (take lent place) ≡ lent = placed in omega arith))
+    same-differences : (i : ℕ) → i < lent → getD (decided .all) i 0 ≡ getD (take (length (take lent place)) (decided .all)) i 0
+    same-differences i lt = sym (getD-take (length (take lent place)) (decided .all) i 0 (let q : length (take lent place) ≡ lent = placed in omega arith))
 
-    differences : (i : ℕ) → i + 1 < lent → FirstDifference kinds side w i (getD (take (length (take lent place)) (decided .all)) (i + 1) 0)
-    differences i lt =
-        subst (λ (x : ℕ). FirstDifference kinds side w i x) (same-splits (i + 1) lt)
-        (decided .differences i (let q : length (take lent place) ≡ lent = placed in omega arith))
+    compared : (i : ℕ) → i + 1 < lent → FirstDifference kinds side w i (getD (take (length (take lent place)) (decided .all)) (i + 1) 0)
+    compared i lt =
+        subst (λ (x : ℕ). FirstDifference kinds side w i x) (same-differences (i + 1) lt)
+        (decided .compared i (let q : length (take lent place) ≡ lent = placed in omega arith))
 
     split-length : length (take (length (take lent place)) (decided .all)) ≡ lent
     split-length = length-take-le (length (take lent place)) (decided .all) (decided .long) ∙ placed
@@ -183,16 +190,31 @@ module _ (kinds : List ℕ) (literals : List ℤ) (preferences rows : List ℕ) 
     found-none : r ≡ false → x ≡ replicate (length w₀) 0 → FoundIs result false x
     found-none e h =
         subst (λ (o : Option (List Row)). FoundIs o false x)
-        (sym (searched-none kinds literals preferences rows (take lent place) (decided .all) (take (length (take lent place)) (decided .all)) codes side lent others (ready .side-fits) (of .accepted) (ready .inside) some-row (sorted-take rows lent others place sorted) others-fit (of .encoded) placed split-length z w (decided .wanting-area) filled (cleared-levels w₀ z cleared) differences (decided .wanting) same-splits own-rows known-rows (decided .memory) (decided .reads) leads u
-        (subst (λ (b : Bool). FromStart kinds (take (length (take lent place)) (decided .all)) codes (decided .memory) side (decided .wanting-area) u b) e (decided .from tabled))))
+        (sym (searched-none kinds literals preferences rows (take lent place) (decided .all) (take (length (take lent place)) (decided .all)) codes side lent
+        others (ready .side-fits) (of .accepted) (ready .inside) some-row (sorted-take rows lent others place sorted) others-fit (of .encoded) placed
+        split-length z w (decided .wanting-area) filled (cleared-levels w₀ z cleared) compared (decided .wanting) same-differences own-rows known-rows
+        (decided .block) (decided .reads) leads u
+        (subst (λ (b : Bool). FromStart kinds (take (length (take lent place)) (decided .all)) codes (decided .block) side (decided .wanting-area) u b) e
+        (decided .from tabled))))
         (refl, h ∙ ap (λ (n : ℕ). replicate n 0) (ready .area))
 
-    found-some : r ≡ true → x ≡ table-of (tabulate (length (take lent place)) (λ q. part (owned kinds side) (tabulate (length kinds) (cells u .value (getD (take lent place) q 0))))) ++ replicate (work-size - 16 * length (take lent place)) 0 → FoundIs result true x
+    found-some : r ≡ true →
+        x ≡ table-of (tabulate (length (take lent place))
+        (λ q. part (owned kinds side) (tabulate (length kinds) (cells u .value (getD (take lent place) q 0))))) ++ replicate
+        (work-size - 16 * length (take lent place)) 0 → FoundIs result true x
     found-some e h =
         subst (λ (o : Option (List Row)). FoundIs o true x)
-        (sym (searched-some kinds literals preferences rows (take lent place) (decided .all) (take (length (take lent place)) (decided .all)) codes side lent others (ready .side-fits) (of .accepted) (ready .inside) some-row (sorted-take rows lent others place sorted) others-fit (of .encoded) placed split-length z w (decided .wanting-area) filled (cleared-levels w₀ z cleared) differences (decided .wanting) same-splits own-rows known-rows (decided .memory) (decided .reads) leads u
-        (subst (λ (b : Bool). FromStart kinds (take (length (take lent place)) (decided .all)) codes (decided .memory) side (decided .wanting-area) u b) e (decided .from tabled))))
-        (refl, h ∙ ap (λ (n : ℕ). table-of (yields n) ++ replicate (work-size - 16 * n) 0) placed ∙ ap (λ (n : ℕ). table-of (yields lent) ++ replicate (work-size - n) 0) (sym (length-table-of (yields lent) ∙ ap (λ (n : ℕ). 16 * n) (length-tabulate lent one))))
+        (sym (searched-some kinds literals preferences rows (take lent place) (decided .all) (take (length (take lent place)) (decided .all)) codes side lent
+        others (ready .side-fits) (of .accepted) (ready .inside) some-row (sorted-take rows lent others place sorted) others-fit (of .encoded) placed
+        split-length z w (decided .wanting-area) filled (cleared-levels w₀ z cleared) compared (decided .wanting) same-differences own-rows known-rows
+        (decided .block) (decided .reads) leads u
+        (subst (λ (b : Bool). FromStart kinds (take (length (take lent place)) (decided .all)) codes (decided .block) side (decided .wanting-area) u b) e
+        (decided .from tabled)))) (
+          refl,
+          h ∙ ap (λ (n : ℕ). table-of (yields n) ++ replicate (work-size - 16 * n) 0) placed ∙ ap
+              (λ (n : ℕ). table-of (yields lent) ++ replicate (work-size - n) 0)
+              (sym (length-table-of (yields lent) ∙ ap (λ (n : ℕ). 16 * n) (length-tabulate lent one))),
+        )
       where
         one : ℕ → Row
         one q = part (owned kinds side) (tabulate (length kinds) (cells u .value (getD (take lent place) q 0)))
@@ -215,11 +237,18 @@ module _ (kinds : List ℕ) (literals : List ℤ) (preferences rows : List ℕ) 
   -- over no rows there is a model, which yields none
   pub found-empty : (w₀ x : List ℕ) → length w₀ ≡ work-size → lent ≡ 0 → x ≡ replicate (length w₀) 0 → FoundIs result true x
   unfolding search
-  found-empty w₀ x area e h = subst (λ (n : ℕ). FoundIs (search (prefer preferences) (side-kind side) (prefix kinds) (matrix (clauses literals)) (rows-of others n rows)) true x) (sym e) (go (search (prefer preferences) (side-kind side) (prefix kinds) (matrix (clauses literals)) []) refl)
+  found-empty w₀ x area e h = subst
+      (λ (n : ℕ). FoundIs (search (prefer preferences) (side-kind side) (prefix kinds) (matrix (clauses literals)) (rows-of others n rows)) true x) (sym e)
+      (go (search (prefer preferences) (side-kind side) (prefix kinds) (matrix (clauses literals)) []) refl)
     where
       go : (o : Option (List Row)) → search (prefer preferences) (side-kind side) (prefix kinds) (matrix (clauses literals)) [] ≡ o → FoundIs o true x
       go none q = absurd (true≢false (search-none (prefer preferences) (side-kind side) (prefix kinds) (matrix (clauses literals)) [] .0 q (λ k s. false)))
-      go (some ys) q = (refl, h ∙ ap (λ (n : ℕ). replicate n 0) area ∙ ap (λ (l : List Row). table-of l ++ replicate (work-size - length (table-of l)) 0) (sym (empty-yield ys q)))
+      go (some ys) q = (
+        refl,
+        h ∙ ap (λ (n : ℕ). replicate n 0) area ∙ ap (λ (l : List Row). table-of l ++ replicate (work-size - length (table-of l)) 0)
+            (sym (empty-yield ys q)),
+      )
         where
           empty-yield : (zs : List Row) → search (prefer preferences) (side-kind side) (prefix kinds) (matrix (clauses literals)) [] ≡ some zs → zs ≡ []
-          empty-yield zs p = yielded-empty (flags (side-kind side) (prefix kinds)) (first-model (prefer preferences) (flags (side-kind side) (prefix kinds)) (goal (side-kind side) (matrix (clauses literals))) []) zs p
+          empty-yield zs p = yielded-empty (flags (side-kind side) (prefix kinds)) (first-model (prefer preferences) (flags (side-kind side) (prefix kinds))
+              (goal (side-kind side) (matrix (clauses literals))) []) zs p

@@ -21,13 +21,13 @@ use Rattle.search_sets.specs.Sets.{sets-size}
 use Rattle.search_sets.specs.Private.Masks.{set-at}
 use Rattle.engine.specs.Private.Reasons.{Keeps}
 
--- Values that satisfy the clauses, keep what is fixed and are the row's at the positions of D ..
+-- Values that satisfy the clauses, keep what is fixed and are the row's at the positions of D.
 pub record Model (codes w s : List ℕ) (i : ℕ) (D : Mask) (f : ℕ → Bool) : Type 0 where
   pub keeps : Keeps w s i f
   pub heeds : (l : ℕ) → l < max-unknowns → D l ≡ true → f l ≡ cells w .value i l
   pub solves : matrix-at code-true (code-clauses codes) f ≡ true
 
--- .. all have the value y at position j; there are none.
+-- Such values all have the value y at position j; there are none.
 abbrev pub Implied : List ℕ → List ℕ → List ℕ → ℕ → Mask → ℕ → Bool → Type 0
 Implied codes w s i D j y = (f : ℕ → Bool) → Model codes w s i D f → f j ≡ y
 
@@ -66,7 +66,7 @@ pub record Moved (codes w s : List ℕ) (i : ℕ) (a o : List ℕ) (r : Bool) : 
 pub record Moves (codes a b o q : List ℕ) (r : Bool) : Type 0 where
   pub on : (w s : List ℕ) (i : ℕ) → Coded max-unknowns codes → Held codes w s i a o → Moved codes w s i b q r
 
--- A step for row i, after an answer: a decision, or after a failure the other value of one.
+-- A step for row i, after an answer: a decision, or after a conflict the other value of one.
 pub record StepsOn (codes w : List ℕ) (i : ℕ) (a b o q : List ℕ) (going r : Bool) : Type 0 where
   pub on : (s : List ℕ) → Coded max-unknowns codes → Moved codes w s i a o going → Moved codes w s i b q r
 

@@ -1,4 +1,4 @@
--- A reason for the failure of a row: positions whose values leave the row without a model. The clauses are codes, the row's values stand in a
+-- A reason for the conflict of a row: positions whose values leave the row without a model. The clauses are codes, the row's values stand in a
 -- table of cells w, and the table of sets s has for each position the decisions by which its value was reached.
 -- Assumes nothing.
 use Prim.Native.Nat.{ℕ, _+_, _*_, _≤_, _<_}

@@ -63,7 +63,7 @@ RowOpened kinds codes work opened i =
     (start : ℕ) → start < length codes → Begins codes start
     → Some (GivenTrue kinds work i) (clause-of (drop start codes)) ⊎ TermOpen kinds codes opened i start ⊎ (is-open opened others i ≡ true)
 
--- .. in every row.
+-- So it is in every row.
 pub record Opened (kinds codes work : List ℕ) (count : ℕ) (opened : List ℕ) : Type 0 where
   pub every : (i : ℕ) → i < count → RowOpened kinds codes work opened i
 

@@ -27,7 +27,7 @@ use Rattle.search_cells.specs.Steps.{rows-filled, packed}
 use Rattle.search_numbering.specs.Private.Wants.{WantsFilled}
 use Rattle.engine.specs.Private.TermTables.{table-size}
 use Rattle.engine.specs.Private.Terms.{Listed}
-use Rattle.engine.specs.Private.Memory.{Reads}
+use Rattle.engine.specs.Private.FirstBlock.{Reads}
 use Rattle.engine.specs.Private.Steps.{Tabled, FromStart}
 
 -- The side as a number: 0 existential, 1 universal.
@@ -70,21 +70,21 @@ pub record Arranged (kinds codes index place : List ℕ) (side : ℕ) (work : Li
   pub area : length work ≡ work-size
 
 -- The search over a filled table w of the sorted rows: where neighbours differ, what the copies want, what is known of the first block, and what is left.
-pub record Decided (kinds codes index terms preferences own : List ℕ) (known : ℕ) (place : List ℕ) (side : ℕ) (w u : List ℕ) (r : Bool) : Type 0 where
+pub record OverCells (kinds codes index terms preferences own : List ℕ) (known : ℕ) (place : List ℕ) (side : ℕ) (w u : List ℕ) (r : Bool) : Type 0 where
   pub all : List ℕ
   pub wanting-area : List ℕ
   pub long : length place ≤ length all
-  pub differences : (i : ℕ) → i + 1 < length place → FirstDifference kinds side w i (getD all (i + 1) 0)
+  pub compared : (i : ℕ) → i + 1 < length place → FirstDifference kinds side w i (getD all (i + 1) 0)
   pub wanting : WantsFilled kinds preferences place all side w wanting-area
-  pub memory : List ℕ
-  pub reads : Reads kinds own known side memory (length memory)
-  pub from : Tabled side kinds codes index terms → FromStart kinds (take (length place) all) codes memory side wanting-area u r
+  pub block : List ℕ
+  pub reads : Reads kinds own known side block (length block)
+  pub from : Tabled side kinds codes index terms → FromStart kinds (take (length place) all) codes block side wanting-area u r
 
 -- The search over rows at their sorted places, from the area w to x: the table is filled and searched, and its rows are packed, or it is cleared.
 pub record OverPlaces (kinds codes index terms preferences own : List ℕ) (known : ℕ) (rows place : List ℕ) (side : ℕ) (w x : List ℕ) (r : Bool) : Type 0 where
   pub searched : List ℕ
   pub sized : length searched ≡ length w
-  pub decided : Decided kinds codes index terms preferences own known place side (rows-filled kinds rows place side w) searched r
+  pub decided : OverCells kinds codes index terms preferences own known place side (rows-filled kinds rows place side w) searched r
   pub yields : r ≡ true → x ≡ packed kinds place side searched
   pub clears : r ≡ false → x ≡ replicate (length w) 0
 

@@ -1,12 +1,24 @@
-// A shorter reason for a failure of one row: of the decisions that gave the row its values, a set under which no values of the other unknowns
+// A shorter reason for a conflict of one row: of the decisions that gave the row its values, a set under which no values of the other unknowns
 // make every clause true. The row is searched alone, in a table of its own, with the given values and some of the decisions: its open positions
 // are decided from the last one backwards, each value has the set of decisions by which it was reached, and a false clause turns the last
 // decision of its set round (unit propagation and backjumping). A number of steps bounds the work.
 // Promised is that a set that is found is a reason, for whatever is lent. When one is found is not: what is tried, and when it is given up, is
 // a hint, and so is the index. Which set the search goes on with is left to it.
+use super::cell;
+use super::clauses::begins;
+use super::clauses::position;
+use super::numbers::least;
+use super::numbers::wide8;
+use super::numbers::wide16;
+use super::sets_table::CONFLICT;
+use super::sets_table::DECISIONS;
+use super::sets_table::DEPTH;
+use super::sets_table::HIGH;
+use super::sets_table::LOW;
+use super::sets_table::QUEUE;
+use super::sets_table::QUEUED;
 use codes::LAST_CODE;
 use formula::Formula;
-use search_cells::FLAGS;
 ghost use mathlib.Core.Path.{_≡_};
 ghost use mathlib.Core.Logic.{_⊎_};
 ghost use mathlib.Core.Bool.{true, false};
@@ -32,31 +44,11 @@ pub struct Reason {
     pub left: usize,
 }
 
-// The place of the set by which the last clause was false.
-const CUT: usize = Formula::UNKNOWNS;
-
-// The words of that set.
-const LOW: usize = 2 * CUT;
-
-const HIGH: usize = LOW + 1;
-
-// Behind the sets: the positions whose clauses are to be looked at, in order, and how many there are; then the decisions, and how many.
-const QUEUE: usize = 2 * search_sets::PLACES;
-
-const WAITING: usize = QUEUE + Formula::UNKNOWNS;
-
-const DECISIONS: usize = WAITING + 1;
-
-const DEPTH: usize = DECISIONS + Formula::UNKNOWNS;
-
 // There are so many levels, as a number of that table.
 const LEVELS: u64 = Formula::UNKNOWNS as u64;
 
 // The code under which the index lists every clause.
 const ANY: usize = 1;
-
-// The last position.
-const LAST: usize = Formula::UNKNOWNS - 1;
 
 // How a search of the row ends, and the steps that are left.
 struct End {
@@ -64,7 +56,7 @@ struct End {
     left: usize,
 }
 
-// A reason for the failure of row i among the decisions before position k, in at most that many steps. What the row was given, or reached by
+// A reason for the conflict of row i among the decisions before position k, in at most that many steps. What the row was given, or reached by
 // no decision, is what has a value and an empty set.
 pub(crate) fn shorter(
     codes: &[u16],
@@ -161,7 +153,7 @@ fn middle(from: usize, to: usize) -> usize
     from + (to - from) / 2
 }
 
-// Searches row i alone under its decisions before position k. Refuted: there is no model, and CUT says by which of them.
+// Searches row i alone under its decisions before position k. Refuted: there is no model, and the set at CONFLICT says by which of them.
 fn probe(
     codes: &[u16],
     index: &[u16],
@@ -177,7 +169,7 @@ fn probe(
     ensures { λ r. ⌜ (Coded max-unknowns (now (codes .entry)) → r .refuted ≡ true → IsReason (now (codes .entry)) (now (work .entry)) (now (sets .entry)) i k (set-at (now (own .exit)) max-unknowns)) ⌝ }
 {
     begin(work, sets, line, own, i, k);
-    let mut going = survey(codes, index, line, own);
+    let mut going = propagate_all(codes, index, line, own);
     let mut left = steps;
     while left > 0 {
         left -= 1;
@@ -201,7 +193,7 @@ fn begin(work: &[u8], sets: &[u64], line: &mut [u16], own: &mut [u64], i: usize,
     requires { ⌜ (length (now work) ≡ work-size) × (length (now sets) ≡ sets-size) × (length (now line) ≡ max-unknowns) × (length (now own) ≡ sets-size) × (i < max-rows) ⌝ }
     ensures { λ _. ⌜ ((codes : List ℕ) → Held codes (now (work .entry)) (now (sets .entry)) i (now (line .exit)) (now (own .exit))) ⌝ }
 {
-    own[WAITING] = 0;
+    own[QUEUED] = 0;
     own[DEPTH] = 0;
     clear(line);
     let mut p = 0;
@@ -237,7 +229,7 @@ fn assume(
 {
     if is_fixed(work, sets, i, p) {
         search_sets::empty(own, p);
-        set(line, p, 1, value(work, i, p));
+        set(line, p, 1, cell::value(work, i, p));
         return;
     }
     if p < k {
@@ -267,47 +259,40 @@ fn is_decided(work: &[u8], i: usize, p: usize) -> bool
 }
 
 // Position p gets the row's value, as a decision.
-fn put(work: &[u8], line: &mut [u16], own: &mut [u64], i: usize, p: usize, mark: u16)
+fn put(work: &[u8], line: &mut [u16], own: &mut [u64], i: usize, p: usize, level: u16)
     requires { ⌜ (length (now work) ≡ work-size) × (length (now line) ≡ max-unknowns) × (length (now own) ≡ sets-size) × (i < max-rows) × (p < max-unknowns) ⌝ }
     ensures { λ _. ⌜ ((codes s : List ℕ) → Held codes (now (work .entry)) s i (now (line .entry)) (now (own .entry)) → Held codes (now (work .entry)) s i (now (line .exit)) (now (own .exit))) ⌝ }
 {
     search_sets::empty(own, p);
     search_sets::add(own, p, p);
-    set(line, p, mark, value(work, i, p));
+    set(line, p, level, cell::value(work, i, p));
 }
 
-fn value(work: &[u8], i: usize, p: usize) -> bool
-    requires { ⌜ (length (now work) ≡ work-size) × (i < max-rows) × (p < max-unknowns) ⌝ }
-    ensures { λ r. ⌜ r ≡ cells (now (work .entry)) .value i p ⌝ }
-{
-    work[FLAGS + (Formula::UNKNOWNS * i + p)] % 2 == 1
-}
-
-// Looks at every clause, and at what follows. False: one is false, and CUT says by which decisions.
-fn survey(codes: &[u16], index: &[u16], line: &mut [u16], own: &mut [u64]) -> bool
+// Looks at every clause, and at what follows. False: one is false, and the set at CONFLICT says by which decisions.
+fn propagate_all(codes: &[u16], index: &[u16], line: &mut [u16], own: &mut [u64]) -> bool
     requires { ⌜ (length (now index) ≡ index-size) × (length (now line) ≡ max-unknowns) × (length (now own) ≡ sets-size) ⌝ }
     ensures { λ r. ⌜ Moves (now (codes .entry)) (now (line .entry)) (now (line .exit)) (now (own .entry)) (now (own .exit)) r ⌝ }
 {
-    if visit(codes, index, line, own, 1, ANY) {
-        settle(codes, index, line, own, 1)
+    if propagate_occurrences(codes, index, line, own, 1, ANY) {
+        propagate(codes, index, line, own, 1)
     } else {
         false
     }
 }
 
-// Looks at the clauses of the positions that wait, and of those that follow.
-fn settle(codes: &[u16], index: &[u16], line: &mut [u16], own: &mut [u64], mark: u16) -> bool
+// Looks at the clauses of the positions in the queue, and of those that follow.
+fn propagate(codes: &[u16], index: &[u16], line: &mut [u16], own: &mut [u64], level: u16) -> bool
     requires { ⌜ (length (now index) ≡ index-size) × (length (now line) ≡ max-unknowns) × (length (now own) ≡ sets-size) ⌝ }
     ensures { λ r. ⌜ Moves (now (codes .entry)) (now (line .entry)) (now (line .exit)) (now (own .entry)) (now (own .exit)) r ⌝ }
 {
     let mut h = 0;
     while h < Formula::UNKNOWNS {
-        if (h as u64) < own[WAITING] {} else {
+        if (h as u64) < own[QUEUED] {} else {
             return true;
         }
         let p = own[QUEUE + h] as usize % Formula::UNKNOWNS;
         h += 1;
-        if visit(codes, index, line, own, mark, shortened(line, p)) {} else {
+        if propagate_occurrences(codes, index, line, own, level, falsified(line, p)) {} else {
             return false;
         }
     }
@@ -315,7 +300,7 @@ fn settle(codes: &[u16], index: &[u16], line: &mut [u16], own: &mut [u64], mark:
 }
 
 // The code of the literal that is false by the value at position p.
-fn shortened(line: &[u16], p: usize) -> usize
+fn falsified(line: &[u16], p: usize) -> usize
     requires { ⌜ (length (now line) ≡ max-unknowns) × (p < max-unknowns) ⌝ }
     ensures { λ r. ⌜ r ≤ last-code ⌝ }
 {
@@ -327,37 +312,37 @@ fn shortened(line: &[u16], p: usize) -> usize
 }
 
 // Looks at the clauses with the code c.
-fn visit(
+fn propagate_occurrences(
     codes: &[u16],
     index: &[u16],
     line: &mut [u16],
     own: &mut [u64],
-    mark: u16,
+    level: u16,
     c: usize,
 ) -> bool
     requires { ⌜ (length (now index) ≡ index-size) × (length (now line) ≡ max-unknowns) × (length (now own) ≡ sets-size) × (c ≤ last-code) ⌝ }
     ensures { λ r. ⌜ Moves (now (codes .entry)) (now (line .entry)) (now (line .exit)) (now (own .entry)) (now (own .exit)) r ⌝ }
 {
-    let end = lower(wide16(index[index::CODES + c]), index.len());
+    let end = least(wide16(index[index::CODES + c]), index.len());
     let mut at = wide16(index[c]);
     while at < end {
         let start = wide16(index[at]);
         at += 1;
-        if touch(codes, line, own, mark, start) {} else {
+        if propagate_clause(codes, line, own, level, start) {} else {
             return false;
         }
     }
     true
 }
 
-fn lower(a: usize, b: usize) -> usize
-    ensures { λ r. ⌜ r ≤ b ⌝ }
-{
-    if a < b { a } else { b }
-}
-
-// Looks at the clause at `start`, if one begins there. False: it is false, and CUT says by which decisions.
-fn touch(codes: &[u16], line: &mut [u16], own: &mut [u64], mark: u16, start: usize) -> bool
+// Looks at the clause at `start`, if one begins there. False: it is false, and the set at CONFLICT says by which decisions.
+fn propagate_clause(
+    codes: &[u16],
+    line: &mut [u16],
+    own: &mut [u64],
+    level: u16,
+    start: usize,
+) -> bool
     requires { ⌜ (length (now line) ≡ max-unknowns) × (length (now own) ≡ sets-size) ⌝ }
     ensures { λ r. ⌜ Moves (now (codes .entry)) (now (line .entry)) (now (line .exit)) (now (own .entry)) (now (own .exit)) r ⌝ }
 {
@@ -369,11 +354,11 @@ fn touch(codes: &[u16], line: &mut [u16], own: &mut [u64], mark: u16, start: usi
         return true;
     }
     if c == 0 {
-        search_sets::empty(own, CUT);
-        search_sets::blame(codes, own, start, CUT);
+        search_sets::empty(own, CONFLICT);
+        search_sets::add_reasons(codes, own, start, CONFLICT);
         return false;
     }
-    force(codes, line, own, mark, start, c);
+    assign(codes, line, own, level, start, c);
     true
 }
 
@@ -436,27 +421,8 @@ fn is_false_or(line: &[u16], c: usize, but: usize) -> bool
     x % 2 == c % 2
 }
 
-// The position of a code's unknown: c / 2 - 1 for a literal, and inside the line for any number.
-fn position(c: usize) -> usize
-    ensures { λ r. ⌜ (r ≡ row-position c) × (r < max-unknowns) ⌝ }
-{
-    (c / 2 + LAST) % Formula::UNKNOWNS
-}
-
-fn begins(codes: &[u16], start: usize) -> bool
-    ensures { λ r. ⌜ (r ≡ true → Begins (now (codes .entry)) start) ⌝ }
-{
-    if start == 0 {
-        return true;
-    }
-    if start <= codes.len() {
-        return codes[start - 1] == 0;
-    }
-    false
-}
-
 // Sets the one open literal, of code c, of the clause at `start`.
-fn force(codes: &[u16], line: &mut [u16], own: &mut [u64], mark: u16, start: usize, c: usize)
+fn assign(codes: &[u16], line: &mut [u16], own: &mut [u64], level: u16, start: usize, c: usize)
     requires { ⌜ (length (now line) ≡ max-unknowns) × (length (now own) ≡ sets-size) ⌝ }
     ensures { λ _. ⌜ (Begins (now (codes .entry)) start → FalseBut (now (codes .entry)) (now (line .entry)) start c → Moves (now (codes .entry)) (now (line .entry)) (now (line .exit)) (now (own .entry)) (now (own .exit)) true) ⌝ }
 {
@@ -471,17 +437,17 @@ fn force(codes: &[u16], line: &mut [u16], own: &mut [u64], mark: u16, start: usi
         return;
     }
     search_sets::empty(own, p);
-    search_sets::blame(codes, own, start, p);
-    set(line, p, mark, c % 2 == 0);
-    wait(own, p);
+    search_sets::add_reasons(codes, own, start, p);
+    set(line, p, level, c % 2 == 0);
+    enqueue(own, p);
 }
 
-// Sets position p: twice the mark, and one more for true.
-fn set(line: &mut [u16], p: usize, mark: u16, value: bool)
+// Sets position p: twice the level, and one more for true.
+fn set(line: &mut [u16], p: usize, level: u16, value: bool)
     requires { ⌜ (length (now line) ≡ max-unknowns) × (p < max-unknowns) ⌝ }
     ensures { λ _. ⌜ LineSet p value (now (line .entry)) (now (line .exit)) ⌝ }
 {
-    line[p] = 2 * (mark % 256) + bit(value);
+    line[p] = 2 * (level % 256) + bit(value);
 }
 
 fn bit(value: bool) -> u16
@@ -490,7 +456,7 @@ fn bit(value: bool) -> u16
     if value { 1 } else { 0 }
 }
 
-// Opens the positions whose mark is over the bound.
+// Opens the positions whose level is over the bound.
 fn open_above(line: &mut [u16], bound: u16)
     requires { ⌜ length (now line) ≡ max-unknowns ⌝ }
     ensures { λ _. ⌜ LineOpened (now (line .entry)) (now (line .exit)) ⌝ }
@@ -508,28 +474,28 @@ fn within(x: u16, bound: u16) -> u16
     if x / 2 <= bound { x } else { 0 }
 }
 
-// Position p waits for its clauses to be looked at.
-fn wait(own: &mut [u64], p: usize)
+// Position p goes into the queue: its clauses are to be looked at.
+fn enqueue(own: &mut [u64], p: usize)
     requires { ⌜ length (now own) ≡ sets-size ⌝ }
     ensures { λ _. ⌜ SetsKept (now (own .entry)) (now (own .exit)) ⌝ }
 {
-    let n = own[WAITING] as usize;
+    let n = own[QUEUED] as usize;
     if n < Formula::UNKNOWNS {
         own[QUEUE + n] = p as u64;
-        own[WAITING] = n as u64 + 1;
+        own[QUEUED] = n as u64 + 1;
     }
 }
 
-// It alone waits.
-fn wait_alone(own: &mut [u64], p: usize)
+// It alone is in the queue.
+fn enqueue_alone(own: &mut [u64], p: usize)
     requires { ⌜ length (now own) ≡ sets-size ⌝ }
     ensures { λ _. ⌜ SetsKept (now (own .entry)) (now (own .exit)) ⌝ }
 {
-    own[WAITING] = 0;
-    wait(own, p);
+    own[QUEUED] = 0;
+    enqueue(own, p);
 }
 
-// The position of the next step: the last open one that a clause names, or after a failure the last decision that it was reached by. The
+// The position of the next step: the last open one that a clause names, or after a conflict the last decision that it was reached by. The
 // number of positions if there is none.
 fn next(index: &[u16], line: &[u16], own: &mut [u64], going: bool) -> usize
     requires { ⌜ (length (now index) ≡ index-size) × (length (now line) ≡ max-unknowns) × (length (now own) ≡ sets-size) ⌝ }
@@ -538,7 +504,7 @@ fn next(index: &[u16], line: &[u16], own: &mut [u64], going: bool) -> usize
     if going {
         open_position(index, line)
     } else {
-        culprit(own)
+        backjump_target(own)
     }
 }
 
@@ -568,8 +534,8 @@ fn is_named(index: &[u16], p: usize) -> bool
     index[c + 1] < index[index::CODES + c + 1]
 }
 
-// Takes back the decisions up to the last one that CUT has.
-fn culprit(own: &mut [u64]) -> usize
+// Takes back the decisions up to the last one that CONFLICT has.
+fn backjump_target(own: &mut [u64]) -> usize
     requires { ⌜ length (now own) ≡ sets-size ⌝ }
     ensures { λ _. ⌜ Same (now (own .entry)) (now (own .exit)) ⌝ }
 {
@@ -577,7 +543,7 @@ fn culprit(own: &mut [u64]) -> usize
     while d > 0 {
         d -= 1;
         let p = own[DECISIONS + d] as usize % Formula::UNKNOWNS;
-        if search_sets::has(own, CUT, p) {
+        if search_sets::has(own, CONFLICT, p) {
             own[DEPTH] = d as u64;
             return p;
         }
@@ -585,7 +551,7 @@ fn culprit(own: &mut [u64]) -> usize
     Formula::UNKNOWNS
 }
 
-// Whether, after a failure, CUT has decisions before position k alone.
+// Whether, after a conflict, CONFLICT has decisions before position k alone.
 fn is_reason(own: &[u64], going: bool, k: usize) -> bool
     requires { ⌜ length (now own) ≡ sets-size ⌝ }
     ensures { λ r. ⌜ (r ≡ true → (going ≡ false) × ((l : ℕ) → k ≤ l → l < max-unknowns → set-at (now (own .entry)) max-unknowns l ≡ false)) ⌝ }
@@ -595,7 +561,7 @@ fn is_reason(own: &[u64], going: bool, k: usize) -> bool
     }
     let mut l = k;
     while l < Formula::UNKNOWNS {
-        if search_sets::has(own, CUT, l) {
+        if search_sets::has(own, CONFLICT, l) {
             return false;
         }
         l += 1;
@@ -603,7 +569,7 @@ fn is_reason(own: &[u64], going: bool, k: usize) -> bool
     true
 }
 
-// Decides position p, or turns it round after a failure, and looks at what follows.
+// Decides position p, or flips it after a conflict, and looks at what follows.
 fn step(
     codes: &[u16],
     index: &[u16],
@@ -620,7 +586,7 @@ fn step(
     if going {
         decide(codes, index, work, line, own, i, p)
     } else {
-        turn(codes, index, work, line, own, i, p)
+        flip(codes, index, work, line, own, i, p)
     }
 }
 
@@ -636,14 +602,14 @@ fn decide(
     requires { ⌜ (length (now index) ≡ index-size) × (length (now work) ≡ work-size) × (length (now line) ≡ max-unknowns) × (length (now own) ≡ sets-size) × (i < max-rows) × (p < max-unknowns) ⌝ }
     ensures { λ r. ⌜ StepsOn (now (codes .entry)) (now (work .entry)) i (now (line .entry)) (now (line .exit)) (now (own .entry)) (now (own .exit)) true r ⌝ }
 {
-    let mark = deepen(own, p);
-    put(work, line, own, i, p, mark);
-    wait_alone(own, p);
-    settle(codes, index, line, own, mark)
+    let level = new_level(own, p);
+    put(work, line, own, i, p, level);
+    enqueue_alone(own, p);
+    propagate(codes, index, line, own, level)
 }
 
-// Notes the decision at position p; what is reached by it gets the mark.
-fn deepen(own: &mut [u64], p: usize) -> u16
+// Notes the decision at position p; what is reached by it gets its level.
+fn new_level(own: &mut [u64], p: usize) -> u16
     requires { ⌜ length (now own) ≡ sets-size ⌝ }
     ensures { λ _. ⌜ Same (now (own .entry)) (now (own .exit)) ⌝ }
 {
@@ -653,8 +619,8 @@ fn deepen(own: &mut [u64], p: usize) -> u16
     d as u16 + 2
 }
 
-// The other value at position p, reached by the decisions of CUT without it.
-fn turn(
+// The other value at position p, reached by the decisions of CONFLICT without it.
+fn flip(
     codes: &[u16],
     index: &[u16],
     work: &[u8],
@@ -666,15 +632,15 @@ fn turn(
     requires { ⌜ (length (now index) ≡ index-size) × (length (now work) ≡ work-size) × (length (now line) ≡ max-unknowns) × (length (now own) ≡ sets-size) × (i < max-rows) × (p < max-unknowns) ⌝ }
     ensures { λ r. ⌜ StepsOn (now (codes .entry)) (now (work .entry)) i (now (line .entry)) (now (line .exit)) (now (own .entry)) (now (own .exit)) false r ⌝ }
 {
-    let mark = (own[DEPTH] % LEVELS) as u16 + 1;
-    open_above(line, mark);
+    let level = (own[DEPTH] % LEVELS) as u16 + 1;
+    open_above(line, level);
     inherit(own, p);
-    set(line, p, mark, !value(work, i, p));
-    wait_alone(own, p);
-    settle(codes, index, line, own, mark)
+    set(line, p, level, !cell::value(work, i, p));
+    enqueue_alone(own, p);
+    propagate(codes, index, line, own, level)
 }
 
-// The set at p becomes that at CUT without the position p.
+// The set at p becomes that at CONFLICT without the position p.
 fn inherit(own: &mut [u64], p: usize)
     requires { ⌜ (length (now own) ≡ sets-size) × (p < max-unknowns) ⌝ }
     ensures { λ _. ⌜ Inherited p (now (own .entry)) (now (own .exit)) ⌝ }
@@ -687,7 +653,7 @@ fn inherit(own: &mut [u64], p: usize)
     }
 }
 
-// The set at p takes in the position l if that at CUT has it, and l is another.
+// The set at p takes in the position l if that at CONFLICT has it, and l is another.
 fn take(own: &mut [u64], p: usize, l: usize)
     requires { ⌜ (length (now own) ≡ sets-size) × (p < max-unknowns) × (l < max-unknowns) ⌝ }
     ensures { λ _. ⌜ ((o : List ℕ) → Inheriting p l o (now (own .entry)) → Inheriting p (l + 1) o (now (own .exit))) ⌝ }
@@ -695,19 +661,7 @@ fn take(own: &mut [u64], p: usize, l: usize)
     if l == p {
         return;
     }
-    if search_sets::has(own, CUT, l) {
+    if search_sets::has(own, CONFLICT, l) {
         search_sets::add(own, p, l);
     }
-}
-
-fn wide8(x: u8) -> usize
-    ensures { λ r. ⌜ r ≡ x ⌝ }
-{
-    x as usize
-}
-
-fn wide16(x: u16) -> usize
-    ensures { λ r. ⌜ r ≡ x ⌝ }
-{
-    x as usize
 }

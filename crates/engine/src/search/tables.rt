@@ -2,7 +2,7 @@
 ghost use mathlib.Core.Path.{_≡_};
 ghost use Rattle.formula.specs.Causes.{any};
 ghost use Rattle.engine.specs.Private.Prepared.{no-code, tables-fit};
-use super::width::wide16;
+use super::numbers::wide16;
 use formula::Formula;
 
 pub(crate) fn fit(codes: &[u16], places: usize) -> bool

@@ -1,7 +1,16 @@
 // The universal side's clauses by their own literals, the universal ones. Clauses with the same own literals are one term; a term is open in
-// a row if one of its clauses has no literal that the row's given values make true. The row is lost if every open term has a true own literal.
+// a row if one of its clauses has no literal that the row's given values make true. The row is satisfied if every open term has a true own literal.
 // The terms are listed once a formula, the open rows are found once a search, 64 rows at a time.
 // Every public function is total. Which term a clause gets is a hint: `list` tests it before anything rests on it.
+//
+//   terms, 16-bit numbers                                     opened, words
+//   0 .. 2047      start of the clause that is listed j-th    4 t + w   bit l: row 64 w + l, in which term t is open; t = 63: the others
+//   2048 .. 4095   ROOM + j: its term                         256 + t   NAMES + t: the clause that stands for term t
+//   4096 .. 4158   FIRSTS + t: a clause of term t
+//   4160           LISTED: how many clauses are listed
+use super::clauses::position;
+use super::numbers::least;
+use super::numbers::wide16;
 use codes::LAST_CODE;
 use formula::Formula;
 ghost use mathlib.Core.Path.{_≡_};
@@ -43,9 +52,6 @@ pub(crate) const NAMES: usize = ACROSS * (OTHERS + 1);
 
 pub(crate) const WORDS: usize = NAMES + OTHERS + 1;
 
-// The last position.
-const LAST: usize = Formula::UNKNOWNS - 1;
-
 // Of 64 rows those in which an unknown is true, and those in which it is false.
 struct Values {
     on: u64,
@@ -63,7 +69,7 @@ pub(crate) fn list(kinds: &[u8], codes: &[u16], terms: &mut [u16])
         return;
     }
     classify(kinds, codes, terms);
-    settle(kinds, codes, terms);
+    enter_clauses(kinds, codes, terms);
 }
 
 // Finds the rows below the count in which each term is open.
@@ -96,7 +102,7 @@ pub(crate) fn holds(kinds: &[u8], codes: &[u16], terms: &[u16], words: &mut [u64
     clear(words);
     let mut t = 0;
     while t < OTHERS {
-        hold(kinds, codes, words, wide(terms[FIRSTS + t]), t);
+        hold(kinds, codes, words, wide16(terms[FIRSTS + t]), t);
         t += 1;
     }
 }
@@ -164,7 +170,7 @@ fn term(kinds: &[u8], codes: &[u16], terms: &[u16], start: usize) -> usize
     }
     let mut t = 0;
     while t < OTHERS {
-        let first = wide(terms[FIRSTS + t]);
+        let first = wide16(terms[FIRSTS + t]);
         if codes.len() <= first {
             return t;
         }
@@ -190,7 +196,7 @@ fn within(kinds: &[u8], codes: &[u16], a: usize, b: usize) -> bool
 {
     let mut e = a;
     while e < codes.len() {
-        let c = wide(codes[e]);
+        let c = wide16(codes[e]);
         e += 1;
         if c == 0 {
             return true;
@@ -210,7 +216,7 @@ fn names(codes: &[u16], start: usize, c: usize) -> bool
 {
     let mut e = start;
     while e < codes.len() {
-        let d = wide(codes[e]);
+        let d = wide16(codes[e]);
         e += 1;
         if d == 0 {
             return false;
@@ -235,7 +241,7 @@ fn is_own(kinds: &[u8], c: usize) -> bool
 
 // Lists every clause's start, and its term if the clause that stands for it shows that. An empty clause among the others stands for those
 // that there is no room for.
-fn settle(kinds: &[u8], codes: &[u16], terms: &mut [u16])
+fn enter_clauses(kinds: &[u8], codes: &[u16], terms: &mut [u16])
     requires { ⌜ (length (now terms) ≡ table-size) × (length (now codes) ≤ max-entries) ⌝ }
     ensures { λ _. ⌜ Listed (now (kinds .entry)) (now (codes .entry)) (now (terms .exit)) ⌝ }
 {
@@ -267,7 +273,7 @@ fn enter(kinds: &[u8], codes: &[u16], terms: &mut [u16], j: usize, start: usize)
     requires { ⌜ (length (now terms) ≡ table-size) × (j < max-clauses) × (start < max-entries) ⌝ }
     ensures { λ _. ⌜ EntryMade (now (kinds .entry)) (now (codes .entry)) j start (now (terms .entry)) (now (terms .exit)) ⌝ }
 {
-    let t = shown(kinds, codes, terms, wide(terms[ROOM + j]), start);
+    let t = shown(kinds, codes, terms, wide16(terms[ROOM + j]), start);
     terms[j] = start as u16;
     terms[ROOM + j] = t as u16;
 }
@@ -278,7 +284,7 @@ fn shown(kinds: &[u8], codes: &[u16], terms: &[u16], t: usize, start: usize) -> 
     ensures { λ r. ⌜ HasTerm (now (kinds .entry)) (now (codes .entry)) (now (terms .entry)) r start ⌝ }
 {
     if t < OTHERS {
-        let first = wide(terms[FIRSTS + t]);
+        let first = wide16(terms[FIRSTS + t]);
         if begins(codes, first) {
             if within(kinds, codes, first, start) {
                 return t;
@@ -351,7 +357,7 @@ fn name(terms: &[u16], opened: &mut [u64])
 {
     let mut t = 0;
     while t < OTHERS {
-        opened[NAMES + t] = wide(terms[FIRSTS + t]) as u64;
+        opened[NAMES + t] = wide16(terms[FIRSTS + t]) as u64;
         t += 1;
     }
 }
@@ -373,7 +379,7 @@ fn fill(
     let mut w = 0;
     while 64 * w < count {
         let all = look(kinds, work, misses, w, count);
-        visit(codes, terms, misses, opened, w, all);
+        fill_word(codes, terms, misses, opened, w, all);
         w += 1;
     }
 }
@@ -422,16 +428,21 @@ fn column(kind: u8, work: &[u8], k: usize, from: usize, rows: usize) -> Values
 }
 
 // Every listed clause in the rows of word w.
-fn visit(codes: &[u16], terms: &[u16], misses: &[u64], opened: &mut [u64], w: usize, all: u64)
+fn fill_word(codes: &[u16], terms: &[u16], misses: &[u64], opened: &mut [u64], w: usize, all: u64)
     requires { ⌜ (length (now terms) ≡ table-size) × (length (now misses) ≡ last-code + 1) × (length (now opened) ≡ open-size) × (w < row-words) ⌝ }
     ensures { λ _. ⌜ WordFilled (now (codes .entry)) (now (terms .entry)) (now (misses .entry)) w all (now (opened .entry)) (now (opened .exit)) ⌝ }
 {
-    let listed = least(wide(terms[LISTED]), ROOM);
+    let listed = least(wide16(terms[LISTED]), ROOM);
     let mut j = 0; // the first clause
     while j < listed {
-        let t = wide(terms[ROOM + j]) % (OTHERS + 1);
+        let t = wide16(terms[ROOM + j]) % (OTHERS + 1);
         let left = all & (all ^ opened[ACROSS * t + w]);
-        unite(opened, t, w, remaining(codes, misses, wide(terms[j]), left));
+        unite(
+            opened,
+            t,
+            w,
+            remaining(codes, misses, wide16(terms[j]), left),
+        );
         j += 1;
     }
 }
@@ -456,7 +467,7 @@ fn remaining(codes: &[u16], misses: &[u64], start: usize, rows: u64) -> u64
         if left == 0 {
             return left;
         }
-        let c = wide(codes[e]);
+        let c = wide16(codes[e]);
         e += 1;
         if c == 0 {
             return left;
@@ -479,12 +490,6 @@ fn ones(k: usize) -> u64
 // A word of ones.
 const ALL: u64 = 18_446_744_073_709_551_615;
 
-fn least(a: usize, b: usize) -> usize
-    ensures { λ r. ⌜ (r ≤ a) × (r ≤ b) × ((r ≡ a) ⊎ (r ≡ b)) ⌝ }
-{
-    if a < b { a } else { b }
-}
-
 // ---- hints
 
 fn hold(kinds: &[u8], codes: &[u16], words: &mut [u64], start: usize, t: usize)
@@ -492,7 +497,7 @@ fn hold(kinds: &[u8], codes: &[u16], words: &mut [u64], start: usize, t: usize)
 {
     let mut e = start;
     while e < codes.len() {
-        let c = wide(codes[e]);
+        let c = wide16(codes[e]);
         e += 1;
         if c == 0 {
             return;
@@ -523,17 +528,4 @@ fn spread(rows: u64, t: usize, from: usize, count: usize, words: &mut [u64])
             join(words, i, t);
         }
     }
-}
-
-// The position of a code's unknown: c / 2 - 1 for a literal, and a position for any number.
-fn position(c: usize) -> usize
-    ensures { λ r. ⌜ r ≡ row-position c ⌝ }
-{
-    (c / 2 + LAST) % Formula::UNKNOWNS
-}
-
-fn wide(x: u16) -> usize
-    ensures { λ r. ⌜ r ≡ x ⌝ }
-{
-    x as usize
 }

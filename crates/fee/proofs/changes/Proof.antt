@@ -40,9 +40,10 @@ loop-less c = omega arith
 
 loop-again : tie.Need-loop-again Inv-loop μ-loop
 loop-again c =
+    let loop = c .before .before .before .before .loop in
     let kinds = c .before .before .before .before .before .args .kinds .now in
-    let i = c .before .before .before .before .loop .i in
-    let from-1 = c .before .before .before .before .loop .inv .0 in
+    let i = loop .i in
+    let from-1 = loop .inv .0 in
     let below = c .before .before .before .loop-test .taken in
     ⊎-elim
     (λ w. let other = differ kinds i from-1 below (w .0 .taken) in (omega arith, omega arith, omega arith))

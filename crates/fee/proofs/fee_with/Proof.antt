@@ -9,6 +9,10 @@ use borrow.Author.Needs.{needs}
 use Rattle.fee.proofs.fee_with.Statement.{statement}
 use Rattle.fee.proofs.fee_with.Tie as tie
 
+-- Back along the path, to the place behind a call.
+abbrev back-to-start : tie.After-rises → tie.Start
+back-to-start at = at .before .before .before .before .before .before
+
 is-no-table-requires : tie.Need-is-no-table-requires
 is-no-table-requires c κs = search needs
 
@@ -23,7 +27,7 @@ rises-requires c κs = search needs
 
 returns-2 : tie.Need-returns-2
 returns-2 c =
-    let q = c .before .before .before .before .before .before .before .args in
+    let q = (back-to-start (c .before)) .args in
     let table = sym (c .before .before .before .is-no-table .ensures) ∙ c .before .before .if1 .left in
     let fall = falling (q .firsts .now) (q .prices .now) (sym (c .before .rises .ensures) ∙ c .if2 .left) in
     (refused-22 (q .firsts .now) (q .prices .now) (q .kinds .now) (q .rounds) table fall refl, fees-right)
@@ -33,20 +37,29 @@ has-dearer-requires c κs = search needs
 
 returns-3 : tie.Need-returns-3
 returns-3 c =
-    let q = c .before .before .before .before .before .before .before .before .before .args in
+    let q = (back-to-start (c .before .before .before)) .args in
     let table = sym (c .before .before .before .before .before .is-no-table .ensures) ∙ c .before .before .before .before .if1 .left in
     let dearer = dear (q .firsts .now) (q .prices .now) (sym (c .before .has-dearer .ensures) ∙ c .if3 .taken) in
     (refused-22 (q .firsts .now) (q .prices .now) (q .kinds .now) (q .rounds) table dearer refl, fees-right)
 
 sum-requires : tie.Need-sum-requires
 sum-requires c κs =
-    let q = c .before .before .before .before .before .before .before .before .before .args in
-    summable (loads (q .firsts .now) (q .prices .now) (c .before .before .before .before .before .is-no-table .ensures) (c .before .before .before .before .if1 .left) (c .before .before .before .rises .ensures) (c .before .before .if2 .taken) (c .before .has-dearer .ensures) (c .if3 .left))
+    let q = (back-to-start (c .before .before .before)) .args in
+    summable (loads (q .firsts .now) (q .prices .now) (c .before .before .before .before .before .is-no-table .ensures)
+    (c .before .before .before .before .if1 .left) (c .before .before .before .rises .ensures) (c .before .before .if2 .taken)
+    (c .before .has-dearer .ensures) (c .if3 .left))
 
 fee-on-requires : tie.Need-fee-on-requires
 fee-on-requires c κs =
-    let q = c .before .before .before .before .before .before .before .before .before .before .args in
-    omega (arith, c .sum .ensures, sum-small (q .firsts .now) (q .prices .now) (loads (q .firsts .now) (q .prices .now) (c .before .before .before .before .before .before .is-no-table .ensures) (c .before .before .before .before .before .if1 .left) (c .before .before .before .before .rises .ensures) (c .before .before .before .if2 .taken) (c .before .before .has-dearer .ensures) (c .before .if3 .left)) (q .rounds) (omega arith))
+    let q = (back-to-start (c .before .before .before .before)) .args in
+    omega (
+      arith,
+      c .sum .ensures,
+      sum-small (q .firsts .now) (q .prices .now)
+          (loads (q .firsts .now) (q .prices .now) (c .before .before .before .before .before .before .is-no-table .ensures)
+          (c .before .before .before .before .before .if1 .left) (c .before .before .before .before .rises .ensures) (c .before .before .before .if2 .taken)
+          (c .before .before .has-dearer .ensures) (c .before .if3 .left)) (q .rounds) (omega arith),
+    )
 
 returns-4 : tie.Need-returns-4
 returns-4 c =

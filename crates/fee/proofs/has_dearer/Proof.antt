@@ -38,10 +38,11 @@ loop-less c = omega arith
 
 loop-again : tie.Need-loop-again Inv-loop μ-loop
 loop-again c =
+    let loop = c .before .before .before .loop in
     let l = c .before .before .before .before .args .prices .now in
-    let i = c .before .before .before .loop .i in
-    let found = c .before .before .before .loop .found in
-    let seen = c .before .before .before .loop .inv .1 in
+    let i = loop .i in
+    let found = loop .found in
+    let seen = loop .inv .1 in
     let below = c .before .before .loop-test .taken in (
       omega arith,
       ⊎-elim

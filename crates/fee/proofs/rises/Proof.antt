@@ -44,11 +44,12 @@ loop-less c = omega arith
 
 loop-again : tie.Need-loop-again Inv-loop μ-loop
 loop-again c =
+    let loop = c .before .before .before .before .loop in
     let l = c .before .before .before .before .before .args .firsts .now in
-    let i = c .before .before .before .before .loop .i in
-    let rising = c .before .before .before .before .loop .rising in
-    let from-1 = c .before .before .before .before .loop .inv .0 in
-    let seen = c .before .before .before .before .loop .inv .1 in
+    let i = loop .i in
+    let rising = loop .rising in
+    let from-1 = loop .inv .0 in
+    let seen = loop .inv .1 in
     let below = c .before .before .before .loop-test .taken in (
       omega arith,
       ⊎-elim

@@ -26,10 +26,11 @@ less-requires c κs = search needs
 
 returns : tie.Need-returns
 returns c =
+    let wide-call = c .before .before .before .wide in
     let q = c .before .before .before .before .before .before .args in
     let at = next-at (q .rounds) (q .firsts .now) (q .i) (c .before .before .before .before .if1 .taken) in (
-      omega (arith, at, c .less .ensures, c .before .before .before .wide .ensures .0, c .before .wide2 .ensures .0),
-      omega (arith, c .less .ensures, c .before .before .before .wide .ensures .1),
+      omega (arith, at, c .less .ensures, wide-call .ensures .0, c .before .wide2 .ensures .0),
+      omega (arith, c .less .ensures, wide-call .ensures .1),
     )
 
 returns-2 : tie.Need-returns-2

@@ -12,10 +12,17 @@ use Rattle.fee.proofs.sum.Statement.{statement}
 use Rattle.fee.proofs.sum.Tie as tie
 
 abbrev Inv-loop : tie.InvT-loop
-Inv-loop firsts prices rounds total₀ i₀ total i = (total + by-bands rounds (drop i firsts) (drop i prices) ≡ by-bands rounds firsts prices) × (total ≤ i * (4294967296 * max-price))
+Inv-loop firsts prices rounds total₀ i₀ total i = (total + by-bands rounds (drop i firsts) (drop i prices) ≡ by-bands rounds firsts prices) ×
+    (total ≤ i * (4294967296 * max-price))
 
 abbrev μ-loop : tie.MeasureT-loop
 μ-loop firsts prices rounds total₀ i₀ total i = length firsts - i
+
+-- Back along the path, to the place behind a call.
+abbrev back-to-start : tie.After-wide Inv-loop μ-loop → tie.Start Inv-loop μ-loop
+back-to-start at =
+    let at-loop = at .before .before .before .before .before .before in
+    at-loop .before .before .before
 
 loop-holds : tie.Need-loop-holds Inv-loop μ-loop
 loop-holds c = search needs
@@ -43,16 +50,18 @@ wide-requires c κs = search needs
 
 mul-total : tie.Need-mul-total Inv-loop μ-loop
 mul-total c =
-    let q = c .before .before .before .before .before .before .before .before .before in
+    let q = (back-to-start c) in
     let i = c .before .before .before .before .before .before .loop .i in
-    let small = band-small (c .before .before .before .rounds-from2 .result) (c .before .before .less .ensures) (c .before .before .before .before .rounds-from .ensures .1) (c .wide .ensures .0) (q .pre .cheap i) in
+    let small = band-small (c .before .before .before .rounds-from2 .result) (c .before .before .less .ensures)
+    (c .before .before .before .before .rounds-from .ensures .1) (c .wide .ensures .0) (q .pre .cheap i) in
     record { fits = omega (arith, small) }
 
 add-total : tie.Need-add-total Inv-loop μ-loop
 add-total c =
-    let q = c .before .before .before .before .before .before .before .before .before in
+    let q = (back-to-start c) in
     let i = c .before .before .before .before .before .before .loop .i in
-    let small = band-small (c .before .before .before .rounds-from2 .result) (c .before .before .less .ensures) (c .before .before .before .before .rounds-from .ensures .1) (c .wide .ensures .0) (q .pre .cheap i) in
+    let small = band-small (c .before .before .before .rounds-from2 .result) (c .before .before .less .ensures)
+    (c .before .before .before .before .rounds-from .ensures .1) (c .wide .ensures .0) (q .pre .cheap i) in
     record { fits = omega (arith, small, q .pre .few) }
 
 add-i : tie.Need-add-i Inv-loop μ-loop
@@ -63,10 +72,14 @@ loop-less c = search needs
 
 loop-again : tie.Need-loop-again Inv-loop μ-loop
 loop-again c =
-    let q = c .before .before .before .before .before .before .before .before .before in
+    let rounds-from2-call = c .before .before .before .rounds-from2 in
+    let rounds-from-call = c .before .before .before .before .rounds-from in
+    let q = (back-to-start c) in
     let i = c .before .before .before .before .before .before .loop .i in
-    let small = band-small (c .before .before .before .rounds-from2 .result) (c .before .before .less .ensures) (c .before .before .before .before .rounds-from .ensures .1) (c .wide .ensures .0) (q .pre .cheap i) in
-    let band = band-at (q .args .rounds) (q .args .firsts .now) i (q .args .prices .now) (omega arith) (omega (arith, q .pre .even)) (c .before .before .before .before .rounds-from .ensures .0) (c .before .before .before .rounds-from2 .ensures .0) (c .before .before .less .ensures) (c .wide .ensures .0) in
+    let small = band-small (rounds-from2-call .result) (c .before .before .less .ensures) (rounds-from-call .ensures .1) (c .wide .ensures .0) (q .pre .cheap i)
+    in
+    let band = band-at (q .args .rounds) (q .args .firsts .now) i (q .args .prices .now) (omega arith) (omega (arith, q .pre .even))
+    (rounds-from-call .ensures .0) (rounds-from2-call .ensures .0) (c .before .before .less .ensures) (c .wide .ensures .0) in
     (omega (arith, band), omega (arith, small))
 
 returns : tie.Need-returns Inv-loop μ-loop

@@ -27,7 +27,8 @@ wide-requires c κs = tt
 
 returns : tie.Need-returns Inv-loop μ-loop
 returns c =
-    subst (λ (r : ℕ). AlikeBits (c .before .before .before .before .args .a) (c .before .before .before .before .args .b) r) (sym (c .wide .ensures))
+    let given = c .before .before .before .before .args in
+    subst (λ (r : ℕ). AlikeBits (given .a) (given .b) r) (sym (c .wide .ensures))
     (record { most = omega arith; alike = c .before .before .before .loop .inv .1; unlike = λ h. c .before .if1 .taken })
 
 add-t : tie.Need-add-t Inv-loop μ-loop

@@ -5,6 +5,12 @@ use borrow.Author.Needs.{needs}
 use Rattle.forecast.proofs.copies.Statement.{statement}
 use Rattle.forecast.proofs.copies.Tie as tie
 
+-- Back along the path, to the place behind a call.
+abbrev back-to-start : tie.After-sum → tie.Start
+back-to-start at =
+    let after-shared-slice-known = at .before .before .before .before .before .before in
+    after-shared-slice-known .before
+
 slice-aggregate-tell : tie.Need-slice-aggregate-tell
 slice-aggregate-tell c = search needs
 
@@ -19,8 +25,12 @@ sum-requires c κs = search needs
 
 returns : tie.Need-returns
 returns c =
+    let tell-call = c .before .before .before .tell in
+    let given = (back-to-start c) .args in
+    let pre = (back-to-start c) .pre in
     c .sum .ensures
-    ∙ sym (copies-told (c .before .before .before .before .before .before .before .args .kinds .now) (c .before .before .before .before .before .before .before .args .rows .now) (c .before .before .before .tell .last .1 .1 .0) (c .before .before .before .before .before .before .before .args .count) (c .before .before .before .before .before .before .before .pre .0) (c .before .before .before .before .before .before .before .pre .2) (c .before .before .before .tell .ensures) (c .before .before .before .before .before .before .before .args .universal))
+    ∙ sym (copies-told (given .kinds .now) (given .rows .now) (tell-call .last .1 .1 .0) (given .count) (pre .0) (pre .2) (tell-call .ensures)
+    (given .universal))
 
 pub copies-spec : {M : Type 1} → statement M
 copies-spec =

@@ -14,6 +14,18 @@ Inv-loop rows i j x y p₀ p = (p ≤ 16) × ((q : ℕ) → q < p → getD rows 
 abbrev μ-loop : tie.MeasureT-loop
 μ-loop rows i j x y p₀ p = 16 - p
 
+-- Back along the path, to the place behind a call.
+abbrev back-to-at-loop : tie.After-alike-bits Inv-loop μ-loop → tie.At-loop Inv-loop μ-loop
+back-to-at-loop at =
+    let in-loop = at .before .before .before .before .before .before in
+    in-loop .before
+
+abbrev back-to-shared-slice-known : tie.After-alike-bits Inv-loop μ-loop → tie.After-shared-slice-known Inv-loop μ-loop
+back-to-shared-slice-known at = (back-to-at-loop at) .before
+
+abbrev back-to-start : tie.After-alike-bits Inv-loop μ-loop → tie.Start Inv-loop μ-loop
+back-to-start at = (back-to-shared-slice-known at) .before
+
 mul-x : tie.Need-mul-x Inv-loop μ-loop
 mul-x c = omega arith
 
@@ -58,9 +70,13 @@ add-result c = omega (arith, c .alike-bits .ensures .most)
 
 returns : tie.Need-returns Inv-loop μ-loop
 returns c =
-    let given = c .before .before .before .before .before .before .before .before .before .args in
-    shared-bytes (given .rows .now) (given .i) (given .j) (c .before .before .before .before .before .before .before .before .before .pre .0) (c .before .before .before .before .before .before .before .before .before .pre .1) (c .before .before .before .before .before .before .before .loop .p) (c .before .before .before .before .before .before .before .loop .inv .1) (c .alike-bits .result) (omega arith)
-    (c .before .before .before .before .before .before .before .before .shared-slice-known .given (16 * given .i + c .before .before .before .before .before .before .before .loop .p) .fits) (c .before .before .before .before .before .before .before .before .shared-slice-known .given (16 * given .j + c .before .before .before .before .before .before .before .loop .p) .fits) (c .before .before .before .if1 .taken) (c .alike-bits .ensures)
+    let loop = (back-to-at-loop c) .loop in
+    let shared-slice-known = (back-to-shared-slice-known c) .shared-slice-known in
+    let pre = (back-to-start c) .pre in
+    let given = (back-to-start c) .args in
+    shared-bytes (given .rows .now) (given .i) (given .j) (pre .0) (pre .1) (loop .p) (loop .inv .1) (c .alike-bits .result) (omega arith)
+    (shared-slice-known .given (16 * given .i + loop .p) .fits) (shared-slice-known .given (16 * given .j + loop .p) .fits)
+    (c .before .before .before .if1 .taken) (c .alike-bits .ensures)
 
 add-p : tie.Need-add-p Inv-loop μ-loop
 add-p c = omega arith
@@ -72,7 +88,10 @@ loop-again : tie.Need-loop-again Inv-loop μ-loop
 loop-again c = (omega arith, below-more _ _ (c .before .before .before .before .loop .inv .1) (c .if1 .left))
 
 returns-2 : tie.Need-returns-2 Inv-loop μ-loop
-returns-2 c = shared-whole (c .before .before .before .args .rows .now) (c .before .before .before .args .i) (c .before .before .before .args .j) (c .before .before .before .pre .0) (c .before .before .before .pre .1) (c .before .loop .p) (c .before .loop .inv .1) (omega arith)
+returns-2 c =
+    let given = c .before .before .before .args in
+    let pre = c .before .before .before .pre in
+    shared-whole (given .rows .now) (given .i) (given .j) (pre .0) (pre .1) (c .before .loop .p) (c .before .loop .inv .1) (omega arith)
 
 pub shared-spec : {M : Type 1} → statement M
 shared-spec =

@@ -12,8 +12,16 @@ Inv-loop kinds universal numbers count total₀ before₀ k₀ total before k = 
 abbrev μ-loop : tie.MeasureT-loop
 μ-loop kinds universal numbers count total₀ before₀ k₀ total before k = length kinds - k
 
+-- Back along the path, to the place behind a call.
+abbrev back-to-start : tie.After-told-by Inv-loop μ-loop → tie.Start Inv-loop μ-loop
+back-to-start at =
+    let after-shared-slice-known = at .before .before .before .before .before .before in
+    after-shared-slice-known .before
+
 loop-holds : tie.Need-loop-holds Inv-loop μ-loop
-loop-holds c = adding-none (c .before .before .args .kinds .now) (c .before .before .args .universal) (c .before .before .args .numbers .now) (c .before .before .args .count)
+loop-holds c =
+    let given = c .before .before .args in
+    adding-none (given .kinds .now) (given .universal) (given .numbers .now) (given .count)
 
 shared-slice-read-own : tie.Need-shared-slice-read-own Inv-loop μ-loop
 shared-slice-read-own c = omega arith
@@ -32,7 +40,10 @@ loop-less c = omega arith
 
 loop-again : tie.Need-loop-again Inv-loop μ-loop
 loop-again c =
-    adding-own (c .before .before .before .before .before .before .before .args .kinds .now) (c .before .before .before .before .before .before .before .args .universal) (c .before .before .before .before .before .before .before .args .numbers .now) (c .before .before .before .before .before .before .before .args .count) (c .before .before .before .before .loop .total) (c .before .before .before .before .loop .before) (c .before .before .before .before .loop .k) (c .before .before .before .before .loop .inv) (c .before .before .before .loop-test .taken) (c .told-by .result) (c .before .if1 .taken)
+    let loop = c .before .before .before .before .loop in
+    let given = (back-to-start c) .args in
+    adding-own (given .kinds .now) (given .universal) (given .numbers .now) (given .count) (loop .total) (loop .before) (loop .k) (loop .inv)
+    (c .before .before .before .loop-test .taken) (c .told-by .result) (c .before .if1 .taken)
     (c .told-by .ensures .0) (omega (arith, c .told-by .ensures .1))
 
 add-before : tie.Need-add-before Inv-loop μ-loop
@@ -43,11 +54,17 @@ loop-less-2 c = omega arith
 
 loop-again-2 : tie.Need-loop-again-2 Inv-loop μ-loop
 loop-again-2 c =
-    adding-other (c .before .before .before .before .before .before .args .kinds .now) (c .before .before .before .before .before .before .args .universal) (c .before .before .before .before .before .before .args .numbers .now) (c .before .before .before .before .before .before .args .count) (c .before .before .before .loop .total) (c .before .before .before .loop .before) (c .before .before .before .loop .k) (c .before .before .before .loop .inv) (c .before .before .loop-test .taken) (c .if1 .left)
+    let loop = c .before .before .before .loop in
+    let given = c .before .before .before .before .before .before .args in
+    adding-other (given .kinds .now) (given .universal) (given .numbers .now) (given .count) (loop .total) (loop .before) (loop .k) (loop .inv)
+    (c .before .before .loop-test .taken) (c .if1 .left)
 
 returns : tie.Need-returns Inv-loop μ-loop
 returns c =
-    added-all (c .before .before .before .before .args .kinds .now) (c .before .before .before .before .args .universal) (c .before .before .before .before .args .numbers .now) (c .before .before .before .before .args .count) (c .before .loop .total) (c .before .loop .before) (c .before .loop .k) (c .before .loop .inv) (c .loop-test .left)
+    let loop = c .before .loop in
+    let given = c .before .before .before .before .args in
+    added-all (given .kinds .now) (given .universal) (given .numbers .now) (given .count) (loop .total) (loop .before) (loop .k) (loop .inv)
+    (c .loop-test .left)
 
 pub sum-spec : {M : Type 1} → statement M
 sum-spec =

@@ -34,11 +34,13 @@ loop-less : tie.Need-loop-less Inv-loop μ-loop
 loop-less c = omega arith
 
 loop-again : tie.Need-loop-again Inv-loop μ-loop
-loop-again c = (
-  omega arith,
-  length-set (c .before .before .loop .numbers) (c .before .before .loop .i) (c .telling .result) ∙ c .before .before .loop .inv .1,
-  told-next (c .before .before .before .before .before .args .rows .now) (c .before .before .loop .numbers) (c .before .before .loop .i) (c .telling .result) (omega arith) (c .before .before .loop .inv .2) (c .telling .ensures),
-)
+loop-again c =
+    let loop = c .before .before .loop in (
+      omega arith,
+      length-set (loop .numbers) (loop .i) (c .telling .result) ∙ loop .inv .1,
+      told-next (c .before .before .before .before .before .args .rows .now) (loop .numbers) (loop .i) (c .telling .result) (omega arith) (loop .inv .2)
+          (c .telling .ensures),
+    )
 
 same-length : tie.Need-same-length Inv-loop μ-loop
 same-length c = c .before .loop .inv .1

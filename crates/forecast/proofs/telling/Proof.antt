@@ -33,12 +33,18 @@ loop-less c = omega arith
 
 loop-again : tie.Need-loop-again Inv-loop μ-loop
 loop-again c =
-    (omega arith, tells-next (c .before .before .before .before .before .args .rows .now) (c .before .before .before .before .before .args .i) (c .before .before .before .loop .j) (c .before .before .before .loop .bits) (c .before .shared .result) (c .before .before .before .loop .inv .1) (c .before .shared .ensures) (c .larger .result) (c .larger .ensures))
+    let loop = c .before .before .before .loop in
+    let given = c .before .before .before .before .before .args in (
+      omega arith,
+      tells-next (given .rows .now) (given .i) (loop .j) (loop .bits) (c .before .shared .result) (loop .inv .1) (c .before .shared .ensures)
+          (c .larger .result) (c .larger .ensures),
+    )
 
 returns : tie.Need-returns Inv-loop μ-loop
 returns c =
-    let end : c .before .loop .j ≡ c .before .before .before .args .i = omega arith in
-    subst (λ (j : ℕ). Tells (c .before .before .before .args .rows .now) (c .before .before .before .args .i) j (c .before .loop .bits)) end (c .before .loop .inv .1)
+    let given = c .before .before .before .args in
+    let end : c .before .loop .j ≡ given .i = omega arith in
+    subst (λ (j : ℕ). Tells (given .rows .now) (given .i) j (c .before .loop .bits)) end (c .before .loop .inv .1)
 
 pub telling-spec : {M : Type 1} → statement M
 telling-spec =

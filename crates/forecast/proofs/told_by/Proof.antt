@@ -34,17 +34,22 @@ loop-less c = omega arith
 
 loop-again : tie.Need-loop-again Inv-loop μ-loop
 loop-again c =
-    let step : (c .if1 .told ≤ c .before .before .before .before .loop .i + 1) × (c .if1 .told ≡ within (c .before .before .before .before .before .before .args .numbers .now) (c .before .before .before .before .before .before .args .bits) (c .before .before .before .before .loop .i + 1)) =
+    let loop = c .before .before .before .before .loop in
+    let given = c .before .before .before .before .before .before .args in
+    let bits = given .bits in
+    let numbers = given .numbers .now in
+    let step : (c .if1 .told ≤ loop .i + 1) × (c .if1 .told ≡ within numbers bits (loop .i + 1)) =
     ⊎-elim
-    (λ w. (omega arith, w .1 ∙ ap (λ (x : ℕ). x + 1) (c .before .before .before .before .loop .inv .2) ∙ sym (within-more (c .before .before .before .before .before .before .args .numbers .now) (c .before .before .before .before .before .before .args .bits) (c .before .before .before .before .loop .i) (omega (arith, c .before .wide .ensures)))))
-    (λ w. (omega arith, w .1 ∙ c .before .before .before .before .loop .inv .2 ∙ sym (within-same (c .before .before .before .before .before .before .args .numbers .now) (c .before .before .before .before .before .before .args .bits) (c .before .before .before .before .loop .i) (omega (arith, c .before .wide .ensures)))))
+    (λ w. (omega arith, w .1 ∙ ap (λ (x : ℕ). x + 1) (loop .inv .2) ∙ sym (within-more numbers bits (loop .i) (omega (arith, c .before .wide .ensures)))))
+    (λ w. (omega arith, w .1 ∙ loop .inv .2 ∙ sym (within-same numbers bits (loop .i) (omega (arith, c .before .wide .ensures)))))
     (c .if1 .came) in
     (omega arith, step .0, step .1)
 
 returns : tie.Need-returns Inv-loop μ-loop
 returns c =
-    let end : c .before .loop .i ≡ c .before .before .before .args .count = omega arith in
-    (c .before .loop .inv .2 ∙ ap (within (c .before .before .before .args .numbers .now) (c .before .before .before .args .bits)) end, omega arith)
+    let given = c .before .before .before .args in
+    let end : c .before .loop .i ≡ given .count = omega arith in
+    (c .before .loop .inv .2 ∙ ap (within (given .numbers .now) (given .bits)) end, omega arith)
 
 pub told-by-spec : {M : Type 1} → statement M
 told-by-spec =

@@ -46,20 +46,26 @@ loop-less c = omega arith
 
 loop-again : tie.Need-loop-again Inv-loop μ-loop
 loop-again c =
-    let n = c .before .before .before .before .before .args .unknowns in
-    let l = c .before .before .before .before .before .args .literals .now in
-    let i = c .before .before .before .before .loop .i in
+    let loop-test = c .before .before .before .loop-test in
+    let loop = c .before .before .before .before .loop in
+    let given = c .before .before .before .before .before .args in
+    let n = given .unknowns in
+    let l = given .literals .now in
+    let i = loop .i in
     let z = getD l i (pos 0) in
     let size = c .before .absolute .ensures ∙ natAbs-bits z (c .before .before .absolute-arg .given) in (
       omega arith,
       ⊎-elim
-          (λ w. any-found (beyond n) l (c .before .before .before .before .loop .found) i (c .before .before .before .before .loop .inv .1) (pos 0) (c .if1 .found) (c .before .before .before .loop-test .taken) (lt-ltb n (natAbs z) (omega (arith, size, w .0 .taken))) (w .1))
-          (λ w. any-passed (beyond n) l (c .before .before .before .before .loop .found) i (c .before .before .before .before .loop .inv .1) (pos 0) (c .if1 .found) (c .before .before .before .loop-test .taken) (le-ltb n (natAbs z) (omega (arith, size, w .0 .left))) (w .1))
+          (λ w. any-found (beyond n) l (loop .found) i (loop .inv .1) (pos 0) (c .if1 .found) (loop-test .taken)
+          (lt-ltb n (natAbs z) (omega (arith, size, w .0 .taken))) (w .1))
+          (λ w. any-passed (beyond n) l (loop .found) i (loop .inv .1) (pos 0) (c .if1 .found) (loop-test .taken)
+          (le-ltb n (natAbs z) (omega (arith, size, w .0 .left))) (w .1))
           (c .if1 .came),
     )
 
 returns : tie.Need-returns Inv-loop μ-loop
-returns c = any-all (beyond (c .before .before .args .unknowns)) (c .before .before .args .literals .now) (c .before .loop .found) (c .before .loop .i) (c .before .loop .inv .1) (c .loop-test .left)
+returns c = any-all (beyond (c .before .before .args .unknowns)) (c .before .before .args .literals .now) (c .before .loop .found) (c .before .loop .i)
+    (c .before .loop .inv .1) (c .loop-test .left)
 
 pub has-beyond-spec : {M : Type 1} → statement M
 has-beyond-spec =

@@ -38,18 +38,22 @@ loop-less c = omega arith
 
 loop-again : tie.Need-loop-again Inv-loop μ-loop
 loop-again c =
+    let loop = c .before .before .before .loop in
     let l = c .before .before .before .before .args .literals .now in
-    let i = c .before .before .before .loop .i in
+    let i = loop .i in
     let z = getD l i (pos 0) in (
       omega arith,
       ⊎-elim
-          (λ w. any-found (beyond 2147483647) l (c .before .before .before .loop .found) i (c .before .before .before .loop .inv .1) (pos 0) (c .if1 .found) (c .before .before .loop-test .taken) (beyond-lowest z (w .0 .taken)) (w .1))
-          (λ w. any-passed (beyond 2147483647) l (c .before .before .before .loop .found) i (c .before .before .before .loop .inv .1) (pos 0) (c .if1 .found) (c .before .before .loop-test .taken) (beyond-other z (sfits-of (c .before .if12 .given)) (w .0 .left)) (w .1))
+          (λ w. any-found (beyond 2147483647) l (loop .found) i (loop .inv .1) (pos 0) (c .if1 .found) (c .before .before .loop-test .taken)
+          (beyond-lowest z (w .0 .taken)) (w .1))
+          (λ w. any-passed (beyond 2147483647) l (loop .found) i (loop .inv .1) (pos 0) (c .if1 .found) (c .before .before .loop-test .taken)
+          (beyond-other z (sfits-of (c .before .if12 .given)) (w .0 .left)) (w .1))
           (c .if1 .came),
     )
 
 returns : tie.Need-returns Inv-loop μ-loop
-returns c = any-all (beyond 2147483647) (c .before .before .args .literals .now) (c .before .loop .found) (c .before .loop .i) (c .before .loop .inv .1) (c .loop-test .left)
+returns c = any-all (beyond 2147483647) (c .before .before .args .literals .now) (c .before .loop .found) (c .before .loop .i) (c .before .loop .inv .1)
+    (c .loop-test .left)
 
 pub has-lowest-spec : {M : Type 1} → statement M
 has-lowest-spec =

@@ -33,17 +33,21 @@ loop-less c = omega arith
 
 loop-again : tie.Need-loop-again Inv-loop μ-loop
 loop-again c =
+    let loop = c .before .before .before .loop in
     let l = c .before .before .before .before .args .kinds .now in
-    let i = c .before .before .before .loop .i in (
+    let i = loop .i in (
       omega arith,
       ⊎-elim
-          (λ w. any-found other-kind l (c .before .before .before .loop .found) i (c .before .before .before .loop .inv .1) 0 (c .if1 .found) (c .before .before .loop-test .taken) (other-above (getD l i 0) (omega (arith, w .0 .taken))) (w .1))
-          (λ w. any-passed other-kind l (c .before .before .before .loop .found) i (c .before .before .before .loop .inv .1) 0 (c .if1 .found) (c .before .before .loop-test .taken) (kind-below (getD l i 0) (omega (arith, w .0 .left))) (w .1))
+          (λ w. any-found other-kind l (loop .found) i (loop .inv .1) 0 (c .if1 .found) (c .before .before .loop-test .taken)
+          (other-above (getD l i 0) (omega (arith, w .0 .taken))) (w .1))
+          (λ w. any-passed other-kind l (loop .found) i (loop .inv .1) 0 (c .if1 .found) (c .before .before .loop-test .taken)
+          (kind-below (getD l i 0) (omega (arith, w .0 .left))) (w .1))
           (c .if1 .came),
     )
 
 returns : tie.Need-returns Inv-loop μ-loop
-returns c = any-all other-kind (c .before .before .args .kinds .now) (c .before .loop .found) (c .before .loop .i) (c .before .loop .inv .1) (c .loop-test .left)
+returns c = any-all other-kind (c .before .before .args .kinds .now) (c .before .loop .found) (c .before .loop .i) (c .before .loop .inv .1)
+    (c .loop-test .left)
 
 pub has-other-kind-spec : {M : Type 1} → statement M
 has-other-kind-spec =

@@ -10,7 +10,8 @@ returns c = sym (natAbs-lowest (c .before .args .literal) (c .if1 .taken))
 
 absolute-requires : tie.Need-absolute-requires
 absolute-requires c κs =
-    rw (natAbs-bits (c .before .args .literal) (c .before .fits .literal .sfits)) (natAbs-other (c .before .args .literal) (c .before .fits .literal) (c .if1 .left))
+    rw (natAbs-bits (c .before .args .literal) (c .before .fits .literal .sfits)) (natAbs-other (c .before .args .literal) (c .before .fits .literal)
+    (c .if1 .left))
 
 returns-2 : tie.Need-returns-2
 returns-2 c = c .absolute .ensures ∙ natAbs-bits (c .before .before .args .literal) (c .before .before .fits .literal .sfits)

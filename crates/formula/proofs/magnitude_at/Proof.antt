@@ -17,7 +17,9 @@ magnitude-requires : tie.Need-magnitude-requires
 magnitude-requires c κs = search needs
 
 returns : tie.Need-returns
-returns c = c .magnitude .ensures ∙ natAbs-bits (getD (c .before .before .before .args .literals .now) (c .before .before .before .args .i) (pos 0)) (c .before .magnitude-arg .given)
+returns c =
+    let given = c .before .before .before .args in
+    c .magnitude .ensures ∙ natAbs-bits (getD (given .literals .now) (given .i) (pos 0)) (c .before .magnitude-arg .given)
 
 returns-2 : tie.Need-returns-2
 returns-2 c = sym (ap natAbs (List·getD-eq-default (c .before .args .literals .now) (pos 0) (c .if1 .left)))

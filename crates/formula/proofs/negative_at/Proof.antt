@@ -16,7 +16,8 @@ shared-slice-copy-out-result : tie.Need-shared-slice-copy-out-result
 shared-slice-copy-out-result c = search needs
 
 returns : tie.Need-returns
-returns c = rw (toZ-ofZ (sfits-of (c .result .given))) (below-zero-negative (getD (c .before .before .args .literals .now) (c .before .before .args .i) (pos 0)))
+returns c = rw (toZ-ofZ (sfits-of (c .result .given)))
+    (below-zero-negative (getD (c .before .before .args .literals .now) (c .before .before .args .i) (pos 0)))
 
 returns-2 : tie.Need-returns-2
 returns-2 c = sym (ap negative (List·getD-eq-default (c .before .args .literals .now) (pos 0) (c .if1 .left)))

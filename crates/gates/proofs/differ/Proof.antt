@@ -10,17 +10,32 @@ use Rattle.gates.proofs.SetLaws.{put-whole, put-short, put-none}
 use Rattle.gates.proofs.differ.Statement.{statement}
 use Rattle.gates.proofs.differ.Tie as tie
 
+-- Back along the path, to the place behind a call.
+abbrev back-to-else1 : tie.After-entries → tie.Else1
+back-to-else1 at =
+    let else2 = at .before .before .before .before .before .before in
+    else2 .before
+
+abbrev back-to-start : tie.After-entries → tie.Start
+back-to-start at = (back-to-else1 at) .before
+
 returns : tie.Need-returns
-returns c = put-none (c .before .args .entries .now) (c .before .args .at) _ (none-of-four (c .before .args .literal) (c .before .args .inputs .now) (c .if1 .taken))
+returns c =
+    let given = c .before .args in
+    put-none (given .entries .now) (given .at) _ (none-of-four (given .literal) (given .inputs .now) (c .if1 .taken))
 
 returns-2 : tie.Need-returns-2
-returns-2 c = put-short (c .before .before .args .entries .now) (c .before .before .args .at) _ 16 (length-four (c .before .before .args .literal) (c .before .before .args .inputs .now) (c .before .if1 .left)) (omega arith)
+returns-2 c =
+    let given = c .before .before .args in
+    put-short (given .entries .now) (given .at) _ 16 (length-four (given .literal) (given .inputs .now) (c .before .if1 .left)) (omega arith)
 
 sub-if3 : tie.Need-sub-if3
 sub-if3 c = search needs
 
 returns-3 : tie.Need-returns-3
-returns-3 c = put-short (c .before .before .before .args .entries .now) (c .before .before .before .args .at) _ 16 (length-four (c .before .before .before .args .literal) (c .before .before .before .args .inputs .now) (c .before .before .if1 .left)) (omega arith)
+returns-3 c =
+    let given = c .before .before .before .args in
+    put-short (given .entries .now) (given .at) _ 16 (length-four (given .literal) (given .inputs .now) (c .before .before .if1 .left)) (omega arith)
 
 shared-slice-copy-out-put-four : tie.Need-shared-slice-copy-out-put-four
 shared-slice-copy-out-put-four c = search needs
@@ -46,10 +61,11 @@ same-length c = search needs
 
 returns-4 : tie.Need-returns-4
 returns-4 c =
-    let given = c .before .before .before .before .before .before .before .before .args in
-    let small = c .before .before .before .before .before .before .before .before .pre in
-    let two = c .before .before .before .before .before .before .before .if1 .left in
-    put-whole (given .entries .now) (given .at) (parity-entries (given .literal) (given .inputs .now)) 16 (length-four (given .literal) (given .inputs .now) two) (omega arith) (c .before .put-four .last .1 .1 .1 .0)
+    let given = (back-to-start c) .args in
+    let small = (back-to-start c) .pre in
+    let two = (back-to-else1 c) .if1 .left in
+    put-whole (given .entries .now) (given .at) (parity-entries (given .literal) (given .inputs .now)) 16
+    (length-four (given .literal) (given .inputs .now) two) (omega arith) (c .before .put-four .last .1 .1 .1 .0)
     (c .before .put-four .ensures
     ∙ four-inputs (given .entries .now) (given .at) (given .literal) (given .inputs .now) (small .0) (small .1) two)
 

@@ -14,6 +14,12 @@ use Rattle.gates.proofs.SetLaws.{put-whole, put-short}
 use Rattle.gates.proofs.gather.Statement.{statement}
 use Rattle.gates.proofs.gather.Tie as tie
 
+-- Back along the path, to the place behind a call.
+abbrev back-to-start : tie.After-entries2 → tie.Start
+back-to-start at =
+    let else2 = at .before .before .before .before .before .before in
+    else2 .before .before
+
 mul-size : tie.Need-mul-size
 mul-size c = search needs
 
@@ -23,7 +29,8 @@ add-size c = search needs
 returns : tie.Need-returns
 returns c =
     let given = c .before .args in
-    put-short (given .entries .now) (given .at) _ (4 * length (given .inputs .now) + 2) (length-gathered (given .near) (given .far) (given .turned) (given .inputs .now)) (omega arith)
+    put-short (given .entries .now) (given .at) _ (4 * length (given .inputs .now) + 2) (length-gathered (given .near) (given .far) (given .turned)
+    (given .inputs .now)) (omega arith)
 
 sub-if2 : tie.Need-sub-if2
 sub-if2 c = search needs
@@ -31,7 +38,8 @@ sub-if2 c = search needs
 returns-2 : tie.Need-returns-2
 returns-2 c =
     let given = c .before .before .args in
-    put-short (given .entries .now) (given .at) _ (4 * length (given .inputs .now) + 2) (length-gathered (given .near) (given .far) (given .turned) (given .inputs .now)) (omega arith)
+    put-short (given .entries .now) (given .at) _ (4 * length (given .inputs .now) + 2) (length-gathered (given .near) (given .far) (given .turned)
+    (given .inputs .now)) (omega arith)
 
 put-pairs-requires : tie.Need-put-pairs-requires
 put-pairs-requires c κs = search needs
@@ -53,12 +61,17 @@ same-length c = search needs
 
 returns-3 : tie.Need-returns-3
 returns-3 c =
-    let given = c .before .before .before .before .before .before .before .before .args in
+    let put-pairs-call = c .before .before .before .before .put-pairs in
+    let fits = (back-to-start c) .fits in
+    let given = (back-to-start c) .args in
     let is = given .inputs .now in
-    put-whole (given .entries .now) (given .at) (gathered-entries (given .near) (given .far) (given .turned) is) (4 * length is + 2) (length-gathered (given .near) (given .far) (given .turned) is) (omega arith) (c .before .put-long .last .1 .1 .1 .0)
-    (gathered-put (given .entries .now) (c .before .before .before .before .put-pairs .last .1 .1 .1 .0) (c .before .put-long .last .1 .1 .1 .0) (given .at) (given .near) (given .far) (given .turned) is
-    (c .before .before .before .before .put-pairs .ensures ∙ ap (λ (z : ℤ). sets (given .entries .now) (given .at) (pair-entries z (given .turned) is)) (toZ-ofZ (c .before .before .before .before .before .before .before .before .fits .near)))
-    (c .before .put-long .ensures ∙ ap (λ (z : ℤ). sets (c .before .before .before .before .put-pairs .last .1 .1 .1 .0) (given .at + 3 * length is) (long-entries z (not (given .turned)) is)) (toZ-ofZ (c .before .before .before .before .before .before .before .before .fits .far))))
+    put-whole (given .entries .now) (given .at) (gathered-entries (given .near) (given .far) (given .turned) is) (4 * length is + 2)
+    (length-gathered (given .near) (given .far) (given .turned) is) (omega arith) (c .before .put-long .last .1 .1 .1 .0)
+    (gathered-put (given .entries .now) (put-pairs-call .last .1 .1 .1 .0) (c .before .put-long .last .1 .1 .1 .0) (given .at) (given .near) (given .far)
+    (given .turned) is
+    (put-pairs-call .ensures ∙ ap (λ (z : ℤ). sets (given .entries .now) (given .at) (pair-entries z (given .turned) is)) (toZ-ofZ (fits .near)))
+    (c .before .put-long .ensures ∙ ap (λ (z : ℤ). sets (put-pairs-call .last .1 .1 .1 .0) (given .at + 3 * length is)
+    (long-entries z (not (given .turned)) is)) (toZ-ofZ (fits .far))))
 
 pub gather-spec : {M : Type 1} → statement M
 gather-spec =

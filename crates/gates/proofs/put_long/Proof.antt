@@ -16,7 +16,8 @@ use Rattle.gates.proofs.put_long.Statement.{statement}
 use Rattle.gates.proofs.put_long.Tie as tie
 
 abbrev Inv-loop : tie.InvT-loop
-Inv-loop first inputs turned entries₀ at to₀ i₀ entries to i = (i ≤ length inputs) × (length entries ≡ length entries₀) × (to ≡ to₀ + i) × (sets entries₀ to₀ (map (turn turned) inputs ++ (pos 0 ∷ [])) ≡ sets entries to (map (turn turned) (drop i inputs) ++ (pos 0 ∷ [])))
+Inv-loop first inputs turned entries₀ at to₀ i₀ entries to i = (i ≤ length inputs) × (length entries ≡ length entries₀) × (to ≡ to₀ + i) ×
+    (sets entries₀ to₀ (map (turn turned) inputs ++ (pos 0 ∷ [])) ≡ sets entries to (map (turn turned) (drop i inputs) ++ (pos 0 ∷ [])))
 
 abbrev μ-loop : tie.MeasureT-loop
 μ-loop first inputs turned entries₀ at to₀ i₀ entries to i = length inputs - i
@@ -40,7 +41,10 @@ shared-slice-copy-out-turn-if : tie.Need-shared-slice-copy-out-turn-if Inv-loop 
 shared-slice-copy-out-turn-if c = search needs
 
 turn-if-requires : tie.Need-turn-if-requires Inv-loop μ-loop
-turn-if-requires c κs = small-bits (getD (c .before .before .before .args .inputs .now) (c .before .before .loop .i) (pos 0)) (small-at (c .before .before .before .args .inputs .now) (c .before .before .before .pre .0) (c .before .before .loop .i))
+turn-if-requires c κs =
+    let given = c .before .before .before .args in
+    small-bits (getD (given .inputs .now) (c .before .before .loop .i) (pos 0)) (small-at (given .inputs .now) (c .before .before .before .pre .0)
+    (c .before .before .loop .i))
 
 add-i : tie.Need-add-i Inv-loop μ-loop
 add-i c = omega arith
@@ -49,7 +53,9 @@ mul-input : tie.Need-mul-input Inv-loop μ-loop
 mul-input c = search needs
 
 slice-set-from-input : tie.Need-slice-set-from-input Inv-loop μ-loop
-slice-set-from-input c = let l = length-set (c .before .before .before .before .args .entries .now) (c .before .before .before .before .args .at) (toZ w32 (ofZ w32 (c .before .before .before .before .args .first))) in omega arith
+slice-set-from-input c =
+    let given = c .before .before .before .before .args in
+    let l = length-set (given .entries .now) (given .at) (toZ w32 (ofZ w32 (given .first))) in omega arith
 
 add-to-2 : tie.Need-add-to-2 Inv-loop μ-loop
 add-to-2 c = omega arith
@@ -59,35 +65,45 @@ loop-less c = omega arith
 
 loop-again : tie.Need-loop-again Inv-loop μ-loop
 loop-again c =
-    let is = c .before .before .before .before .args .inputs .now in
-    let i = c .before .before .before .loop .i in
+    let loop = c .before .before .before .loop in
+    let given = c .before .before .before .before .args in
+    let is = given .inputs .now in
+    let i = loop .i in
     let z = getD is i (pos 0) in (
       omega arith,
-      simp length-set (c .before .before .before .loop .inv .1 ∙ length-set (c .before .before .before .before .args .entries .now) (c .before .before .before .before .args .at) (toZ w32 (ofZ w32 (c .before .before .before .before .args .first)))),
+      simp length-set (loop .inv .1 ∙ length-set (given .entries .now) (given .at) (toZ w32 (ofZ w32 (given .first)))),
       omega arith,
-      c .before .before .before .loop .inv .3
-          ∙ long-more (c .before .before .before .loop .entries) (c .before .before .before .loop .to) (toZ w32 (ofZ w32 (c .before .before .before .before .args .first))) (c .before .before .before .before .args .turned) is i (c .before .before .loop-test .taken) (toZ w32 (ofZ w32 (c .turn-if .result)))
-          (stored (c .before .before .before .before .args .turned) z (c .turn-if .result) (small-at is (c .before .before .before .before .pre .0) i) (c .turn-if .ensures)),
+      loop .inv .3
+          ∙ long-more (loop .entries) (loop .to) (toZ w32 (ofZ w32 (given .first))) (given .turned) is i (c .before .before .loop-test .taken)
+          (toZ w32 (ofZ w32 (c .turn-if .result)))
+          (stored (given .turned) z (c .turn-if .result) (small-at is (c .before .before .before .before .pre .0) i) (c .turn-if .ensures)),
     )
 
 mul-entries : tie.Need-mul-entries Inv-loop μ-loop
 mul-entries c = search needs
 
 slice-set-of-entries : tie.Need-slice-set-of-entries Inv-loop μ-loop
-slice-set-of-entries c = let l = length-set (c .before .before .args .entries .now) (c .before .before .args .at) (toZ w32 (ofZ w32 (c .before .before .args .first))) in omega arith
+slice-set-of-entries c =
+    let given = c .before .before .args in
+    let l = length-set (given .entries .now) (given .at) (toZ w32 (ofZ w32 (given .first))) in omega arith
 
 same-length : tie.Need-same-length Inv-loop μ-loop
-same-length c = simp length-set (c .before .loop .inv .1 ∙ length-set (c .before .before .args .entries .now) (c .before .before .args .at) (toZ w32 (ofZ w32 (c .before .before .args .first))))
+same-length c =
+    let given = c .before .before .args in
+    simp length-set (c .before .loop .inv .1 ∙ length-set (given .entries .now) (given .at) (toZ w32 (ofZ w32 (given .first))))
 
 returns : tie.Need-returns Inv-loop μ-loop
 returns c =
-    let is = c .before .before .args .inputs .now in
-    let first = toZ w32 (ofZ w32 (c .before .before .args .first)) in
+    let loop = c .before .loop in
+    let given = c .before .before .args in
+    let turned = given .turned in
+    let is = given .inputs .now in
+    let first = toZ w32 (ofZ w32 (given .first)) in
     sym
-    (ap (λ (z : ℤ). sets (c .before .before .args .entries .now) (c .before .before .args .at) (long-entries z (c .before .before .args .turned) is)) (sym (toZ-ofZ (c .before .before .fits .first)))
-    ∙ long-first (c .before .before .args .entries .now) (c .before .before .args .at) first (c .before .before .args .turned) is
-    ∙ c .before .loop .inv .3
-    ∙ long-done (c .before .loop .entries) (c .before .loop .to) first (c .before .before .args .turned) is (c .before .loop .i) (c .loop-test .left))
+    (ap (λ (z : ℤ). sets (given .entries .now) (given .at) (long-entries z turned is)) (sym (toZ-ofZ (c .before .before .fits .first)))
+    ∙ long-first (given .entries .now) (given .at) first turned is
+    ∙ loop .inv .3
+    ∙ long-done (loop .entries) (loop .to) first turned is (loop .i) (c .loop-test .left))
 
 pub put-long-spec : {M : Type 1} → statement M
 put-long-spec =

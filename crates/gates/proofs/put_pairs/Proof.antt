@@ -15,7 +15,8 @@ use Rattle.gates.proofs.put_pairs.Statement.{statement}
 use Rattle.gates.proofs.put_pairs.Tie as tie
 
 abbrev Inv-loop : tie.InvT-loop
-Inv-loop first inputs turned entries₀ at to₀ i₀ entries to i = (i ≤ length inputs) × (length entries ≡ length entries₀) × (to ≡ at + 3 * i) × (sets entries₀ at (pair-entries (toZ w32 first) turned inputs) ≡ sets entries to (pair-entries (toZ w32 first) turned (drop i inputs)))
+Inv-loop first inputs turned entries₀ at to₀ i₀ entries to i = (i ≤ length inputs) × (length entries ≡ length entries₀) × (to ≡ at + 3 * i) ×
+    (sets entries₀ at (pair-entries (toZ w32 first) turned inputs) ≡ sets entries to (pair-entries (toZ w32 first) turned (drop i inputs)))
 
 abbrev μ-loop : tie.MeasureT-loop
 μ-loop first inputs turned entries₀ at to₀ i₀ entries to i = length inputs - i
@@ -30,7 +31,10 @@ shared-slice-copy-out-turn-if : tie.Need-shared-slice-copy-out-turn-if Inv-loop 
 shared-slice-copy-out-turn-if c = search needs
 
 turn-if-requires : tie.Need-turn-if-requires Inv-loop μ-loop
-turn-if-requires c κs = small-bits (getD (c .before .before .before .args .inputs .now) (c .before .before .loop .i) (pos 0)) (small-at (c .before .before .before .args .inputs .now) (c .before .before .before .pre .0) (c .before .before .loop .i))
+turn-if-requires c κs =
+    let given = c .before .before .before .args in
+    small-bits (getD (given .inputs .now) (c .before .before .loop .i) (pos 0)) (small-at (given .inputs .now) (c .before .before .before .pre .0)
+    (c .before .before .loop .i))
 
 add-i : tie.Need-add-i Inv-loop μ-loop
 add-i c = omega arith
@@ -67,15 +71,18 @@ loop-less c = omega arith
 
 loop-again : tie.Need-loop-again Inv-loop μ-loop
 loop-again c =
-    let is = c .before .before .before .before .args .inputs .now in
-    let i = c .before .before .before .loop .i in
+    let loop = c .before .before .before .loop in
+    let given = c .before .before .before .before .args in
+    let is = given .inputs .now in
+    let i = loop .i in
     let z = getD is i (pos 0) in (
       omega arith,
-      simp length-set (c .before .before .before .loop .inv .1),
+      simp length-set (loop .inv .1),
       omega arith,
-      c .before .before .before .loop .inv .3
-          ∙ pairs-more (c .before .before .before .loop .entries) (c .before .before .before .loop .to) (toZ w32 (ofZ w32 (c .before .before .before .before .args .first))) (c .before .before .before .before .args .turned) is i (c .before .before .loop-test .taken) (toZ w32 (ofZ w32 (c .turn-if .result)))
-          (stored (c .before .before .before .before .args .turned) z (c .turn-if .result) (small-at is (c .before .before .before .before .pre .0) i) (c .turn-if .ensures)),
+      loop .inv .3
+          ∙ pairs-more (loop .entries) (loop .to) (toZ w32 (ofZ w32 (given .first))) (given .turned) is i (c .before .before .loop-test .taken)
+          (toZ w32 (ofZ w32 (c .turn-if .result)))
+          (stored (given .turned) z (c .turn-if .result) (small-at is (c .before .before .before .before .pre .0) i) (c .turn-if .ensures)),
     )
 
 same-length : tie.Need-same-length Inv-loop μ-loop
@@ -83,11 +90,13 @@ same-length c = c .before .loop .inv .1
 
 returns : tie.Need-returns Inv-loop μ-loop
 returns c =
-    let is = c .before .before .args .inputs .now in
+    let loop = c .before .loop in
+    let given = c .before .before .args in
+    let is = given .inputs .now in
     sym
-    (ap (λ (z : ℤ). sets (c .before .before .args .entries .now) (c .before .before .args .at) (pair-entries z (c .before .before .args .turned) is)) (sym (toZ-ofZ (c .before .before .fits .first)))
-    ∙ c .before .loop .inv .3
-    ∙ pairs-done (c .before .loop .entries) (c .before .loop .to) (toZ w32 (ofZ w32 (c .before .before .args .first))) (c .before .before .args .turned) is (c .before .loop .i) (c .loop-test .left))
+    (ap (λ (z : ℤ). sets (given .entries .now) (given .at) (pair-entries z (given .turned) is)) (sym (toZ-ofZ (c .before .before .fits .first)))
+    ∙ loop .inv .3
+    ∙ pairs-done (loop .entries) (loop .to) (toZ w32 (ofZ w32 (given .first))) (given .turned) is (loop .i) (c .loop-test .left))
 
 pub put-pairs-spec : {M : Type 1} → statement M
 put-pairs-spec =

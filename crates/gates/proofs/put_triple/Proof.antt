@@ -46,7 +46,8 @@ same-length c = search needs
 
 returns : tie.Need-returns
 returns c =
-    rw (toZ-ofZ (c .fits .a), toZ-ofZ (c .fits .b), toZ-ofZ (c .fits .c)) (set-four (c .args .entries .now) (c .args .at) (c .args .a) (c .args .b) (c .args .c) (pos 0))
+    rw (toZ-ofZ (c .fits .a), toZ-ofZ (c .fits .b), toZ-ofZ (c .fits .c)) (set-four (c .args .entries .now) (c .args .at) (c .args .a) (c .args .b) (c .args .c)
+    (pos 0))
 
 pub put-triple-spec : {M : Type 1} → statement M
 put-triple-spec =

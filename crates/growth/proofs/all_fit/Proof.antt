@@ -32,7 +32,8 @@ returns-2 : tie.Need-returns-2
 returns-2 c =
     let given = c .before .before .before .before .args in
     ap (λ (added : ℕ). leb added (room (given .rows .now) - given .count)) (c .count-new .ensures)
-    ∙ sum-fits (given .count) (count-below (given .number) (λ j. is-new (given .rows .now) (given .count) (given .yielded .now) j)) (room (given .rows .now)) (omega arith)
+    ∙ sum-fits (given .count) (count-below (given .number) (λ j. is-new (given .rows .now) (given .count) (given .yielded .now) j)) (room (given .rows .now))
+    (omega arith)
 
 pub all-fit-spec : {M : Type 1} → statement M
 all-fit-spec = tie.close (tie.spec returns count-new-requires returns-2)

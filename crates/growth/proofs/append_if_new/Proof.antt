@@ -11,6 +11,18 @@ use borrow.Author.Needs.{needs}
 use Rattle.growth.proofs.append_if_new.Statement.{statement}
 use Rattle.growth.proofs.append_if_new.Tie as tie
 
+-- Back along the path, to the place behind a call.
+abbrev back-to-then1 : tie.After-slice-known4 → tie.Then1
+back-to-then1 at =
+    let after-write-arg = at .before .before .before .before .before .before in
+    after-write-arg .before
+
+abbrev back-to-is-added : tie.After-slice-known4 → tie.After-is-added
+back-to-is-added at = (back-to-then1 at) .before
+
+abbrev back-to-start : tie.After-slice-known4 → tie.Start
+back-to-start at = (back-to-is-added at) .before .before .before .before .before
+
 is-added-requires : tie.Need-is-added-requires
 is-added-requires c κs = search needs
 
@@ -29,10 +41,11 @@ write-requires c κs = search needs
 
 add-result : tie.Need-add-result
 add-result c =
-    let given = c .before .before .before .before .before .before .before .before .before .before .before .before .before .args in
+    let given = (back-to-start c) .args in
     let place : given .end < room (given .rows .now) =
     ltb-true (given .end) (room (given .rows .now))
-    (and-eq-true-iff (is-new (given .rows .now) (given .end) (given .yielded .now) (given .j)) (ltb (given .end) (room (given .rows .now))) .0 (sym (c .before .before .before .before .before .before .before .before .is-added .ensures) ∙ c .before .before .before .before .before .before .before .if1 .taken) .1) in
+    (and-eq-true-iff (is-new (given .rows .now) (given .end) (given .yielded .now) (given .j)) (ltb (given .end) (room (given .rows .now))) .0
+    (sym ((back-to-is-added c) .is-added .ensures) ∙ (back-to-then1 c) .if1 .taken) .1) in
     omega arith
 
 same-length-2 : tie.Need-same-length-2
@@ -44,13 +57,15 @@ same-length-3 c = search needs
 returns-2 : tie.Need-returns-2
 unfolding with-new-row
 returns-2 c =
-    let given = c .before .before .before .before .before .before .before .before .before .before .before .before .before .args in
+    let write-call = c .before .before .before .before .write in
+    let given = (back-to-start c) .args in
     let b = bytes (given .rows .now) (given .marks .now) (given .end) in
-    let rows-now = c .before .before .before .before .write .ensures .0 in
-    let marks-now = c .before .before .before .before .write .ensures .1 in
-    let written : bytes (c .before .before .before .before .write .last .0) (c .before .before .before .before .write .last .1 .0) (given .end + 1) ≡ with-row (given .yielded .now) (given .mark) (given .j) b =
+    let rows-now = write-call .ensures .0 in
+    let marks-now = write-call .ensures .1 in
+    let written : bytes (write-call .last .0) (write-call .last .1 .0) (given .end + 1) ≡ with-row (given .yielded .now) (given .mark) (given .j) b =
     λ d. bytes (rows-now d) (marks-now d) (given .end + 1) in
-    written ∙ ap (λ (v : Bool). cond v (with-row (given .yielded .now) (given .mark) (given .j) b) b) (sym (c .before .before .before .before .before .before .before .if1 .taken) ∙ c .before .before .before .before .before .before .before .before .is-added .ensures)
+    written ∙ ap (λ (v : Bool). cond v (with-row (given .yielded .now) (given .mark) (given .j) b) b)
+    (sym ((back-to-then1 c) .if1 .taken) ∙ (back-to-is-added c) .is-added .ensures)
 
 pub append-if-new-spec : {M : Type 1} → statement M
 append-if-new-spec =

@@ -18,6 +18,15 @@ Inv-loop rows₀ marks₀ count yielded number mark end₀ j₀ rows marks end j
 abbrev μ-loop : tie.MeasureT-loop
 μ-loop rows₀ marks₀ count yielded number mark end₀ j₀ rows marks end j = number - j
 
+-- Back along the path, to the place behind a call.
+abbrev back-to-at-loop : tie.After-slice-known4 Inv-loop μ-loop → tie.At-loop Inv-loop μ-loop
+back-to-at-loop at =
+    let after-append-if-new-arg = at .before .before .before .before .before .before in
+    after-append-if-new-arg .before .before
+
+abbrev back-to-start : tie.After-slice-known4 Inv-loop μ-loop → tie.Start Inv-loop μ-loop
+back-to-start at = (back-to-at-loop at) .before .before .before .before
+
 loop-holds : tie.Need-loop-holds Inv-loop μ-loop
 loop-holds c = (refl, omega arith, refl, refl)
 
@@ -32,14 +41,15 @@ loop-less c = omega arith
 
 loop-again : tie.Need-loop-again Inv-loop μ-loop
 loop-again c =
-    let given = c .before .before .before .before .before .before .before .before .before .before .before .before .args in
-    let so-far = c .before .before .before .before .before .before .before .before .loop .inv in
-    let b = bytes (c .before .before .before .before .before .before .before .before .loop .rows) (c .before .before .before .before .before .before .before .before .loop .marks) (c .before .before .before .before .before .before .before .before .loop .end) in
+    let loop = (back-to-at-loop c) .loop in
+    let given = (back-to-start c) .args in
+    let so-far = loop .inv in
+    let b = bytes (loop .rows) (loop .marks) (loop .end) in
     let next = c .before .before .before .before .append-if-new .ensures in
-    let long = length-with-new-row (given .yielded .now) (given .mark) (c .before .before .before .before .before .before .before .before .loop .j) b in (
+    let long = length-with-new-row (given .yielded .now) (given .mark) (loop .j) b in (
       next
-          ∙ ap (with-new-row (given .yielded .now) (given .mark) (c .before .before .before .before .before .before .before .before .loop .j)) (so-far .0)
-          ∙ sym (with-new-rows-next (given .yielded .now) (given .mark) (c .before .before .before .before .before .before .before .before .loop .j) (bytes (given .rows .now) (given .marks .now) (given .count))),
+          ∙ ap (with-new-row (given .yielded .now) (given .mark) (loop .j)) (so-far .0)
+          ∙ sym (with-new-rows-next (given .yielded .now) (given .mark) (loop .j) (bytes (given .rows .now) (given .marks .now) (given .count))),
       omega arith,
       ap (λ (x : Bytes). length (x .row-part)) next ∙ long .0 ∙ so-far .2,
       ap (λ (x : Bytes). length (x .mark-part)) next ∙ long .1 ∙ so-far .3,

@@ -33,13 +33,24 @@ loop-less c = omega arith
 
 loop-again : tie.Need-loop-again Inv-loop μ-loop
 loop-again c =
-    let j = c .before .before .before .loop .j in
+    let loop = c .before .before .before .loop in
+    let j = loop .j in
     let given = c .before .before .before .before .before .before .args in
     let f : ℕ → Bool = λ q. is-new (given .rows .now) (given .count) (given .yielded .now) q in
-    let counted = c .before .before .before .loop .inv .0 in
+    let counted = loop .inv .0 in
     ⊎-elim
-    (λ w. (w .1 ∙ ap (λ (n : ℕ). n + 1) counted ∙ sym (count-below-next j f true (sym (c .before .is-new .ensures) ∙ w .0 .taken)), omega (arith, w .1), omega arith))
-    (λ w. (w .1 ∙ counted ∙ sym (add-zero (count-below j f)) ∙ sym (count-below-next j f false (sym (c .before .is-new .ensures) ∙ w .0 .left)), omega (arith, w .1), omega arith))
+    (λ w. (
+      w .1 ∙ ap (λ (n : ℕ). n + 1) counted ∙ sym (count-below-next j f true (sym (c .before .is-new .ensures) ∙ w .0 .taken)),
+      omega (arith, w .1),
+      omega
+          arith,
+    ))
+    (λ w. (
+      w .1 ∙ counted ∙ sym (add-zero (count-below j f)) ∙ sym (count-below-next j f false (sym (c .before .is-new .ensures) ∙ w .0 .left)),
+      omega
+          (arith, w .1),
+      omega arith,
+    ))
     (c .if1 .came)
 
 returns : tie.Need-returns Inv-loop μ-loop

@@ -64,6 +64,18 @@ module _ (table marks : List ℕ) (n : ℕ) (yielded : List ℕ) (number mark : 
     ),
   )
 
+-- Back along the path, to the place behind a call.
+abbrev back-to-then1 : tie.After-slice-known4 → tie.Then1
+back-to-then1 at =
+    let after-append-new-arg = at .before .before .before .before .before .before in
+    after-append-new-arg .before
+
+abbrev back-to-all-fit : tie.After-slice-known4 → tie.After-all-fit
+back-to-all-fit at = (back-to-then1 at) .before
+
+abbrev back-to-start : tie.After-slice-known4 → tie.Start
+back-to-start at = (back-to-all-fit at) .before .before .before .before .before
+
 all-fit-requires : tie.Need-all-fit-requires
 all-fit-requires c κs = search needs
 
@@ -73,7 +85,8 @@ same-length c = search needs
 returns : tie.Need-returns
 returns c =
     let given = c .before .before .before .before .before .before .args in
-    none-added (given .rows .now) (given .marks .now) (given .count) (given .yielded .now) (given .number) (given .mark) (sym (c .before .all-fit .ensures) ∙ c .if1 .left)
+    none-added (given .rows .now) (given .marks .now) (given .count) (given .yielded .now) (given .number) (given .mark)
+    (sym (c .before .all-fit .ensures) ∙ c .if1 .left)
 
 append-new-requires : tie.Need-append-new-requires
 append-new-requires c κs = search needs
@@ -86,8 +99,9 @@ same-length-3 c = search needs
 
 returns-2 : tie.Need-returns-2
 returns-2 c =
-    let given = c .before .before .before .before .before .before .before .before .before .before .before .before .before .args in
-    all-added (given .rows .now) (given .marks .now) (given .count) (given .yielded .now) (given .number) (given .mark) (sym (c .before .before .before .before .before .before .before .before .all-fit .ensures) ∙ c .before .before .before .before .before .before .before .if1 .taken)
+    let given = (back-to-start c) .args in
+    all-added (given .rows .now) (given .marks .now) (given .count) (given .yielded .now) (given .number) (given .mark)
+    (sym ((back-to-all-fit c) .all-fit .ensures) ∙ (back-to-then1 c) .if1 .taken)
     _ _ _ (c .before .before .before .before .append-new .ensures)
 
 pub grow-spec : {M : Type 1} → statement M

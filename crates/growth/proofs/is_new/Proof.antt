@@ -17,7 +17,8 @@ is-absent-requires-2 c κs = search needs
 
 returns : tie.Need-returns
 unfolding is-new
-returns c = c .is-absent2 .ensures ∙ ap (λ (v : Bool). v && is-absent (first-place yielded j yielded j)) (sym first)
+returns c =
+    c .is-absent2 .ensures ∙ ap (λ (v : Bool). v && is-absent (first-place yielded j yielded j)) (sym first)
   where
     yielded : List ℕ
     yielded = c .before .before .before .before .before .args .yielded .now
@@ -25,7 +26,8 @@ returns c = c .is-absent2 .ensures ∙ ap (λ (v : Bool). v && is-absent (first-
     j : ℕ
     j = c .before .before .before .before .before .args .j
 
-    first : is-absent (first-place (c .before .before .before .before .before .args .rows .now) (c .before .before .before .before .before .args .count) yielded j) ≡ true
+    first : is-absent (first-place (c .before .before .before .before .before .args .rows .now) (c .before .before .before .before .before .args .count) yielded
+        j) ≡ true
     first = sym (c .before .before .is-absent .ensures) ∙ c .before .if1 .taken
 
 returns-2 : tie.Need-returns-2

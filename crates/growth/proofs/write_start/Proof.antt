@@ -77,7 +77,8 @@ returns c =
     let row = c .before .before .before .before .before .before .before .before .before .loop .row in
     let end : c .before .before .before .before .before .before .before .before .before .loop .k ≡ given .universals = omega arith in
     let whole : row ≡ with-preferred (prefer (given .preferences .now)) (given .universals) (replicate 16 0) =
-    c .before .before .before .before .before .before .before .before .before .loop .inv .0 ∙ ap (λ (n : ℕ). with-preferred (prefer (given .preferences .now)) n (replicate 16 0)) end in (
+    c .before .before .before .before .before .before .before .before .before .loop .inv .0 ∙ ap (λ (n : ℕ). with-preferred (prefer (given .preferences .now)) n
+    (replicate 16 0)) end in (
       c .before .before .before .before .write .ensures .0 ∙ ap (λ (r : List ℕ). rows-written (given .rows .now) (given .marks .now) 0 r 0) whole,
       c .before .before .before .before .write .ensures .1 ∙ ap (λ (r : List ℕ). marks-written (given .rows .now) (given .marks .now) 0 r 0 0) whole,
     )

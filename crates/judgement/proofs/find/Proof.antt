@@ -1,9 +1,10 @@
 -- The shared function, told the form of the text. Assumes nothing.
-use mathlib.Core.Bool.{false}
 use lib.ListN.{length}
 use borrow.Author.Needs.{needs}
 use Rattle.lines.specs.Lines.{Bytes}
-use Rattle.text.specs.Reading.{read, read-as}
+use Rattle.text.specs.Reading.{read}
+use Rattle.text.specs.declared.Form.the-variants.{Clauses}
+use Rattle.text.specs.Form.{form-read}
 use Rattle.text.specs.Offered.{offered}
 use Rattle.text.proofs.OfferedLaws.{of-whole}
 use Rattle.judgement.specs.declared.Finding.{Finding}
@@ -13,9 +14,9 @@ use Rattle.judgement.proofs.find.Statement.{statement}
 use Rattle.judgement.proofs.find.Tie as tie
 
 -- A text that fills its buffer is the one that is offered.
-whole-found : (text file work : Bytes) {r : Finding} {after : Bytes} → Finds (on-text (read-as false (offered text (length text))) file) work r after
-    → Finds (on-text (read-as false text) file) work r after
-whole-found text file work {r} {after} h = of-whole (λ (t : Bytes). Finds (on-text (read-as false t) file) work r after) text h
+whole-found : (text file work : Bytes) {r : Finding} {after : Bytes} → Finds (on-text (form-read Clauses (offered text (length text))) file) work r after
+    → Finds (on-text (form-read Clauses text) file) work r after
+whole-found text file work {r} {after} h = of-whole (λ (t : Bytes). Finds (on-text (form-read Clauses t) file) work r after) text h
 
 find-as-requires : tie.Need-find-as-requires
 find-as-requires c κs = search needs

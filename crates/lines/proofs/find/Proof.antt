@@ -21,7 +21,9 @@ shared-slice-read-if1 : tie.Need-shared-slice-read-if1 Inv-loop μ-loop
 shared-slice-read-if1 c = omega arith
 
 returns : tie.Need-returns Inv-loop μ-loop
-returns c = omega (arith, before-here (c .before .before .before .before .args .b) (c .before .before .before .before .args .bytes .now) (c .before .before .before .loop .at) (c .before .before .loop-test .taken) (c .if1 .taken))
+returns c =
+    let given = c .before .before .before .before .args in
+    omega (arith, before-here (given .b) (given .bytes .now) (c .before .before .before .loop .at) (c .before .before .loop-test .taken) (c .if1 .taken))
 
 add-at : tie.Need-add-at Inv-loop μ-loop
 add-at c = omega arith
@@ -30,7 +32,9 @@ loop-less : tie.Need-loop-less Inv-loop μ-loop
 loop-less c = omega arith
 
 loop-again : tie.Need-loop-again Inv-loop μ-loop
-loop-again c = omega (arith, before-past (c .before .before .before .before .args .b) (c .before .before .before .before .args .bytes .now) (c .before .before .before .loop .at) (c .before .before .loop-test .taken) (c .if1 .left))
+loop-again c =
+    let given = c .before .before .before .before .args in
+    omega (arith, before-past (given .b) (given .bytes .now) (c .before .before .before .loop .at) (c .before .before .loop-test .taken) (c .if1 .left))
 
 returns-2 : tie.Need-returns-2 Inv-loop μ-loop
 returns-2 c = omega (arith, before-end (c .before .before .args .b) (c .before .before .args .bytes .now) (c .before .loop .at) (c .loop-test .left))

@@ -11,7 +11,9 @@ find-requires : tie.Need-find-requires
 find-requires c κs = search needs
 
 returns : tie.Need-returns
-returns c = next-word (c .before .before .before .args .line .now) (c .before .before .before .args .i) (c .before .skip .result) (c .find .result) (c .before .skip .ensures) (c .find .ensures)
+returns c =
+    let given = c .before .before .before .args in
+    next-word (given .line .now) (given .i) (c .before .skip .result) (c .find .result) (c .before .skip .ensures) (c .find .ensures)
 
 pub next-spec : {M : Type 1} → statement M
 next-spec = tie.close (tie.spec skip-requires find-requires returns)

@@ -16,7 +16,12 @@ sub-result : tie.Need-sub-result
 sub-result c = rw (as-negative (c .before .args .v) (omega arith)) (negative-fits (c .before .args .v) (omega arith))
 
 returns : tie.Need-returns
-returns c = rw (as-negative (c .before .args .v) (omega arith), toZ-ofZ w32 (negℤ (pos (c .before .args .v))) (negative-fits (c .before .args .v) (omega arith)), c .if1 .taken) refl
+returns c = rw (
+  as-negative (c .before .args .v) (omega arith),
+  toZ-ofZ w32 (negℤ (pos (c .before .args .v)))
+      (negative-fits (c .before .args .v) (omega arith)),
+  c .if1 .taken,
+) refl
 
 returns-2 : tie.Need-returns-2
 returns-2 c = rw (as-positive (c .before .args .v) (omega arith), c .if1 .left) refl

@@ -42,12 +42,13 @@ loop-less c = omega arith
 
 loop-again : tie.Need-loop-again Inv-loop μ-loop
 loop-again c =
+    let loop = c .before .before .before .loop in
     let q = c .before .before .before .before .before .args in
     let f : ℕ → Bool = bit-of (row-at (q .rows .now) (q .place)) in
-    let k = c .before .before .before .loop .k in
-    let row = c .before .before .before .loop .row in
-    let so-far = c .before .before .before .loop .inv .0 in
-    let full = c .before .before .before .loop .inv .2 in
+    let k = loop .k in
+    let row = loop .row in
+    let so-far = loop .inv .0 in
+    let full = loop .inv .2 in
     ⊎-elim
     (λ w. (
       w .4 ∙ w .2 .ensures ∙ ap (λ (r : List ℕ). bit-set r 0 k) so-far

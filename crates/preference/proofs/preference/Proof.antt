@@ -13,7 +13,9 @@ house-requires : tie.Need-house-requires
 house-requires c κs = tt
 
 returns : tie.Need-returns
-returns c = c .house .ensures ∙ sym (prefer-none (c .before .before .before .args .lent .now) (c .before .before .before .args .i) (omega arith))
+returns c =
+    let given = c .before .before .before .args in
+    c .house .ensures ∙ sym (prefer-none (given .lent .now) (given .i) (omega arith))
 
 rem-result : tie.Need-rem-result
 rem-result c = search needs
@@ -22,7 +24,9 @@ shared-slice-read-result : tie.Need-shared-slice-read-result
 shared-slice-read-result c = mod-lt _ (omega arith)
 
 returns-2 : tie.Need-returns-2
-returns-2 c = sym (prefer-lent (c .before .before .before .args .lent .now) (c .before .before .before .args .i) (omega arith))
+returns-2 c =
+    let given = c .before .before .before .args in
+    sym (prefer-lent (given .lent .now) (given .i) (omega arith))
 
 pub preference-spec : {M : Type 1} → statement M
 preference-spec =

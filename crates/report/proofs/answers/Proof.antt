@@ -5,6 +5,24 @@ use borrow.Author.Needs.{needs}
 use Rattle.report.proofs.answers.Statement.{statement}
 use Rattle.report.proofs.answers.Tie as tie
 
+-- Back along the path, to the place behind a call.
+abbrev back-to-field5 : tie.After-slice-known7 → tie.After-field5
+back-to-field5 at =
+    let after-text5 = at .before .before .before .before .before .before in
+    after-text5 .before
+
+abbrev back-to-field4 : tie.After-slice-known7 → tie.After-field4
+back-to-field4 at = (back-to-field5 at) .before .before .before .before .before
+
+abbrev back-to-field3 : tie.After-slice-known7 → tie.After-field3
+back-to-field3 at = (back-to-field4 at) .before .before .before .before .before
+
+abbrev back-to-field2 : tie.After-slice-known7 → tie.After-field2
+back-to-field2 at = (back-to-field3 at) .before .before .before .before .before
+
+abbrev back-to-field : tie.After-slice-known7 → tie.After-field
+back-to-field at = (back-to-field2 at) .before .before .before .before .before
+
 slice-aggregate-field : tie.Need-slice-aggregate-field
 slice-aggregate-field c = search needs
 
@@ -46,8 +64,17 @@ same-length c = search needs
 
 returns : tie.Need-returns
 unfolding answers-line
-returns c =
-    (omega arith, rw (c .before .before .append .ensures .1 .1, c .before .before .before .before .before .before .before .field5 .ensures .1, c .before .before .before .before .before .before .before .before .before .before .before .before .field4 .ensures .1, c .before .before .before .before .before .before .before .before .before .before .before .before .before .before .before .before .before .field3 .ensures .1, c .before .before .before .before .before .before .before .before .before .before .before .before .before .before .before .before .before .before .before .before .before .before .field2 .ensures .1, c .before .before .before .before .before .before .before .before .before .before .before .before .before .before .before .before .before .before .before .before .before .before .before .before .before .before .before .field .ensures .1))
+returns c = (
+  omega arith,
+  rw (
+    c .before .before .append .ensures .1 .1,
+    (back-to-field5 c) .field5 .ensures .1,
+    (back-to-field4 c) .field4 .ensures .1,
+    (back-to-field3 c) .field3 .ensures .1,
+    (back-to-field2 c) .field2 .ensures .1,
+    (back-to-field c) .field .ensures .1,
+  ),
+)
 
 pub answers-spec : {M : Type 1} → statement M
 answers-spec =

@@ -19,13 +19,15 @@ same-length c = search needs
 
 returns : tie.Need-returns
 returns c =
+    let append-call = c .before .before .append in
+    let pre = c .before .before .before .before .before .before .pre in
     let given = c .before .before .before .before .before .before .args in
     let out = given .out .now in
     let part = given .part .now in
     let at = given .at in
-    let place : c .before .before .append .result ≡ at + length part = c .before .before .append .ensures .0 ∙ behind-fits out at part (c .before .before .before .before .before .before .pre) in
-    let whole = c .before .before .append .ensures .1 ∙ appended-fits out at part (c .before .before .before .before .before .before .pre) in
-    let head : length (take at out ++ part) ≡ at + length part = simp (length-append, length-take) (omega (arith, c .before .before .before .before .before .before .pre)) in
+    let place : append-call .result ≡ at + length part = append-call .ensures .0 ∙ behind-fits out at part pre in
+    let whole = append-call .ensures .1 ∙ appended-fits out at part pre in
+    let head : length (take at out ++ part) ≡ at + length part = simp (length-append, length-take) (omega (arith, pre)) in
     (place, rw place (whole, ap (take (at + length part)) whole ∙ take-at (take at out ++ part) (drop (at + length part) out) (at + length part) head))
 
 pub append-spec : {M : Type 1} → statement M

@@ -5,6 +5,17 @@ use Rattle.report.proofs.Decimal.{at-most-twenty, digits-decimal}
 use Rattle.report.proofs.field.Statement.{statement}
 use Rattle.report.proofs.field.Tie as tie
 
+-- Back along the path, to the place behind a call.
+abbrev back-to-decimal : tie.After-slice-known3 → tie.After-decimal
+back-to-decimal at =
+    let after-text = at .before .before .before .before .before .before in
+    after-text .before .before .before
+
+abbrev back-to-start : tie.After-digits2 → tie.Start
+back-to-start at =
+    let after-decimal = at .before .before .before .before .before .before in
+    after-decimal .before .before .before .before
+
 decimal-requires : tie.Need-decimal-requires
 decimal-requires c κs = search needs
 
@@ -20,7 +31,7 @@ slice-aggregate-append c = search needs
 append-requires-2 : tie.Need-append-requires-2
 append-requires-2 c κs =
     let made = c .before .before .before .before .before .before .decimal in
-    let start = (c .before .before .before .before .before .before .before .before .before .before) in
+    let start = (back-to-start c) in
     omega (arith, at-most-twenty (made .result) (start .args .number) (start .fits .number .fits) (made .ensures .1 .0))
 
 same-length : tie.Need-same-length
@@ -28,8 +39,8 @@ same-length c = search needs
 
 returns : tie.Need-returns
 returns c =
-    let made = c .before .before .before .before .before .before .before .before .before .decimal in
-    let start = (c .before .before .before .before .before .before .before .before .before .before .before .before .before) in
+    let made = (back-to-decimal c) .decimal in
+    let start = (back-to-start (c .before .before .before)) in
     let number = start .args .number in
     let small = start .fits .number .fits in
     let fewest = made .ensures .1 .0 in

@@ -5,6 +5,21 @@ use Rattle.report.specs.Report.{line-one}
 use Rattle.report.proofs.line_one.Statement.{statement}
 use Rattle.report.proofs.line_one.Tie as tie
 
+-- Back along the path, to the place behind a call.
+abbrev back-to-field2 : tie.After-slice-known6 → tie.After-field2
+back-to-field2 at =
+    let after-text4 = at .before .before .before .before .before .before in
+    after-text4 .before
+
+abbrev back-to-field : tie.After-slice-known6 → tie.After-field
+back-to-field at = (back-to-field2 at) .before .before .before .before .before
+
+abbrev back-to-truth : tie.After-slice-known6 → tie.After-truth
+back-to-truth at = (back-to-field at) .before .before .before .before .before
+
+abbrev back-to-append : tie.After-slice-known6 → tie.After-append
+back-to-append at = (back-to-truth at) .before .before .before .before
+
 slice-aggregate-append : tie.Need-slice-aggregate-append
 slice-aggregate-append c = search needs
 
@@ -38,10 +53,10 @@ same-length c = search needs
 returns : tie.Need-returns
 unfolding line-one
 returns c =
-    let fixed = c .before .before .before .before .before .before .before .before .before .before .before .before .before .before .before .before .before .before .before .before .before .append .ensures .1 .1 in
-    let with-truth = c .before .before .before .before .before .before .before .before .before .before .before .before .before .before .before .before .before .truth .ensures .1 in
-    let with-variables = c .before .before .before .before .before .before .before .before .before .before .before .before .field .ensures .1 in
-    let with-clauses = c .before .before .before .before .before .before .before .field2 .ensures .1 in
+    let fixed = (back-to-append c) .append .ensures .1 .1 in
+    let with-truth = (back-to-truth c) .truth .ensures .1 in
+    let with-variables = (back-to-field c) .field .ensures .1 in
+    let with-clauses = (back-to-field2 c) .field2 .ensures .1 in
     let ended = c .before .before .append2 .ensures .1 .1 in
     (omega arith, rw (ended, with-clauses, with-variables, with-truth, fixed))
 

@@ -6,6 +6,15 @@ use borrow.Author.Needs.{needs}
 use Rattle.report.proofs.line_setting.Statement.{statement}
 use Rattle.report.proofs.line_setting.Tie as tie
 
+-- Back along the path, to the place behind a call.
+abbrev back-to-field : tie.After-slice-known3 → tie.After-field
+back-to-field at =
+    let after-text = at .before .before .before .before .before .before in
+    after-text .before
+
+abbrev back-to-start : tie.After-slice-known3 → tie.Start
+back-to-start at = (back-to-field at) .before .before .before .before
+
 slice-aggregate-field : tie.Need-slice-aggregate-field
 slice-aggregate-field c = search needs
 
@@ -23,7 +32,11 @@ same-length c = search needs
 
 returns : tie.Need-returns
 returns c =
-    (omega arith, rw (c .before .before .append .ensures .1 .1, c .before .before .before .before .before .before .before .field .ensures .1) (setting-behind (take (c .before .before .before .before .before .before .before .before .before .before .before .args .at) (c .before .before .before .before .before .before .before .before .before .before .before .args .text .now)) (c .before .before .before .before .before .before .before .before .before .before .before .args .setting)))
+    let given = (back-to-start c) .args in (
+      omega arith,
+      rw (c .before .before .append .ensures .1 .1, (back-to-field c) .field .ensures .1)
+          (setting-behind (take (given .at) (given .text .now)) (given .setting)),
+    )
 
 pub line-setting-spec : {M : Type 1} → statement M
 line-setting-spec =

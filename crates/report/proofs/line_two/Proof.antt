@@ -6,6 +6,21 @@ use Rattle.report.proofs.Laws.{line-two-behind}
 use Rattle.report.proofs.line_two.Statement.{statement}
 use Rattle.report.proofs.line_two.Tie as tie
 
+-- Back along the path, to the place behind a call.
+abbrev back-to-field3 : tie.After-slice-known5 → tie.After-field3
+back-to-field3 at =
+    let after-text3 = at .before .before .before .before .before .before in
+    after-text3 .before
+
+abbrev back-to-field2 : tie.After-slice-known5 → tie.After-field2
+back-to-field2 at = (back-to-field3 at) .before .before .before .before .before
+
+abbrev back-to-field : tie.After-slice-known5 → tie.After-field
+back-to-field at = (back-to-field2 at) .before .before .before .before .before
+
+abbrev back-to-start : tie.After-slice-known5 → tie.Start
+back-to-start at = (back-to-field at) .before .before .before .before
+
 slice-aggregate-field : tie.Need-slice-aggregate-field
 slice-aggregate-field c = search needs
 
@@ -35,10 +50,10 @@ same-length c = search needs
 
 returns : tie.Need-returns
 returns c =
-    let given = c .before .before .before .before .before .before .before .before .before .before .before .before .before .before .before .before .before .before .before .before .before .args in
-    let with-rounds = c .before .before .before .before .before .before .before .before .before .before .before .before .before .before .before .before .before .field .ensures .1 in
-    let with-universal = c .before .before .before .before .before .before .before .before .before .before .before .before .field2 .ensures .1 in
-    let with-existential = c .before .before .before .before .before .before .before .field3 .ensures .1 in
+    let given = (back-to-start c) .args in
+    let with-rounds = (back-to-field c) .field .ensures .1 in
+    let with-universal = (back-to-field2 c) .field2 .ensures .1 in
+    let with-existential = (back-to-field3 c) .field3 .ensures .1 in
     let ended = c .before .before .append .ensures .1 .1 in
     let grouped = line-two-behind (take (given .at) (given .text .now)) (given .rounds) (given .universal) (given .existential) in
     (omega arith, rw (ended, with-existential, with-universal, with-rounds) grouped)

@@ -6,6 +6,10 @@ use borrow.Author.Needs.{needs}
 use Rattle.report.proofs.most_rounds.Statement.{statement}
 use Rattle.report.proofs.most_rounds.Tie as tie
 
+-- Back along the path, to the place behind a call.
+abbrev back-to-start : tie.After-slice-known → tie.Start
+back-to-start at = at .before
+
 slice-aggregate-append : tie.Need-slice-aggregate-append
 slice-aggregate-append c = search needs
 
@@ -17,7 +21,11 @@ same-length c = search needs
 
 returns : tie.Need-returns
 unfolding most-line
-returns c = (omega arith, rw (eq-eqb (c .before .before .before .before .before .before .before .args .studies) 0 (c .before .before .before .before .before .if1 .taken)) (c .before .before .append .ensures .1 .1))
+returns c = (
+  omega arith,
+  rw (eq-eqb ((back-to-start (c .before .before .before .before .before .before)) .args .studies) 0
+      (c .before .before .before .before .before .if1 .taken)) (c .before .before .append .ensures .1 .1),
+)
 
 slice-aggregate-pair : tie.Need-slice-aggregate-pair
 slice-aggregate-pair c = search needs
@@ -30,7 +38,11 @@ same-length-2 c = search needs
 
 returns-2 : tie.Need-returns-2
 unfolding most-line
-returns-2 c = (omega arith, rw (ne-eqb (c .before .before .before .before .before .before .before .args .studies) 0 (c .before .before .before .before .before .if1 .left)) (c .before .before .pair .ensures .1))
+returns-2 c = (
+  omega arith,
+  rw (ne-eqb ((back-to-start (c .before .before .before .before .before .before)) .args .studies) 0
+      (c .before .before .before .before .before .if1 .left)) (c .before .before .pair .ensures .1),
+)
 
 pub most-rounds-spec : {M : Type 1} → statement M
 most-rounds-spec =

@@ -8,6 +8,24 @@ use borrow.Author.Needs.{needs}
 use Rattle.report.proofs.page.Statement.{statement}
 use Rattle.report.proofs.page.Tie as tie
 
+-- Back along the path, to the place behind a call.
+abbrev back-to-field : tie.After-slice-known2 → tie.After-field
+back-to-field at =
+    let after-append = at .before .before .before .before .before .before in
+    after-append .before .before .before .before
+
+abbrev back-to-most-rounds : tie.After-slice-known2 → tie.After-most-rounds
+back-to-most-rounds at = (back-to-field at) .before .before .before .before
+
+abbrev back-to-pair : tie.After-slice-known2 → tie.After-pair
+back-to-pair at = (back-to-most-rounds at) .before .before .before
+
+abbrev back-to-answers : tie.After-slice-known2 → tie.After-answers
+back-to-answers at = (back-to-pair at) .before .before .before .before
+
+abbrev back-to-start : tie.After-slice-known2 → tie.Start
+back-to-start at = (back-to-answers at) .before .before .before
+
 slice-aggregate-answers : tie.Need-slice-aggregate-answers
 slice-aggregate-answers c = search needs
 
@@ -61,10 +79,19 @@ same-length c = search needs
 
 returns : tie.Need-returns
 returns c =
-    let given = c .before .before .before .before .before .before .before .before .before .before .before .before .before .before .before .before .before .before .before .before .before .before .before .before .args in
+    let given = (back-to-start c) .args in
     let end = c .before .before .before .before .before .before .append in
-    let lines = page-lines (given .answer-0) (given .answer-1) (given .answer-2) (given .answer-3) (given .answer-4) (given .rounds) (given .studies) (given .most) (given .first) (given .fees) in
-    let all : take (end .result) (end .last .0) ≡ lines = rw (end .ensures .1 .1, c .before .before .before .before .before .before .before .before .before .before .field .ensures .1, c .before .before .before .before .before .before .before .before .before .before .before .before .before .before .most-rounds .ensures .1, c .before .before .before .before .before .before .before .before .before .before .before .before .before .before .before .before .before .pair .ensures .1, c .before .before .before .before .before .before .before .before .before .before .before .before .before .before .before .before .before .before .before .before .before .answers .ensures .1) (page-behind (given .answer-0) (given .answer-1) (given .answer-2) (given .answer-3) (given .answer-4) (given .rounds) (given .studies) (given .most) (given .first) (given .fees)) in
+    let lines = page-lines (given .answer-0) (given .answer-1) (given .answer-2) (given .answer-3) (given .answer-4) (given .rounds) (given .studies)
+    (given .most) (given .first) (given .fees) in
+    let all : take (end .result) (end .last .0) ≡ lines = rw (
+      end .ensures .1 .1,
+      (back-to-field c) .field .ensures .1,
+      (back-to-most-rounds c) .most-rounds .ensures .1,
+      (back-to-pair c) .pair .ensures .1,
+      (back-to-answers c) .answers .ensures .1,
+    )
+    (page-behind (given .answer-0) (given .answer-1) (given .answer-2) (given .answer-3) (given .answer-4) (given .rounds) (given .studies) (given .most)
+    (given .first) (given .fees)) in
     rw all at (c .before .before .deliver .ensures)
 
 pub page-spec : {M : Type 1} → statement M

@@ -6,6 +6,18 @@ use borrow.Author.Needs.{needs}
 use Rattle.report.proofs.pair.Statement.{statement}
 use Rattle.report.proofs.pair.Tie as tie
 
+-- Back along the path, to the place behind a call.
+abbrev back-to-field2 : tie.After-slice-known4 → tie.After-field2
+back-to-field2 at =
+    let after-text2 = at .before .before .before .before .before .before in
+    after-text2 .before
+
+abbrev back-to-field : tie.After-slice-known4 → tie.After-field
+back-to-field at = (back-to-field2 at) .before .before .before .before .before
+
+abbrev back-to-start : tie.After-slice-known4 → tie.Start
+back-to-start at = (back-to-field at) .before .before .before .before
+
 field-requires : tie.Need-field-requires
 field-requires c κs = search needs
 
@@ -26,8 +38,11 @@ same-length c = search needs
 
 returns : tie.Need-returns
 returns c =
-    let given = c .before .before .before .before .before .before .before .before .before .before .before .before .before .before .before .before .args in
-    (omega arith, rw (c .before .before .append .ensures .1 .1, c .before .before .before .before .before .before .before .field2 .ensures .1, c .before .before .before .before .before .before .before .before .before .before .before .before .field .ensures .1) (pair-behind (take (given .at) (given .text .now)) (given .label .now) (given .first) (given .second)))
+    let given = (back-to-start c) .args in (
+      omega arith,
+      rw (c .before .before .append .ensures .1 .1, (back-to-field2 c) .field2 .ensures .1, (back-to-field c) .field .ensures .1)
+          (pair-behind (take (given .at) (given .text .now)) (given .label .now) (given .first) (given .second)),
+    )
 
 pub pair-spec : {M : Type 1} → statement M
 pair-spec =

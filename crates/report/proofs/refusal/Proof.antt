@@ -7,6 +7,12 @@ use Rattle.report.specs.Report.{refusal-line}
 use Rattle.report.proofs.refusal.Statement.{statement}
 use Rattle.report.proofs.refusal.Tie as tie
 
+-- Back along the path, to the place behind a call.
+abbrev back-to-start : tie.After-slice-known2 → tie.Start
+back-to-start at =
+    let after-pair = at .before .before .before .before .before .before in
+    after-pair .before .before .before .before
+
 slice-aggregate-pair : tie.Need-slice-aggregate-pair
 slice-aggregate-pair c = search needs
 
@@ -31,7 +37,7 @@ same-length c = search needs
 returns : tie.Need-returns
 unfolding refusal-line
 returns c =
-    let given = c .before .before .before .before .before .before .before .before .before .before .args in
+    let given = (back-to-start c) .args in
     let end = c .before .before .before .before .before .before .pair in
     let line : take (end .result) (end .last .0) ≡ refusal-line (given .number) (given .line) = end .ensures .1 in
     rw line at (c .before .before .deliver .ensures)

@@ -7,6 +7,15 @@ use Rattle.report.specs.Report.{result-lines}
 use Rattle.report.proofs.result.Statement.{statement}
 use Rattle.report.proofs.result.Tie as tie
 
+-- Back along the path, to the place behind a call.
+abbrev back-to-line-one : tie.After-slice-known2 → tie.After-line-one
+back-to-line-one at =
+    let after-line-two = at .before .before .before .before .before .before in
+    after-line-two .before .before .before
+
+abbrev back-to-start : tie.After-slice-known2 → tie.Start
+back-to-start at = (back-to-line-one at) .before .before .before
+
 slice-aggregate-line-one : tie.Need-slice-aggregate-line-one
 slice-aggregate-line-one c = search needs
 
@@ -34,8 +43,8 @@ same-length c = search needs
 returns : tie.Need-returns
 unfolding result-lines
 returns c =
-    let given = c .before .before .before .before .before .before .before .before .before .before .before .before .args in
-    let one = c .before .before .before .before .before .before .before .before .before .line-one in
+    let given = (back-to-start c) .args in
+    let one = (back-to-line-one c) .line-one in
     let two = c .before .before .before .before .before .before .line-two in
     let lines = result-lines (given .answer) (given .variables) (given .clauses) (given .rounds) (given .universal) (given .existential) in
     let both : take (two .result) (two .last .0) ≡ lines = rw (two .ensures .1, one .ensures .1) in

@@ -7,6 +7,18 @@ use Rattle.report.specs.Studied.{study-lines}
 use Rattle.report.proofs.study_result.Statement.{statement}
 use Rattle.report.proofs.study_result.Tie as tie
 
+-- Back along the path, to the place behind a call.
+abbrev back-to-line-setting : tie.After-slice-known2 → tie.After-line-setting
+back-to-line-setting at =
+    let after-line-two = at .before .before .before .before .before .before in
+    after-line-two .before .before .before
+
+abbrev back-to-line-one : tie.After-slice-known2 → tie.After-line-one
+back-to-line-one at = (back-to-line-setting at) .before .before .before
+
+abbrev back-to-start : tie.After-slice-known2 → tie.Start
+back-to-start at = (back-to-line-one at) .before .before .before
+
 slice-aggregate-line-one : tie.Need-slice-aggregate-line-one
 slice-aggregate-line-one c = search needs
 
@@ -40,9 +52,9 @@ same-length c = search needs
 returns : tie.Need-returns
 unfolding study-lines
 returns c =
-    let given = c .before .before .before .before .before .before .before .before .before .before .before .before .before .before .before .args in
-    let one = c .before .before .before .before .before .before .before .before .before .before .before .before .line-one in
-    let two = c .before .before .before .before .before .before .before .before .before .line-setting in
+    let given = (back-to-start c) .args in
+    let one = (back-to-line-one c) .line-one in
+    let two = (back-to-line-setting c) .line-setting in
     let three = c .before .before .before .before .before .before .line-two in
     let lines = study-lines (given .answer) (given .variables) (given .clauses) (given .setting) (given .rounds) (given .universal) (given .existential) in
     let all : take (three .result) (three .last .0) ≡ lines = rw (three .ensures .1, two .ensures .1, one .ensures .1) in

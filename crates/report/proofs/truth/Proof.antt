@@ -5,6 +5,12 @@ use Rattle.report.proofs.Laws.{truth-other}
 use Rattle.report.proofs.truth.Statement.{statement}
 use Rattle.report.proofs.truth.Tie as tie
 
+-- Back along the path, to the place behind a call.
+abbrev back-to-start : tie.After-slice-known4 → tie.Start
+back-to-start at =
+    let else1 = at .before .before .before .before .before .before in
+    else1 .before .before
+
 slice-aggregate-append : tie.Need-slice-aggregate-append
 slice-aggregate-append c = search needs
 
@@ -40,7 +46,8 @@ same-length-3 c = search needs
 
 returns-3 : tie.Need-returns-3
 returns-3 c =
-    let other = truth-other (c .before .before .before .before .before .before .before .before .args .answer) (c .before .before .before .before .before .before .if1 .left) (c .before .before .before .before .before .if2 .left) in
+    let other = truth-other ((back-to-start c) .args .answer) (c .before .before .before .before .before .before .if1 .left)
+    (c .before .before .before .before .before .if2 .left) in
     (omega arith, rw other (c .before .before .append3 .ensures .1 .1))
 
 pub truth-spec : {M : Type 1} → statement M

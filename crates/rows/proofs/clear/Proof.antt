@@ -30,10 +30,11 @@ loop-less c = omega arith
 
 loop-again : tie.Need-loop-again Inv-loop μ-loop
 loop-again c =
-    let i = c .before .loop .i in (
+    let loop = c .before .loop in
+    let i = loop .i in (
       omega arith,
-      ap (λ (l : List ℕ). set l i 0) (c .before .loop .inv .1) ∙ fill-more i 0 (c .before .before .args .area .now) (c .loop-test .taken),
-      length-set (c .before .loop .area) i 0 ∙ c .before .loop .inv .2,
+      ap (λ (l : List ℕ). set l i 0) (loop .inv .1) ∙ fill-more i 0 (c .before .before .args .area .now) (c .loop-test .taken),
+      length-set (loop .area) i 0 ∙ loop .inv .2,
     )
 
 same-length : tie.Need-same-length Inv-loop μ-loop

@@ -16,6 +16,12 @@ Inv-loop rows count other j places i₀ i = ((q : ℕ) → q < i → equal-rows 
 abbrev μ-loop : tie.MeasureT-loop
 μ-loop rows count other j places i₀ i = places - i
 
+-- Back along the path, to the place behind a call.
+abbrev back-to-start : tie.After-same-row Inv-loop μ-loop → tie.Start Inv-loop μ-loop
+back-to-start at =
+    let after-shared-slice-known = at .before .before .before .before .before .before in
+    after-shared-slice-known .before
+
 returns : tie.Need-returns Inv-loop μ-loop
 returns c =
     let given = c .before .before .before .args in
@@ -40,7 +46,7 @@ same-row-requires c κs = omega arith
 
 returns-2 : tie.Need-returns-2 Inv-loop μ-loop
 returns-2 c =
-    let given = c .before .before .before .before .before .before .before .before .args in
+    let given = (back-to-start (c .before)) .args in
     let loop = c .before .before .before .loop in
     sym
     (first-place-found (given .rows .now) (given .count) (given .other .now) (given .j) (loop .i) (omega arith)
@@ -57,9 +63,10 @@ loop-less c = omega arith
 
 loop-again : tie.Need-loop-again Inv-loop μ-loop
 loop-again c =
-    let given = c .before .before .before .before .before .before .before .before .args in (
-      below-more _ _ (c .before .before .before .loop .inv .0)
-          (equal-rows-inside (given .rows .now) (c .before .before .before .loop .i) (given .other .now) (given .j) (omega arith) (c .before .before .before .before .before .if1 .left)
+    let loop = c .before .before .before .loop in
+    let given = (back-to-start (c .before)) .args in (
+      below-more _ _ (loop .inv .0)
+          (equal-rows-inside (given .rows .now) (loop .i) (given .other .now) (given .j) (omega arith) (c .before .before .before .before .before .if1 .left)
           ∙ sym (c .before .same-row .ensures)
           ∙ c .if2 .left),
       omega arith,
@@ -70,7 +77,8 @@ returns-3 c =
     let given = c .before .before .before .before .before .before .args in
     sym
     (first-place-none (given .rows .now) (given .count) (given .other .now) (given .j)
-    (below-count (λ q. equal-rows (given .rows .now) q (given .other .now) (given .j) ≡ false) (given .rows .now) (given .count) (c .before .loop .i) (omega arith)
+    (below-count (λ q. equal-rows (given .rows .now) q (given .other .now) (given .j) ≡ false) (given .rows .now) (given .count) (c .before .loop .i)
+    (omega arith)
     (c .before .loop .inv .0)
     (λ q h. equal-rows-outside (given .rows .now) q (given .other .now) (given .j) h)))
 

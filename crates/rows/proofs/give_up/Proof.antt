@@ -8,6 +8,15 @@ use Rattle.rows.proofs.ZeroedLaws.{zeroed-from-none}
 use Rattle.rows.proofs.give_up.Statement.{statement}
 use Rattle.rows.proofs.give_up.Tie as tie
 
+-- Back along the path, to the place behind a call.
+abbrev back-to-places-below : tie.After-slice-known4 → tie.After-places-below
+back-to-places-below at =
+    let after-zero-bytes = at .before .before .before .before .before .before in
+    after-zero-bytes .before .before .before
+
+abbrev back-to-start : tie.After-slice-known4 → tie.Start
+back-to-start at = (back-to-places-below at) .before .before .before .before .before
+
 places-below-requires : tie.Need-places-below-requires
 places-below-requires c κs = search needs
 
@@ -48,8 +57,8 @@ same-length-4 c = search needs
 returns-2 : tie.Need-returns-2
 unfolding rows-given-up marks-given-up
 returns-2 c =
-    let given = c .before .before .before .before .before .before .before .before .before .before .before .before .before .before .args in
-    let end = c .before .before .before .before .before .before .before .before .before .places-below .ensures in (
+    let given = (back-to-start c) .args in
+    let end = (back-to-places-below c) .places-below .ensures in (
       c .before .before .before .before .before .before .zero-bytes .ensures ∙ ap (λ (n : ℕ). zeroed-from (16 * given .from) (16 * n) (given .rows .now)) end,
       c .before .before .zero-marks .ensures ∙ ap (λ (n : ℕ). zeroed-from (given .from) n (given .marks .now)) end,
     )

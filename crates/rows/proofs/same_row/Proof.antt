@@ -16,6 +16,12 @@ Inv-loop a x b y same₀ p₀ same p = (p ≤ 16) × (same ≡ same-bytes (take 
 abbrev μ-loop : tie.MeasureT-loop
 μ-loop a x b y same₀ p₀ same p = 16 - p
 
+-- Back along the path, to the place behind a call.
+abbrev back-to-start : tie.After-and-same Inv-loop μ-loop → tie.Start Inv-loop μ-loop
+back-to-start at =
+    let after-shared-slice-known = at .before .before .before .before .before .before in
+    after-shared-slice-known .before
+
 loop-holds : tie.Need-loop-holds Inv-loop μ-loop
 loop-holds c = (omega arith, refl)
 
@@ -42,13 +48,14 @@ loop-less c = omega arith
 
 loop-again : tie.Need-loop-again Inv-loop μ-loop
 loop-again c =
-    let given = c .before .before .before .before .before .before .before .args in
+    let loop = c .before .before .before .before .loop in
+    let given = (back-to-start c) .args in
     let a = given .a .now in
     let b = given .b .now in
-    let p = c .before .before .before .before .loop .p in (
+    let p = loop .p in (
       omega arith,
       c .and-same .ensures
-          ∙ ap (λ (v : Bool). v && eqb (getD a (given .x + p) 0) (getD b (given .y + p) 0)) (c .before .before .before .before .loop .inv .1)
+          ∙ ap (λ (v : Bool). v && eqb (getD a (given .x + p) 0) (getD b (given .y + p) 0)) (loop .inv .1)
           ∙ same-parts-more a (given .x) b (given .y) p (omega arith) (omega arith),
     )
 

@@ -30,10 +30,11 @@ stray-in-row-requires c κs = omega arith
 
 returns : tie.Need-returns Inv-loop μ-loop
 returns c =
+    let loop = c .before .before .before .loop in
     let given = c .before .before .before .before .before .before .args in
     sym
-    (found-stray-rows (given .m) (given .count) (given .rows .now) (c .before .before .before .loop .i) (omega arith)
-    (ap (stray (given .m)) (row-at-inside (given .rows .now) (c .before .before .before .loop .i) (omega arith)) ∙ sym (c .before .stray-in-row .ensures) ∙ c .if1 .taken))
+    (found-stray-rows (given .m) (given .count) (given .rows .now) (loop .i) (omega arith)
+    (ap (stray (given .m)) (row-at-inside (given .rows .now) (loop .i) (omega arith)) ∙ sym (c .before .stray-in-row .ensures) ∙ c .if1 .taken))
 
 add-i : tie.Need-add-i Inv-loop μ-loop
 add-i c = omega arith
@@ -42,11 +43,13 @@ loop-less : tie.Need-loop-less Inv-loop μ-loop
 loop-less c = omega arith
 
 loop-again : tie.Need-loop-again Inv-loop μ-loop
-loop-again c = (
-  omega arith,
-  below-more _ _ (c .before .before .before .loop .inv .1)
-      (ap (stray (c .before .before .before .before .before .before .args .m)) (row-at-inside (c .before .before .before .before .before .before .args .rows .now) (c .before .before .before .loop .i) (omega arith)) ∙ sym (c .before .stray-in-row .ensures) ∙ c .if1 .left),
-)
+loop-again c =
+    let loop = c .before .before .before .loop in
+    let given = c .before .before .before .before .before .before .args in (
+      omega arith,
+      below-more _ _ (loop .inv .1)
+          (ap (stray (given .m)) (row-at-inside (given .rows .now) (loop .i) (omega arith)) ∙ sym (c .before .stray-in-row .ensures) ∙ c .if1 .left),
+    )
 
 returns-2 : tie.Need-returns-2 Inv-loop μ-loop
 returns-2 c =

@@ -27,6 +27,12 @@ stray-found t x m p s hp hs beyond below found =
     not-eq-not {b = true} .0
     (λ e. found (ap (λ (y : ℕ). y / 2 ^ s) (sym same) ∙ byte-beyond m (take 16 (drop x t)) p s e (omega arith) hp hs beyond))
 
+-- Back along the path, to the place behind a call.
+abbrev back-to-start : tie.Then3 Inv-loop μ-loop → tie.Start Inv-loop μ-loop
+back-to-start at =
+    let else1 = at .before .before .before .before .before .before in
+    else1 .before
+
 returns : tie.Need-returns Inv-loop μ-loop
 returns c =
     let given = c .before .args in
@@ -65,10 +71,11 @@ shared-slice-read-if3 c = omega arith
 
 returns-3 : tie.Need-returns-3 Inv-loop μ-loop
 returns-3 c =
-    let given = c .before .before .before .before .before .before .before .args in
+    let loop = c .before .before .before .loop in
+    let given = (back-to-start c) .args in
     sym
-    (stray-found (given .rows .now) (given .x) (given .m) (c .before .before .before .loop .p) 0 (omega arith) (omega arith) (omega arith)
-    (c .before .before .before .before .before .shared-slice-known .given (given .x + c .before .before .before .loop .p) .fits)
+    (stray-found (given .rows .now) (given .x) (given .m) (loop .p) 0 (omega arith) (omega arith) (omega arith)
+    (c .before .before .before .before .before .shared-slice-known .given (given .x + loop .p) .fits)
     (λ e. c .if3 .taken (sym (div-one _) ∙ e)))
 
 add-p-2 : tie.Need-add-p-2 Inv-loop μ-loop

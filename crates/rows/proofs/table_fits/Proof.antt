@@ -17,11 +17,19 @@ mul-if2 c = search needs
 
 returns-2 : tie.Need-returns-2
 unfolding table-fits
-returns-2 c = rw (le-leb 16 (length (c .before .before .args .rows .now)) (c .before .if1 .left), lt-leb (length (c .before .before .args .rows .now)) (max-rows * 16) (c .if2 .taken))
+returns-2 c = rw (
+  le-leb 16 (length (c .before .before .args .rows .now)) (c .before .if1 .left),
+  lt-leb (length (c .before .before .args .rows .now))
+      (max-rows * 16) (c .if2 .taken),
+)
 
 returns-3 : tie.Need-returns-3
 unfolding table-fits
-returns-3 c = rw (le-leb 16 (length (c .before .before .args .rows .now)) (c .before .if1 .left), le-leb (length (c .before .before .args .rows .now)) (max-rows * 16) (c .if2 .left))
+returns-3 c = rw (
+  le-leb 16 (length (c .before .before .args .rows .now)) (c .before .if1 .left),
+  le-leb (length (c .before .before .args .rows .now))
+      (max-rows * 16) (c .if2 .left),
+)
 
 pub table-fits-spec : {M : Type 1} → statement M
 table-fits-spec = tie.close (tie.spec returns mul-if2 returns-2 returns-3)

@@ -9,9 +9,17 @@ use Rattle.rows.proofs.WriteLaws.{rows-written-inside, marks-written-in
 use Rattle.rows.proofs.write.Statement.{statement}
 use Rattle.rows.proofs.write.Tie as tie
 
+-- Back along the path, to the place behind a call.
+abbrev back-to-start : tie.After-slice-known3 → tie.Start
+back-to-start at =
+    let else1 = at .before .before .before .before .before .before in
+    else1 .before .before .before .before
+
 returns : tie.Need-returns
 unfolding rows-written marks-written
-returns c = rw (inside-false (c .before .before .before .before .args .rows .now) (c .before .before .before .before .args .i) (c .if1 .taken)) (refl, refl)
+returns c =
+    let given = c .before .before .before .before .args in
+    rw (inside-false (given .rows .now) (given .i) (c .if1 .taken)) (refl, refl)
 
 returns-2 : tie.Need-returns-2
 unfolding rows-written marks-written
@@ -53,11 +61,15 @@ same-length-2 c = search needs
 
 returns-4 : tie.Need-returns-4
 returns-4 c =
-    let given = c .before .before .before .before .before .before .before .before .before .before .args in (
+    let if3 = c .before .before .before .before .if3 in
+    let if2 = c .before .before .before .before .before .if2 in
+    let if1 = c .before .before .before .before .before .before .if1 in
+    let given = (back-to-start c) .args in (
       c .before .before .copy-row .ensures
-          ∙ ap (placed (given .rows .now) (given .i)) (sym (row-at-inside (given .other .now) (given .j) (c .before .before .before .before .if3 .left)))
-          ∙ sym (rows-written-inside (given .rows .now) (given .marks .now) (given .i) (given .other .now) (given .j) (c .before .before .before .before .before .before .if1 .left) (c .before .before .before .before .before .if2 .left) (c .before .before .before .before .if3 .left)),
-      sym (marks-written-inside (given .rows .now) (given .marks .now) (given .i) (given .other .now) (given .j) (c .before .before .before .before .before .before .if1 .left) (c .before .before .before .before .before .if2 .left) (c .before .before .before .before .if3 .left) (given .mark)),
+          ∙ ap (placed (given .rows .now) (given .i)) (sym (row-at-inside (given .other .now) (given .j) (if3 .left)))
+          ∙ sym (rows-written-inside (given .rows .now) (given .marks .now) (given .i) (given .other .now) (given .j) (if1 .left) (if2 .left) (if3 .left)),
+      sym (marks-written-inside (given .rows .now) (given .marks .now) (given .i) (given .other .now) (given .j) (if1 .left) (if2 .left) (if3 .left)
+          (given .mark)),
     )
 
 pub write-spec : {M : Type 1} → statement M

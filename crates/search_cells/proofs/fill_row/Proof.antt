@@ -26,6 +26,15 @@ Inv-loop kinds rows row i side work₀ bit₀ k₀ work bit k =
 abbrev μ-loop : tie.MeasureT-loop
 μ-loop kinds rows row i side work₀ bit₀ k₀ work bit k = length kinds - k
 
+-- Back along the path, to the place behind a call.
+abbrev back-to-start : tie.After-shared-slice-known3 Inv-loop μ-loop → tie.Start Inv-loop μ-loop
+back-to-start at = at .before .before .before .before .before .before
+
+abbrev back-to-at-loop : tie.After-slice-known2 Inv-loop μ-loop → tie.At-loop Inv-loop μ-loop
+back-to-at-loop at =
+    let after-shared-slice-known3 = at .before .before .before .before .before .before in
+    after-shared-slice-known3 .before .before
+
 loop-holds : tie.Need-loop-holds Inv-loop μ-loop
 loop-holds c =
     let given = c .before .before .before .args in
@@ -41,7 +50,9 @@ set-requires : tie.Need-set-requires Inv-loop μ-loop
 set-requires c κs = omega arith
 
 add-bit : tie.Need-add-bit Inv-loop μ-loop
-add-bit c = omega (arith, others-before-most (owned (c .before .before .before .before .before .before .before .before .before .before .before .before .args .kinds .now) (c .before .before .before .before .before .before .before .before .before .before .before .before .args .side)) (c .before .before .before .before .before .before .before .before .loop .k))
+add-bit c =
+    let given = (back-to-start (c .before .before .before .before .before .before)) .args in
+    omega (arith, others-before-most (owned (given .kinds .now) (given .side)) ((back-to-at-loop c) .loop .k))
 
 add-k : tie.Need-add-k Inv-loop μ-loop
 add-k c = omega arith
@@ -51,14 +62,16 @@ loop-less c = omega arith
 
 loop-again : tie.Need-loop-again Inv-loop μ-loop
 loop-again c =
-    let given = c .before .before .before .before .before .before .before .args in
+    let given = (back-to-start (c .before)) .args in
     let loop = c .before .before .before .loop in
     ⊎-elim
     (λ t.
-    let turn = turn-other (given .kinds .now) (given .rows .now) (given .side) (given .row) (given .i) (loop .k) (loop .bit) (loop .work) (omega arith) (loop .inv .1) (t .2 .result) (t .3 .last .0) (t .0 .taken) (t .2 .ensures) (t .3 .ensures) in
+    let turn = turn-other (given .kinds .now) (given .rows .now) (given .side) (given .row) (given .i) (loop .k) (loop .bit) (loop .work) (omega arith)
+    (loop .inv .1) (t .2 .result) (t .3 .last .0) (t .0 .taken) (t .2 .ensures) (t .3 .ensures) in
     (omega arith, t .7 ∙ turn .0, omega (arith, ap length (t .6)), rw (t .6) (loop .inv .3 ∙ turn .1)))
     (λ t.
-    let turn = turn-own (given .kinds .now) (given .rows .now) (given .side) (given .row) (given .i) (loop .k) (loop .bit) (loop .work) (omega arith) (loop .inv .1) (t .0 .left) in
+    let turn = turn-own (given .kinds .now) (given .rows .now) (given .side) (given .row) (given .i) (loop .k) (loop .bit) (loop .work) (omega arith)
+    (loop .inv .1) (t .0 .left) in
     (omega arith, t .2 ∙ turn .0, omega (arith, ap length (t .1)), rw (t .1) (loop .inv .3 ∙ turn .1)))
     (c .if1 .came)
 
@@ -69,7 +82,8 @@ returns : tie.Need-returns Inv-loop μ-loop
 returns c =
     let given = c .before .before .before .before .before .args in
     let loop = c .before .loop in
-    sym (steps-none (with-given (given .kinds .now) (given .rows .now) (given .side) (given .row) (given .i)) (length (given .kinds .now)) (loop .k) (loop .work) (omega arith))
+    sym (steps-none (with-given (given .kinds .now) (given .rows .now) (given .side) (given .row) (given .i)) (length (given .kinds .now)) (loop .k)
+    (loop .work) (omega arith))
     ∙ sym (loop .inv .3)
 
 pub fill-row-spec : {M : Type 1} → statement M

@@ -17,6 +17,12 @@ Inv-loop kinds work i side k₀ k = (k ≤ length kinds) × (first-difference ki
 abbrev μ-loop : tie.MeasureT-loop
 μ-loop kinds work i side k₀ k = length kinds - k
 
+-- Back along the path, to the place behind a call.
+abbrev back-to-start : tie.Then2 Inv-loop μ-loop → tie.Start Inv-loop μ-loop
+back-to-start at =
+    let at-loop = at .before .before .before .before .before .before in
+    at-loop .before .before .before
+
 loop-holds : tie.Need-loop-holds Inv-loop μ-loop
 loop-holds c =
     let given = c .before .before .args in
@@ -36,11 +42,12 @@ value-requires-2 c κs = omega arith
 
 returns : tie.Need-returns Inv-loop μ-loop
 returns c =
-    let given = c .before .before .before .before .before .before .before .before .before .args in
+    let given = (back-to-start c) .args in
     let loop = c .before .before .before .before .before .before .loop in
     sym (loop .inv .1
     ∙ first-from-step (differ (given .kinds .now) (given .side) (given .work .now) (given .i)) (loop .k) (length (given .kinds .now)) true (omega arith)
-    (differ-other (given .kinds .now) (given .side) (given .work .now) (given .i) (loop .k) (c .before .before .value .result) (c .before .value2 .result) (c .before .before .before .if1 .taken) (c .before .before .value .ensures) (c .before .value2 .ensures) ∙ c .if2 .taken))
+    (differ-other (given .kinds .now) (given .side) (given .work .now) (given .i) (loop .k) (c .before .before .value .result) (c .before .value2 .result)
+    (c .before .before .before .if1 .taken) (c .before .before .value .ensures) (c .before .value2 .ensures) ∙ c .if2 .taken))
 
 add-k : tie.Need-add-k Inv-loop μ-loop
 add-k c = omega arith
@@ -54,16 +61,21 @@ loop-again c =
     let loop = c .before .before .before .loop in
     let same : differ (given .kinds .now) (given .side) (given .work .now) (given .i) (loop .k) ≡ false =
     ⊎-elim
-    (λ t. differ-other (given .kinds .now) (given .side) (given .work .now) (given .i) (loop .k) (t .1 .result) (t .2 .result) (t .0 .taken) (t .1 .ensures) (t .2 .ensures) ∙ t .3 .left)
+    (λ t. differ-other (given .kinds .now) (given .side) (given .work .now) (given .i) (loop .k) (t .1 .result) (t .2 .result) (t .0 .taken) (t .1 .ensures)
+    (t .2 .ensures) ∙ t .3 .left)
     (λ t. differ-own (given .kinds .now) (given .side) (given .work .now) (given .i) (loop .k) (t .left))
-    (c .if1 .came) in
-    (omega arith, loop .inv .1 ∙ first-from-step (differ (given .kinds .now) (given .side) (given .work .now) (given .i)) (loop .k) (length (given .kinds .now)) false (omega arith) same)
+    (c .if1 .came) in (
+      omega arith,
+      loop .inv .1 ∙ first-from-step (differ (given .kinds .now) (given .side) (given .work .now) (given .i)) (loop .k) (length (given .kinds .now))
+          false (omega arith) same,
+    )
 
 returns-2 : tie.Need-returns-2 Inv-loop μ-loop
 returns-2 c =
     let given = c .before .before .before .before .args in
     let loop = c .before .loop in
-    sym (loop .inv .1 ∙ first-from-end (differ (given .kinds .now) (given .side) (given .work .now) (given .i)) (loop .k) (length (given .kinds .now)) (omega arith))
+    sym (loop .inv .1 ∙ first-from-end (differ (given .kinds .now) (given .side) (given .work .now) (given .i)) (loop .k) (length (given .kinds .now))
+    (omega arith))
 
 pub first-difference-spec : {M : Type 1} → statement M
 first-difference-spec =

@@ -11,11 +11,19 @@ returns c = rw (ne-eqb (c .before .args .area) work-size (c .if1 .taken))
 
 returns-2 : tie.Need-returns-2
 unfolding fits
-returns-2 c = rw (eq-eqb (c .before .before .args .area) work-size (c .before .if1 .left), lt-leb (c .before .before .args .positions) max-unknowns (c .if2 .taken))
+returns-2 c = rw (
+  eq-eqb (c .before .before .args .area) work-size (c .before .if1 .left),
+  lt-leb (c .before .before .args .positions) max-unknowns
+      (c .if2 .taken),
+)
 
 returns-3 : tie.Need-returns-3
 unfolding fits
-returns-3 c = rw (eq-eqb (c .before .before .args .area) work-size (c .before .if1 .left), le-leb (c .before .before .args .positions) max-unknowns (c .if2 .left))
+returns-3 c = rw (
+  eq-eqb (c .before .before .args .area) work-size (c .before .if1 .left),
+  le-leb (c .before .before .args .positions) max-unknowns
+      (c .if2 .left),
+)
 
 pub is-table-spec : {M : Type 1} → statement M
 is-table-spec = tie.close (tie.spec returns returns-2 returns-3)

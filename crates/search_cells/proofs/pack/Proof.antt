@@ -23,6 +23,20 @@ Inv-loop kinds place side work₀ row₀ work row =
 abbrev μ-loop : tie.MeasureT-loop
 μ-loop kinds place side work₀ row₀ work row = length place - row
 
+-- Back along the path, to the place behind a call.
+abbrev back-to-at-loop : tie.After-slice-known2 Inv-loop μ-loop → tie.At-loop Inv-loop μ-loop
+back-to-at-loop at =
+    let in-loop = at .before .before .before .before .before .before in
+    in-loop .before
+
+abbrev back-to-start : tie.After-slice-known3 Inv-loop μ-loop → tie.Start Inv-loop μ-loop
+back-to-start at =
+    let then1 = at .before .before .before .before .before .before in
+    then1 .before .before .before .before .before
+
+abbrev back-to-start-2 : tie.After-slice-known2 Inv-loop μ-loop → tie.Start Inv-loop μ-loop
+back-to-start-2 at = (back-to-at-loop at) .before .before .before .before .before .before
+
 is-table-requires : tie.Need-is-table-requires Inv-loop μ-loop
 is-table-requires c κs = search needs
 
@@ -33,7 +47,8 @@ returns c = rw (sym (c .before .is-table .ensures) ∙ c .if1 .left)
 loop-holds : tie.Need-loop-holds Inv-loop μ-loop
 loop-holds c =
     let given = c .before .before .before .before .before .args in
-    let sizes = fitting-sizes (length (given .work .now)) (length (given .kinds .now)) (length (given .place .now)) (sym (c .before .is-table .ensures) ∙ c .if1 .taken) in
+    let sizes = fitting-sizes (length (given .work .now)) (length (given .kinds .now)) (length (given .place .now))
+    (sym (c .before .is-table .ensures) ∙ c .if1 .taken) in
     (sizes .0, sizes .1, sizes .2, omega arith, sizes .0, refl)
 
 shared-slice-read-wide : tie.Need-shared-slice-read-wide Inv-loop μ-loop
@@ -53,14 +68,15 @@ loop-less c = omega arith
 
 loop-again : tie.Need-loop-again Inv-loop μ-loop
 loop-again c =
-    let given = c .before .before .before .before .before .before .before .before .before .before .before .before .before .args in
-    let loop = c .before .before .before .before .before .before .before .loop in (
+    let given = (back-to-start-2 c) .args in
+    let loop = (back-to-at-loop c) .loop in (
       loop .inv .0,
       loop .inv .1,
       loop .inv .2,
       omega arith,
       omega arith,
-      rows-packed-more (given .kinds .now) (given .place .now) (given .side) (given .work .now) (loop .inv .0) (loop .row) (loop .work) _ (omega arith) (loop .inv .5)
+      rows-packed-more (given .kinds .now) (given .place .now) (given .side) (given .work .now) (loop .inv .0) (loop .row) (loop .work) _ (omega arith)
+          (loop .inv .5)
           (rw (c .before .before .before .before .wide .ensures) at (c .before .before .pack-row .ensures)),
     )
 
@@ -84,10 +100,11 @@ same-length c = omega arith
 
 returns-2 : tie.Need-returns-2 Inv-loop μ-loop
 returns-2 c =
-    let given = c .before .before .before .before .before .before .before .before .before .before .before .args in
+    let given = (back-to-start c) .args in
     let loop = c .before .before .before .before .before .loop in
     let full : loop .row ≡ length (given .place .now) = omega arith in
-    rows-packed-whole (given .kinds .now) (given .place .now) (given .side) (given .work .now) (loop .inv .0) (length (given .place .now)) (loop .work) _ (loop .inv .2) (rw full at (loop .inv .5))
+    rows-packed-whole (given .kinds .now) (given .place .now) (given .side) (given .work .now) (loop .inv .0) (length (given .place .now)) (loop .work) _
+    (loop .inv .2) (rw full at (loop .inv .5))
     (part-cleared (16 * length (given .place .now)) (length (loop .work)) (loop .work) _ (omega arith) (omega arith) (c .before .before .clear .ensures))
     ∙ sym (packed-inside (given .kinds .now) (given .place .now) (given .side) (given .work .now) (loop .inv .0) (loop .inv .1) (loop .inv .2))
 

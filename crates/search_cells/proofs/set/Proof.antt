@@ -32,7 +32,9 @@ bit-requires : tie.Need-bit-requires
 bit-requires c κs = search needs
 
 add-work-2 : tie.Need-add-work-2
-add-work-2 c = omega (arith, c .before .slice-known2 .given (flags-from + (max-unknowns * c .before .before .before .args .i + c .before .before .before .args .k)), c .bit .ensures, weight-small (c .before .before .before .args .value))
+add-work-2 c =
+    let given = c .before .before .before .args in
+    omega (arith, c .before .slice-known2 .given (flags-from + (max-unknowns * given .i + given .k)), c .bit .ensures, weight-small (given .value))
 
 add-work-3 : tie.Need-add-work-3
 add-work-3 c = search needs
@@ -44,7 +46,9 @@ same-length : tie.Need-same-length
 same-length c = search needs
 
 returns : tie.Need-returns
-returns c = rw (c .bit .ensures) (with-cell-stored (c .before .before .before .args .i) (c .before .before .before .args .k) (c .before .before .before .args .mark) (c .before .before .before .args .value) (c .before .before .before .args .work .now) (omega arith) (omega arith))
+returns c =
+    let given = c .before .before .before .args in
+    rw (c .bit .ensures) (with-cell-stored (given .i) (given .k) (given .level) (given .value) (given .work .now) (omega arith) (omega arith))
 
 pub set-spec : {M : Type 1} → statement M
 set-spec =

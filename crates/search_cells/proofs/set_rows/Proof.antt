@@ -13,14 +13,14 @@ use Rattle.search_cells.proofs.set_rows.Statement.{statement}
 use Rattle.search_cells.proofs.set_rows.Tie as tie
 
 abbrev Inv-loop : tie.InvT-loop
-Inv-loop work₀ k lo hi mark value i₀ work i =
+Inv-loop work₀ k lo hi level value i₀ work i =
     (hi ≤ max-rows)
     × (length work₀ ≡ work-size)
     × (length work ≡ work-size)
-    × (steps (λ j. with-cell j k mark value) (hi - lo) lo work₀ ≡ steps (λ j. with-cell j k mark value) (hi - i) i work)
+    × (steps (λ j. with-cell j k level value) (hi - lo) lo work₀ ≡ steps (λ j. with-cell j k level value) (hi - i) i work)
 
 abbrev μ-loop : tie.MeasureT-loop
-μ-loop work₀ k lo hi mark value i₀ work i = hi - i
+μ-loop work₀ k lo hi level value i₀ work i = hi - i
 
 is-table-requires : tie.Need-is-table-requires Inv-loop μ-loop
 is-table-requires c κs = search needs
@@ -55,7 +55,7 @@ loop-again c =
       loop .inv .1,
       omega arith,
       loop .inv .3
-          ∙ steps-next (λ j. with-cell j (given .k) (given .mark) (given .value)) (given .hi) (loop .i) (loop .work) (omega arith)
+          ∙ steps-next (λ j. with-cell j (given .k) (given .level) (given .value)) (given .hi) (loop .i) (loop .work) (omega arith)
           ∙ rw (c .before .before .set .ensures),
     )
 
@@ -66,9 +66,9 @@ returns-3 : tie.Need-returns-3 Inv-loop μ-loop
 returns-3 c =
     let given = c .before .before .before .before .before .before .args in
     let loop = c .before .loop in
-    sym (steps-none (λ j. with-cell j (given .k) (given .mark) (given .value)) (given .hi) (loop .i) (loop .work) (omega arith))
+    sym (steps-none (λ j. with-cell j (given .k) (given .level) (given .value)) (given .hi) (loop .i) (loop .work) (omega arith))
     ∙ sym (loop .inv .3)
-    ∙ sym (rows-set-inside (given .k) (given .lo) (given .hi) (given .mark) (given .value) (given .work .now) (loop .inv .1) (omega arith) (loop .inv .0))
+    ∙ sym (rows-set-inside (given .k) (given .lo) (given .hi) (given .level) (given .value) (given .work .now) (loop .inv .1) (omega arith) (loop .inv .0))
 
 pub set-rows-spec : {M : Type 1} → statement M
 set-rows-spec =

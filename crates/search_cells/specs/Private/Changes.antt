@@ -17,11 +17,11 @@ abbrev pub SameWants : List ℕ → List ℕ → Type 0
 SameWants w u = (i k : ℕ) → wants u i k ≡ wants w i k
 
 -- The cells of the rows lo to hi at position k get a level and a value.
-pub record CellsSet (k lo hi mark : ℕ) (value : Bool) (w u : List ℕ) : Type 0 where
-  pub stored : Stored lo hi k mark value (cells w) (cells u)
+pub record CellsSet (k lo hi level : ℕ) (value : Bool) (w u : List ℕ) : Type 0 where
+  pub stored : Stored lo hi k level value (cells w) (cells u)
   pub wanted : SameWants w u
 
--- The cells of the rows lo to hi with a mark over the bound are opened.
+-- The cells of the rows lo to hi with a level over the bound are opened.
 pub record CellsOpened (lo hi bound : ℕ) (w u : List ℕ) : Type 0 where
   pub cleared : Cleared (bound + 1) lo hi (cells w) (cells u)
   pub wanted : SameWants w u

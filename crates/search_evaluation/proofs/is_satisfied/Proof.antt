@@ -14,11 +14,16 @@ is-true-requires c κs = search needs
 
 returns : tie.Need-returns
 unfolding is-satisfied
-returns c = c .is-true .ensures ∙ ap (λ (b : Bool). b && is-true (c .before .before .before .before .args .work .now) (c .before .before .before .before .args .i) (c .before .before .before .before .args .c)) (sym (c .before .if1 .taken) ∙ c .before .before .is-set .ensures)
+returns c =
+    let given = c .before .before .before .before .args in
+    c .is-true .ensures ∙ ap (λ (b : Bool). b && is-true (given .work .now) (given .i) (given .c))
+    (sym (c .before .if1 .taken) ∙ c .before .before .is-set .ensures)
 
 returns-2 : tie.Need-returns-2
 unfolding is-satisfied
-returns-2 c = ap (λ (b : Bool). b && is-true (c .before .before .before .args .work .now) (c .before .before .before .args .i) (c .before .before .before .args .c)) (sym (c .if1 .left) ∙ c .before .is-set .ensures)
+returns-2 c =
+    let given = c .before .before .before .args in
+    ap (λ (b : Bool). b && is-true (given .work .now) (given .i) (given .c)) (sym (c .if1 .left) ∙ c .before .is-set .ensures)
 
 pub is-satisfied-spec : {M : Type 1} → statement M
 is-satisfied-spec = tie.close (tie.spec is-set-requires is-true-requires returns returns-2)

@@ -17,7 +17,9 @@ shared-slice-read-result : tie.Need-shared-slice-read-result
 shared-slice-read-result c = search needs
 
 returns : tie.Need-returns
-returns c = set-by (c .before .before .before .args .work .now) (c .before .before .before .args .i) (c .before .before .before .args .c) (c .before .position .result) (c .before .before .before .pre .1) (c .before .position .ensures)
+returns c =
+    let given = c .before .before .before .args in
+    set-by (given .work .now) (given .i) (given .c) (c .before .position .result) (c .before .before .before .pre .1) (c .before .position .ensures)
 
 pub is-set-spec : {M : Type 1} → statement M
 is-set-spec =

@@ -27,11 +27,18 @@ shared-slice-read-value c = search needs
 
 returns : tie.Need-returns
 unfolding is-true
-returns c = rw (eq-eqb (c .before .before .before .before .args .c % 2) 0 (omega arith)) (value-by (c .before .before .before .before .args .work .now) (c .before .before .before .before .args .i) (c .before .before .before .before .args .c) (c .before .before .position .result) (c .before .before .before .before .pre .1) (c .before .before .position .ensures))
+returns c =
+    let given = c .before .before .before .before .args in
+    rw (eq-eqb (given .c % 2) 0 (omega arith)) (value-by (given .work .now) (given .i) (given .c) (c .before .before .position .result)
+    (c .before .before .before .before .pre .1) (c .before .before .position .ensures))
 
 returns-2 : tie.Need-returns-2
 unfolding is-true
-returns-2 c = rw (ne-eqb (c .before .before .before .before .args .c % 2) 0 (λ z. omega arith)) (ap not (value-by (c .before .before .before .before .args .work .now) (c .before .before .before .before .args .i) (c .before .before .before .before .args .c) (c .before .before .position .result) (c .before .before .before .before .pre .1) (c .before .before .position .ensures)))
+returns-2 c =
+    let given = c .before .before .before .before .args in
+    rw (ne-eqb (given .c % 2) 0 (λ z. omega arith))
+    (ap not (value-by (given .work .now) (given .i) (given .c) (c .before .before .position .result) (c .before .before .before .before .pre .1)
+    (c .before .before .position .ensures)))
 
 pub is-true-spec : {M : Type 1} → statement M
 is-true-spec =

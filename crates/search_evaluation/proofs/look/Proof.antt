@@ -14,7 +14,9 @@ unfolding look-at
 returns c = rw (sym (c .before .has-row .ensures) ∙ c .if1 .left)
 
 look-on-requires : tie.Need-look-on-requires
-look-on-requires c κs = let row = row-given (c .before .before .before .before .args .work .now) (c .before .before .before .before .args .i) (sym (c .before .has-row .ensures) ∙ c .if1 .taken) in (omega arith, omega arith)
+look-on-requires c κs =
+    let given = c .before .before .before .before .args in
+    let row = row-given (given .work .now) (given .i) (sym (c .before .has-row .ensures) ∙ c .if1 .taken) in (omega arith, omega arith)
 
 returns-2 : tie.Need-returns-2
 unfolding look-at

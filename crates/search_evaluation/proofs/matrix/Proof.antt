@@ -14,7 +14,9 @@ unfolding matrix-in
 returns c = rw (sym (c .before .has-row .ensures) ∙ c .if1 .left)
 
 matrix-on-requires : tie.Need-matrix-on-requires
-matrix-on-requires c κs = let row = row-given (c .before .before .before .before .args .work .now) (c .before .before .before .before .args .i) (sym (c .before .has-row .ensures) ∙ c .if1 .taken) in (omega arith, omega arith)
+matrix-on-requires c κs =
+    let given = c .before .before .before .before .args in
+    let row = row-given (given .work .now) (given .i) (sym (c .before .has-row .ensures) ∙ c .if1 .taken) in (omega arith, omega arith)
 
 returns-2 : tie.Need-returns-2
 unfolding matrix-in

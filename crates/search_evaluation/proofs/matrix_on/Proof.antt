@@ -35,7 +35,8 @@ loop-less : tie.Need-loop-less Inv-loop μ-loop
 loop-less c = omega arith
 
 loop-again : tie.Need-loop-again Inv-loop μ-loop
-loop-again c = matching-clause (c .before .before .before .before .before .loop .inv) (omega arith) (c .before .before .wide .ensures) (omega arith) (c .if2 .taken)
+loop-again c = matching-clause (c .before .before .before .before .before .loop .inv) (omega arith) (c .before .before .wide .ensures) (omega arith)
+    (c .if2 .taken)
 
 is-true-requires : tie.Need-is-true-requires Inv-loop μ-loop
 is-true-requires c κs = (omega arith, omega arith)
@@ -44,13 +45,15 @@ loop-less-2 : tie.Need-loop-less-2 Inv-loop μ-loop
 loop-less-2 c = omega arith
 
 loop-again-2 : tie.Need-loop-again-2 Inv-loop μ-loop
-loop-again-2 c = matching-true (c .before .before .before .before .before .before .loop .inv) (omega arith) (c .before .before .before .wide .ensures) (λ z. omega arith) (sym (c .before .is-true .ensures) ∙ c .if3 .taken)
+loop-again-2 c = matching-true (c .before .before .before .before .before .before .loop .inv) (omega arith) (c .before .before .before .wide .ensures)
+    (λ z. omega arith) (sym (c .before .is-true .ensures) ∙ c .if3 .taken)
 
 loop-less-3 : tie.Need-loop-less-3 Inv-loop μ-loop
 loop-less-3 c = omega arith
 
 loop-again-3 : tie.Need-loop-again-3 Inv-loop μ-loop
-loop-again-3 c = matching-next (c .before .before .before .before .before .before .loop .inv) (omega arith) (c .before .before .before .wide .ensures) (λ z. omega arith) (sym (c .before .is-true .ensures) ∙ c .if3 .left)
+loop-again-3 c = matching-next (c .before .before .before .before .before .before .loop .inv) (omega arith) (c .before .before .before .wide .ensures)
+    (λ z. omega arith) (sym (c .before .is-true .ensures) ∙ c .if3 .left)
 
 returns-2 : tie.Need-returns-2 Inv-loop μ-loop
 returns-2 c = matched-past (c .before .loop .inv) (omega arith)

@@ -14,7 +14,9 @@ unfolding satisfied-at
 returns c = rw (sym (c .before .has-row .ensures) ∙ c .if1 .left)
 
 is-satisfied-requires : tie.Need-is-satisfied-requires
-is-satisfied-requires c κs = let row = row-given (c .before .before .before .args .work .now) (c .before .before .before .args .i) (sym (c .before .has-row .ensures) ∙ c .if1 .taken) in (omega arith, omega arith)
+is-satisfied-requires c κs =
+    let given = c .before .before .before .args in
+    let row = row-given (given .work .now) (given .i) (sym (c .before .has-row .ensures) ∙ c .if1 .taken) in (omega arith, omega arith)
 
 returns-2 : tie.Need-returns-2
 unfolding satisfied-at

@@ -14,10 +14,10 @@ use Rattle.search_groups.proofs.copy_end.Statement.{statement}
 use Rattle.search_groups.proofs.copy_end.Tie as tie
 
 abbrev Inv-loop : tie.InvT-loop
-Inv-loop splits k i hi to₀ to = (to ≤ hi) × (copy-end splits k i hi ≡ first-from (differ-before splits k) to (hi - to))
+Inv-loop differences k i hi to₀ to = (to ≤ hi) × (copy-end differences k i hi ≡ first-from (differ-before differences k) to (hi - to))
 
 abbrev μ-loop : tie.MeasureT-loop
-μ-loop splits k i hi to₀ to = hi - to
+μ-loop differences k i hi to₀ to = hi - to
 
 returns : tie.Need-returns Inv-loop μ-loop
 returns c = copy-end-none _ _ _ _ (λ low high. omega arith)
@@ -39,11 +39,13 @@ cast-if3 c = fits-8-64 (c .shared-slice-known .given _)
 
 returns-3 : tie.Need-returns-3 Inv-loop μ-loop
 returns-3 c =
+    let loop = c .before .before .before .loop in
     let given = c .before .before .before .before .before .before .args in
-    let to = c .before .before .before .loop .to in
+    let to = loop .to in
     sym
-    (c .before .before .before .loop .inv .1
-    ∙ first-from-step (differ-before (given .splits .now) (given .k)) to (given .hi) true (omega arith) (lt-ltb (getD (given .splits .now) to 0) (given .k) (omega arith)))
+    (loop .inv .1
+    ∙ first-from-step (differ-before (given .differences .now) (given .k)) to (given .hi) true (omega arith)
+    (lt-ltb (getD (given .differences .now) to 0) (given .k) (omega arith)))
 
 add-to-2 : tie.Need-add-to-2 Inv-loop μ-loop
 add-to-2 c = omega arith
@@ -53,18 +55,20 @@ loop-less c = omega arith
 
 loop-again : tie.Need-loop-again Inv-loop μ-loop
 loop-again c =
+    let loop = c .before .before .before .loop in
     let given = c .before .before .before .before .before .before .args in
-    let to = c .before .before .before .loop .to in (
+    let to = loop .to in (
       omega arith,
-      c .before .before .before .loop .inv .1
-          ∙ first-from-step (differ-before (given .splits .now) (given .k)) to (given .hi) false (omega arith) (le-ltb (getD (given .splits .now) to 0) (given .k) (omega arith)),
+      loop .inv .1
+          ∙ first-from-step (differ-before (given .differences .now) (given .k)) to (given .hi) false (omega arith)
+          (le-ltb (getD (given .differences .now) to 0) (given .k) (omega arith)),
     )
 
 returns-4 : tie.Need-returns-4 Inv-loop μ-loop
 returns-4 c =
     let given = c .before .before .before .before .args in
     sym
-    (c .before .loop .inv .1 ∙ first-from-end (differ-before (given .splits .now) (given .k)) (c .before .loop .to) (given .hi) (omega arith))
+    (c .before .loop .inv .1 ∙ first-from-end (differ-before (given .differences .now) (given .k)) (c .before .loop .to) (given .hi) (omega arith))
 
 pub copy-end-spec : {M : Type 1} → statement M
 copy-end-spec =

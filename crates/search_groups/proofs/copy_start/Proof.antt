@@ -12,11 +12,11 @@ use Rattle.search_groups.proofs.copy_start.Statement.{statement}
 use Rattle.search_groups.proofs.copy_start.Tie as tie
 
 abbrev Inv-loop : tie.InvT-loop
-Inv-loop splits k lo i from₀ from =
-    (lo ≤ from) × (from ≤ i) × (copy-start splits k lo i ≡ last-behind (differ-before splits k) lo (from - lo))
+Inv-loop differences k lo i from₀ from =
+    (lo ≤ from) × (from ≤ i) × (copy-start differences k lo i ≡ last-behind (differ-before differences k) lo (from - lo))
 
 abbrev μ-loop : tie.MeasureT-loop
-μ-loop splits k lo i from₀ from = from
+μ-loop differences k lo i from₀ from = from
 
 returns : tie.Need-returns Inv-loop μ-loop
 returns c = copy-start-none _ _ _ _ (λ low high. omega arith)
@@ -35,11 +35,13 @@ cast-if3 c = fits-8-64 (c .shared-slice-known .given _)
 
 returns-3 : tie.Need-returns-3 Inv-loop μ-loop
 returns-3 c =
+    let loop = c .before .before .before .loop in
     let given = c .before .before .before .before .before .before .args in
-    let from = c .before .before .before .loop .from in
+    let from = loop .from in
     sym
-    (c .before .before .before .loop .inv .2
-    ∙ last-behind-step (differ-before (given .splits .now) (given .k)) (given .lo) from true (omega arith) (lt-ltb (getD (given .splits .now) from 0) (given .k) (omega arith)))
+    (loop .inv .2
+    ∙ last-behind-step (differ-before (given .differences .now) (given .k)) (given .lo) from true (omega arith)
+    (lt-ltb (getD (given .differences .now) from 0) (given .k) (omega arith)))
 
 sub-from : tie.Need-sub-from Inv-loop μ-loop
 sub-from c = omega arith
@@ -49,19 +51,21 @@ loop-less c = omega arith
 
 loop-again : tie.Need-loop-again Inv-loop μ-loop
 loop-again c =
+    let loop = c .before .before .before .loop in
     let given = c .before .before .before .before .before .before .args in
-    let from = c .before .before .before .loop .from in (
+    let from = loop .from in (
       omega arith,
       omega arith,
-      c .before .before .before .loop .inv .2
-          ∙ last-behind-step (differ-before (given .splits .now) (given .k)) (given .lo) from false (omega arith) (le-ltb (getD (given .splits .now) from 0) (given .k) (omega arith)),
+      loop .inv .2
+          ∙ last-behind-step (differ-before (given .differences .now) (given .k)) (given .lo) from false (omega arith)
+          (le-ltb (getD (given .differences .now) from 0) (given .k) (omega arith)),
     )
 
 returns-4 : tie.Need-returns-4 Inv-loop μ-loop
 returns-4 c =
     let given = c .before .before .before .before .args in
     sym
-    (c .before .loop .inv .2 ∙ last-behind-end (differ-before (given .splits .now) (given .k)) (given .lo) (c .before .loop .from) (omega arith))
+    (c .before .loop .inv .2 ∙ last-behind-end (differ-before (given .differences .now) (given .k)) (given .lo) (c .before .loop .from) (omega arith))
 
 pub copy-start-spec : {M : Type 1} → statement M
 copy-start-spec =

@@ -14,13 +14,22 @@ use Rattle.search_numbering.proofs.group.Statement.{statement}
 use Rattle.search_numbering.proofs.group.Tie as tie
 
 abbrev Inv-loop : tie.InvT-loop
-Inv-loop splits k count first₀ start₀ i₀ first start i = (i ≤ count) × (length first ≡ max-rows) × Grouped splits k i first × (start ≡ first-place splits k (i - 1))
+Inv-loop differences k count first₀ start₀ i₀ first start i = (i ≤ count) × (length first ≡ max-rows) × Grouped differences k i first ×
+    (start ≡ first-place differences k (i - 1))
 
 abbrev μ-loop : tie.MeasureT-loop
-μ-loop splits k count first₀ start₀ i₀ first start i = count - i
+μ-loop differences k count first₀ start₀ i₀ first start i = count - i
+
+-- Back along the path, to the place behind a call.
+abbrev back-to-start : tie.Joined1 Inv-loop μ-loop → tie.Start Inv-loop μ-loop
+back-to-start at =
+    let after-shared-slice-known = at .before .before .before .before .before .before in
+    after-shared-slice-known .before
 
 loop-holds : tie.Need-loop-holds Inv-loop μ-loop
-loop-holds c = (omega arith, omega arith, grouped-none (c .before .before .args .splits .now) (c .before .before .args .k) (c .before .before .args .first .now) (c .before .before .pre .1), refl)
+loop-holds c =
+    let given = c .before .before .args in
+    (omega arith, omega arith, grouped-none (given .differences .now) (given .k) (given .first .now) (c .before .before .pre .1), refl)
 
 shared-slice-read-wide : tie.Need-shared-slice-read-wide Inv-loop μ-loop
 shared-slice-read-wide c = omega arith
@@ -42,19 +51,21 @@ loop-less c = omega arith
 
 loop-again : tie.Need-loop-again Inv-loop μ-loop
 loop-again c =
-    let splits = c .before .before .before .before .before .before .before .args .splits .now in
-    let k = c .before .before .before .before .before .before .before .args .k in
-    let i = c .before .before .before .before .loop .i in
-    let start-is : c .if1 .start ≡ first-place splits k i =
+    let loop = c .before .before .before .before .loop in
+    let given = (back-to-start c) .args in
+    let differences = given .differences .now in
+    let k = given .k in
+    let i = loop .i in
+    let start-is : c .if1 .start ≡ first-place differences k i =
     ⊎-elim
-    (λ t. t .1 ∙ sym (first-place-here splits k i (omega (arith, c .before .wide .ensures, t .0 .taken))))
-    (λ t. t .1 ∙ c .before .before .before .before .loop .inv .3 ∙ sym (first-place-kept splits k i (omega (arith, c .before .wide .ensures, t .0 .left))))
+    (λ t. t .1 ∙ sym (first-place-here differences k i (omega (arith, c .before .wide .ensures, t .0 .taken))))
+    (λ t. t .1 ∙ loop .inv .3 ∙ sym (first-place-kept differences k i (omega (arith, c .before .wide .ensures, t .0 .left))))
     (c .if1 .came) in
     let back : i ≡ i + 1 - 1 = omega arith in (
       omega arith,
-      length-set (c .before .before .before .before .loop .first) i (c .if1 .start) ∙ c .before .before .before .before .loop .inv .1,
-      grouped-more splits k i (c .before .before .before .before .loop .first) (c .if1 .start) (omega arith) (c .before .before .before .before .loop .inv .2) start-is,
-      start-is ∙ ap (first-place splits k) back,
+      length-set (loop .first) i (c .if1 .start) ∙ loop .inv .1,
+      grouped-more differences k i (loop .first) (c .if1 .start) (omega arith) (loop .inv .2) start-is,
+      start-is ∙ ap (first-place differences k) back,
     )
 
 same-length : tie.Need-same-length Inv-loop μ-loop

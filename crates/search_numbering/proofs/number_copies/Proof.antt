@@ -13,13 +13,30 @@ use Rattle.search_numbering.proofs.number_copies.Statement.{statement}
 use Rattle.search_numbering.proofs.number_copies.Tie as tie
 
 abbrev Inv-loop : tie.InvT-loop
-Inv-loop preferences place first number notes₀ next₀ row₀ notes next row = (row ≤ length place) × (length notes ≡ max-rows) × (next ≤ number + row) × Numbered preferences number (firsts first (take row place)) next notes
+Inv-loop preferences place first number notes₀ next₀ row₀ notes next row = (row ≤ length place) × (length notes ≡ max-rows) × (next ≤ number + row) × Numbered
+    preferences number (firsts first (take row place)) next notes
 
 abbrev μ-loop : tie.MeasureT-loop
 μ-loop preferences place first number notes₀ next₀ row₀ notes next row = length place - row
 
+-- Back along the path, to the place behind a call.
+abbrev back-to-at-loop : tie.Joined1 Inv-loop μ-loop → tie.At-loop Inv-loop μ-loop
+back-to-at-loop at =
+    let in-loop = at .before .before .before .before .before .before in
+    in-loop .before
+
+abbrev back-to-start : tie.Joined1 Inv-loop μ-loop → tie.Start Inv-loop μ-loop
+back-to-start at = (back-to-at-loop at) .before .before .before .before .before
+
 loop-holds : tie.Need-loop-holds Inv-loop μ-loop
-loop-holds c = (omega arith, omega arith, omega arith, numbered-none (c .before .before .before .before .args .preferences .now) (c .before .before .before .before .args .first .now) (c .before .before .before .before .args .place .now) (c .before .before .before .before .args .number) (c .before .before .before .before .args .notes .now) (c .before .before .before .before .pre .1))
+loop-holds c =
+    let given = c .before .before .before .before .args in (
+      omega arith,
+      omega arith,
+      omega arith,
+      numbered-none (given .preferences .now) (given .first .now) (given .place .now) (given .number) (given .notes .now)
+          (c .before .before .before .before .pre .1),
+    )
 
 shared-slice-read-wide : tie.Need-shared-slice-read-wide Inv-loop μ-loop
 shared-slice-read-wide c = omega arith
@@ -28,7 +45,12 @@ wide-requires : tie.Need-wide-requires Inv-loop μ-loop
 wide-requires c κs = search needs
 
 shared-slice-read-wide-2 : tie.Need-shared-slice-read-wide-2 Inv-loop μ-loop
-shared-slice-read-wide-2 c = omega (arith, c .before .wide .ensures, c .before .before .shared-slice-known4 .given (c .before .before .before .before .loop .row))
+shared-slice-read-wide-2 c = omega (
+  arith,
+  c .before .wide .ensures,
+  c .before .before .shared-slice-known4 .given
+      (c .before .before .before .before .loop .row),
+)
 
 wide-requires-2 : tie.Need-wide-requires-2 Inv-loop μ-loop
 wide-requires-2 c κs = search needs
@@ -40,7 +62,12 @@ note-of-requires : tie.Need-note-of-requires Inv-loop μ-loop
 note-of-requires c κs = search needs
 
 slice-write-notes : tie.Need-slice-write-notes Inv-loop μ-loop
-slice-write-notes c = omega (arith, c .before .before .before .wide2 .ensures, c .before .before .before .before .shared-slice-known5 .given (c .before .before .before .before .before .wide .result))
+slice-write-notes c = omega (
+  arith,
+  c .before .before .before .wide2 .ensures,
+  c .before .before .before .before .shared-slice-known5 .given
+      (c .before .before .before .before .before .wide .result),
+)
 
 add-next : tie.Need-add-next Inv-loop μ-loop
 add-next c = omega arith
@@ -53,21 +80,30 @@ loop-less c = omega arith
 
 loop-again : tie.Need-loop-again Inv-loop μ-loop
 loop-again c =
-    let a = c .before .before .before .before .before .before .before .before .before .before .before .before .args in
-    let l = c .before .before .before .before .before .before .before .loop in
-    let byte : c .before .before .wide2 .result < length (l .notes) = omega (arith, c .before .before .wide2 .ensures, c .before .before .before .shared-slice-known5 .given (c .before .before .before .before .wide .result)) in
+    let wide2-call = c .before .before .wide2 in
+    let wide-call = c .before .before .before .before .wide in
+    let a = (back-to-start c) .args in
+    let l = (back-to-at-loop c) .loop in
+    let byte : wide2-call .result < length (l .notes) = omega (
+      arith,
+      wide2-call .ensures,
+      c .before .before .before .shared-slice-known5 .given
+          (wide-call .result),
+    ) in
     ⊎-elim
     (λ t. (
       omega arith,
-      ap length (t .2) ∙ length-set (l .notes) (c .before .before .wide2 .result) (t .1 .result) ∙ l .inv .1,
+      ap length (t .2) ∙ length-set (l .notes) (wide2-call .result) (t .1 .result) ∙ l .inv .1,
       omega arith,
-      rw (t .2, t .3) (numbered-new (a .preferences .now) (a .first .now) (a .place .now) (a .number) (l .row) (l .next) (l .notes) (omega arith) (l .inv .3) (c .before .before .before .before .wide .result) (c .before .before .wide2 .result) (c .before .before .before .before .wide .ensures) (c .before .before .wide2 .ensures) byte (t .0 .taken) (t .1 .result) (t .1 .ensures)),
+      rw (t .2, t .3) (numbered-new (a .preferences .now) (a .first .now) (a .place .now) (a .number) (l .row) (l .next) (l .notes) (omega arith) (l .inv .3)
+          (wide-call .result) (wide2-call .result) (wide-call .ensures) (wide2-call .ensures) byte (t .0 .taken) (t .1 .result) (t .1 .ensures)),
     ))
     (λ t. (
       omega arith,
       ap length (t .1) ∙ l .inv .1,
       omega arith,
-      rw (t .1, t .2) (numbered-old (a .preferences .now) (a .first .now) (a .place .now) (a .number) (l .row) (l .next) (l .notes) (omega arith) (l .inv .3) (c .before .before .before .before .wide .result) (c .before .before .wide2 .result) (c .before .before .before .before .wide .ensures) (c .before .before .wide2 .ensures) (t .0 .left)),
+      rw (t .1, t .2) (numbered-old (a .preferences .now) (a .first .now) (a .place .now) (a .number) (l .row) (l .next) (l .notes) (omega arith) (l .inv .3)
+          (wide-call .result) (wide2-call .result) (wide-call .ensures) (wide2-call .ensures) (t .0 .left)),
     ))
     (c .if1 .came)
 
@@ -76,7 +112,9 @@ same-length c = omega arith
 
 returns : tie.Need-returns Inv-loop μ-loop
 returns c =
-    let full : take (c .before .loop .row) (c .before .before .before .before .before .before .args .place .now) ≡ c .before .before .before .before .before .before .args .place .now = take-all (c .before .loop .row) (c .before .before .before .before .before .before .args .place .now) (omega arith) in
+    let given = c .before .before .before .before .before .before .args in
+    let place = given .place .now in
+    let full : take (c .before .loop .row) place ≡ place = take-all (c .before .loop .row) place (omega arith) in
     rw full at (c .before .loop .inv .3)
 
 pub number-copies-spec : {M : Type 1} → statement M

@@ -18,6 +18,12 @@ Inv-loop first notes k count work₀ i₀ work i = (i ≤ count) × (length work
 abbrev μ-loop : tie.MeasureT-loop
 μ-loop first notes k count work₀ i₀ work i = count - i
 
+-- Back along the path, to the place behind a call.
+abbrev back-to-start : tie.After-cell Inv-loop μ-loop → tie.Start Inv-loop μ-loop
+back-to-start at =
+    let after-slice-known = at .before .before .before .before .before .before in
+    after-slice-known .before .before .before
+
 loop-holds : tie.Need-loop-holds Inv-loop μ-loop
 loop-holds c = (omega arith, omega arith, refl)
 
@@ -53,7 +59,7 @@ loop-less c = omega arith
 
 loop-again : tie.Need-loop-again Inv-loop μ-loop
 loop-again c =
-    let a = c .before .before .before .before .before .before .before .before .before .args in
+    let a = (back-to-start c) .args in
     let l = c .before .before .before .before .before .loop in
     let byte = c .cell .ensures ∙ ap (λ (s : ℕ). 2 * weight (eqb (getD (a .notes .now) s 0) 2)) (c .before .before .wide .ensures) in (
       omega arith,

@@ -11,24 +11,24 @@ use Rattle.search_numbering.specs.Numbering.{first-place, first-among, m
 
 -- How many copies there are at the own positions before k.
 abbrev pub copies-before : List ℕ → List ℕ → List Bool → ℕ → ℕ
-copies-before splits place owns zero = zero
-copies-before splits place owns (suc k) =
-    cond (getD owns k false) (copies-before splits place owns k + length (copies-at splits place k)) (copies-before splits place owns k)
+copies-before differences place owns zero = zero
+copies-before differences place owns (suc k) =
+    cond (getD owns k false) (copies-before differences place owns k + length (copies-at differences place k)) (copies-before differences place owns k)
 
 -- The number of the copy that place i has at position k.
 unfoldable pub copy-number : List ℕ → List ℕ → List Bool → ℕ → ℕ → ℕ
-copy-number splits place owns i k = copies-before splits place owns k + index-of (first-place splits k i) (copies-at splits place k)
+copy-number differences place owns i k = copies-before differences place owns k + index-of (first-place differences k i) (copies-at differences place k)
 
 -- Every open own cell wants the preference of its copy's number; all else stays.
-pub record WantsFilled (kinds preferences place splits : List ℕ) (side : ℕ) (w u : List ℕ) : Type 0 where
+pub record WantsFilled (kinds preferences place differences : List ℕ) (side : ℕ) (w u : List ℕ) : Type 0 where
   pub wanted : (i k : ℕ) → i < length place → k < length kinds → getD (owned kinds side) k false ≡ true
-      → wants u i k ≡ prefer preferences (copy-number splits place (owned kinds side) i k)
+      → wants u i k ≡ prefer preferences (copy-number differences place (owned kinds side) i k)
   pub levels : (h j : ℕ) → cells u .level h j ≡ cells w .level h j
   pub values : (h j : ℕ) → getD (owned kinds side) j false ≡ false → cells u .value h j ≡ cells w .value h j
 
 -- The table of first places at position k, written for the first n places; it has zeros behind them.
 abbrev pub Grouped : List ℕ → ℕ → ℕ → List ℕ → Type 0
-Grouped splits k n first = (i : ℕ) → getD first i 0 ≡ first-among splits k n i
+Grouped differences k n first = (i : ℕ) → getD first i 0 ≡ first-among differences k n i
 
 -- The first places of the copies that the lent rows have, by the first row that has the copy.
 abbrev pub firsts : List ℕ → List ℕ → List ℕ

@@ -17,14 +17,19 @@ unfolding added
 returns c = rw (sym (c .before .numbers-fit .ensures) ∙ c .if1 .left)
 
 add-at-requires : tie.Need-add-at-requires
-add-at-requires c κs = let within = numbers-within (length (c .before .before .before .before .args .sets .now)) (c .before .before .before .before .args .to) (c .before .before .before .before .args .p) max-unknowns (c .before .before .numbers-fit .ensures) (c .before .if1 .taken) in (within .0, omega arith, omega arith)
+add-at-requires c κs =
+    let given = c .before .before .before .before .args in
+    let within = numbers-within (length (given .sets .now)) (given .to) (given .p) max-unknowns (c .before .before .numbers-fit .ensures)
+    (c .before .if1 .taken) in
+    (within .0, omega arith, omega arith)
 
 same-length : tie.Need-same-length
 same-length c = search needs
 
 returns-2 : tie.Need-returns-2
 unfolding added
-returns-2 c = rw (sym (c .before .before .before .before .before .numbers-fit .ensures) ∙ c .before .before .before .before .if1 .taken) (c .before .before .add-at .ensures)
+returns-2 c = rw (sym (c .before .before .before .before .before .numbers-fit .ensures) ∙ c .before .before .before .before .if1 .taken)
+    (c .before .before .add-at .ensures)
 
 pub add-spec : {M : Type 1} → statement M
 add-spec = tie.close (tie.spec numbers-fit-requires returns add-at-requires same-length returns-2)

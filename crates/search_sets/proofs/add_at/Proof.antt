@@ -37,8 +37,9 @@ same-length c = search needs
 returns : tie.Need-returns
 unfolding bit-added
 returns c =
-    let at = 2 * c .before .args .to + c .before .args .p / 64 in
-    ap (λ (x : ℕ). set (c .before .args .sets .now) at (bitOr (getD (c .before .args .sets .now) at 0) x)) (one-shifted (c .before .args .p % 64) (omega arith))
+    let given = c .before .args in
+    let at = 2 * given .to + given .p / 64 in
+    ap (λ (x : ℕ). set (given .sets .now) at (bitOr (getD (given .sets .now) at 0) x)) (one-shifted (given .p % 64) (omega arith))
 
 pub add-at-spec : {M : Type 1} → statement M
 add-at-spec =

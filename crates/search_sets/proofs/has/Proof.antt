@@ -12,7 +12,9 @@ numbers-fit-requires : tie.Need-numbers-fit-requires
 numbers-fit-requires c κs = search needs
 
 has-at-requires : tie.Need-has-at-requires
-has-at-requires c κs = numbers-within (length (c .before .before .before .args .sets .now)) (c .before .before .before .args .of) (c .before .before .before .args .p) max-unknowns (c .before .numbers-fit .ensures) (c .if1 .taken)
+has-at-requires c κs =
+    let given = c .before .before .before .args in
+    numbers-within (length (given .sets .now)) (given .of) (given .p) max-unknowns (c .before .numbers-fit .ensures) (c .if1 .taken)
 
 returns : tie.Need-returns
 unfolding has

@@ -16,14 +16,19 @@ unfolding united
 returns c = rw (sym (c .before .numbers-fit .ensures) ∙ c .if1 .left)
 
 unite-at-requires : tie.Need-unite-at-requires
-unite-at-requires c κs = let within = numbers-within (length (c .before .before .before .before .args .sets .now)) (c .before .before .before .before .args .to) (c .before .before .before .before .args .from) set-places (c .before .before .numbers-fit .ensures) (c .before .if1 .taken) in (within .0, omega arith, omega arith)
+unite-at-requires c κs =
+    let given = c .before .before .before .before .args in
+    let within = numbers-within (length (given .sets .now)) (given .to) (given .from) set-places (c .before .before .numbers-fit .ensures)
+    (c .before .if1 .taken) in
+    (within .0, omega arith, omega arith)
 
 same-length : tie.Need-same-length
 same-length c = search needs
 
 returns-2 : tie.Need-returns-2
 unfolding united
-returns-2 c = rw (sym (c .before .before .before .before .before .numbers-fit .ensures) ∙ c .before .before .before .before .if1 .taken) (c .before .before .unite-at .ensures)
+returns-2 c = rw (sym (c .before .before .before .before .before .numbers-fit .ensures) ∙ c .before .before .before .before .if1 .taken)
+    (c .before .before .unite-at .ensures)
 
 pub unite-spec : {M : Type 1} → statement M
 unite-spec =

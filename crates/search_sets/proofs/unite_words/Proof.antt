@@ -16,14 +16,17 @@ unfolding united-words
 returns c = rw (sym (c .before .has-place .ensures) ∙ c .if1 .left)
 
 join-requires : tie.Need-join-requires
-join-requires c κs = let within = place-there (length (c .before .before .before .before .args .sets .now)) (c .before .before .before .before .args .to) (c .before .before .has-place .ensures) (c .before .if1 .taken) in (within .0, omega arith)
+join-requires c κs =
+    let given = c .before .before .before .before .args in
+    let within = place-there (length (given .sets .now)) (given .to) (c .before .before .has-place .ensures) (c .before .if1 .taken) in (within .0, omega arith)
 
 same-length : tie.Need-same-length
 same-length c = search needs
 
 returns-2 : tie.Need-returns-2
 unfolding united-words
-returns-2 c = rw (sym (c .before .before .before .before .before .has-place .ensures) ∙ c .before .before .before .before .if1 .taken) (c .before .before .join .ensures)
+returns-2 c = rw (sym (c .before .before .before .before .before .has-place .ensures) ∙ c .before .before .before .before .if1 .taken)
+    (c .before .before .join .ensures)
 
 pub unite-words-spec : {M : Type 1} → statement M
 unite-words-spec =

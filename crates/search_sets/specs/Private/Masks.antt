@@ -21,12 +21,12 @@ words low high l = cond (ltb l 64) (odd (low / 2 ^ l)) (odd (high / 2 ^ (l - 64)
 abbrev pub set-at : List ℕ → ℕ → Mask
 set-at s p = words (getD s (2 * p) 0) (getD s (2 * p + 1) 0)
 
--- The sets of the positions, and the set behind them by which the last failure was reached.
+-- The sets of the positions, and the set behind them by which the last conflict was reached.
 unfoldable pub masks : List ℕ → ℕ → Mask
 masks s p = cond (ltb p max-unknowns) (set-at s p) (λ l. false)
 
-unfoldable pub cut : List ℕ → Mask
-cut s = set-at s max-unknowns
+unfoldable pub conflict : List ℕ → Mask
+conflict s = set-at s max-unknowns
 
 -- Only the set at `to` changes, and it loses nothing.
 pub record SetGrown (to : ℕ) (s u : List ℕ) : Type 0 where
@@ -57,12 +57,12 @@ pub record Trimmed (k : ℕ) (s u : List ℕ) : Type 0 where
   pub below : (p l : ℕ) → l < k → set-at s p l ≡ true → set-at u p l ≡ true
   pub behind : (p l : ℕ) → max-unknowns ≤ p → set-at u p l ≡ set-at s p l
 
--- For each position from k to `at` that the failure's set has, it takes in the set of that position.
-pub record Excused (k at : ℕ) (s t : List ℕ) : Type 0 where
+-- For each position from k to `at` that the conflict's set has, it takes in the set of that position.
+pub record Resolved (k at : ℕ) (s t : List ℕ) : Type 0 where
   pub grown : SetGrown max-unknowns s t
   pub takes : (p : ℕ) → k ≤ p → p < at → set-at s max-unknowns p ≡ true → (l : ℕ) → set-at s p l ≡ true → set-at t max-unknowns l ≡ true
 
 -- The sets of a clause's positions are united at `to`.
-pub record Blamed (clause : List ℕ) (to : ℕ) (s t : List ℕ) : Type 0 where
+pub record ReasonsAdded (clause : List ℕ) (to : ℕ) (s t : List ℕ) : Type 0 where
   pub grown : SetGrown to s t
   pub takes : Every (λ c. (position c ≡ to) ⊎ ((l : ℕ) → set-at s (position c) l ≡ true → set-at t to l ≡ true)) clause

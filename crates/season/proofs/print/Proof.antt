@@ -12,6 +12,17 @@ use borrow.Author.Needs.{needs}
 use Rattle.season.proofs.print.Statement.{statement}
 use Rattle.season.proofs.print.Tie as tie
 
+-- Back along the path, to the place behind a call.
+abbrev back-to-check : tie.After-slice-known4 → tie.After-check
+back-to-check at =
+    let after-struct-known = at .before .before .before .before .before .before in
+    after-struct-known .before
+
+abbrev back-to-start : tie.After-slice-known2 → tie.Start
+back-to-start at =
+    let after-shared-slice-known = at .before .before .before .before .before .before in
+    after-shared-slice-known .before
+
 refusal-requires : tie.Need-refusal-requires
 refusal-requires c κs = search needs
 
@@ -20,7 +31,7 @@ same-length c = search needs
 
 returns : tie.Need-returns
 returns c =
-    let text = c .before .before .before .before .before .before .before .args .text .now in
+    let text = (back-to-start c) .args .text .now in
     let put = c .before .before .refusal .ensures in
     rw (printed-long text (c .before .before .before .before .if1 .taken)) (put .0, (put .1, season-right text))
 
@@ -50,7 +61,7 @@ same-length-3 c = search needs
 
 returns-3 : tie.Need-returns-3
 returns-3 c =
-    let checked = c .before .before .before .before .before .before .before in
+    let checked = (back-to-check c) in
     let text = checked .before .before .before .before .args .text .now in
     let none = c .before .before .before .before .before .if2 .left in
     let many : max-studies < length (lines text) = omega (arith, checked .check .ensures .counted none, c .before .before .before .before .if3 .taken) in
@@ -59,7 +70,9 @@ returns-3 c =
     (put .0, (put .1, season-right text))
 
 read-requires : tie.Need-read-requires
-read-requires c κs = (omega arith, sym (c .before .before .before .check .ensures .right) ∙ c .before .if2 .left, omega (arith, c .before .before .before .check .ensures .counted (c .before .if2 .left)))
+read-requires c κs =
+    let check-call = c .before .before .before .check in
+    (omega arith, sym (check-call .ensures .right) ∙ c .before .if2 .left, omega (arith, check-call .ensures .counted (c .before .if2 .left)))
 
 over-first-requires : tie.Need-over-first-requires
 over-first-requires c κs = search needs

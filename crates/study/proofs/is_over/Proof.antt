@@ -1,7 +1,7 @@
 -- `study::is_over` meets its contract. Assumes nothing.
 use mathlib.Core.Path.{ap}
 use borrow.Author.Needs.{needs}
-use Rattle.study.specs.Study.{is-verdict}
+use Rattle.study.specs.Private.Turns.{is-end}
 use Rattle.study.proofs.TurnLaws.{over-if-last}
 use Rattle.study.proofs.is_over.Statement.{statement}
 use Rattle.study.proofs.is_over.Tie as tie
@@ -31,16 +31,16 @@ returns-2 : tie.Need-returns-2
 returns-2 c = search needs
 
 returns-3 : tie.Need-returns-3
-returns-3 c = over-if-last (c .before .before .args .answer) _ (ap is-verdict (c .enum-told3 .given .1))
+returns-3 c = over-if-last (c .before .before .args .answer) _ (ap is-end (c .enum-told3 .given .1))
 
 returns-4 : tie.Need-returns-4
-returns-4 c = over-if-last (c .before .before .args .answer) _ (ap is-verdict (c .enum-told4 .given .1))
+returns-4 c = over-if-last (c .before .before .args .answer) _ (ap is-end (c .enum-told4 .given .1))
 
 returns-5 : tie.Need-returns-5
-returns-5 c = over-if-last (c .before .before .args .answer) _ (ap is-verdict (c .enum-told5 .given .1))
+returns-5 c = over-if-last (c .before .before .args .answer) _ (ap is-end (c .enum-told5 .given .1))
 
 returns-6 : tie.Need-returns-6
-returns-6 c = over-if-last (c .before .before .args .answer) _ (ap is-verdict (c .enum-told6 .given .1))
+returns-6 c = search needs
 
 pub is-over-spec : {M : Type 1} → statement M
 is-over-spec =

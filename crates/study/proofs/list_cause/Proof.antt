@@ -20,30 +20,30 @@ returns-3 c =
     let l = c .before .before .before .before .args .settings .now in
     sym (by-list-tests l (ne-eqb (length l) 0 (c .before .before .if1 .left)) (le-ltb 32 (length l) (c .before .if2 .left)) (ne-eqb (length l % 4) 0 (c .if3 .taken)) refl refl)
 
-has-unknown-requires : tie.Need-has-unknown-requires
-has-unknown-requires c κs = tt
+any-setting-requires : tie.Need-any-setting-requires
+any-setting-requires c κs = tt
 
 returns-4 : tie.Need-returns-4
 returns-4 c =
     let l = c .before .before .before .before .before .before .args .settings .now in
-    let unknown-one = sym (c .before .has-unknown .ensures) ∙ c .if4 .taken in
+    let unknown-one = sym (c .before .any-setting .ensures) ∙ c .if4 .taken in
     sym (by-list-tests l (ne-eqb (length l) 0 (c .before .before .before .before .if1 .left)) (le-ltb 32 (length l) (c .before .before .before .if2 .left)) (eq-eqb (length l % 4) 0 (c .before .before .if3 .left)) unknown-one refl)
 
-has-no-round-requires : tie.Need-has-no-round-requires
-has-no-round-requires c κs = tt
+any-setting-requires-2 : tie.Need-any-setting-requires-2
+any-setting-requires-2 c κs = tt
 
 returns-5 : tie.Need-returns-5
 returns-5 c =
     let l = c .before .before .before .before .before .before .before .before .args .settings .now in
-    let all-known = sym (c .before .before .before .has-unknown .ensures) ∙ c .before .before .if4 .left in
-    let without = sym (c .before .has-no-round .ensures) ∙ c .if5 .taken in
+    let all-known = sym (c .before .before .before .any-setting .ensures) ∙ c .before .before .if4 .left in
+    let without = sym (c .before .any-setting2 .ensures) ∙ c .if5 .taken in
     sym (by-list-tests l (ne-eqb (length l) 0 (c .before .before .before .before .before .before .if1 .left)) (le-ltb 32 (length l) (c .before .before .before .before .before .if2 .left)) (eq-eqb (length l % 4) 0 (c .before .before .before .before .if3 .left)) all-known without)
 
 returns-6 : tie.Need-returns-6
 returns-6 c =
     let l = c .before .before .before .before .before .before .before .before .args .settings .now in
-    let all-known = sym (c .before .before .before .has-unknown .ensures) ∙ c .before .before .if4 .left in
-    let with-rounds = sym (c .before .has-no-round .ensures) ∙ c .if5 .left in
+    let all-known = sym (c .before .before .before .any-setting .ensures) ∙ c .before .before .if4 .left in
+    let with-rounds = sym (c .before .any-setting2 .ensures) ∙ c .if5 .left in
     sym (by-list-tests l (ne-eqb (length l) 0 (c .before .before .before .before .before .before .if1 .left)) (le-ltb 32 (length l) (c .before .before .before .before .before .if2 .left)) (eq-eqb (length l % 4) 0 (c .before .before .before .before .if3 .left)) all-known with-rounds)
 
 pub list-cause-spec : {M : Type 1} → statement M
@@ -53,8 +53,8 @@ list-cause-spec =
     returns
     returns-2
     returns-3
-    has-unknown-requires
+    any-setting-requires
     returns-4
-    has-no-round-requires
+    any-setting-requires-2
     returns-5
     returns-6)

@@ -2,16 +2,20 @@
 -- Assumes nothing.
 use Prim.Native.Nat.{ℕ, zero, suc, _*_, _≤_}
 use mathlib.Core.Path.{_≡_}
+use mathlib.Core.Bool.{Bool, true, false, not, cond}
 use mathlib.Core.List.{List}
-use mathlib.Core.Option.{some}
+use lib.Dec.{eqb}
 use lib.IntN.{ℤ}
-use lib.ListN.{length, take, drop, getElem?}
+use lib.ListN.{length, take, drop}
+use Rattle.formula.specs.Causes.{any}
 use Rattle.trimming_rules.specs.Trimming.{trimmed}
+use Rattle.engine.specs.declared.run.Answer.{Answer}
+use Rattle.engine.specs.declared.run.Answer.the-variants.{False, True, Spent, NoRoomUniversal, NoRoomExistential, Refused}
 use Rattle.engine.specs.Outcome.{Areas}
-use Rattle.engine.specs.Ended.{Ended}
+use Rattle.study.specs.declared.Asked.{Asked}
+use Rattle.study.specs.declared.Asked.the-variants.{Unknown, NoRound, Trims}
 use Rattle.study.specs.declared.Setting.{Setting}
-use Rattle.study.specs.declared.Studied.{Studied}
-use Rattle.study.specs.Study.{setting-from, settings-of, given-of, ending, in-turn}
+use Rattle.study.specs.Study.{setting-from, settings-of, unknown, no-round, trims, list-cause, cause}
 
 -- The setting at a place of a table.
 abbrev pub setting-at : List ℕ → ℕ → Setting
@@ -22,10 +26,35 @@ abbrev pub formula-from : ℕ → List ℤ → List ℤ → List ℤ
 formula-from zero literals trimmed-ones = literals
 formula-from (suc n) literals trimmed-ones = trimmed-ones
 
--- The first entries of a table are the trimmed literals.
-pub record Holds (kinds : List ℕ) (literals table : List ℤ) (entries : ℕ) : Type 0 where
+-- The tests of a list's settings.
+abbrev pub asked-of : Asked → Setting → Bool
+asked-of Unknown s = unknown s
+asked-of NoRound s = no-round s
+asked-of Trims s = trims s
+
+-- A list without a cause, none of whose settings trims.
+unfoldable pub at-once : List ℕ → Bool
+at-once settings = cond (eqb (list-cause settings) 0) (not (any trims (settings-of settings))) false
+
+-- No run follows a verdict, nor a refusal: the next one would be refused too.
+abbrev pub is-end : Answer → Bool
+is-end False = true
+is-end True = true
+is-end Spent = false
+is-end NoRoomUniversal = false
+is-end NoRoomExistential = false
+is-end (Refused n) = true
+
+-- Where a setting trims, the first entries of a table are the trimmed literals.
+pub record Holds (trim : Bool) (kinds : List ℕ) (literals table : List ℤ) (entries : ℕ) : Type 0 where
   pub inside : entries ≤ length table
-  pub held : take entries table ≡ trimmed kinds literals
+  pub held : trim ≡ true → take entries table ≡ trimmed kinds literals
+
+-- What the runs in turn ask for: a list without a cause, and where a setting trims that no cause applies, and the trimmed literals.
+pub record Ready (kinds : List ℕ) (literals : List ℤ) (settings : List ℕ) (found : Areas) (table : List ℤ) (entries : ℕ) : Type 0 where
+  pub listed : list-cause settings ≡ 0
+  pub known : any trims (settings-of settings) ≡ true → cause kinds literals settings found ≡ 0
+  pub holds : Holds (any trims (settings-of settings)) kinds literals table entries
 
 -- Areas of one size.
 pub record SameSizes (a b : Areas) : Type 0 where
@@ -36,12 +65,3 @@ pub record SameSizes (a b : Areas) : Type 0 where
   pub existential-marks : length (a .existential-marks) ≡ length (b .existential-marks)
   pub existential-counts : length (a .existential-counts) ≡ length (b .existential-counts)
   pub work : length (a .work) ≡ length (b .work)
-
--- The runs in turn, and the last of them.
-pub record Turned (kinds : List ℕ) (literals : List ℤ) (settings : List ℕ) (found : Areas) (r : Studied) (exit : Areas) : Type 0 where
-  pub turned-so : ending (r .outcome) (r .setting) exit ≡ in-turn kinds literals (settings-of settings) 0 found
-  pub setting : Setting
-  pub listed : getElem? (settings-of settings) (r .setting) ≡ some setting
-  pub last-found : Areas
-  pub same-sizes : SameSizes last-found found
-  pub ended : Ended (given-of kinds literals setting last-found) (r .outcome) exit

@@ -11,28 +11,30 @@ use Rattle.text.specs.declared.body.Counts.{Counts}
 use Rattle.text.specs.declared.opening.Opened.{Opened}
 use Rattle.lines.specs.Lines.{Bytes, lines, words, rest, second, third, fourth}
 use Rattle.lines.specs.Numbers.{number}
+use Rattle.lines.specs.Places.{before}
 use Rattle.formula.specs.Meaning.{bit}
 use Rattle.named.specs.Named.{max-places, among, signed}
 use Rattle.named.specs.Names.{Distinct, UpTo, Known}
 use Rattle.named.specs.Closing.{insert, closed-names}
 pub use Rattle.text_closing.specs.Written.{free-in, placed-in}
-use Rattle.text.specs.Reading.{max-variables, name-cause, State, Step, went, unless, with-prefix, with-entries, bind-all, add-entries, literal-cause, entry, free-with, gate-cause, first-cause, inputs-cause, gate-of, clauses-of-gate, entries-of-gate, limit-cause, ending, max-items, output-range, problem-cause, Form, clause-list, gate-list, form-of, problem, after-comments, body, scan, Scan, whole, stopped}
+use Rattle.text.specs.Reading.{max-variables, name-cause, State, Step, went, unless, with-prefix, with-entries, bind-all, add-entries, literal-cause, entry, free-with, gate-cause, first-cause, inputs-cause, gate-of, clauses-of-gate, entries-of-gate, limit-cause, ending, max-items, output-range, problem-cause, Items, clause-list, gate-list, items-of, problem, after-comments, body, scan, Scan, whole, stopped}
+use Rattle.text.specs.Form.{p-words}
 
 -- The cause of a p line, whose shape is good or not.
 unfoldable pub range-cause : Bool → Bool → ℕ → ℕ → ℕ → ℕ
 range-cause gates good v c o = cond good (cond (ltb max-variables v) 11 (cond (ltb (max-items gates) c) 11 (output-range gates o))) 10
 
--- The form of a text whose p line, line k, has the literal of the name v, with its sign, if it has one.
-abbrev pub form-at : Bool → Bool → ℕ → ℕ → Form
-form-at false minus v k = clause-list
-form-at true minus v k = gate-list (signed minus v) k
+-- The lines behind the prefix of a text whose p line, line k, has the literal of the name v, with its sign, if it has one.
+abbrev pub items-at : Bool → Bool → ℕ → ℕ → Items
+items-at false minus v k = clause-list
+items-at true minus v k = gate-list (signed minus v) k
 
 pub record Problem-read (gates : Bool) (line : Bytes) (cause variables clauses output : ℕ) (minus : Bool) : Type 0 where
   pub right : cause ≡ problem-cause gates line
   pub v : variables ≡ number (third (words line))
   pub c : clauses ≡ number (fourth (words line))
   pub small : cause ≡ 0 → variables ≤ max-variables
-  pub form : (k : ℕ) → form-at gates minus output k ≡ form-of gates (words line) k
+  pub items : (k : ℕ) → items-at gates minus output k ≡ items-of gates (words line) k
   pub named : cause ≡ 0 → gates ≡ true → output ≤ max-variables
 
 -- The state after the p line.
@@ -42,7 +44,7 @@ fresh o = record { variables = o .variables; clauses = o .clauses; kinds = []; n
 -- A text is read up to its p line, tables of these lengths being lent.
 pub record Opened-read (gates : Bool) (text : Bytes) (kinds literals names : ℕ) (o : Opened) : Type 0 where
   pub refusal : (o .cause ≡ 0 → ⊥) → scan gates text kinds literals names ≡ stopped (o .cause) (o .line)
-  pub right : o .cause ≡ 0 → scan gates text kinds literals names ≡ body (form-at gates (o .negative) (o .output) (o .line)) (fresh o) (o .line + 1) (lines (drop (o .at) text))
+  pub right : o .cause ≡ 0 → scan gates text kinds literals names ≡ body (items-at gates (o .negative) (o .output) (o .line)) (fresh o) (o .line + 1) (lines (drop (o .at) text))
   pub sizes : o .cause ≡ 0 → (kinds ≡ max-unknowns) × (literals ≡ max-entries) × (names ≡ max-unknowns)
   pub within : o .cause ≡ 0 → o .at ≤ length text
   pub line : o .cause ≡ 0 → o .line ≤ o .at
@@ -181,3 +183,4 @@ pub record Comments-read (text : Bytes) (at line : ℕ) : Type 0 where
   pub within : at ≤ length text
   pub small : line ≤ at + 1
   pub right : (gates : Bool) → problem gates line (lines (drop at text)) ≡ after-comments gates 1 (lines text)
+  pub opens : p-words (lines text) ≡ words (take (before 10 (drop at text)) (drop at text))

@@ -20,10 +20,15 @@ same-requires-2 : tie.Need-same-requires-2
 same-requires-2 c κs = search needs
 
 returns-2 : tie.Need-returns-2
-returns-2 c = rw (sym (c .before .before .before .before .same .ensures) ∙ c .before .before .before .if1 .left, sym (c .before .same2 .ensures) ∙ c .if2 .taken) refl
+returns-2 c = rw (
+  sym (c .before .before .before .before .same .ensures) ∙ c .before .before .before .if1 .left,
+  sym (c .before .same2 .ensures) ∙
+      c .if2 .taken,
+) refl
 
 returns-3 : tie.Need-returns-3
-returns-3 c = rw (sym (c .before .before .before .before .same .ensures) ∙ c .before .before .before .if1 .left, sym (c .before .same2 .ensures) ∙ c .if2 .left) refl
+returns-3 c = rw (sym (c .before .before .before .before .same .ensures) ∙ c .before .before .before .if1 .left, sym (c .before .same2 .ensures) ∙ c .if2 .left)
+    refl
 
 pub function-of-spec : {M : Type 1} → statement M
 function-of-spec =

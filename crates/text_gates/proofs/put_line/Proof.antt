@@ -9,7 +9,10 @@ is-gate-requires : tie.Need-is-gate-requires
 is-gate-requires c κs = tt
 
 returns : tie.Need-returns
-returns c = line-unshaped (c .before .before .before .args .line .now) (c .before .before .before .args .v) (c .before .before .before .args .made) (c .before .before .before .args .m) (c .before .before .before .args .places .now) (c .before .before .before .args .literals .now) (sym (c .before .is-gate .ensures) ∙ c .if1 .left)
+returns c =
+    let given = c .before .before .before .args in
+    line-unshaped (given .line .now) (given .v) (given .made) (given .m) (given .places .now) (given .literals .now)
+    (sym (c .before .is-gate .ensures) ∙ c .if1 .left)
 
 put-clauses-requires : tie.Need-put-clauses-requires
 put-clauses-requires c κs = sym (c .before .before .is-gate .ensures) ∙ c .before .if1 .taken

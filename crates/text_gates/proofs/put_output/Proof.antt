@@ -14,37 +14,59 @@ is-marked-requires : tie.Need-is-marked-requires
 is-marked-requires c κs = tt
 
 returns : tie.Need-returns
-returns c = output-unknown (c .before .before .args .negative) (c .before .before .args .v) (c .before .before .args .made) (c .before .before .args .m) (c .before .before .args .places .now) (c .before .before .args .literals .now) (sym (c .before .is-marked .ensures) ∙ c .if1 .left)
+returns c =
+    let given = c .before .before .args in
+    output-unknown (given .negative) (given .v) (given .made) (given .m) (given .places .now) (given .literals .now)
+    (sym (c .before .is-marked .ensures) ∙ c .if1 .left)
 
 returns-2 : tie.Need-returns-2
-returns-2 c = output-over (c .before .before .before .args .negative) (c .before .before .before .args .v) (c .before .before .before .args .made) (c .before .before .before .args .m) (c .before .before .before .args .places .now) (c .before .before .before .args .literals .now) (sym (c .before .before .is-marked .ensures) ∙ c .before .if1 .taken) (c .if2 .taken)
+returns-2 c =
+    let given = c .before .before .before .args in
+    output-over (given .negative) (given .v) (given .made) (given .m) (given .places .now) (given .literals .now)
+    (sym (c .before .before .is-marked .ensures) ∙ c .before .if1 .taken) (c .if2 .taken)
 
 has-two-requires : tie.Need-has-two-requires
 has-two-requires c κs = tt
 
 returns-3 : tie.Need-returns-3
-returns-3 c = output-full (c .before .before .before .before .before .args .negative) (c .before .before .before .before .before .args .v) (c .before .before .before .before .before .args .made) (c .before .before .before .before .before .args .m) (c .before .before .before .before .before .args .places .now) (c .before .before .before .before .before .args .literals .now) (sym (c .before .before .before .before .is-marked .ensures) ∙ c .before .before .before .if1 .taken) (c .before .before .if2 .left) (sym (c .before .has-two .ensures) ∙ c .if3 .left)
+returns-3 c =
+    let given = c .before .before .before .before .before .args in
+    output-full (given .negative) (given .v) (given .made) (given .m) (given .places .now) (given .literals .now)
+    (sym (c .before .before .before .before .is-marked .ensures) ∙ c .before .before .before .if1 .taken) (c .before .before .if2 .left)
+    (sym (c .before .has-two .ensures) ∙ c .if3 .left)
 
 signed-requires : tie.Need-signed-requires
 signed-requires c κs = tt
 
 mul-t8 : tie.Need-mul-t8
-mul-t8 c = omega (arith, ltb-true (c .before .before .before .before .before .before .args .m + 1) (length (c .before .before .before .before .before .before .args .literals .now)) (sym (c .before .before .has-two .ensures) ∙ c .before .if3 .taken))
+mul-t8 c =
+    let given = c .before .before .before .before .before .before .args in
+    omega (arith, ltb-true (given .m + 1) (length (given .literals .now)) (sym (c .before .before .has-two .ensures) ∙ c .before .if3 .taken))
 
 slice-set-from-literals : tie.Need-slice-set-from-literals
-slice-set-from-literals c = omega (arith, ltb-true (c .before .before .before .before .before .before .args .m + 1) (length (c .before .before .before .before .before .before .args .literals .now)) (sym (c .before .before .has-two .ensures) ∙ c .before .if3 .taken))
+slice-set-from-literals c =
+    let given = c .before .before .before .before .before .before .args in
+    omega (arith, ltb-true (given .m + 1) (length (given .literals .now)) (sym (c .before .before .has-two .ensures) ∙ c .before .if3 .taken))
 
 add-literals : tie.Need-add-literals
-add-literals c = omega (arith, ltb-true (c .before .before .before .before .before .before .args .m + 1) (length (c .before .before .before .before .before .before .args .literals .now)) (sym (c .before .before .has-two .ensures) ∙ c .before .if3 .taken))
+add-literals c =
+    let given = c .before .before .before .before .before .before .args in
+    omega (arith, ltb-true (given .m + 1) (length (given .literals .now)) (sym (c .before .before .has-two .ensures) ∙ c .before .if3 .taken))
 
 mul-literals : tie.Need-mul-literals
-mul-literals c = omega (arith, ltb-true (c .before .before .before .before .before .before .args .m + 1) (length (c .before .before .before .before .before .before .args .literals .now)) (sym (c .before .before .has-two .ensures) ∙ c .before .if3 .taken))
+mul-literals c =
+    let given = c .before .before .before .before .before .before .args in
+    omega (arith, ltb-true (given .m + 1) (length (given .literals .now)) (sym (c .before .before .has-two .ensures) ∙ c .before .if3 .taken))
 
 slice-set-of-literals : tie.Need-slice-set-of-literals
-slice-set-of-literals c = simp length-set (omega (arith, ltb-true (c .before .before .before .before .before .before .args .m + 1) (length (c .before .before .before .before .before .before .args .literals .now)) (sym (c .before .before .has-two .ensures) ∙ c .before .if3 .taken)))
+slice-set-of-literals c =
+    let given = c .before .before .before .before .before .before .args in
+    simp length-set (omega (arith, ltb-true (given .m + 1) (length (given .literals .now)) (sym (c .before .before .has-two .ensures) ∙ c .before .if3 .taken)))
 
 add-t8 : tie.Need-add-t8
-add-t8 c = omega (arith, ltb-true (c .before .before .before .before .before .before .args .m + 1) (length (c .before .before .before .before .before .before .args .literals .now)) (sym (c .before .before .has-two .ensures) ∙ c .before .if3 .taken))
+add-t8 c =
+    let given = c .before .before .before .before .before .before .args in
+    omega (arith, ltb-true (given .m + 1) (length (given .literals .now)) (sym (c .before .before .has-two .ensures) ∙ c .before .if3 .taken))
 
 add-t13 : tie.Need-add-t13
 add-t13 c = omega (arith, c .before .before .before .if2 .left)
@@ -55,8 +77,11 @@ same-length c = simp length-set refl
 returns-4 : tie.Need-returns-4
 returns-4 c =
     let given = c .before .before .before .before .before .before .args in
-    output-put (given .negative) (given .v) (given .made) (given .m) (given .places .now) (given .literals .now) (sym (c .before .before .before .before .before .is-marked .ensures) ∙ c .before .before .before .before .if1 .taken) (c .before .before .before .if2 .left) (sym (c .before .before .has-two .ensures) ∙ c .before .if3 .taken)
-    (ap (λ (z : ℤ). set (set (given .literals .now) (given .m) z) (given .m + 1) (pos 0)) (signed-bits (given .negative) (given .v) (c .signed .result) (omega arith) (c .signed .ensures)))
+    output-put (given .negative) (given .v) (given .made) (given .m) (given .places .now) (given .literals .now)
+    (sym (c .before .before .before .before .before .is-marked .ensures) ∙ c .before .before .before .before .if1 .taken)
+    (c .before .before .before .if2 .left) (sym (c .before .before .has-two .ensures) ∙ c .before .if3 .taken)
+    (ap (λ (z : ℤ). set (set (given .literals .now) (given .m) z) (given .m + 1) (pos 0)) (signed-bits (given .negative) (given .v) (c .signed .result)
+    (omega arith) (c .signed .ensures)))
 
 pub put-output-spec : {M : Type 1} → statement M
 put-output-spec =

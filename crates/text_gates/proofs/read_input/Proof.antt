@@ -7,17 +7,28 @@ use borrow.Author.Needs.{needs}
 use Rattle.text_gates.proofs.read_input.Statement.{statement}
 use Rattle.text_gates.proofs.read_input.Tie as tie
 
+-- Back along the path, to the place behind a call.
+abbrev back-to-start : tie.After-signed → tie.Start
+back-to-start at =
+    let after-shared-slice-known = at .before .before .before .before .before .before in
+    after-shared-slice-known .before
+
 magnitude-requires : tie.Need-magnitude-requires
 magnitude-requires c κs = search needs
 
 returns : tie.Need-returns
-returns c = input-above (c .before .before .before .args .word .now) (c .before .before .before .args .places .now) (c .before .magnitude .ensures) (c .if1 .taken)
+returns c =
+    let given = c .before .before .before .args in
+    input-above (given .word .now) (given .places .now) (c .before .magnitude .ensures) (c .if1 .taken)
 
 is-marked-requires : tie.Need-is-marked-requires
 is-marked-requires c κs = tt
 
 returns-2 : tie.Need-returns-2
-returns-2 c = input-unknown (c .before .before .before .before .before .args .word .now) (c .before .before .before .before .before .args .places .now) (c .before .before .before .magnitude .ensures) (c .before .before .if1 .left) (sym (c .before .is-marked .ensures) ∙ c .if2 .left)
+returns-2 c =
+    let given = c .before .before .before .before .before .args in
+    input-unknown (given .word .now) (given .places .now) (c .before .before .before .magnitude .ensures) (c .before .before .if1 .left)
+    (sym (c .before .is-marked .ensures) ∙ c .if2 .left)
 
 negative-requires : tie.Need-negative-requires
 negative-requires c κs = search needs
@@ -29,7 +40,12 @@ signed-requires : tie.Need-signed-requires
 signed-requires c κs = tt
 
 returns-3 : tie.Need-returns-3
-returns-3 c = input-taken (c .before .before .before .before .before .before .before .args .word .now) (c .before .before .before .before .before .before .before .args .places .now) (c .before .before .before .before .before .magnitude .ensures) (c .before .before .before .before .if1 .left) (sym (c .before .before .before .is-marked .ensures) ∙ c .before .before .if2 .taken) (c .signed .ensures ∙ ap (λ b. with-sign b (c .before .before .before .before .before .magnitude .result)) (c .before .negative .ensures))
+returns-3 c =
+    let magnitude-call = c .before .before .before .before .before .magnitude in
+    let given = (back-to-start c) .args in
+    input-taken (given .word .now) (given .places .now) (magnitude-call .ensures) (c .before .before .before .before .if1 .left)
+    (sym (c .before .before .before .is-marked .ensures) ∙ c .before .before .if2 .taken)
+    (c .signed .ensures ∙ ap (λ b. with-sign b (magnitude-call .result)) (c .before .negative .ensures))
 
 pub read-input-spec : {M : Type 1} → statement M
 read-input-spec =

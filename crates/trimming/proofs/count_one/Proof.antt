@@ -16,16 +16,20 @@ element-copy-out-counts : tie.Need-element-copy-out-counts
 element-copy-out-counts c = search needs
 
 add-counts : tie.Need-add-counts
-add-counts c = let h = (c .before .before .pre .1) ((c .before .before .args .x)) in omega arith
+add-counts c = let h = (c .before .before .pre .1) (c .before .before .args .x) in omega arith
 
 element-write-counts : tie.Need-element-write-counts
 element-write-counts c = search needs
 
 returns : tie.Need-returns
-returns c = (length-set ((c .before .before .args .counts .now)) ((c .before .before .args .x)) (getD ((c .before .before .args .counts .now)) ((c .before .before .args .x)) 0 + 1) ∙ (c .before .before .pre .0), one-more ((c .before .before .args .counts .now)) ((c .before .before .pre .0)) ((c .before .before .args .x)) (c .before .if1 .taken))
+returns c =
+    let given = c .before .before .args in
+    let counts = given .counts .now in
+    let x = given .x in
+    (length-set counts x (getD counts x 0 + 1) ∙ c .before .before .pre .0, one-more counts (c .before .before .pre .0) x (c .before .if1 .taken))
 
 returns-2 : tie.Need-returns-2
-returns-2 c = ((c .before .pre .0), no-more ((c .before .args .counts .now)) ((c .before .pre .0)) ((c .before .args .x)) (c .if1 .left))
+returns-2 c = (c .before .pre .0, no-more (c .before .args .counts .now) (c .before .pre .0) (c .before .args .x) (c .if1 .left))
 
 pub count-one-spec : {M : Type 1} → statement M
 count-one-spec =

@@ -8,7 +8,7 @@ use Rattle.trimming.proofs.first_name.Statement.{statement}
 use Rattle.trimming.proofs.first_name.Tie as tie
 
 returns : tie.Need-returns
-returns c = (c .name .ensures) ∙ ap (λ (n : ℕ). getD ((c .before .before .before .args .index .now)) n 0) ((c .before .begin .ensures))
+returns c = c .name .ensures ∙ ap (λ (n : ℕ). getD (c .before .before .before .args .index .now) n 0) (c .before .begin .ensures)
 
 begin-requires : tie.Need-begin-requires
 begin-requires c κs = search needs

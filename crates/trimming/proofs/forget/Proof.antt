@@ -10,6 +10,12 @@ use Rattle.index.specs.Index.{removed}
 use Rattle.trimming.proofs.forget.Statement.{statement}
 use Rattle.trimming.proofs.forget.Tie as tie
 
+-- Back along the path, to the place behind a call.
+abbrev back-to-start : tie.After-slice-known2 → tie.Start
+back-to-start at =
+    let after-slice-known = at .before .before .before .before .before .before in
+    after-slice-known .before
+
 mul-left : tie.Need-mul-left
 mul-left c = search needs
 
@@ -32,10 +38,20 @@ same-length : tie.Need-same-length
 same-length c = search needs
 
 returns : tie.Need-returns
-returns c = ((c .before .before .remove .ensures) ∙ sym (ap (λ (b : Bool). cond b (removed ((c .before .before .before .before .before .before .before .args .index .now)) ((c .before .before .before .before .before .before .before .args .x)) ((c .before .before .before .before .before .before .before .args .start))) ((c .before .before .before .before .before .before .before .args .index .now))) (eq-eqb (getD ((c .before .before .before .before .before .before .before .args .counts .now)) ((c .before .before .before .before .before .before .before .args .x)) 0) 1 (omega arith))), refl)
+returns c =
+    let given = (back-to-start c) .args in (
+      c .before .before .remove .ensures ∙ sym (ap (λ (b : Bool). cond b (removed (given .index .now) (given .x) (given .start)) (given .index .now))
+          (eq-eqb (getD (given .counts .now) (given .x) 0) 1 (omega arith))),
+      refl,
+    )
 
 returns-2 : tie.Need-returns-2
-returns-2 c = (sym (ap (λ (b : Bool). cond b (removed ((c .before .before .before .args .index .now)) ((c .before .before .before .args .x)) ((c .before .before .before .args .start))) ((c .before .before .before .args .index .now))) (ne-eqb (getD ((c .before .before .before .args .counts .now)) ((c .before .before .before .args .x)) 0) 1 (λ e. omega arith))), refl)
+returns-2 c =
+    let given = c .before .before .before .args in (
+      sym (ap (λ (b : Bool). cond b (removed (given .index .now) (given .x) (given .start)) (given .index .now))
+          (ne-eqb (getD (given .counts .now) (given .x) 0) 1 (λ e. omega arith))),
+      refl,
+    )
 
 pub forget-spec : {M : Type 1} → statement M
 forget-spec =

@@ -18,18 +18,33 @@ Inv-loop table start low i₀ i = any (left-from low) (first-clause (drop start 
 abbrev μ-loop : tie.MeasureT-loop
 μ-loop table start low i₀ i = length table - i
 
+-- Back along the path, to the place behind a call.
+abbrev back-to-start : tie.After-is-left-from Inv-loop μ-loop → tie.Start Inv-loop μ-loop
+back-to-start at =
+    let after-shared-slice-known = at .before .before .before .before .before .before in
+    after-shared-slice-known .before
+
 loop-holds : tie.Need-loop-holds Inv-loop μ-loop
 loop-holds c = refl
 
 returns : tie.Need-returns Inv-loop μ-loop
-returns c = sym ((c .before .before .before .before .loop .inv) ∙ ap (any (left-from ((c .before .before .before .before .before .before .args .low)))) (clause-end ((c .before .before .before .before .before .before .args .table .now)) ((c .before .before .before .before .loop .i)) ((c .before .before .before .loop-test .taken)) (sym ((c .before .is-end .ensures)) ∙ (c .if1 .taken))))
+returns c =
+    let loop = c .before .before .before .before .loop in
+    let given = c .before .before .before .before .before .before .args in
+    sym (loop .inv ∙ ap (any (left-from (given .low))) (clause-end (given .table .now) (loop .i) (c .before .before .before .loop-test .taken)
+    (sym (c .before .is-end .ensures) ∙ c .if1 .taken)))
 
 returns-2 : tie.Need-returns-2 Inv-loop μ-loop
 returns-2 c =
+    let loop = c .before .before .before .before .before .before .loop in
+    let given = (back-to-start (c .before)) .args in
+    let table = given .table .now in
     sym
-    ((c .before .before .before .before .before .before .loop .inv)
-    ∙ ap (any (left-from ((c .before .before .before .before .before .before .before .before .args .low)))) (clause-more ((c .before .before .before .before .before .before .before .before .args .table .now)) ((c .before .before .before .before .before .before .loop .i)) ((c .before .before .before .before .before .loop-test .taken)) (sym ((c .before .before .before .is-end .ensures)) ∙ (c .before .before .if1 .left)))
-    ∙ any-front (left-from ((c .before .before .before .before .before .before .before .before .args .low))) (getD ((c .before .before .before .before .before .before .before .before .args .table .now)) ((c .before .before .before .before .before .before .loop .i)) 0) (first-clause (drop ((c .before .before .before .before .before .before .loop .i) + 1) ((c .before .before .before .before .before .before .before .before .args .table .now)))) (sym ((c .before .is-left-from .ensures)) ∙ (c .if2 .taken)))
+    ((loop .inv)
+    ∙ ap (any (left-from (given .low))) (clause-more table (loop .i) (c .before .before .before .before .before .loop-test .taken)
+    (sym (c .before .before .before .is-end .ensures) ∙ c .before .before .if1 .left))
+    ∙ any-front (left-from (given .low)) (getD table (loop .i) 0) (first-clause (drop ((loop .i) + 1) table))
+    (sym (c .before .is-left-from .ensures) ∙ c .if2 .taken))
 
 add-i : tie.Need-add-i Inv-loop μ-loop
 add-i c = omega arith
@@ -39,12 +54,19 @@ loop-less c = omega arith
 
 loop-again : tie.Need-loop-again Inv-loop μ-loop
 loop-again c =
-    (c .before .before .before .before .before .before .loop .inv)
-    ∙ ap (any (left-from ((c .before .before .before .before .before .before .before .before .args .low)))) (clause-more ((c .before .before .before .before .before .before .before .before .args .table .now)) ((c .before .before .before .before .before .before .loop .i)) ((c .before .before .before .before .before .loop-test .taken)) (sym ((c .before .before .before .is-end .ensures)) ∙ (c .before .before .if1 .left)))
-    ∙ any-later (left-from ((c .before .before .before .before .before .before .before .before .args .low))) (getD ((c .before .before .before .before .before .before .before .before .args .table .now)) ((c .before .before .before .before .before .before .loop .i)) 0) (first-clause (drop ((c .before .before .before .before .before .before .loop .i) + 1) ((c .before .before .before .before .before .before .before .before .args .table .now)))) (sym ((c .before .is-left-from .ensures)) ∙ (c .if2 .left))
+    let loop = c .before .before .before .before .before .before .loop in
+    let given = (back-to-start (c .before)) .args in
+    let table = given .table .now in
+    (loop .inv)
+    ∙ ap (any (left-from (given .low))) (clause-more table (loop .i) (c .before .before .before .before .before .loop-test .taken)
+    (sym (c .before .before .before .is-end .ensures) ∙ c .before .before .if1 .left))
+    ∙ any-later (left-from (given .low)) (getD table (loop .i) 0) (first-clause (drop ((loop .i) + 1) table))
+    (sym (c .before .is-left-from .ensures) ∙ c .if2 .left)
 
 returns-3 : tie.Need-returns-3 Inv-loop μ-loop
-returns-3 c = sym ((c .before .loop .inv) ∙ ap (any (left-from ((c .before .before .before .args .low)))) (clause-past ((c .before .before .before .args .table .now)) ((c .before .loop .i)) ((c .loop-test .left))))
+returns-3 c =
+    let given = c .before .before .before .args in
+    sym (c .before .loop .inv ∙ ap (any (left-from (given .low))) (clause-past (given .table .now) (c .before .loop .i) (c .loop-test .left)))
 
 mul-x : tie.Need-mul-x Inv-loop μ-loop
 mul-x c = search needs

@@ -7,7 +7,7 @@ use Rattle.trimming.proofs.has_names.Statement.{statement}
 use Rattle.trimming.proofs.has_names.Tie as tie
 
 returns : tie.Need-returns
-returns c = ap₂ ltb ((c .before .begin .ensures)) ((c .end .ensures))
+returns c = ap₂ ltb (c .before .begin .ensures) (c .end .ensures)
 
 begin-requires : tie.Need-begin-requires
 begin-requires c κs = search needs

@@ -8,10 +8,10 @@ use Rattle.trimming.proofs.is_left_from.Statement.{statement}
 use Rattle.trimming.proofs.is_left_from.Tie as tie
 
 returns : tie.Need-returns
-returns c = sym (ap (λ (b : Bool). b && ltb ((c .before .args .x)) 512) (lt-leb ((c .before .args .low)) ((c .before .args .x)) ((c .if1 .taken))))
+returns c = sym (ap (λ (b : Bool). b && ltb (c .before .args .x) 512) (lt-leb (c .before .args .low) (c .before .args .x) (c .if1 .taken)))
 
 returns-2 : tie.Need-returns-2
-returns-2 c = sym (ap (λ (b : Bool). b && ltb ((c .before .args .x)) 512) (le-leb ((c .before .args .low)) ((c .before .args .x)) ((c .if1 .left))))
+returns-2 c = sym (ap (λ (b : Bool). b && ltb (c .before .args .x) 512) (le-leb (c .before .args .low) (c .before .args .x) (c .if1 .left)))
 
 pub is-left-from-spec : {M : Type 1} → statement M
 is-left-from-spec =

@@ -24,7 +24,12 @@ pure-at-requires : tie.Need-pure-at-requires Inv-loop μ-loop
 pure-at-requires c κs = omega arith
 
 returns : tie.Need-returns Inv-loop μ-loop
-returns c = λ cs h. pure-found ((c .before .before .before .before .before .before .args .index .now)) cs h ((c .before .before .before .before .before .before .args .kinds .now)) ((c .before .before .before .before .before .before .pre)) ((c .before .before .before .loop .position)) ((c .before .pure-at .result)) ((c .before .before .loop-test .taken)) ((c .before .before .before .loop .inv) ((c .before .before .before .before .before .before .pre)) cs h) ((c .before .pure-at .ensures)) ((c .if1 .taken))
+returns c =
+    let loop = c .before .before .before .loop in
+    let given = c .before .before .before .before .before .before .args in
+    let pre = c .before .before .before .before .before .before .pre in
+    λ cs h. pure-found (given .index .now) cs h (given .kinds .now) pre (loop .position) (c .before .pure-at .result) (c .before .before .loop-test .taken)
+    ((loop .inv) pre cs h) (c .before .pure-at .ensures) (c .if1 .taken)
 
 add-position : tie.Need-add-position Inv-loop μ-loop
 add-position c = omega arith
@@ -33,10 +38,18 @@ loop-less : tie.Need-loop-less Inv-loop μ-loop
 loop-less c = omega arith
 
 loop-again : tie.Need-loop-again Inv-loop μ-loop
-loop-again c = λ few cs h. pure-later ((c .before .before .before .before .before .before .args .index .now)) cs h ((c .before .before .before .before .before .before .args .kinds .now)) ((c .before .before .before .before .before .before .pre)) ((c .before .before .before .loop .position)) ((c .before .pure-at .result)) ((c .before .before .loop-test .taken)) ((c .before .before .before .loop .inv) ((c .before .before .before .before .before .before .pre)) cs h) ((c .before .pure-at .ensures)) ((c .if1 .left))
+loop-again c =
+    let loop = c .before .before .before .loop in
+    let given = c .before .before .before .before .before .before .args in
+    let pre = c .before .before .before .before .before .before .pre in
+    λ few cs h. pure-later (given .index .now) cs h (given .kinds .now) pre (loop .position) (c .before .pure-at .result) (c .before .before .loop-test .taken)
+    ((loop .inv) pre cs h) (c .before .pure-at .ensures) (c .if1 .left)
 
 returns-2 : tie.Need-returns-2 Inv-loop μ-loop
-returns-2 c = λ cs h. pure-nowhere ((c .before .before .before .before .args .index .now)) cs h ((c .before .before .before .before .args .kinds .now)) ((c .before .before .before .before .pre)) ((c .before .loop .position)) ((c .loop-test .left)) ((c .before .loop .inv) ((c .before .before .before .before .pre)) cs h)
+returns-2 c =
+    let given = c .before .before .before .before .args in
+    let pre = c .before .before .before .before .pre in
+    λ cs h. pure-nowhere (given .index .now) cs h (given .kinds .now) pre (c .before .loop .position) (c .loop-test .left) ((c .before .loop .inv) pre cs h)
 
 pub lowest-pure-spec : {M : Type 1} → statement M
 lowest-pure-spec =

@@ -17,14 +17,27 @@ Inv-loop table₀ names count code i₀ table i = Cleared code table₀ table (d
 abbrev μ-loop : tie.MeasureT-loop
 μ-loop table₀ names count code i₀ table i = count - i
 
+-- Back along the path, to the place behind a call.
+abbrev back-to-at-loop : tie.After-slice-known2 Inv-loop μ-loop → tie.At-loop Inv-loop μ-loop
+back-to-at-loop at =
+    let in-loop = at .before .before .before .before .before .before in
+    in-loop .before
+
+abbrev back-to-start : tie.After-slice-known2 Inv-loop μ-loop → tie.Start Inv-loop μ-loop
+back-to-start at = (back-to-at-loop at) .before .before .before
+
 loop-holds : tie.Need-loop-holds Inv-loop μ-loop
-loop-holds c = (subst (Cleared ((c .before .before .args .code)) ((c .before .before .args .table .now)) ((c .before .before .args .table .now))) (sym ((c .before .before .pre .1))) (clearing-begins ((c .before .before .args .code)) ((c .before .before .pre .4)) ((c .before .before .pre .5)) ((c .before .before .args .table .now)) ((c .before .before .pre .0))), omega arith, refl)
+loop-holds c =
+    let given = c .before .before .args in
+    let pre = c .before .before .pre in
+    let table = given .table .now in
+    (subst (Cleared (given .code) table table) (sym (pre .1)) (clearing-begins (given .code) (pre .4) (pre .5) table (pre .0)), omega arith, refl)
 
 mul-wide : tie.Need-mul-wide Inv-loop μ-loop
-mul-wide c = let p = (c .before .before .before .before .pre) in omega (arith, p .2, p .3)
+mul-wide c = let p = c .before .before .before .before .pre in omega (arith, p .2, p .3)
 
 shared-slice-read-wide : tie.Need-shared-slice-read-wide Inv-loop μ-loop
-shared-slice-read-wide c = let p = (c .before .before .before .before .before .pre) in let l = (c .before .loop-test .taken) in omega (arith, p .2)
+shared-slice-read-wide c = let p = c .before .before .before .before .before .pre in let l = c .before .loop-test .taken in omega (arith, p .2)
 
 add-i : tie.Need-add-i Inv-loop μ-loop
 add-i c = omega arith
@@ -33,19 +46,29 @@ loop-less : tie.Need-loop-less Inv-loop μ-loop
 loop-less c = omega arith
 
 loop-again : tie.Need-loop-again Inv-loop μ-loop
-loop-again c = (
-  clearing-more ((c .before .before .before .before .before .before .before .before .before .before .args .code)) ((c .before .before .before .before .before .before .before .before .before .before .pre .4)) ((c .before .before .before .before .before .before .before .before .before .before .pre .5))
-      (subst (Cleared ((c .before .before .before .before .before .before .before .before .before .before .args .code)) ((c .before .before .before .before .before .before .before .before .before .before .args .table .now)) ((c .before .before .before .before .before .before .before .loop .table))) (next-name ((c .before .before .before .before .before .before .before .before .before .before .args .names .now)) ((c .before .before .before .before .before .before .before .before .before .before .args .count)) ((c .before .before .before .before .before .before .before .loop .i)) ((c .before .before .before .before .before .before .loop-test .taken)) ((c .before .before .before .before .before .before .before .before .before .before .pre .2))) ((c .before .before .before .before .before .before .before .loop .inv .0)))
-      ((c .before .before .mark .last .0)) ((c .before .before .mark .ensures .1) ∙ ap (λ (s : ℕ). marked-at ((c .before .before .before .before .before .before .before .before .before .before .args .code)) ((c .before .before .before .before .before .before .before .before .before .before .args .code)) s ((c .before .before .before .before .before .before .before .loop .table))) ((c .before .before .before .before .wide .ensures))),
-  omega arith,
-  (c .before .before .mark .kept .0) ∙ (c .before .before .before .before .before .before .before .loop .inv .2),
-)
+loop-again c =
+    let mark-call = c .before .before .mark in
+    let loop = (back-to-at-loop c) .loop in
+    let given = (back-to-start c) .args in
+    let pre = (back-to-start c) .pre in
+    let code = given .code in (
+      clearing-more code (pre .4) (pre .5)
+          (subst (Cleared code (given .table .now) (loop .table))
+          (next-name (given .names .now) (given .count) (loop .i) (c .before .before .before .before .before .before .loop-test .taken) (pre .2))
+          (loop .inv .0))
+          (mark-call .last .0) (mark-call .ensures .1 ∙ ap (λ (s : ℕ). marked-at code code s (loop .table)) (c .before .before .before .before .wide .ensures)),
+      omega arith,
+      (mark-call .kept .0) ∙ loop .inv .2,
+    )
 
 same-length : tie.Need-same-length Inv-loop μ-loop
-same-length c = (c .before .loop .inv .2)
+same-length c = c .before .loop .inv .2
 
 returns : tie.Need-returns Inv-loop μ-loop
-returns c = subst (Cleared ((c .before .before .before .before .args .code)) ((c .before .before .before .before .args .table .now)) ((c .before .loop .table))) (no-names ((c .before .before .before .before .args .names .now)) ((c .before .before .before .before .args .count)) ((c .before .loop .i)) ((c .loop-test .left)) ((c .before .before .before .before .pre .2))) ((c .before .loop .inv .0))
+returns c =
+    let given = c .before .before .before .before .args in
+    subst (Cleared (given .code) (given .table .now) (c .before .loop .table)) (no-names (given .names .now) (given .count) (c .before .loop .i)
+    (c .loop-test .left) (c .before .before .before .before .pre .2)) (c .before .loop .inv .0)
 
 wide-requires : tie.Need-wide-requires Inv-loop μ-loop
 wide-requires c κs = search needs

@@ -7,13 +7,19 @@ use Rattle.trimming.proofs.note_unit.Statement.{statement}
 use Rattle.trimming.proofs.note_unit.Tie as tie
 
 returns : tie.Need-returns
-returns c = noted-none ((c .before .args .code)) ((c .before .args .start)) ((c .before .args .firsts .now)) ((c .if1 .taken))
+returns c = noted-none (c .before .args .code) (c .before .args .start) (c .before .args .firsts .now) (c .if1 .taken)
 
 returns-2 : tie.Need-returns-2
-returns-2 c = noted-first ((c .before .before .before .before .args .code)) ((c .before .before .before .before .args .start)) ((c .before .before .before .before .args .firsts .now)) ((c .before .before .before .if1 .left)) (let h = (c .if2 .taken) in omega (arith, (c .before .wide .ensures)))
+returns-2 c =
+    let given = c .before .before .before .before .args in
+    noted-first (given .code) (given .start) (given .firsts .now) (c .before .before .before .if1 .left)
+    (let h = c .if2 .taken in omega (arith, c .before .wide .ensures))
 
 returns-3 : tie.Need-returns-3
-returns-3 c = noted-later ((c .before .before .before .before .args .code)) ((c .before .before .before .before .args .start)) ((c .before .before .before .before .args .firsts .now)) ((c .before .before .before .if1 .left)) (let h = (c .if2 .left) in omega (arith, (c .before .wide .ensures)))
+returns-3 c =
+    let given = c .before .before .before .before .args in
+    noted-later (given .code) (given .start) (given .firsts .now) (c .before .before .before .if1 .left)
+    (let h = c .if2 .left in omega (arith, c .before .wide .ensures))
 
 cast-name : tie.Need-cast-name
 cast-name c = search needs

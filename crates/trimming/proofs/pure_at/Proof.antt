@@ -8,16 +8,28 @@ use Rattle.trimming.proofs.pure_at.Statement.{statement}
 use Rattle.trimming.proofs.pure_at.Tie as tie
 
 returns : tie.Need-returns
-returns c = one-is ((c .before .before .before .before .before .args .index .now)) ((c .before .before .before .before .before .args .position)) true true (sym ((c .before .before .before .has-names .ensures)) ∙ (c .before .if1 .taken)) (sym ((c .before .before .has-names2 .ensures)) ∙ (c .if2 .taken))
+returns c =
+    let given = c .before .before .before .before .before .args in
+    one-is (given .index .now) (given .position) true true (sym (c .before .before .before .has-names .ensures) ∙ c .before .if1 .taken)
+    (sym (c .before .before .has-names2 .ensures) ∙ c .if2 .taken)
 
 returns-2 : tie.Need-returns-2
-returns-2 c = one-is ((c .before .before .before .before .before .args .index .now)) ((c .before .before .before .before .before .args .position)) true false (sym ((c .before .before .before .has-names .ensures)) ∙ (c .before .if1 .taken)) (sym ((c .before .before .has-names2 .ensures)) ∙ (c .if2 .left))
+returns-2 c =
+    let given = c .before .before .before .before .before .args in
+    one-is (given .index .now) (given .position) true false (sym (c .before .before .before .has-names .ensures) ∙ c .before .if1 .taken)
+    (sym (c .before .before .has-names2 .ensures) ∙ c .if2 .left)
 
 returns-3 : tie.Need-returns-3
-returns-3 c = one-is ((c .before .before .before .before .before .args .index .now)) ((c .before .before .before .before .before .args .position)) false true (sym ((c .before .before .before .has-names .ensures)) ∙ (c .before .if1 .left)) (sym ((c .before .before .has-names2 .ensures)) ∙ (c .if3 .taken))
+returns-3 c =
+    let given = c .before .before .before .before .before .args in
+    one-is (given .index .now) (given .position) false true (sym (c .before .before .before .has-names .ensures) ∙ c .before .if1 .left)
+    (sym (c .before .before .has-names2 .ensures) ∙ c .if3 .taken)
 
 returns-4 : tie.Need-returns-4
-returns-4 c = one-is ((c .before .before .before .before .before .args .index .now)) ((c .before .before .before .before .before .args .position)) false false (sym ((c .before .before .before .has-names .ensures)) ∙ (c .before .if1 .left)) (sym ((c .before .before .has-names2 .ensures)) ∙ (c .if3 .left))
+returns-4 c =
+    let given = c .before .before .before .before .before .args in
+    one-is (given .index .now) (given .position) false false (sym (c .before .before .before .has-names .ensures) ∙ c .before .if1 .left)
+    (sym (c .before .before .has-names2 .ensures) ∙ c .if3 .left)
 
 mul-has-names : tie.Need-mul-has-names
 mul-has-names c = search needs

@@ -7,6 +7,12 @@ use Rattle.trimming.proofs.OutcomeLaws.{formula-refused, output-refused
 use Rattle.trimming.proofs.trim.Statement.{statement}
 use Rattle.trimming.proofs.trim.Tie as tie
 
+-- Back along the path, to the place behind a call.
+abbrev back-to-start : tie.After-output → tie.Start
+back-to-start at =
+    let after-check = at .before .before .before .before .before .before in
+    after-check .before .before
+
 check-requires : tie.Need-check-requires
 check-requires c κs = search needs
 
@@ -42,7 +48,7 @@ same-length c = search needs
 
 returns-3 : tie.Need-returns-3
 returns-3 c =
-    let given = c .before .before .before .before .before .before .before .before .args in
+    let given = (back-to-start c) .args in
     let told = c .before .before .before .before .enum-told .given in
     let trimming = c .before .over-output in
     let checked = sym (c .before .before .before .before .before .before .check .ensures .0) ∙ told .1 in

@@ -18,6 +18,12 @@ Inv-loop table start seen i₀ i =
 abbrev μ-loop : tie.MeasureT-loop
 μ-loop table start seen i₀ i = length table - i
 
+-- Back along the path, to the place behind a call.
+abbrev back-to-start : tie.After-is-noted-clash Inv-loop μ-loop → tie.Start Inv-loop μ-loop
+back-to-start at =
+    let after-shared-slice-known = at .before .before .before .before .before .before in
+    after-shared-slice-known .before
+
 loop-holds : tie.Need-loop-holds Inv-loop μ-loop
 loop-holds c = refl
 
@@ -31,17 +37,26 @@ is-end-requires : tie.Need-is-end-requires Inv-loop μ-loop
 is-end-requires c κs = search needs
 
 returns : tie.Need-returns Inv-loop μ-loop
-returns c = sym (c .before .before .before .before .loop .inv ∙ ap (any (noted-clash (c .before .before .before .before .before .before .args .seen .now))) (clause-end (c .before .before .before .before .before .before .args .table .now) (c .before .before .before .before .loop .i) (c .before .before .before .loop-test .taken) (sym (c .before .is-end .ensures) ∙ c .if1 .taken)))
+returns c =
+    let loop = c .before .before .before .before .loop in
+    let given = c .before .before .before .before .before .before .args in
+    sym (loop .inv ∙ ap (any (noted-clash (given .seen .now))) (clause-end (given .table .now) (loop .i) (c .before .before .before .loop-test .taken)
+    (sym (c .before .is-end .ensures) ∙ c .if1 .taken)))
 
 is-noted-clash-requires : tie.Need-is-noted-clash-requires Inv-loop μ-loop
 is-noted-clash-requires c κs = search needs
 
 returns-2 : tie.Need-returns-2 Inv-loop μ-loop
 returns-2 c =
+    let loop = c .before .before .before .before .before .before .loop in
+    let given = (back-to-start (c .before)) .args in
+    let table = given .table .now in
     sym
-    (c .before .before .before .before .before .before .loop .inv
-    ∙ ap (any (noted-clash (c .before .before .before .before .before .before .before .before .args .seen .now))) (clause-more (c .before .before .before .before .before .before .before .before .args .table .now) (c .before .before .before .before .before .before .loop .i) (c .before .before .before .before .before .loop-test .taken) (sym (c .before .before .before .is-end .ensures) ∙ c .before .before .if1 .left))
-    ∙ any-front (noted-clash (c .before .before .before .before .before .before .before .before .args .seen .now)) (getD (c .before .before .before .before .before .before .before .before .args .table .now) (c .before .before .before .before .before .before .loop .i) 0) (first-clause (drop (c .before .before .before .before .before .before .loop .i + 1) (c .before .before .before .before .before .before .before .before .args .table .now))) (sym (c .before .is-noted-clash .ensures) ∙ c .if2 .taken))
+    (loop .inv
+    ∙ ap (any (noted-clash (given .seen .now))) (clause-more table (loop .i) (c .before .before .before .before .before .loop-test .taken)
+    (sym (c .before .before .before .is-end .ensures) ∙ c .before .before .if1 .left))
+    ∙ any-front (noted-clash (given .seen .now)) (getD table (loop .i) 0) (first-clause (drop (loop .i + 1) table))
+    (sym (c .before .is-noted-clash .ensures) ∙ c .if2 .taken))
 
 add-i : tie.Need-add-i Inv-loop μ-loop
 add-i c = omega arith
@@ -51,12 +66,19 @@ loop-less c = omega arith
 
 loop-again : tie.Need-loop-again Inv-loop μ-loop
 loop-again c =
-    c .before .before .before .before .before .before .loop .inv
-    ∙ ap (any (noted-clash (c .before .before .before .before .before .before .before .before .args .seen .now))) (clause-more (c .before .before .before .before .before .before .before .before .args .table .now) (c .before .before .before .before .before .before .loop .i) (c .before .before .before .before .before .loop-test .taken) (sym (c .before .before .before .is-end .ensures) ∙ c .before .before .if1 .left))
-    ∙ any-later (noted-clash (c .before .before .before .before .before .before .before .before .args .seen .now)) (getD (c .before .before .before .before .before .before .before .before .args .table .now) (c .before .before .before .before .before .before .loop .i) 0) (first-clause (drop (c .before .before .before .before .before .before .loop .i + 1) (c .before .before .before .before .before .before .before .before .args .table .now))) (sym (c .before .is-noted-clash .ensures) ∙ c .if2 .left)
+    let loop = c .before .before .before .before .before .before .loop in
+    let given = (back-to-start (c .before)) .args in
+    let table = given .table .now in
+    loop .inv
+    ∙ ap (any (noted-clash (given .seen .now))) (clause-more table (loop .i) (c .before .before .before .before .before .loop-test .taken)
+    (sym (c .before .before .before .is-end .ensures) ∙ c .before .before .if1 .left))
+    ∙ any-later (noted-clash (given .seen .now)) (getD table (loop .i) 0) (first-clause (drop (loop .i + 1) table))
+    (sym (c .before .is-noted-clash .ensures) ∙ c .if2 .left)
 
 returns-3 : tie.Need-returns-3 Inv-loop μ-loop
-returns-3 c = sym (c .before .loop .inv ∙ ap (any (noted-clash (c .before .before .before .args .seen .now))) (clause-past (c .before .before .before .args .table .now) (c .before .loop .i) (c .loop-test .left)))
+returns-3 c =
+    let given = c .before .before .before .args in
+    sym (c .before .loop .inv ∙ ap (any (noted-clash (given .seen .now))) (clause-past (given .table .now) (c .before .loop .i) (c .loop-test .left)))
 
 pub has-clash-spec : {M : Type 1} → statement M
 has-clash-spec =

@@ -17,9 +17,10 @@ has-clash-requires c κs = search needs
 
 returns : tie.Need-returns
 returns c =
+    let given = c .before .before .before .before .before .args in
     c .has-clash .ensures
-    ∙ ap (λ s. any (noted-clash s) (first-clause (drop (c .before .before .before .before .before .args .start) (c .before .before .before .before .before .args .table .now)))) (c .before .before .note .ensures)
-    ∙ noted-always-true (first-clause (drop (c .before .before .before .before .before .args .start) (c .before .before .before .before .before .args .table .now)))
+    ∙ ap (λ s. any (noted-clash s) (first-clause (drop (given .start) (given .table .now)))) (c .before .before .note .ensures)
+    ∙ noted-always-true (first-clause (drop (given .start) (given .table .now)))
 
 pub is-always-true-spec : {M : Type 1} → statement M
 is-always-true-spec =

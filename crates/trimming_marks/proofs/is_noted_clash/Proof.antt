@@ -20,7 +20,9 @@ element-copy-out-result c = let o = opposite-below (c .before .before .args .x) 
 
 returns : tie.Need-returns
 unfolding noted-clash
-returns c = rw (lt-ltb (c .before .before .before .args .x) (last-code + 1) (omega arith), ap (λ (k : ℕ). getD (c .before .before .before .args .seen .now) k 0) (c .before .opposite .ensures))
+returns c =
+    let given = c .before .before .before .args in
+    rw (lt-ltb (given .x) (last-code + 1) (omega arith), ap (λ (k : ℕ). getD (given .seen .now) k 0) (c .before .opposite .ensures))
 
 returns-2 : tie.Need-returns-2
 unfolding noted-clash

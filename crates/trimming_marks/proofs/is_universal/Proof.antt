@@ -30,7 +30,9 @@ shared-slice-read-result c = search needs
 
 returns-3 : tie.Need-returns-3
 unfolding is-universal
-returns-3 c = sym (ap (λ (y : ℕ). not (eqb y 0)) (kind-named (c .before .before .before .args .kinds .now) (c .before .before .before .args .code / 2) (omega arith)))
+returns-3 c =
+    let given = c .before .before .before .args in
+    sym (ap (λ (y : ℕ). not (eqb y 0)) (kind-named (given .kinds .now) (given .code / 2) (omega arith)))
 
 pub is-universal-spec : {M : Type 1} → statement M
 is-universal-spec =

@@ -20,6 +20,10 @@ Inv-loop table₀ start low high i₀ table i =
 abbrev μ-loop : tie.MeasureT-loop
 μ-loop table₀ start low high i₀ table i = length table - i
 
+-- Back along the path, to the place behind a call.
+abbrev back-to-start : tie.After-is-end Inv-loop μ-loop → tie.Start Inv-loop μ-loop
+back-to-start at = at .before .before .before .before .before .before
+
 loop-holds : tie.Need-loop-holds Inv-loop μ-loop
 loop-holds c = (refl, refl, refl)
 
@@ -45,32 +49,47 @@ is-end-requires : tie.Need-is-end-requires Inv-loop μ-loop
 is-end-requires c κs = search needs
 
 same-length : tie.Need-same-length Inv-loop μ-loop
-same-length c = length-set (c .before .before .before .before .before .loop .table) (c .before .before .before .before .before .loop .i) (c .before .before .marked .result) ∙ c .before .before .before .before .before .loop .inv .0
+same-length c =
+    let loop = c .before .before .before .before .before .loop in
+    length-set (loop .table) (loop .i) (c .before .before .marked .result) ∙ loop .inv .0
 
 returns : tie.Need-returns Inv-loop μ-loop
-returns c = (
-  sym (c .before .before .before .before .before .loop .inv .1 ∙ ap (λ k. c .before .before .before .before .before .loop .i + k) (length-end (c .before .before .before .before .before .loop .table) (c .before .before .before .before .before .loop .i) (c .before .before .before .before .loop-test .taken) (sym (c .before .is-end .ensures) ∙ c .if1 .taken))),
-  mark-end (c .before .before .before .before .before .loop .table) (c .before .before .before .before .before .loop .i) (c .before .before .before .before .loop-test .taken) (c .before .before .before .before .before .before .before .args .low) (c .before .before .before .before .before .before .before .args .high) (c .before .before .marked .result) (c .before .before .marked .ensures) (sym (c .before .is-end .ensures) ∙ c .if1 .taken) ∙ sym (c .before .before .before .before .before .loop .inv .2),
-)
+returns c =
+    let loop-test = c .before .before .before .before .loop-test in
+    let loop = c .before .before .before .before .before .loop in
+    let given = (back-to-start (c .before)) .args in (
+      sym (loop .inv .1 ∙ ap (λ k. loop .i + k) (length-end (loop .table) (loop .i) (loop-test .taken) (sym (c .before .is-end .ensures) ∙ c .if1 .taken))),
+      mark-end (loop .table) (loop .i) (loop-test .taken) (given .low) (given .high) (c .before .before .marked .result) (c .before .before .marked .ensures)
+          (sym (c .before .is-end .ensures) ∙ c .if1 .taken) ∙ sym (loop .inv .2),
+    )
 
 loop-less : tie.Need-loop-less Inv-loop μ-loop
-loop-less c = let e = length-set (c .before .before .before .before .before .loop .table) (c .before .before .before .before .before .loop .i) (c .before .before .marked .result) in omega arith
+loop-less c =
+    let loop = c .before .before .before .before .before .loop in
+    let e = length-set (loop .table) (loop .i) (c .before .before .marked .result) in omega arith
 
 loop-again : tie.Need-loop-again Inv-loop μ-loop
-loop-again c = (
-  length-set (c .before .before .before .before .before .loop .table) (c .before .before .before .before .before .loop .i) (c .before .before .marked .result) ∙ c .before .before .before .before .before .loop .inv .0,
-  c .before .before .before .before .before .loop .inv .1 ∙ length-moved (c .before .before .before .before .before .loop .table) (c .before .before .before .before .before .loop .i) (c .before .before .before .before .loop-test .taken) (c .before .before .marked .result) (sym (c .before .is-end .ensures) ∙ c .if1 .left),
-  c .before .before .before .before .before .loop .inv .2 ∙ mark-more (c .before .before .before .before .before .loop .table) (c .before .before .before .before .before .loop .i) (c .before .before .before .before .loop-test .taken) (c .before .before .before .before .before .before .before .args .low) (c .before .before .before .before .before .before .before .args .high) (c .before .before .marked .result) (c .before .before .marked .ensures) (sym (c .before .is-end .ensures) ∙ c .if1 .left),
-)
+loop-again c =
+    let marked-call = c .before .before .marked in
+    let loop-test = c .before .before .before .before .loop-test in
+    let loop = c .before .before .before .before .before .loop in
+    let given = (back-to-start (c .before)) .args in (
+      length-set (loop .table) (loop .i) (marked-call .result) ∙ loop .inv .0,
+      loop .inv .1 ∙ length-moved (loop .table) (loop .i) (loop-test .taken) (marked-call .result) (sym (c .before .is-end .ensures) ∙ c .if1 .left),
+      loop .inv .2 ∙ mark-more (loop .table) (loop .i) (loop-test .taken) (given .low) (given .high) (marked-call .result) (marked-call .ensures)
+          (sym (c .before .is-end .ensures) ∙ c .if1 .left),
+    )
 
 same-length-2 : tie.Need-same-length-2 Inv-loop μ-loop
 same-length-2 c = c .before .loop .inv .0
 
 returns-2 : tie.Need-returns-2 Inv-loop μ-loop
-returns-2 c = (
-  sym (c .before .loop .inv .1 ∙ (let e = length-past (c .before .loop .table) (c .before .loop .i) (c .loop-test .left) in omega arith)),
-  mark-past (c .before .loop .table) (c .before .loop .i) (c .loop-test .left) (c .before .before .before .args .low) (c .before .before .before .args .high) ∙ sym (c .before .loop .inv .2),
-)
+returns-2 c =
+    let loop = c .before .loop in
+    let given = c .before .before .before .args in (
+      sym (loop .inv .1 ∙ (let e = length-past (loop .table) (loop .i) (c .loop-test .left) in omega arith)),
+      mark-past (loop .table) (loop .i) (c .loop-test .left) (given .low) (given .high) ∙ sym (loop .inv .2),
+    )
 
 pub mark-spec : {M : Type 1} → statement M
 mark-spec =

@@ -17,6 +17,12 @@ Inv-loop table start seen₀ i₀ seen i =
 abbrev μ-loop : tie.MeasureT-loop
 μ-loop table start seen₀ i₀ seen i = length table - i
 
+-- Back along the path, to the place behind a call.
+abbrev back-to-start : tie.After-note-one Inv-loop μ-loop → tie.Start Inv-loop μ-loop
+back-to-start at =
+    let at-loop = at .before .before .before .before .before .before in
+    at-loop .before .before
+
 loop-holds : tie.Need-loop-holds Inv-loop μ-loop
 loop-holds c = refl
 
@@ -30,7 +36,10 @@ is-end-requires : tie.Need-is-end-requires Inv-loop μ-loop
 is-end-requires c κs = search needs
 
 returns : tie.Need-returns Inv-loop μ-loop
-returns c = sym (c .before .before .before .before .loop .inv ∙ ap (noted (c .before .before .before .before .loop .seen)) (clause-end (c .before .before .before .before .before .before .args .table .now) (c .before .before .before .before .loop .i) (c .before .before .before .loop-test .taken) (sym (c .before .is-end .ensures) ∙ c .if1 .taken)))
+returns c =
+    let loop = c .before .before .before .before .loop in
+    sym (loop .inv ∙ ap (noted (loop .seen)) (clause-end (c .before .before .before .before .before .before .args .table .now) (loop .i)
+    (c .before .before .before .loop-test .taken) (sym (c .before .is-end .ensures) ∙ c .if1 .taken)))
 
 add-i : tie.Need-add-i Inv-loop μ-loop
 add-i c = omega arith
@@ -43,12 +52,16 @@ loop-less c = omega arith
 
 loop-again : tie.Need-loop-again Inv-loop μ-loop
 loop-again c =
-    c .before .before .before .before .before .before .loop .inv
-    ∙ ap (noted (c .before .before .before .before .before .before .loop .seen)) (clause-more (c .before .before .before .before .before .before .before .before .args .table .now) (c .before .before .before .before .before .before .loop .i) (c .before .before .before .before .before .loop-test .taken) (sym (c .before .before .before .is-end .ensures) ∙ c .before .before .if1 .left))
-    ∙ ap (λ s. noted s (first-clause (drop (c .before .before .before .before .before .before .loop .i + 1) (c .before .before .before .before .before .before .before .before .args .table .now)))) (sym (c .note-one .ensures))
+    let loop = c .before .before .before .before .before .before .loop in
+    let given = (back-to-start c) .args in
+    loop .inv
+    ∙ ap (noted (loop .seen)) (clause-more (given .table .now) (loop .i) (c .before .before .before .before .before .loop-test .taken)
+    (sym (c .before .before .before .is-end .ensures) ∙ c .before .before .if1 .left))
+    ∙ ap (λ s. noted s (first-clause (drop (loop .i + 1) (given .table .now)))) (sym (c .note-one .ensures))
 
 returns-2 : tie.Need-returns-2 Inv-loop μ-loop
-returns-2 c = sym (c .before .loop .inv ∙ ap (noted (c .before .loop .seen)) (clause-past (c .before .before .before .args .table .now) (c .before .loop .i) (c .loop-test .left)))
+returns-2 c = sym (c .before .loop .inv ∙ ap (noted (c .before .loop .seen)) (clause-past (c .before .before .before .args .table .now) (c .before .loop .i)
+    (c .loop-test .left)))
 
 pub note-spec : {M : Type 1} → statement M
 note-spec =

@@ -33,16 +33,25 @@ is-end-requires : tie.Need-is-end-requires Inv-loop μ-loop
 is-end-requires c κs = search needs
 
 returns : tie.Need-returns Inv-loop μ-loop
-returns c = sym (c .before .before .before .before .loop .inv ∙ ap (λ k. c .before .before .before .before .loop .i + k) (length-end (c .before .before .before .before .before .before .args .table .now) (c .before .before .before .before .loop .i) (c .before .before .before .loop-test .taken) (sym (c .before .is-end .ensures) ∙ c .if1 .taken)))
+returns c =
+    let loop = c .before .before .before .before .loop in
+    sym (loop .inv ∙ ap (λ k. loop .i + k) (length-end (c .before .before .before .before .before .before .args .table .now) (loop .i)
+    (c .before .before .before .loop-test .taken) (sym (c .before .is-end .ensures) ∙ c .if1 .taken)))
 
 loop-less : tie.Need-loop-less Inv-loop μ-loop
 loop-less c = omega arith
 
 loop-again : tie.Need-loop-again Inv-loop μ-loop
-loop-again c = let e = length-more (c .before .before .before .before .before .before .args .table .now) (c .before .before .before .before .loop .i) (c .before .before .before .loop-test .taken) (sym (c .before .is-end .ensures) ∙ c .if1 .left) in c .before .before .before .before .loop .inv ∙ omega arith
+loop-again c =
+    let loop = c .before .before .before .before .loop in
+    let e = length-more (c .before .before .before .before .before .before .args .table .now) (loop .i) (c .before .before .before .loop-test .taken)
+    (sym (c .before .is-end .ensures) ∙ c .if1 .left) in
+    loop .inv ∙ omega arith
 
 returns-2 : tie.Need-returns-2 Inv-loop μ-loop
-returns-2 c = let e = length-past (c .before .before .before .args .table .now) (c .before .loop .i) (c .loop-test .left) in sym (c .before .loop .inv ∙ omega arith)
+returns-2 c =
+    let e = length-past (c .before .before .before .args .table .now) (c .before .loop .i) (c .loop-test .left) in
+    sym (c .before .loop .inv ∙ omega arith)
 
 pub past-spec : {M : Type 1} → statement M
 past-spec =

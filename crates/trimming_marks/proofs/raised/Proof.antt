@@ -19,15 +19,21 @@ add-result c = search needs
 
 returns : tie.Need-returns
 unfolding raised
-returns c = rw (lt-ltb (c .before .before .before .before .before .args .x) 512 (omega arith), le-leb (c .before .before .before .before .before .args .low) (c .before .before .before .before .before .args .x) (omega arith), sym (c .before .is-universal .ensures) ∙ c .if3 .left)
+returns c =
+    let given = c .before .before .before .before .before .args in
+    rw (lt-ltb (given .x) 512 (omega arith), le-leb (given .low) (given .x) (omega arith), sym (c .before .is-universal .ensures) ∙ c .if3 .left)
 
 returns-2 : tie.Need-returns-2
 unfolding raised
-returns-2 c = rw (lt-ltb (c .before .before .before .before .before .args .x) 512 (omega arith), le-leb (c .before .before .before .before .before .args .low) (c .before .before .before .before .before .args .x) (omega arith), sym (c .before .is-universal .ensures) ∙ c .if3 .taken)
+returns-2 c =
+    let given = c .before .before .before .before .before .args in
+    rw (lt-ltb (given .x) 512 (omega arith), le-leb (given .low) (given .x) (omega arith), sym (c .before .is-universal .ensures) ∙ c .if3 .taken)
 
 returns-3 : tie.Need-returns-3
 unfolding raised
-returns-3 c = rw (lt-ltb (c .before .before .before .args .x) 512 (omega arith), lt-leb (c .before .before .before .args .low) (c .before .before .before .args .x) (omega arith))
+returns-3 c =
+    let given = c .before .before .before .args in
+    rw (lt-ltb (given .x) 512 (omega arith), lt-leb (given .low) (given .x) (omega arith))
 
 returns-4 : tie.Need-returns-4
 unfolding raised

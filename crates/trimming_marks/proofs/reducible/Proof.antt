@@ -17,6 +17,10 @@ Inv-loop kinds table start low₀ i₀ low i =
 abbrev μ-loop : tie.MeasureT-loop
 μ-loop kinds table start low₀ i₀ low i = length table - i
 
+-- Back along the path, to the place behind a call.
+abbrev back-to-start : tie.After-is-end Inv-loop μ-loop → tie.Start Inv-loop μ-loop
+back-to-start at = at .before .before .before .before .before .before
+
 loop-holds : tie.Need-loop-holds Inv-loop μ-loop
 loop-holds c = refl
 
@@ -30,7 +34,11 @@ is-end-requires : tie.Need-is-end-requires Inv-loop μ-loop
 is-end-requires c κs = search needs
 
 returns : tie.Need-returns Inv-loop μ-loop
-returns c = sym (c .before .before .before .before .loop .inv ∙ ap (reducible-from (c .before .before .before .before .before .before .before .args .kinds .now) (c .before .before .before .before .loop .low)) (clause-end (c .before .before .before .before .before .before .before .args .table .now) (c .before .before .before .before .loop .i) (c .before .before .before .loop-test .taken) (sym (c .before .is-end .ensures) ∙ c .if1 .taken)))
+returns c =
+    let loop = c .before .before .before .before .loop in
+    let given = (back-to-start (c .before)) .args in
+    sym (loop .inv ∙ ap (reducible-from (given .kinds .now) (loop .low)) (clause-end (given .table .now) (loop .i) (c .before .before .before .loop-test .taken)
+    (sym (c .before .is-end .ensures) ∙ c .if1 .taken)))
 
 add-i : tie.Need-add-i Inv-loop μ-loop
 add-i c = omega arith
@@ -43,12 +51,18 @@ loop-less c = omega arith
 
 loop-again : tie.Need-loop-again Inv-loop μ-loop
 loop-again c =
-    c .before .before .before .before .before .loop .inv
-    ∙ ap (reducible-from (c .before .before .before .before .before .before .before .before .args .kinds .now) (c .before .before .before .before .before .loop .low)) (clause-more (c .before .before .before .before .before .before .before .before .args .table .now) (c .before .before .before .before .before .loop .i) (c .before .before .before .before .loop-test .taken) (sym (c .before .before .is-end .ensures) ∙ c .before .if1 .left))
-    ∙ ap (λ l. reducible-from (c .before .before .before .before .before .before .before .before .args .kinds .now) l (first-clause (drop (c .before .before .before .before .before .loop .i + 1) (c .before .before .before .before .before .before .before .before .args .table .now)))) (sym (c .raised .ensures))
+    let loop = c .before .before .before .before .before .loop in
+    let given = (back-to-start (c .before .before)) .args in
+    loop .inv
+    ∙ ap (reducible-from (given .kinds .now) (loop .low)) (clause-more (given .table .now) (loop .i) (c .before .before .before .before .loop-test .taken)
+    (sym (c .before .before .is-end .ensures) ∙ c .before .if1 .left))
+    ∙ ap (λ l. reducible-from (given .kinds .now) l (first-clause (drop (loop .i + 1) (given .table .now)))) (sym (c .raised .ensures))
 
 returns-2 : tie.Need-returns-2 Inv-loop μ-loop
-returns-2 c = sym (c .before .loop .inv ∙ ap (reducible-from (c .before .before .before .before .args .kinds .now) (c .before .loop .low)) (clause-past (c .before .before .before .before .args .table .now) (c .before .loop .i) (c .loop-test .left)))
+returns-2 c =
+    let given = c .before .before .before .before .args in
+    sym (c .before .loop .inv ∙ ap (reducible-from (given .kinds .now) (c .before .loop .low))
+    (clause-past (given .table .now) (c .before .loop .i) (c .loop-test .left)))
 
 pub reducible-spec : {M : Type 1} → statement M
 reducible-spec =

@@ -16,11 +16,17 @@ is-universal-requires c κs = search needs
 
 returns : tie.Need-returns
 unfolding unit
-returns c = sym (ap (λ (b : Bool). cond b 0 (only 0 (first-clause (drop (c .before .before .before .before .before .args .start) (c .before .before .before .before .before .args .table .now))))) (ap (λ x. is-universal (c .before .before .before .before .before .args .kinds .now) x) (sym (c .before .before .only .ensures)) ∙ sym (c .before .is-universal .ensures) ∙ c .if1 .taken))
+returns c =
+    let given = c .before .before .before .before .before .args in
+    sym (ap (λ (b : Bool). cond b 0 (only 0 (first-clause (drop (given .start) (given .table .now)))))
+    (ap (λ x. is-universal (given .kinds .now) x) (sym (c .before .before .only .ensures)) ∙ sym (c .before .is-universal .ensures) ∙ c .if1 .taken))
 
 returns-2 : tie.Need-returns-2
 unfolding unit
-returns-2 c = c .before .before .only .ensures ∙ sym (ap (λ (b : Bool). cond b 0 (only 0 (first-clause (drop (c .before .before .before .before .before .args .start) (c .before .before .before .before .before .args .table .now))))) (ap (λ x. is-universal (c .before .before .before .before .before .args .kinds .now) x) (sym (c .before .before .only .ensures)) ∙ sym (c .before .is-universal .ensures) ∙ c .if1 .left))
+returns-2 c =
+    let given = c .before .before .before .before .before .args in
+    c .before .before .only .ensures ∙ sym (ap (λ (b : Bool). cond b 0 (only 0 (first-clause (drop (given .start) (given .table .now)))))
+    (ap (λ x. is-universal (given .kinds .now) x) (sym (c .before .before .only .ensures)) ∙ sym (c .before .is-universal .ensures) ∙ c .if1 .left))
 
 pub unit-spec : {M : Type 1} → statement M
 unit-spec =

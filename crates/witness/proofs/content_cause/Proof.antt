@@ -15,10 +15,12 @@ wrong-counts-requires : tie.Need-wrong-counts-requires
 wrong-counts-requires c κs = search needs
 
 returns-2 : tie.Need-returns-2
-returns-2 c = sym (pass 7 (sym (c .before .before .before .wrong-claim .ensures) ∙ c .before .before .if1 .left) ∙ stop 0 (sym (c .before .wrong-counts .ensures) ∙ c .if2 .taken))
+returns-2 c = sym (pass 7 (sym (c .before .before .before .wrong-claim .ensures) ∙ c .before .before .if1 .left) ∙ stop 0
+    (sym (c .before .wrong-counts .ensures) ∙ c .if2 .taken))
 
 returns-3 : tie.Need-returns-3
-returns-3 c = sym (pass 7 (sym (c .before .before .before .wrong-claim .ensures) ∙ c .before .before .if1 .left) ∙ pass 4 (sym (c .before .wrong-counts .ensures) ∙ c .if2 .left))
+returns-3 c = sym (pass 7 (sym (c .before .before .before .wrong-claim .ensures) ∙ c .before .before .if1 .left) ∙ pass 4
+    (sym (c .before .wrong-counts .ensures) ∙ c .if2 .left))
 
 pub content-cause-spec : {M : Type 1} → statement M
 content-cause-spec =

@@ -9,6 +9,30 @@ use borrow.Author.Needs.{needs}
 use Rattle.witness.proofs.record_of.Statement.{statement}
 use Rattle.witness.proofs.record_of.Tie as tie
 
+-- Back along the path, to the place behind a call.
+abbrev back-to-stands3 : tie.After-number5 → tie.After-stands3
+back-to-stands3 at =
+    let after-number2 = at .before .before .before .before .before .before in
+    after-number2 .before
+
+abbrev back-to-number : tie.After-number5 → tie.After-number
+back-to-number at = (back-to-stands3 at) .before
+
+abbrev back-to-stands2 : tie.After-number5 → tie.After-stands2
+back-to-stands2 at = (back-to-number at) .before
+
+abbrev back-to-claim-of : tie.After-number5 → tie.After-claim-of
+back-to-claim-of at = (back-to-stands2 at) .before
+
+abbrev back-to-stands : tie.After-number5 → tie.After-stands
+back-to-stands at = (back-to-claim-of at) .before
+
+abbrev back-to-byte : tie.After-number5 → tie.After-byte
+back-to-byte at = (back-to-stands at) .before
+
+abbrev back-to-start : tie.After-number5 → tie.Start
+back-to-start at = (back-to-byte at) .before .before
+
 byte-requires : tie.Need-byte-requires
 byte-requires c κs = search needs
 
@@ -54,17 +78,19 @@ number-requires-5 c κs = search needs
 returns : tie.Need-returns
 unfolding record-of
 returns c =
-    let at-entry = c .before .before .before .before .before .before .before .before .before .before .before .before .before .before .args in
+    let at-entry = (back-to-start c) .args in
     let f = at-entry .file .now in
     let at = at-entry .at in
-    let given = c .before .before .before .before .before .before .before .before .before .before .before .before .before .before .pre in
+    let given = (back-to-start c) .pre in
     let field : Bool → ℕ → ℕ = λ t k. if-stands t (word (drop k f)) in
-    let map = c .before .before .before .before .before .before .before .before .before .before .before .before .byte .ensures in
+    let map = (back-to-byte c) .byte .ensures in
     same-record map
-    (c .before .before .before .before .before .before .before .before .before .before .claim-of .ensures ∙ ap (λ (t : Bool). if-stands t (getD f 1 0)) (c .before .before .before .before .before .before .before .before .before .before .before .stands .ensures ∙ ap (stands 0) map))
-    (c .before .before .before .before .before .before .before .before .number .ensures ∙ ap₂ field (c .before .before .before .before .before .before .before .before .before .stands2 .ensures ∙ ap (stands 1) map) (given .sizes))
-    (c .before .before .before .before .before .before .number2 .ensures ∙ ap₂ field (c .before .before .before .before .before .before .before .stands3 .ensures ∙ ap (stands 1) map) (ap (λ (k : ℕ). k + 2) (given .sizes)))
-    (c .before .before .before .before .number3 .ensures ∙ ap₂ field (c .before .before .before .before .before .stands4 .ensures ∙ ap (stands 2) map) (given .universal))
+    ((back-to-claim-of c) .claim-of .ensures ∙ ap (λ (t : Bool). if-stands t (getD f 1 0)) ((back-to-stands c) .stands .ensures ∙ ap (stands 0) map))
+    ((back-to-number c) .number .ensures ∙ ap₂ field ((back-to-stands2 c) .stands2 .ensures ∙ ap (stands 1) map) (given .sizes))
+    (c .before .before .before .before .before .before .number2 .ensures ∙ ap₂ field ((back-to-stands3 c) .stands3 .ensures ∙ ap (stands 1) map)
+    (ap (λ (k : ℕ). k + 2) (given .sizes)))
+    (c .before .before .before .before .number3 .ensures ∙ ap₂ field (c .before .before .before .before .before .stands4 .ensures ∙ ap (stands 2) map)
+    (given .universal))
     (c .before .before .number4 .ensures ∙ ap₂ field (c .before .before .before .stands5 .ensures ∙ ap (stands 3) map) (given .existential))
     (c .number5 .ensures ∙ ap₂ field (c .before .stands6 .ensures ∙ ap (stands 4) map) (given .rounds))
 

@@ -14,6 +14,10 @@ use borrow.Author.Needs.{needs}
 use Rattle.witness.proofs.rows.Statement.{statement}
 use Rattle.witness.proofs.rows.Tie as tie
 
+-- Back along the path, to the place behind a call.
+abbrev back-to-start : tie.Else1 → tie.Start
+back-to-start at = at .before .before .before .before .before
+
 layout-of-requires : tie.Need-layout-of-requires
 layout-of-requires c κs = search needs
 
@@ -47,7 +51,7 @@ rows-at-requires : tie.Need-rows-at-requires
 unfolding record-of
 rows-at-requires c κs =
     let record-of-call = c .before .before .before .before .record-of in
-    let f = c .before .before .before .before .before .before .before .args .file .now in
+    let f = (back-to-start (c .before .before)) .args .file .now in
     let none : file-cause f ≡ 0 = omega (arith, c .before .before .before .file-cause .ensures) in
     let whole = accepted f none .whole in
     let there : c .stands .result ≡ has 2 f = c .stands .ensures ∙ ap (λ (r : Record). stands 2 (r .map)) (record-of-call .ensures) in
@@ -57,7 +61,7 @@ rows-at-requires c κs =
 returns-2 : tie.Need-returns-2
 unfolding record-of
 returns-2 c =
-    let given = c .before .before .before .before .before .before .before .before .args in
+    let given = (back-to-start (c .before .before .before)) .args in
     let f = given .file .now in
     let layout-of-call = c .before .before .before .before .before .before .layout-of in
     let record-of-call = c .before .before .before .before .before .record-of in
@@ -78,7 +82,7 @@ rows-at-requires-2 : tie.Need-rows-at-requires-2
 unfolding record-of
 rows-at-requires-2 c κs =
     let record-of-call = c .before .before .before .before .record-of in
-    let f = c .before .before .before .before .before .before .before .args .file .now in
+    let f = (back-to-start (c .before .before)) .args .file .now in
     let none : file-cause f ≡ 0 = omega (arith, c .before .before .before .file-cause .ensures) in
     let whole = accepted f none .whole in
     let there : c .stands2 .result ≡ has 3 f = c .stands2 .ensures ∙ ap (λ (r : Record). stands 3 (r .map)) (record-of-call .ensures) in
@@ -88,7 +92,7 @@ rows-at-requires-2 c κs =
 returns-3 : tie.Need-returns-3
 unfolding record-of
 returns-3 c =
-    let given = c .before .before .before .before .before .before .before .before .args in
+    let given = (back-to-start (c .before .before .before)) .args in
     let f = given .file .now in
     let layout-of-call = c .before .before .before .before .before .before .layout-of in
     let record-of-call = c .before .before .before .before .before .record-of in

@@ -28,7 +28,8 @@ part-result-start c = search needs
 part-result-end : tie.Need-part-result-end
 part-result-end c =
     let at-entry = c .before .args in
-    let room : at-entry .at + (2 + 16 * at-entry .count) ≤ length (at-entry .file .now) = subst (λ (t : Bool). at-entry .at + if-stands t (2 + 16 * at-entry .count) ≤ length (at-entry .file .now)) (c .if1 .taken) (c .before .pre) in
+    let room : at-entry .at + (2 + 16 * at-entry .count) ≤ length (at-entry .file .now) = subst
+    (λ (t : Bool). at-entry .at + if-stands t (2 + 16 * at-entry .count) ≤ length (at-entry .file .now)) (c .if1 .taken) (c .before .pre) in
     omega (arith, room)
 
 returns : tie.Need-returns

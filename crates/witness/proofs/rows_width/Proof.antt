@@ -24,8 +24,11 @@ width-requires c κs = search needs
 
 returns : tie.Need-returns
 returns c =
-    let number-call = c .before .number in
-    (c .width .ensures .0 ∙ ap (λ (n : ℕ). if-stands (c .before .before .before .args .there) (2 + 16 * n)) (number-call .ensures), omega (arith, c .width .ensures .1, number-call .ok))
+    let number-call = c .before .number in (
+      c .width .ensures .0 ∙ ap (λ (n : ℕ). if-stands (c .before .before .before .args .there) (2 + 16 * n)) (number-call .ensures),
+      omega
+          (arith, c .width .ensures .1, number-call .ok),
+    )
 
 pub rows-width-spec : {M : Type 1} → statement M
 rows-width-spec =

@@ -8,6 +8,21 @@ use borrow.Author.Needs.{needs}
 use Rattle.witness.proofs.size_of.Statement.{statement}
 use Rattle.witness.proofs.size_of.Tie as tie
 
+-- Back along the path, to the place behind a call.
+abbrev back-to-stands2 : tie.After-width5 → tie.After-stands2
+back-to-stands2 at =
+    let after-width2 = at .before .before .before .before .before .before in
+    after-width2 .before
+
+abbrev back-to-width : tie.After-width5 → tie.After-width
+back-to-width at = (back-to-stands2 at) .before
+
+abbrev back-to-stands : tie.After-width5 → tie.After-stands
+back-to-stands at = (back-to-width at) .before
+
+abbrev back-to-start : tie.After-width5 → tie.Start
+back-to-start at = (back-to-stands at) .before
+
 stands-requires : tie.Need-stands-requires
 stands-requires c κs = search needs
 
@@ -73,15 +88,19 @@ add-result c = search needs
 
 returns : tie.Need-returns
 returns c =
-    let width-call = c .before .before .before .before .before .before .before .before .width in
+    let width-call = (back-to-width c) .width in
     let width2-call = c .before .before .before .before .before .before .width2 in
     let width3-call = c .before .before .before .before .width3 in
     let width4-call = c .before .before .width4 in
-    let r = c .before .before .before .before .before .before .before .before .before .before .args .«record» in
-    let claim : width-call .result ≡ if-stands (stands 0 (r .map)) 1 = width-call .ensures .0 ∙ ap (λ (t : Bool). if-stands t 1) (c .before .before .before .before .before .before .before .before .before .stands .ensures) in
-    let sizes : width2-call .result ≡ if-stands (stands 1 (r .map)) 4 = width2-call .ensures .0 ∙ ap (λ (t : Bool). if-stands t 4) (c .before .before .before .before .before .before .before .stands2 .ensures) in
-    let universal : width3-call .result ≡ if-stands (stands 2 (r .map)) (2 + 16 * r .universal) = width3-call .ensures .0 ∙ ap (λ (t : Bool). if-stands t (2 + 16 * r .universal)) (c .before .before .before .before .before .stands3 .ensures) in
-    let existential : width4-call .result ≡ if-stands (stands 3 (r .map)) (2 + 16 * r .existential) = width4-call .ensures .0 ∙ ap (λ (t : Bool). if-stands t (2 + 16 * r .existential)) (c .before .before .before .stands4 .ensures) in
+    let r = (back-to-start c) .args .«record» in
+    let claim : width-call .result ≡ if-stands (stands 0 (r .map)) 1 = width-call .ensures .0 ∙ ap (λ (t : Bool). if-stands t 1)
+    ((back-to-stands c) .stands .ensures) in
+    let sizes : width2-call .result ≡ if-stands (stands 1 (r .map)) 4 = width2-call .ensures .0 ∙ ap (λ (t : Bool). if-stands t 4)
+    ((back-to-stands2 c) .stands2 .ensures) in
+    let universal : width3-call .result ≡ if-stands (stands 2 (r .map)) (2 + 16 * r .universal) = width3-call .ensures .0 ∙ ap
+    (λ (t : Bool). if-stands t (2 + 16 * r .universal)) (c .before .before .before .before .before .stands3 .ensures) in
+    let existential : width4-call .result ≡ if-stands (stands 3 (r .map)) (2 + 16 * r .existential) = width4-call .ensures .0 ∙ ap
+    (λ (t : Bool). if-stands t (2 + 16 * r .existential)) (c .before .before .before .stands4 .ensures) in
     let rounds : c .width5 .result ≡ if-stands (stands 4 (r .map)) 2 = c .width5 .ensures .0 ∙ ap (λ (t : Bool). if-stands t 2) (c .before .stands5 .ensures) in
     omega (arith, claim, sizes, universal, existential, rounds)
 

@@ -31,6 +31,12 @@ module _ (r : Record) (u e out : List ℕ) where
   so w left same after =
       (same, (after, (ap writing-number same ∙ writing-numbered r u e out, (ap length-written same ∙ writing-valued r u e out, round-trip))))
 
+-- Back along the path, to the place behind a call.
+abbrev back-to-start : tie.After-slice-known2 → tie.Start
+back-to-start at =
+    let after-slice-known = at .before .before .before .before .before .before in
+    after-slice-known .before .before .before
+
 write-cause-requires : tie.Need-write-cause-requires
 write-cause-requires c κs = search needs
 
@@ -50,7 +56,8 @@ returns c =
 put-all-requires : tie.Need-put-all-requires
 put-all-requires c κs =
     let at-entry = c .before .before .before .before .before .before .args in
-    write-taken (at-entry .«record») (at-entry .universal .now) (at-entry .existential .now) (length (at-entry .out .now)) (sym (c .before .before .write-cause .ensures) ∙ c .before .if1 .left) .fitting
+    write-taken (at-entry .«record») (at-entry .universal .now) (at-entry .existential .now) (length (at-entry .out .now))
+    (sym (c .before .before .write-cause .ensures) ∙ c .before .if1 .left) .fitting
 
 same-length : tie.Need-same-length
 same-length c = search needs
@@ -58,7 +65,7 @@ same-length c = search needs
 returns-2 : tie.Need-returns-2
 unfolding out-after
 returns-2 c =
-    let at-entry = c .before .before .before .before .before .before .before .before .before .args in
+    let at-entry = (back-to-start c) .args in
     let put-all-call = c .before .before .put-all in
     let r = at-entry .«record» in
     let u = at-entry .universal .now in

@@ -13,7 +13,8 @@ same-length c = search needs
 returns : tie.Need-returns
 returns c =
     let start = c .before .before .before .before .before .before in
-    put-part (start .args .text .now) (start .args .at) (start .args .part .now) (start .pre) (c .before .before .append .ensures .0) (c .before .before .append .ensures .1)
+    put-part (start .args .text .now) (start .args .at) (start .args .part .now) (start .pre) (c .before .before .append .ensures .0)
+    (c .before .before .append .ensures .1)
 
 pub append-spec : {M : Type 1} → statement M
 append-spec = tie.close (tie.spec append-requires same-length returns)

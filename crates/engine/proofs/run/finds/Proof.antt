@@ -21,28 +21,31 @@ same-length : tie.Need-same-length
 same-length c = search needs
 
 returns : tie.Need-returns
-returns c = (
-  λ literals of led. ap is-found (sym (c .enum-told .given .1) ∙ c .before .before .before .before .first-model-over .ensures .prepared literals of led .returned),
-  λ literals of led. c .before .before .before .before .first-model-over .ensures .prepared literals of led .area,
-)
+returns c =
+    let first-model-over-call = c .before .before .before .before .first-model-over in (
+      λ literals of led. ap is-found (sym (c .enum-told .given .1) ∙ first-model-over-call .ensures .prepared literals of led .returned),
+      λ literals of led. first-model-over-call .ensures .prepared literals of led .area,
+    )
 
 same-length-2 : tie.Need-same-length-2
 same-length-2 c = search needs
 
 returns-2 : tie.Need-returns-2
-returns-2 c = (
-  λ literals of led. ap is-found (sym (c .enum-told2 .given .1) ∙ c .before .before .before .before .first-model-over .ensures .prepared literals of led .returned),
-  λ literals of led. c .before .before .before .before .first-model-over .ensures .prepared literals of led .area,
-)
+returns-2 c =
+    let first-model-over-call = c .before .before .before .before .first-model-over in (
+      λ literals of led. ap is-found (sym (c .enum-told2 .given .1) ∙ first-model-over-call .ensures .prepared literals of led .returned),
+      λ literals of led. first-model-over-call .ensures .prepared literals of led .area,
+    )
 
 same-length-3 : tie.Need-same-length-3
 same-length-3 c = search needs
 
 returns-3 : tie.Need-returns-3
-returns-3 c = (
-  λ literals of led. ap is-found (sym (c .enum-told3 .given .1) ∙ c .before .before .before .before .first-model-over .ensures .prepared literals of led .returned),
-  λ literals of led. c .before .before .before .before .first-model-over .ensures .prepared literals of led .area,
-)
+returns-3 c =
+    let first-model-over-call = c .before .before .before .before .first-model-over in (
+      λ literals of led. ap is-found (sym (c .enum-told3 .given .1) ∙ first-model-over-call .ensures .prepared literals of led .returned),
+      λ literals of led. first-model-over-call .ensures .prepared literals of led .area,
+    )
 
 pub finds-spec : {M : Type 1} → statement M
 finds-spec =

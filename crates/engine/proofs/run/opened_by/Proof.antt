@@ -15,7 +15,8 @@ first-bits-requires c κs = tt
 returns : tie.Need-returns
 returns c =
     let q = c .before .before .before .before .before .args in
-    opened-read (q .end) (q .kinds .now) (q .kind) (q .rows .now) (q .count) _ _ _ (c .before .before .block .ensures) (c .before .last-place .ensures) (c .first-bits .ensures)
+    opened-read (q .end) (q .kinds .now) (q .kind) (q .rows .now) (q .count) _ _ _ (c .before .before .block .ensures) (c .before .last-place .ensures)
+    (c .first-bits .ensures)
 
 pub opened-by-spec : {M : Type 1} → statement M
 opened-by-spec = tie.close (tie.spec block-requires last-place-requires first-bits-requires returns)

@@ -12,6 +12,32 @@ use Rattle.engine.proofs.search.PreparedLaws.{passes, used-within}
 use Rattle.engine.proofs.search.first_model.Statement.{statement}
 use Rattle.engine.proofs.search.first_model.Tie as tie
 
+-- Back along the path, to the place behind a call.
+abbrev back-to-start : tie.After-known-told → tie.Start
+back-to-start at =
+    let after-shared-slice-known2 = at .before .before .before .before .before .before in
+    after-shared-slice-known2 .before .before
+
+abbrev back-to-prepare : tie.After-slice-known2 → tie.After-prepare
+back-to-prepare at =
+    let after-codes3 = at .before .before .before .before .before .before in
+    after-codes3 .before .before .before .before
+
+abbrev back-to-enum-told : tie.After-slice-known2 → tie.After-enum-told
+back-to-enum-told at = (back-to-prepare at) .before .before .before .before
+
+abbrev back-to-start-2 : tie.After-terms2 → tie.Start
+back-to-start-2 at =
+    let after-codes = at .before .before .before .before .before .before in
+    let after-shared-slice-known2 = after-codes .before .before .before .before .before .before in
+    after-shared-slice-known2 .before .before
+
+abbrev back-to-check : tie.After-slice-known2 → tie.After-check
+back-to-check at = (back-to-enum-told at) .before .before
+
+abbrev back-to-start-3 : tie.After-slice-known2 → tie.Start
+back-to-start-3 at = (back-to-check at) .before .before .before .before .before
+
 check-requires : tie.Need-check-requires
 check-requires c κs = tt
 
@@ -36,13 +62,27 @@ prepare-requires c κs = tt
 -- The entries used are places of the table.
 array-share-prefix-codes : tie.Need-array-share-prefix-codes
 array-share-prefix-codes c =
+    let prepare-call = c .before .before .before .prepare in
     let size : length (replicate {A = ℕ} max-entries 0) ≡ max-entries = length-replicate {A = ℕ} max-entries 0 in
-    omega (arith, used-within (c .before .before .before .before .before .before .before .before .before .before .before .before .before .before .args .literals .now) (length (replicate {A = ℕ} max-entries 0)), c .before .before .before .prepare .ensures .entries, c .before .before .before .prepare .kept .1 .1 .0, size)
+    omega (
+      arith,
+      used-within ((back-to-start-2 c) .args .literals .now) (length (replicate {A = ℕ} max-entries 0)),
+      prepare-call .ensures .entries,
+      prepare-call .kept .1 .1 .0,
+      size,
+    )
 
 slice-aggregate-first-model-over : tie.Need-slice-aggregate-first-model-over
 slice-aggregate-first-model-over c =
+    let prepare-call = c .before .before .before .before .prepare in
     let size : length (replicate {A = ℕ} max-entries 0) ≡ max-entries = length-replicate {A = ℕ} max-entries 0 in
-    simp length-take (omega (arith, used-within (c .before .before .before .before .before .before .before .before .before .before .before .before .before .before .before .args .literals .now) (length (replicate {A = ℕ} max-entries 0)), c .before .before .before .before .prepare .ensures .entries, c .before .before .before .before .prepare .kept .1 .1 .0, size))
+    simp length-take (omega (
+      arith,
+      used-within ((back-to-start-2 (c .before)) .args .literals .now) (length (replicate {A = ℕ} max-entries 0)),
+      prepare-call .ensures .entries,
+      prepare-call .kept .1 .1 .0,
+      size,
+    ))
 
 slice-aggregate-first-model-over-2 : tie.Need-slice-aggregate-first-model-over-2
 slice-aggregate-first-model-over-2 c = search needs
@@ -55,7 +95,7 @@ first-model-over-requires c κs = tt
 
 returns : tie.Need-returns
 returns c =
-    let q = c .before .before .before .before .before .before .before .before .args in
+    let q = (back-to-start c) .args in
     refused-searched (q .kinds .now) (q .literals .now) (q .preferences .now) (q .rows .now) (q .count) (q .universal) (q .work .now) _
     (sym (c .before .before .before .check .ensures .0) ∙ c .before .cause .given .1)
 
@@ -64,9 +104,10 @@ same-length c = c .before .before .first-model-over .kept .1 .1 .1 .1 .1 .1 .1 .
 
 returns-2 : tie.Need-returns-2
 returns-2 c =
-    let q = c .before .before .before .before .before .before .before .before .before .before .before .before .before .before .before .before .before .before .before .before .before .args in
+    let q = (back-to-start-3 c) .args in
     c .before .before .first-model-over .ensures .prepared (q .literals .now)
-    (c .before .before .before .before .before .before .before .before .before .before .prepare .ensures .prepared (passes (q .kinds .now) (q .literals .now) (sym (c .before .before .before .before .before .before .before .before .before .before .before .before .before .before .before .before .check .ensures .0) ∙ c .before .before .before .before .before .before .before .before .before .before .before .before .before .before .enum-told .given .1))
+    ((back-to-prepare c) .prepare .ensures .prepared
+    (passes (q .kinds .now) (q .literals .now) (sym ((back-to-check c) .check .ensures .0) ∙ (back-to-enum-told c) .enum-told .given .1))
     (length-replicate {A = ℕ} max-entries 0) (length-replicate {A = ℕ} index-size 0) (length-replicate {A = ℕ} table-size 0))
     (λ known. absurd (omega arith))
 

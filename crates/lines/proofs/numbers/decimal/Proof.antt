@@ -20,19 +20,27 @@ shared-slice-read-d : tie.Need-shared-slice-read-d Inv-loop μ-loop
 shared-slice-read-d c = omega arith
 
 returns : tie.Need-returns Inv-loop μ-loop
-returns c = sym (c .before .before .before .loop .inv .2 ∙ decimal-low (c .before .before .before .before .args .word .now) (c .before .before .before .loop .i) (c .before .before .before .loop .v) (omega arith) (c .if1 .taken))
+returns c =
+    let loop = c .before .before .before .loop in
+    sym (loop .inv .2 ∙ decimal-low (c .before .before .before .before .args .word .now) (loop .i) (loop .v) (omega arith) (c .if1 .taken))
 
 returns-2 : tie.Need-returns-2 Inv-loop μ-loop
-returns-2 c = sym (c .before .before .before .before .loop .inv .2 ∙ decimal-high (c .before .before .before .before .before .args .word .now) (c .before .before .before .before .loop .i) (c .before .before .before .before .loop .v) (omega arith) (c .if2 .taken))
+returns-2 c =
+    let loop = c .before .before .before .before .loop in
+    sym (loop .inv .2 ∙ decimal-high (c .before .before .before .before .before .args .word .now) (loop .i) (loop .v) (omega arith) (c .if2 .taken))
 
 mul-v : tie.Need-mul-v Inv-loop μ-loop
-mul-v c = omega (arith, few-digits (c .before .before .before .before .loop .i) (c .before .before .before .before .loop .v) (c .before .before .before .before .loop .inv .1) (omega arith))
+mul-v c =
+    let loop = c .before .before .before .before .loop in
+    omega (arith, few-digits (loop .i) (loop .v) (loop .inv .1) (omega arith))
 
 cast-v : tie.Need-cast-v Inv-loop μ-loop
 cast-v c = omega arith
 
 add-v : tie.Need-add-v Inv-loop μ-loop
-add-v c = omega (arith, few-digits (c .before .before .before .before .loop .i) (c .before .before .before .before .loop .v) (c .before .before .before .before .loop .inv .1) (omega arith))
+add-v c =
+    let loop = c .before .before .before .before .loop in
+    omega (arith, few-digits (loop .i) (loop .v) (loop .inv .1) (omega arith))
 
 add-i : tie.Need-add-i Inv-loop μ-loop
 add-i c = omega arith
@@ -41,7 +49,13 @@ loop-less : tie.Need-loop-less Inv-loop μ-loop
 loop-less c = omega arith
 
 loop-again : tie.Need-loop-again Inv-loop μ-loop
-loop-again c = (omega arith, one-digit-more (c .before .before .before .before .loop .i) (c .before .before .before .before .loop .v) _ (c .before .before .before .before .loop .inv .1) (omega arith), c .before .before .before .before .loop .inv .2 ∙ decimal-past (c .before .before .before .before .before .args .word .now) (c .before .before .before .before .loop .i) (c .before .before .before .before .loop .v) (omega arith) (c .before .if1 .left) (c .if2 .left))
+loop-again c =
+    let loop = c .before .before .before .before .loop in (
+      omega arith,
+      one-digit-more (loop .i) (loop .v) _ (loop .inv .1) (omega arith),
+      loop .inv .2 ∙ decimal-past
+          (c .before .before .before .before .before .args .word .now) (loop .i) (loop .v) (omega arith) (c .before .if1 .left) (c .if2 .left),
+    )
 
 returns-3 : tie.Need-returns-3 Inv-loop μ-loop
 returns-3 c = sym (c .before .loop .inv .2 ∙ decimal-end (c .before .before .args .word .now) (c .before .loop .i) (c .before .loop .v) (c .loop-test .left))

@@ -26,10 +26,12 @@ number-requires-2 : tie.Need-number-requires-2
 number-requires-2 c κs = search needs
 
 returns : tie.Need-returns
-returns c = c .number .ensures ∙ ap number (unsigned-minus (c .before .before .before .before .before .args .word .now) (sym (c .before .before .before .negative .ensures) ∙ c .before .before .if1 .taken))
+returns c = c .number .ensures ∙ ap number (unsigned-minus (c .before .before .before .before .before .args .word .now)
+    (sym (c .before .before .before .negative .ensures) ∙ c .before .before .if1 .taken))
 
 returns-2 : tie.Need-returns-2
-returns-2 c = c .number2 .ensures ∙ ap number (unsigned-plain (c .before .before .before .before .args .word .now) (sym (c .before .before .negative .ensures) ∙ c .before .if1 .left))
+returns-2 c = c .number2 .ensures ∙ ap number (unsigned-plain (c .before .before .before .before .args .word .now)
+    (sym (c .before .before .negative .ensures) ∙ c .before .if1 .left))
 
 pub magnitude-spec : {M : Type 1} → statement M
 magnitude-spec =

@@ -13,10 +13,20 @@ use Rattle.lines.proofs.shapes.closed.Statement.{statement}
 use Rattle.lines.proofs.shapes.closed.Tie as tie
 
 abbrev Inv-loop : tie.InvT-loop
-Inv-loop line i signed at₀ at = (at ≤ length line) × (closed-by-zero (good-word signed) (words (drop i line)) ≡ closed-by-zero (good-word signed) (words (drop at line)))
+Inv-loop line i signed at₀ at = (at ≤ length line) × (closed-by-zero (good-word signed) (words (drop i line)) ≡ closed-by-zero (good-word signed)
+    (words (drop at line)))
 
 abbrev μ-loop : tie.MeasureT-loop
 μ-loop line i signed at₀ at = length line - at
+
+-- Back along the path, to the place behind a call.
+abbrev back-to-at-loop : tie.After-is-zero Inv-loop μ-loop → tie.At-loop Inv-loop μ-loop
+back-to-at-loop at = at .before .before .before .before .before
+
+abbrev back-to-start : tie.After-is-zero Inv-loop μ-loop → tie.Start Inv-loop μ-loop
+back-to-start at =
+    let after-shared-slice-known = at .before .before .before .before .before .before in
+    after-shared-slice-known .before
 
 loop-holds : tie.Need-loop-holds Inv-loop μ-loop
 loop-holds c = (c .before .pre, refl)
@@ -43,19 +53,46 @@ next-requires-2 : tie.Need-next-requires-2 Inv-loop μ-loop
 next-requires-2 c κs = search needs
 
 returns-2 : tie.Need-returns-2 Inv-loop μ-loop
-returns-2 c = let h : c .before .before .before .before .before .before .next .result .start < c .before .before .before .before .before .before .next .result .end = omega (arith, c .before .before .before .before .before .before .next .ensures .ordered) in sym (c .before .before .before .before .before .before .before .before .loop .inv .1 ∙ ap (closed-by-zero (good-word (c .before .before .before .before .before .before .before .before .before .before .args .signed))) (c .before .before .before .before .before .before .next .ensures .some h) ∙ closed-zero (good-word (c .before .before .before .before .before .before .before .before .before .before .args .signed)) (take (c .before .before .before .before .before .before .next .result .end - c .before .before .before .before .before .before .next .result .start) (drop (c .before .before .before .before .before .before .next .result .start) (c .before .before .before .before .before .before .before .before .before .before .args .line .now))) (words (drop (c .before .before .before .before .before .before .next .result .end) (c .before .before .before .before .before .before .before .before .before .before .args .line .now))) (sym (c .before .before .before .is-zero .ensures) ∙ c .before .before .if2 .taken) ∙ sym (next-empty (c .before .next2 .ensures)))
+returns-2 c =
+    let next-call = c .before .before .before .before .before .before .next in
+    let given = (back-to-start (c .before .before .before)) .args in
+    let h : next-call .result .start < next-call .result .end = omega (arith, next-call .ensures .ordered) in
+    sym ((back-to-at-loop (c .before .before .before)) .loop .inv .1 ∙ ap (closed-by-zero (good-word (given .signed))) (next-call .ensures .some h) ∙
+    closed-zero (good-word (given .signed)) (take (next-call .result .end - next-call .result .start) (drop (next-call .result .start) (given .line .now)))
+    (words (drop (next-call .result .end) (given .line .now))) (sym (c .before .before .before .is-zero .ensures) ∙ c .before .before .if2 .taken) ∙ sym
+    (next-empty (c .before .next2 .ensures)))
 
 fits-requires : tie.Need-fits-requires Inv-loop μ-loop
 fits-requires c κs = search needs
 
 returns-3 : tie.Need-returns-3 Inv-loop μ-loop
-returns-3 c = let h : c .before .before .before .before .before .before .next .result .start < c .before .before .before .before .before .before .next .result .end = omega (arith, c .before .before .before .before .before .before .next .ensures .ordered) in sym (c .before .before .before .before .before .before .before .before .loop .inv .1 ∙ ap (closed-by-zero (good-word (c .before .before .before .before .before .before .before .before .before .before .args .signed))) (c .before .before .before .before .before .before .next .ensures .some h) ∙ closed-bad (good-word (c .before .before .before .before .before .before .before .before .before .before .args .signed)) (take (c .before .before .before .before .before .before .next .result .end - c .before .before .before .before .before .before .next .result .start) (drop (c .before .before .before .before .before .before .next .result .start) (c .before .before .before .before .before .before .before .before .before .before .args .line .now))) (words (drop (c .before .before .before .before .before .before .next .result .end) (c .before .before .before .before .before .before .before .before .before .before .args .line .now))) (sym (c .before .before .before .is-zero .ensures) ∙ c .before .before .if2 .left) (sym (c .before .fits2 .ensures) ∙ c .if3 .left))
+returns-3 c =
+    let next-call = c .before .before .before .before .before .before .next in
+    let given = (back-to-start (c .before .before .before)) .args in
+    let h : next-call .result .start < next-call .result .end = omega (arith, next-call .ensures .ordered) in
+    sym ((back-to-at-loop (c .before .before .before)) .loop .inv .1 ∙ ap (closed-by-zero (good-word (given .signed))) (next-call .ensures .some h) ∙ closed-bad
+    (good-word (given .signed)) (take (next-call .result .end - next-call .result .start) (drop (next-call .result .start) (given .line .now)))
+    (words (drop (next-call .result .end) (given .line .now))) (sym (c .before .before .before .is-zero .ensures) ∙ c .before .before .if2 .left)
+    (sym (c .before .fits2 .ensures) ∙ c .if3 .left))
 
 loop-less : tie.Need-loop-less Inv-loop μ-loop
-loop-less c = let h : c .before .before .before .before .before .before .next .result .start < c .before .before .before .before .before .before .next .result .end = omega (arith, c .before .before .before .before .before .before .next .ensures .ordered) in omega (arith, c .before .before .before .before .before .before .next .ensures .onward h, c .before .before .before .before .before .before .next .ensures .within)
+loop-less c =
+    let next-call = c .before .before .before .before .before .before .next in
+    let h : next-call .result .start < next-call .result .end = omega (arith, next-call .ensures .ordered) in
+    omega (arith, next-call .ensures .onward h, next-call .ensures .within)
 
 loop-again : tie.Need-loop-again Inv-loop μ-loop
-loop-again c = let h : c .before .before .before .before .before .before .next .result .start < c .before .before .before .before .before .before .next .result .end = omega (arith, c .before .before .before .before .before .before .next .ensures .ordered) in (c .before .before .before .before .before .before .next .ensures .within, c .before .before .before .before .before .before .before .before .loop .inv .1 ∙ ap (closed-by-zero (good-word (c .before .before .before .before .before .before .before .before .before .before .args .signed))) (c .before .before .before .before .before .before .next .ensures .some h) ∙ closed-more (good-word (c .before .before .before .before .before .before .before .before .before .before .args .signed)) (take (c .before .before .before .before .before .before .next .result .end - c .before .before .before .before .before .before .next .result .start) (drop (c .before .before .before .before .before .before .next .result .start) (c .before .before .before .before .before .before .before .before .before .before .args .line .now))) (words (drop (c .before .before .before .before .before .before .next .result .end) (c .before .before .before .before .before .before .before .before .before .before .args .line .now))) (sym (c .before .before .before .is-zero .ensures) ∙ c .before .before .if2 .left) (sym (c .before .fits2 .ensures) ∙ c .if3 .taken))
+loop-again c =
+    let next-call = c .before .before .before .before .before .before .next in
+    let given = (back-to-start (c .before .before .before)) .args in
+    let h : next-call .result .start < next-call .result .end = omega (arith, next-call .ensures .ordered) in (
+      next-call .ensures .within,
+      (back-to-at-loop (c .before .before .before)) .loop .inv .1 ∙ ap (closed-by-zero (good-word (given .signed)))
+          (next-call .ensures .some h) ∙ closed-more (good-word (given .signed))
+          (take (next-call .result .end - next-call .result .start) (drop (next-call .result .start) (given .line .now)))
+          (words (drop (next-call .result .end) (given .line .now))) (sym (c .before .before .before .is-zero .ensures) ∙ c .before .before .if2 .left)
+          (sym (c .before .fits2 .ensures) ∙ c .if3 .taken),
+    )
 
 returns-4 : tie.Need-returns-4 Inv-loop μ-loop
 returns-4 c = sym (c .before .loop .inv .1 ∙ rw (words-none (c .before .before .before .args .line .now) (c .before .loop .at) (c .loop-test .left)) refl)

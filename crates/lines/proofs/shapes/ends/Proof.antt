@@ -25,13 +25,25 @@ is-literal-requires : tie.Need-is-literal-requires
 is-literal-requires c κs = search needs
 
 returns-2 : tie.Need-returns-2
-returns-2 c = rw (c .before .before .before .if1 .taken, ← c .before .before .before .before .next .ensures .word, sym (c .before .is-literal .ensures) ∙ c .if2 .left) refl
+returns-2 c = rw (
+  c .before .before .before .if1 .taken,
+  ← c .before .before .before .before .next .ensures .word,
+  sym (c .before .is-literal .ensures) ∙ c .if2
+      .left,
+) refl
 
 next-requires-2 : tie.Need-next-requires-2
 next-requires-2 c κs = search needs
 
 returns-3 : tie.Need-returns-3
-returns-3 c = rw (c .before .before .before .before .before .if1 .taken, ← c .before .before .before .before .before .before .next .ensures .word, sym (c .before .before .before .is-literal .ensures) ∙ c .before .before .if2 .taken) (next-empty (c .before .next2 .ensures) ∙ ap is-empty (c .before .before .before .before .before .before .next .ensures .others))
+returns-3 c =
+    let next-call = c .before .before .before .before .before .before .next in
+    rw (
+      c .before .before .before .before .before .if1 .taken,
+      ← next-call .ensures .word,
+      sym (c .before .before .before .is-literal .ensures) ∙
+          c .before .before .if2 .taken,
+    ) (next-empty (c .before .next2 .ensures) ∙ ap is-empty (next-call .ensures .others))
 
 pub ends-spec : {M : Type 1} → statement M
 ends-spec =

@@ -20,7 +20,11 @@ same-requires-2 : tie.Need-same-requires-2
 same-requires-2 c κs = search needs
 
 returns-2 : tie.Need-returns-2
-returns-2 c = rw (sym (c .before .before .before .before .same .ensures) ∙ c .before .before .before .if1 .left, sym (c .before .same2 .ensures) ∙ c .if2 .taken) refl
+returns-2 c = rw (
+  sym (c .before .before .before .before .same .ensures) ∙ c .before .before .before .if1 .left,
+  sym (c .before .same2 .ensures) ∙
+      c .if2 .taken,
+) refl
 
 slice-aggregate-same-3 : tie.Need-slice-aggregate-same-3
 slice-aggregate-same-3 c = search needs
@@ -29,7 +33,11 @@ same-requires-3 : tie.Need-same-requires-3
 same-requires-3 c κs = search needs
 
 returns-3 : tie.Need-returns-3
-returns-3 c = rw (sym (c .before .before .before .before .before .before .same .ensures) ∙ c .before .before .before .before .before .if1 .left, sym (c .before .before .before .same2 .ensures) ∙ c .before .before .if2 .left) (c .same3 .ensures)
+returns-3 c = rw (
+  sym (c .before .before .before .before .before .before .same .ensures) ∙ c .before .before .before .before .before .if1 .left,
+  sym
+      (c .before .before .before .same2 .ensures) ∙ c .before .before .if2 .left,
+) (c .same3 .ensures)
 
 pub is-function-spec : {M : Type 1} → statement M
 is-function-spec =

@@ -11,7 +11,11 @@ use Rattle.lines.proofs.shapes.is_trimmed.Tie as tie
 
 returns : tie.Need-returns
 unfolding is-trimmed
-returns c = rw (List·getD-eq-default (c .before .args .line .now) 0 {n = 0} (omega arith), List·getD-eq-default (c .before .args .line .now) 0 {n = length (c .before .args .line .now) - 1} (omega arith)) refl
+returns c = rw (
+  List·getD-eq-default (c .before .args .line .now) 0 {n = 0} (omega arith),
+  List·getD-eq-default (c .before .args .line .now) 0
+      {n = length (c .before .args .line .now) - 1} (omega arith),
+) refl
 
 shared-slice-read-if2 : tie.Need-shared-slice-read-if2
 shared-slice-read-if2 c = search needs

@@ -8,6 +8,27 @@ use borrow.Author.Needs.{needs}
 use Rattle.lines.proofs.shapes.p_line.Statement.{statement}
 use Rattle.lines.proofs.shapes.p_line.Tie as tie
 
+-- Back along the path, to the place behind a call.
+abbrev back-to-number : tie.After-is-whole → tie.After-number
+back-to-number at =
+    let after-number2 = at .before .before .before .before .before .before in
+    after-number2 .before .before
+
+abbrev back-to-next3 : tie.After-is-whole → tie.After-next3
+back-to-next3 at = (back-to-number at) .before .before
+
+abbrev back-to-next2 : tie.After-is-whole → tie.After-next2
+back-to-next2 at = (back-to-next3 at) .before
+
+abbrev back-to-next : tie.After-is-whole → tie.After-next
+back-to-next at = (back-to-next2 at) .before
+
+abbrev back-to-opens : tie.After-is-whole → tie.After-opens
+back-to-opens at = (back-to-next at) .before
+
+abbrev back-to-start : tie.After-is-whole → tie.Start
+back-to-start at = (back-to-opens at) .before .before
+
 opens-requires : tie.Need-opens-requires
 opens-requires c κs = search needs
 
@@ -77,15 +98,18 @@ is-whole-requires c κs = search needs
 returns : tie.Need-returns
 unfolding is-problem
 returns c =
-    let q2 = taken-word (c .before .before .before .before .before .before .before .before .before .before .before .before .next .ensures) (c .before .before .before .before .before .before .before .before .before .before .before .before .before .opens .ensures .others) in
-    let q3 = taken-word (c .before .before .before .before .before .before .before .before .before .before .before .next2 .ensures) (q2 .1) in
-    let q4 = taken-word (c .before .before .before .before .before .before .before .before .before .before .next3 .ensures) (q3 .1) in
-    let v′ = c .before .before .before .before .before .before .before .before .number .ensures ∙ ap number (q2 .0) in
+    let opens-call = (back-to-opens c) .opens in
+    let given = (back-to-start c) .args in
+    let q2 = taken-word ((back-to-next c) .next .ensures) (opens-call .ensures .others) in
+    let q3 = taken-word ((back-to-next2 c) .next2 .ensures) (q2 .1) in
+    let q4 = taken-word ((back-to-next3 c) .next3 .ensures) (q3 .1) in
+    let v′ = (back-to-number c) .number .ensures ∙ ap number (q2 .0) in
     let c′ = c .before .before .before .before .before .before .number2 .ensures ∙ ap number (q3 .0) in
-    let line = c .before .before .before .before .before .before .before .before .before .before .before .before .before .before .before .args .line .now in
-    let gates = c .before .before .before .before .before .before .before .before .before .before .before .before .before .before .before .args .gates in
+    let line = given .line .now in
+    let gates = given .gates in
     record {
-      shape = c .is-whole .ensures ∙ whole-problem (is-trimmed line) (same (first (words line)) p-word) (same (second (words line)) (form-word gates)) (c .before .before .before .before .before .before .before .before .before .before .before .before .before .opens .ensures .right) (c .before .ends .ensures ∙ ap (ends-problem (c .before .before .before .before .before .before .before .before .before .before .before .before .before .before .before .args .gates)) (q3 .1)) v′ c′;
+      shape = c .is-whole .ensures ∙ whole-problem (is-trimmed line) (same (first (words line)) p-word) (same (second (words line)) (form-word gates))
+          (opens-call .ensures .right) (c .before .ends .ensures ∙ ap (ends-problem (given .gates)) (q3 .1)) v′ c′;
       v = v′;
       c = c′;
       o = c .before .before .before .before .magnitude .ensures ∙ ap (λ w. number (unsigned w)) (q4 .0);

@@ -21,24 +21,29 @@ find-requires-2 c κs = search needs
 
 returns-2 : tie.Need-returns-2
 returns-2 c =
+    let find-call = c .before .before .before .find in
     let line = c .before .before .before .before .before .args .line .now in
-    parted-once line (c .before .before .before .find .result) (c .before .before .before .find .ensures) (c .before .find2 .result) (c .before .find2 .ensures) (omega (arith, found-within 32 line 0 (omega arith))) (c .if2 .taken)
+    parted-once line (find-call .result) (find-call .ensures) (c .before .find2 .result) (c .before .find2 .ensures)
+    (omega (arith, found-within 32 line 0 (omega arith))) (c .if2 .taken)
 
 add-find-2 : tie.Need-add-find-2
 add-find-2 c =
+    let find-call = c .before .before .before .find in
     let line = c .before .before .before .before .before .args .line .now in
-    let inside : c .before .before .before .find .result < length line = omega (arith, found-within 32 line 0 (omega arith)) in
-    omega (arith, found-within 32 line (c .before .before .before .find .result + 1) (omega arith))
+    let inside : find-call .result < length line = omega (arith, found-within 32 line 0 (omega arith)) in
+    omega (arith, found-within 32 line (find-call .result + 1) (omega arith))
 
 find-requires-3 : tie.Need-find-requires-3
 find-requires-3 c κs = search needs
 
 returns-3 : tie.Need-returns-3
 returns-3 c =
+    let find2-call = c .before .before .find2 in
+    let find-call = c .before .before .before .before .find in
     let line = c .before .before .before .before .before .before .args .line .now in
-    let first : c .before .before .before .before .find .result < length line = omega (arith, found-within 32 line 0 (omega arith)) in
-    let second : c .before .before .find2 .result < length line = omega (arith, found-within 32 line (c .before .before .before .before .find .result + 1) (omega arith)) in
-    parted line (c .before .before .before .before .find .result) (c .before .before .before .before .find .ensures) (c .before .before .find2 .result) (c .before .before .find2 .ensures) first (c .find3 .result) (c .find3 .ensures) second
+    let first : find-call .result < length line = omega (arith, found-within 32 line 0 (omega arith)) in
+    let second : find2-call .result < length line = omega (arith, found-within 32 line (find-call .result + 1) (omega arith)) in
+    parted line (find-call .result) (find-call .ensures) (find2-call .result) (find2-call .ensures) first (c .find3 .result) (c .find3 .ensures) second
 
 pub find-spaces-spec : {M : Type 1} → statement M
 find-spaces-spec =

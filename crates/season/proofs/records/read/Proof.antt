@@ -33,24 +33,48 @@ read-line-requires : tie.Need-read-line-requires Inv-loop μ-loop
 read-line-requires c κs = search needs
 
 mul-rows : tie.Need-mul-rows Inv-loop μ-loop
-mul-rows c = omega (arith, row-free (c .before .before .before .before .loop .inv) (c .before .before .before .loop-test .taken) (c .before .before .find .result) (c .before .before .find .ensures) (c .before .before .before .before .before .before .pre .2))
+mul-rows c = omega (
+  arith,
+  row-free (c .before .before .before .before .loop .inv) (c .before .before .before .loop-test .taken)
+      (c .before .before .find .result) (c .before .before .find .ensures) (c .before .before .before .before .before .before .pre .2),
+)
 
 array-set-from-rows : tie.Need-array-set-from-rows Inv-loop μ-loop
-array-set-from-rows c = omega (arith, row-free (c .before .before .before .before .loop .inv) (c .before .before .before .loop-test .taken) (c .before .before .find .result) (c .before .before .find .ensures) (c .before .before .before .before .before .before .pre .2))
+array-set-from-rows c = omega (
+  arith,
+  row-free (c .before .before .before .before .loop .inv) (c .before .before .before .loop-test .taken)
+      (c .before .before .find .result) (c .before .before .find .ensures) (c .before .before .before .before .before .before .pre .2),
+)
 
 add-i : tie.Need-add-i Inv-loop μ-loop
-add-i c = omega (arith, row-free (c .before .before .before .before .loop .inv) (c .before .before .before .loop-test .taken) (c .before .before .find .result) (c .before .before .find .ensures) (c .before .before .before .before .before .before .pre .2))
+add-i c = omega (
+  arith,
+  row-free (c .before .before .before .before .loop .inv) (c .before .before .before .loop-test .taken) (c .before .before .find .result)
+      (c .before .before .find .ensures) (c .before .before .before .before .before .before .pre .2),
+)
 
 add-at : tie.Need-add-at Inv-loop μ-loop
-add-at c = omega (arith, line-ends (c .before .before .before .before .loop .inv) (c .before .before .before .loop-test .taken) (c .before .before .find .result) (c .before .before .find .ensures))
+add-at c = omega (
+  arith,
+  line-ends (c .before .before .before .before .loop .inv) (c .before .before .before .loop-test .taken)
+      (c .before .before .find .result) (c .before .before .find .ensures),
+)
 
 loop-less : tie.Need-loop-less Inv-loop μ-loop
-loop-less c = omega (arith, line-ends (c .before .before .before .before .loop .inv) (c .before .before .before .loop-test .taken) (c .before .before .find .result) (c .before .before .find .ensures))
+loop-less c = omega (
+  arith,
+  line-ends (c .before .before .before .before .loop .inv) (c .before .before .before .loop-test .taken)
+      (c .before .before .find .result) (c .before .before .find .ensures),
+)
 
 loop-again : tie.Need-loop-again Inv-loop μ-loop
 loop-again c =
-    let good = line-good (c .before .before .before .before .loop .inv) (c .before .before .before .loop-test .taken) (c .before .before .find .result) (c .before .before .find .ensures) in
-    row-filled (c .before .before .before .before .loop .inv) (c .before .before .before .loop-test .taken) (c .before .before .find .result) (c .before .before .find .ensures) (c .before .before .before .before .before .before .pre .2) _ (c .read-line .ensures .made (c .read-line .ensures .right ∙ good))
+    let find-call = c .before .before .find in
+    let loop-test = c .before .before .before .loop-test in
+    let loop = c .before .before .before .before .loop in
+    let good = line-good (loop .inv) (loop-test .taken) (find-call .result) (find-call .ensures) in
+    row-filled (loop .inv) (loop-test .taken) (find-call .result) (find-call .ensures) (c .before .before .before .before .before .before .pre .2) _
+    (c .read-line .ensures .made (c .read-line .ensures .right ∙ good))
 
 returns : tie.Need-returns Inv-loop μ-loop
 returns c = all-filled (c .before .loop .inv) (c .loop-test .left)

@@ -10,16 +10,16 @@ use lib.ListN.{length, drop, length-drop}
 use Rattle.named.specs.Named.{max-places}
 use Rattle.lines.specs.Lines.{lines}
 use Rattle.text.specs.Reading.{body}
-use Rattle.text.specs.Private.Steps.{Marked, placed-in, Sized, form-at, fresh, held, outcome}
+use Rattle.text.specs.Private.Steps.{Marked, placed-in, Sized, items-at, fresh, held, outcome}
 use Rattle.lines.proofs.Spans.{before-le}
 use Rattle.lines.proofs.LineLaws.{lines-line, lines-rest, lines-none}
 use Rattle.text.proofs.Places.{marked-none}
-use Rattle.text.proofs.BodyLaws.{resized, marked-bound, settled-refused, form-gates}
+use Rattle.text.proofs.BodyLaws.{resized, marked-bound, settled-refused, items-gates}
 use Rattle.text.proofs.body.read_lines.Statement.{statement}
 use Rattle.text.proofs.body.read_lines.Tie as tie
 
 abbrev Inv-loop : tie.InvT-loop
-Inv-loop text gates o kinds₀ literals₀ names₀ places₀ s₀ at₀ kinds literals names places s at = (at ≤ length text) × (s .line ≤ at + 1) × (s .cause ≡ 0) × Sized s kinds names literals × (body (form-at gates (o .negative) (o .output) (o .line)) (held s₀ kinds₀ names₀ literals₀) (s₀ .line) (lines (drop at₀ text)) ≡ body (form-at gates (o .negative) (o .output) (o .line)) (held s kinds names literals) (s .line) (lines (drop at text))) × Marked (placed-in (s .bound) (s .free) names) places × (gates ≡ true → s .free ≡ 0)
+Inv-loop text gates o kinds₀ literals₀ names₀ places₀ s₀ at₀ kinds literals names places s at = (at ≤ length text) × (s .line ≤ at + 1) × (s .cause ≡ 0) × Sized s kinds names literals × (body (items-at gates (o .negative) (o .output) (o .line)) (held s₀ kinds₀ names₀ literals₀) (s₀ .line) (lines (drop at₀ text)) ≡ body (items-at gates (o .negative) (o .output) (o .line)) (held s kinds names literals) (s .line) (lines (drop at text))) × Marked (placed-in (s .bound) (s .free) names) places × (gates ≡ true → s .free ≡ 0)
 
 abbrev μ-loop : tie.MeasureT-loop
 μ-loop text gates o kinds₀ literals₀ names₀ places₀ s₀ at₀ kinds literals names places s at = length text - at
@@ -56,7 +56,7 @@ returns-2 c =
     let inside : c .before .before .before .before .before .before .before .before .before .find .result < length (c .before .before .before .before .before .before .before .before .before .before .before .before .before .before .args .text .now) = omega (arith, before-le 10 (drop (c .before .before .before .before .before .before .before .before .before .before .before .loop .at) (c .before .before .before .before .before .before .before .before .before .before .before .before .before .before .args .text .now)), length-drop (c .before .before .before .before .before .before .before .before .before .before .before .loop .at) (c .before .before .before .before .before .before .before .before .before .before .before .before .before .before .args .text .now)) in
     record {
       sized = c .before .before .body-line .ensures .sized;
-      right = sym (c .before .before .before .before .before .before .before .before .before .before .before .loop .inv .4 ∙ rw (lines-line (c .before .before .before .before .before .before .before .before .before .before .before .before .before .before .args .text .now) (c .before .before .before .before .before .before .before .before .before .before .before .loop .at) (c .before .before .before .before .before .before .before .before .before .find .result) (c .before .before .before .before .before .before .before .before .before .find .ensures) inside, form-gates (c .before .before .before .before .before .before .before .before .before .before .before .before .before .before .args .gates) (c .before .before .before .before .before .before .before .before .before .before .before .before .before .before .args .o .negative) (c .before .before .before .before .before .before .before .before .before .before .before .before .before .before .args .o .output) (c .before .before .before .before .before .before .before .before .before .before .before .before .before .before .args .o .line), ← c .before .before .body-line .ensures .right, c .before .before .body-line .ensures .line) (settled-refused (c .before .before .body-line .result .cause) (c .if2 .taken) _ _ _ _));
+      right = sym (c .before .before .before .before .before .before .before .before .before .before .before .loop .inv .4 ∙ rw (lines-line (c .before .before .before .before .before .before .before .before .before .before .before .before .before .before .args .text .now) (c .before .before .before .before .before .before .before .before .before .before .before .loop .at) (c .before .before .before .before .before .before .before .before .before .find .result) (c .before .before .before .before .before .before .before .before .before .find .ensures) inside, items-gates (c .before .before .before .before .before .before .before .before .before .before .before .before .before .before .args .gates) (c .before .before .before .before .before .before .before .before .before .before .before .before .before .before .args .o .negative) (c .before .before .before .before .before .before .before .before .before .before .before .before .before .before .args .o .output) (c .before .before .before .before .before .before .before .before .before .before .before .before .before .before .args .o .line), ← c .before .before .body-line .ensures .right, c .before .before .body-line .ensures .line) (settled-refused (c .before .before .body-line .result .cause) (c .if2 .taken) _ _ _ _));
     }
 
 add-at : tie.Need-add-at Inv-loop μ-loop
@@ -76,7 +76,7 @@ loop-again : tie.Need-loop-again Inv-loop μ-loop
 unfolding held
 loop-again c =
     let inside : c .before .before .before .before .before .before .before .before .before .before .find .result < length (c .before .before .before .before .before .before .before .before .before .before .before .before .before .before .before .args .text .now) = omega (arith, before-le 10 (drop (c .before .before .before .before .before .before .before .before .before .before .before .before .loop .at) (c .before .before .before .before .before .before .before .before .before .before .before .before .before .before .before .args .text .now)), length-drop (c .before .before .before .before .before .before .before .before .before .before .before .before .loop .at) (c .before .before .before .before .before .before .before .before .before .before .before .before .before .before .before .args .text .now)) in
-    (omega arith, omega (arith, c .before .before .before .body-line .ensures .line), c .before .if2 .left, resized refl refl refl refl refl refl (c .before .before .before .body-line .ensures .sized), c .before .before .before .before .before .before .before .before .before .before .before .before .loop .inv .4 ∙ rw (lines-line (c .before .before .before .before .before .before .before .before .before .before .before .before .before .before .before .args .text .now) (c .before .before .before .before .before .before .before .before .before .before .before .before .loop .at) (c .before .before .before .before .before .before .before .before .before .before .find .result) (c .before .before .before .before .before .before .before .before .before .before .find .ensures) inside, form-gates (c .before .before .before .before .before .before .before .before .before .before .before .before .before .before .before .args .gates) (c .before .before .before .before .before .before .before .before .before .before .before .before .before .before .before .args .o .negative) (c .before .before .before .before .before .before .before .before .before .before .before .before .before .before .before .args .o .output) (c .before .before .before .before .before .before .before .before .before .before .before .before .before .before .before .args .o .line), ← c .before .before .before .body-line .ensures .right, c .before .if2 .left, c .before .before .before .body-line .ensures .line, add-one (c .before .before .before .before .before .before .before .before .before .before .before .before .loop .s .line)) refl, c .before .before .before .body-line .ensures .marked, λ so. c .before .before .before .body-line .ensures .free so ∙ c .before .before .before .before .before .before .before .before .before .before .before .before .loop .inv .6 so)
+    (omega arith, omega (arith, c .before .before .before .body-line .ensures .line), c .before .if2 .left, resized refl refl refl refl refl refl (c .before .before .before .body-line .ensures .sized), c .before .before .before .before .before .before .before .before .before .before .before .before .loop .inv .4 ∙ rw (lines-line (c .before .before .before .before .before .before .before .before .before .before .before .before .before .before .before .args .text .now) (c .before .before .before .before .before .before .before .before .before .before .before .before .loop .at) (c .before .before .before .before .before .before .before .before .before .before .find .result) (c .before .before .before .before .before .before .before .before .before .before .find .ensures) inside, items-gates (c .before .before .before .before .before .before .before .before .before .before .before .before .before .before .before .args .gates) (c .before .before .before .before .before .before .before .before .before .before .before .before .before .before .before .args .o .negative) (c .before .before .before .before .before .before .before .before .before .before .before .before .before .before .before .args .o .output) (c .before .before .before .before .before .before .before .before .before .before .before .before .before .before .before .args .o .line), ← c .before .before .before .body-line .ensures .right, c .before .if2 .left, c .before .before .before .body-line .ensures .line, add-one (c .before .before .before .before .before .before .before .before .before .before .before .before .loop .s .line)) refl, c .before .before .before .body-line .ensures .marked, λ so. c .before .before .before .body-line .ensures .free so ∙ c .before .before .before .before .before .before .before .before .before .before .before .before .loop .inv .6 so)
 
 returns-3 : tie.Need-returns-3 Inv-loop μ-loop
 unfolding outcome held fresh

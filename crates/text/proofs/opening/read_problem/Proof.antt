@@ -3,7 +3,7 @@ use mathlib.Core.Path.{sym, _∙_}
 use Rattle.lines.specs.Lines.{words}
 use Rattle.text.specs.Reading.{problem-cause}
 use Rattle.text.specs.Private.Steps.{range-cause}
-use Rattle.text.proofs.ProblemLaws.{range-small, output-form}
+use Rattle.text.proofs.ProblemLaws.{range-small, output-items}
 use borrow.Author.Needs.{needs}
 use Rattle.text.proofs.opening.read_problem.Statement.{statement}
 use Rattle.text.proofs.opening.read_problem.Tie as tie
@@ -26,7 +26,7 @@ returns c =
       v = p .v;
       c = p .c;
       small = λ none. range-small gates (found .good) (found .variables) (found .clauses) (found .output) (sym (c .range-cause .ensures) ∙ none) .0;
-      form = output-form gates (words (c .before .before .before .args .line .now)) (found .output) (found .negative) (p .o) (p .sign);
+      items = output-items gates (words (c .before .before .before .args .line .now)) (found .output) (found .negative) (p .o) (p .sign);
       named = λ none. range-small gates (found .good) (found .variables) (found .clauses) (found .output) (sym (c .range-cause .ensures) ∙ none) .1;
     }
 

@@ -6,11 +6,11 @@ use borrow.Author.Needs.{needs}
 use Rattle.engine.proofs.search.reasons.is_due.Statement.{statement}
 use Rattle.engine.proofs.search.reasons.is_due.Tie as tie
 
-slice-read-failures : tie.Need-slice-read-failures
-slice-read-failures c = omega arith
+slice-read-conflicts : tie.Need-slice-read-conflicts
+slice-read-conflicts c = omega arith
 
-add-failures : tie.Need-add-failures
-add-failures c = search needs
+add-conflicts : tie.Need-add-conflicts
+add-conflicts c = search needs
 
 slice-write-sets : tie.Need-slice-write-sets
 slice-write-sets c = omega arith
@@ -31,8 +31,8 @@ pub is-due-spec : {M : Type 1} → statement M
 is-due-spec =
     tie.close
     (tie.spec
-    slice-read-failures
-    add-failures
+    slice-read-conflicts
+    add-conflicts
     slice-write-sets
     slice-read-result
     add-result

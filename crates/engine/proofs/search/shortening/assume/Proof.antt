@@ -4,6 +4,21 @@ use native.Mathlib.Omega.{arith}
 use Rattle.engine.proofs.search.shortening.assume.Statement.{statement}
 use Rattle.engine.proofs.search.shortening.assume.Tie as tie
 
+-- Back along the path, to the place behind a call.
+abbrev back-to-empty : tie.After-slice-known4 → tie.After-empty
+back-to-empty at =
+    let after-own = at .before .before .before .before .before .before in
+    after-own .before
+
+abbrev back-to-then1 : tie.After-slice-known4 → tie.Then1
+back-to-then1 at = (back-to-empty at) .before .before
+
+abbrev back-to-is-fixed : tie.After-slice-known4 → tie.After-is-fixed
+back-to-is-fixed at = (back-to-then1 at) .before
+
+abbrev back-to-start : tie.After-slice-known4 → tie.Start
+back-to-start at = (back-to-is-fixed at) .before .before .before .before .before
+
 is-fixed-requires : tie.Need-is-fixed-requires
 is-fixed-requires c κs = (omega arith, omega arith, omega arith, omega arith)
 
@@ -24,8 +39,13 @@ same-length-2 c = omega arith
 
 returns : tie.Need-returns
 returns c =
-    fixed-held (c .before .before .before .before .before .before .before .before .before .before .before .before .before .before .before .args .work .now) (c .before .before .before .before .before .before .before .before .before .before .before .before .before .before .before .args .sets .now) (c .before .before .before .before .before .before .before .before .before .before .before .before .before .before .before .args .line .now) (c .before .before .before .before .before .before .before .before .before .before .before .before .before .before .before .args .own .now) (c .before .before .set .last .0) (c .before .before .before .before .before .before .before .empty .last .0) (c .before .before .before .before .before .before .before .before .before .before .before .before .before .before .before .args .i) (c .before .before .before .before .before .before .before .before .before .before .before .before .before .before .before .args .p) (c .before .before .before .value .result)
-    (omega arith) (omega arith) (c .before .before .before .before .before .before .before .before .before .before .is-fixed .ensures (c .before .before .before .before .before .before .before .before .before .if1 .taken)) (c .before .before .before .before .before .before .before .empty .ensures) (c .before .before .before .value .ensures) (c .before .before .set .ensures)
+    let value-call = c .before .before .before .value in
+    let empty-call = (back-to-empty c) .empty in
+    let given = (back-to-start c) .args in
+    fixed-held (given .work .now) (given .sets .now) (given .line .now) (given .own .now) (c .before .before .set .last .0) (empty-call .last .0) (given .i)
+    (given .p) (value-call .result)
+    (omega arith) (omega arith) ((back-to-is-fixed c) .is-fixed .ensures ((back-to-then1 c) .if1 .taken)) (empty-call .ensures) (value-call .ensures)
+    (c .before .before .set .ensures)
 
 is-decided-requires : tie.Need-is-decided-requires
 is-decided-requires c κs = omega arith

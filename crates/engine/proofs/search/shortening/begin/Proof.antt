@@ -19,6 +19,17 @@ Inv-loop work sets line₀ own₀ i k p₀ line own p =
 abbrev μ-loop : tie.MeasureT-loop
 μ-loop work sets line₀ own₀ i k p₀ line own p = max-unknowns - p
 
+-- Back along the path, to the place behind a call.
+abbrev back-to-at-loop : tie.After-slice-known5 Inv-loop μ-loop → tie.At-loop Inv-loop μ-loop
+back-to-at-loop at =
+    let after-assume-arg = at .before .before .before .before .before .before in
+    after-assume-arg .before .before
+
+abbrev back-to-start : tie.After-slice-known3 Inv-loop μ-loop → tie.Start Inv-loop μ-loop
+back-to-start at =
+    let after-shared-slice-known2 = at .before .before .before .before .before .before in
+    after-shared-slice-known2 .before .before
+
 slice-write-own : tie.Need-slice-write-own Inv-loop μ-loop
 slice-write-own c = omega arith
 
@@ -29,12 +40,13 @@ clear-requires : tie.Need-clear-requires Inv-loop μ-loop
 clear-requires c κs = omega arith
 
 loop-holds : tie.Need-loop-holds Inv-loop μ-loop
-loop-holds c = (
-  omega arith,
-  omega arith,
-  simp length-set (omega arith),
-  λ codes. held-none codes (c .before .before .before .before .before .before .before .before .args .work .now) (c .before .before .before .before .before .before .before .before .args .sets .now) (c .before .before .before .before .before .before .before .before .args .i) (c .before .before .clear .last .0) _ (c .before .before .clear .ensures),
-)
+loop-holds c =
+    let given = (back-to-start c) .args in (
+      omega arith,
+      omega arith,
+      simp length-set (omega arith),
+      λ codes. held-none codes (given .work .now) (given .sets .now) (given .i) (c .before .before .clear .last .0) _ (c .before .before .clear .ensures),
+    )
 
 assume-requires : tie.Need-assume-requires Inv-loop μ-loop
 assume-requires c κs = (omega arith, omega arith, omega arith, omega arith, omega arith, omega arith)
@@ -46,7 +58,13 @@ loop-less : tie.Need-loop-less Inv-loop μ-loop
 loop-less c = omega arith
 
 loop-again : tie.Need-loop-again Inv-loop μ-loop
-loop-again c = (omega arith, omega arith, omega arith, λ codes. c .before .before .before .before .assume .ensures codes (c .before .before .before .before .before .before .before .before .loop .inv .3 codes))
+loop-again c = (
+  omega arith,
+  omega arith,
+  omega arith,
+  λ codes. c .before .before .before .before .assume .ensures codes
+      ((back-to-at-loop c) .loop .inv .3 codes),
+)
 
 same-length : tie.Need-same-length Inv-loop μ-loop
 same-length c = omega arith

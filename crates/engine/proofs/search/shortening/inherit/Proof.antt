@@ -17,6 +17,12 @@ Inv-loop own₀ p l₀ own l =
 abbrev μ-loop : tie.MeasureT-loop
 μ-loop own₀ p l₀ own l = max-unknowns - l
 
+-- Back along the path, to the place behind a call.
+abbrev back-to-start : tie.After-loop Inv-loop μ-loop → tie.Start Inv-loop μ-loop
+back-to-start at =
+    let after-slice-known = at .before .before .before .before .before .before in
+    after-slice-known .before
+
 empty-requires : tie.Need-empty-requires Inv-loop μ-loop
 empty-requires c κs = tt
 
@@ -39,7 +45,8 @@ same-length : tie.Need-same-length Inv-loop μ-loop
 same-length c = omega arith
 
 returns : tie.Need-returns Inv-loop μ-loop
-returns c = inheriting-all (omega arith) (c .before .loop .inv .2) (c .before .before .before .before .before .before .before .args .own .now) (omega arith) (c .before .before .before .before .empty .ensures) (omega arith)
+returns c = inheriting-all (omega arith) (c .before .loop .inv .2) ((back-to-start c) .args .own .now) (omega arith)
+    (c .before .before .before .before .empty .ensures) (omega arith)
 
 pub inherit-spec : {M : Type 1} → statement M
 inherit-spec =

@@ -40,7 +40,8 @@ loop-less : tie.Need-loop-less Inv-loop μ-loop
 loop-less c = omega arith
 
 loop-again : tie.Need-loop-again Inv-loop μ-loop
-loop-again c = reading-more (c .before .before .before .before .before .before .loop .inv) (omega arith) _ (c .before .before .before .wide16 .ensures) (λ z. omega arith) (c .before .is-false-or .ensures (c .if2 .taken))
+loop-again c = reading-more (c .before .before .before .before .before .before .loop .inv) (omega arith) _ (c .before .before .before .wide16 .ensures)
+    (λ z. omega arith) (c .before .is-false-or .ensures (c .if2 .taken))
 
 returns-2 : tie.Need-returns-2 Inv-loop μ-loop
 returns-2 c = λ t. absurd (never-both t refl)

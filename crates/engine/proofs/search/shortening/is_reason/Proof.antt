@@ -36,7 +36,10 @@ loop-less : tie.Need-loop-less Inv-loop μ-loop
 loop-less c = omega arith
 
 loop-again : tie.Need-loop-again Inv-loop μ-loop
-loop-again c = none-more (c .before .before .before .before .before .before .args .own .now) (c .before .before .before .before .before .before .args .k) (c .before .before .before .loop .l) (c .before .before .before .loop .inv) (sym (has-at _ (omega arith) _ (omega arith) (c .before .has .ensures)) ∙ c .if2 .left)
+loop-again c =
+    let loop = c .before .before .before .loop in
+    let given = c .before .before .before .before .before .before .args in
+    none-more (given .own .now) (given .k) (loop .l) (loop .inv) (sym (has-at _ (omega arith) _ (omega arith) (c .before .has .ensures)) ∙ c .if2 .left)
 
 returns-3 : tie.Need-returns-3 Inv-loop μ-loop
 returns-3 c = λ e. (c .before .before .if1 .left, λ l low high. c .before .loop .inv l low (omega arith))

@@ -4,6 +4,18 @@ use native.Mathlib.Omega.{arith}
 use Rattle.engine.proofs.search.shortening.put.Statement.{statement}
 use Rattle.engine.proofs.search.shortening.put.Tie as tie
 
+-- Back along the path, to the place behind a call.
+abbrev back-to-add : tie.After-slice-known5 → tie.After-add
+back-to-add at =
+    let after-own2 = at .before .before .before .before .before .before in
+    after-own2 .before
+
+abbrev back-to-empty : tie.After-slice-known5 → tie.After-empty
+back-to-empty at = (back-to-add at) .before .before .before .before
+
+abbrev back-to-start : tie.After-slice-known5 → tie.Start
+back-to-start at = (back-to-empty at) .before .before .before .before .before
+
 empty-requires : tie.Need-empty-requires
 empty-requires c κs = tt
 
@@ -24,8 +36,13 @@ same-length-2 c = omega arith
 
 returns : tie.Need-returns
 returns c =
-    put-held (c .before .before .before .before .before .before .before .before .before .before .before .before .before .before .before .before .args .work .now) (c .before .before .before .before .before .before .before .before .before .before .before .before .before .before .before .before .args .line .now) (c .before .before .before .before .before .before .before .before .before .before .before .before .before .before .before .before .args .own .now) (c .before .before .set .last .0) (c .before .before .before .before .before .before .before .before .before .before .before .empty .last .0) (c .before .before .before .before .before .before .before .add .last .0) (c .before .before .before .before .before .before .before .before .before .before .before .before .before .before .before .before .args .i) (c .before .before .before .before .before .before .before .before .before .before .before .before .before .before .before .before .args .p) (c .before .before .before .value .result)
-    (omega arith) (omega arith) (omega arith) (c .before .before .before .before .before .before .before .before .before .before .before .empty .ensures) (c .before .before .before .before .before .before .before .add .ensures) (c .before .before .before .value .ensures) (c .before .before .set .ensures)
+    let value-call = c .before .before .before .value in
+    let add-call = (back-to-add c) .add in
+    let empty-call = (back-to-empty c) .empty in
+    let given = (back-to-start c) .args in
+    put-held (given .work .now) (given .line .now) (given .own .now) (c .before .before .set .last .0) (empty-call .last .0) (add-call .last .0) (given .i)
+    (given .p) (value-call .result)
+    (omega arith) (omega arith) (omega arith) (empty-call .ensures) (add-call .ensures) (value-call .ensures) (c .before .before .set .ensures)
 
 pub put-spec : {M : Type 1} → statement M
 put-spec =

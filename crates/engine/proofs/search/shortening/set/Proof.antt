@@ -24,7 +24,9 @@ same-length : tie.Need-same-length
 same-length c = search needs
 
 returns : tie.Need-returns
-returns c = line-set (c .before .before .args .line .now) (c .before .before .args .p) _ (c .bit .result) (c .before .before .args .value) (omega arith) (c .bit .ensures .0)
+returns c =
+    let given = c .before .before .args in
+    line-set (given .line .now) (given .p) _ (c .bit .result) (given .value) (omega arith) (c .bit .ensures .0)
 
 pub set-spec : {M : Type 1} → statement M
 set-spec =

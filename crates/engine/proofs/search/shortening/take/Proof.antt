@@ -25,7 +25,8 @@ same-length-2 : tie.Need-same-length-2
 same-length-2 c = omega arith
 
 returns-3 : tie.Need-returns-3
-returns-3 c = λ o so-far. inheriting-passed (omega arith) so-far (λ h n. never-both h (sym (has-at _ (omega arith) _ (omega arith) (c .before .has .ensures)) ∙ c .if2 .left))
+returns-3 c = λ o so-far. inheriting-passed (omega arith) so-far
+    (λ h n. never-both h (sym (has-at _ (omega arith) _ (omega arith) (c .before .has .ensures)) ∙ c .if2 .left))
 
 pub take-spec : {M : Type 1} → statement M
 take-spec =

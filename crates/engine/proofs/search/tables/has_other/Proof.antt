@@ -37,17 +37,22 @@ loop-less c = omega arith
 
 loop-again : tie.Need-loop-again Inv-loop μ-loop
 loop-again c =
+    let loop-test = c .before .before .before .loop-test in
+    let loop = c .before .before .before .before .loop in
     let l = c .before .before .before .before .before .before .args .codes .now in
-    let i = c .before .before .before .before .loop .i in (
+    let i = loop .i in (
       omega arith,
       ⊎-elim
-          (λ w. any-found no-code l (c .before .before .before .before .loop .found) i (c .before .before .before .before .loop .inv .1) 0 (c .if1 .found) (c .before .before .before .loop-test .taken) (sym (c .before .is-other .ensures) ∙ w .0 .taken) (w .1))
-          (λ w. any-passed no-code l (c .before .before .before .before .loop .found) i (c .before .before .before .before .loop .inv .1) 0 (c .if1 .found) (c .before .before .before .loop-test .taken) (sym (c .before .is-other .ensures) ∙ w .0 .left) (w .1))
+          (λ w. any-found no-code l (loop .found) i (loop .inv .1) 0 (c .if1 .found) (loop-test .taken) (sym (c .before .is-other .ensures) ∙ w .0 .taken)
+          (w .1))
+          (λ w. any-passed no-code l (loop .found) i (loop .inv .1) 0 (c .if1 .found) (loop-test .taken) (sym (c .before .is-other .ensures) ∙ w .0 .left)
+          (w .1))
           (c .if1 .came),
     )
 
 returns : tie.Need-returns Inv-loop μ-loop
-returns c = any-all no-code (c .before .before .before .args .codes .now) (c .before .loop .found) (c .before .loop .i) (c .before .loop .inv .1) (c .loop-test .left)
+returns c = any-all no-code (c .before .before .before .args .codes .now) (c .before .loop .found) (c .before .loop .i) (c .before .loop .inv .1)
+    (c .loop-test .left)
 
 pub has-other-spec : {M : Type 1} → statement M
 has-other-spec =

@@ -14,10 +14,14 @@ abbrev μ-loop : tie.MeasureT-loop
 μ-loop kind work k from rows on₀ off₀ l₀ on off l = rows - l
 
 returns : tie.Need-returns Inv-loop μ-loop
-returns c = told-own (c .before .args .kind) (c .before .args .work .now) (c .before .args .k) (c .before .args .from) (c .before .args .rows) (omega arith)
+returns c =
+    let given = c .before .args in
+    told-own (given .kind) (given .work .now) (given .k) (given .from) (given .rows) (omega arith)
 
 loop-holds : tie.Need-loop-holds Inv-loop μ-loop
-loop-holds c = (omega arith, told-none (c .before .args .kind) (c .before .args .work .now) (c .before .args .k) (c .before .args .from) 0 0)
+loop-holds c =
+    let given = c .before .args in
+    (omega arith, told-none (given .kind) (given .work .now) (given .k) (given .from) 0 0)
 
 add-value : tie.Need-add-value Inv-loop μ-loop
 add-value c = omega arith
@@ -59,7 +63,10 @@ loop-again : tie.Need-loop-again Inv-loop μ-loop
 loop-again c = (omega arith, told-more (c .before .before .loop .inv .1) (λ z. omega arith) (omega arith) (omega arith) (omega arith) _ refl)
 
 returns-2 : tie.Need-returns-2 Inv-loop μ-loop
-returns-2 c = subst (λ (n : ℕ). Told (c .before .before .before .args .kind) (c .before .before .before .args .work .now) (c .before .before .before .args .k) (c .before .before .before .args .from) n (c .before .loop .on) (c .before .loop .off)) (omega arith) (c .before .loop .inv .1)
+returns-2 c =
+    let given = c .before .before .before .args in
+    subst (λ (n : ℕ). Told (given .kind) (given .work .now) (given .k) (given .from) n (c .before .loop .on) (c .before .loop .off)) (omega arith)
+    (c .before .loop .inv .1)
 
 pub column-spec : {M : Type 1} → statement M
 column-spec =

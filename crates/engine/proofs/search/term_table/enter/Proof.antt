@@ -6,17 +6,17 @@ use native.Mathlib.Omega.{arith}
 use Rattle.engine.proofs.search.term_table.enter.Statement.{statement}
 use Rattle.engine.proofs.search.term_table.enter.Tie as tie
 
-add-wide : tie.Need-add-wide
-add-wide c = omega arith
+add-wide16 : tie.Need-add-wide16
+add-wide16 c = omega arith
 
-mul-wide : tie.Need-mul-wide
-mul-wide c = omega arith
+mul-wide16 : tie.Need-mul-wide16
+mul-wide16 c = omega arith
 
-slice-reshared-read-wide : tie.Need-slice-reshared-read-wide
-slice-reshared-read-wide c = omega arith
+slice-reshared-read-wide16 : tie.Need-slice-reshared-read-wide16
+slice-reshared-read-wide16 c = omega arith
 
-wide-requires : tie.Need-wide-requires
-wide-requires c κs = tt
+wide16-requires : tie.Need-wide16-requires
+wide16-requires c κs = tt
 
 shown-requires : tie.Need-shown-requires
 shown-requires c κs = omega arith
@@ -46,16 +46,19 @@ same-length : tie.Need-same-length
 same-length c = simp length-set (omega arith)
 
 returns : tie.Need-returns
-returns c = entry-made (c .before .before .before .before .before .before .args .kinds .now) (c .before .before .before .before .before .before .args .codes .now) (c .before .before .before .before .before .before .args .terms .now) (c .before .before .before .before .before .before .args .j) (c .before .before .before .before .before .before .args .start) (c .shown .result) (omega arith) (omega arith) (c .shown .ensures)
+returns c =
+    let given = c .before .before .before .before .before .before .args in
+    entry-made (given .kinds .now) (given .codes .now) (given .terms .now) (given .j) (given .start) (c .shown .result) (omega arith) (omega arith)
+    (c .shown .ensures)
 
 pub enter-spec : {M : Type 1} → statement M
 enter-spec =
     tie.close
     (tie.spec
-    add-wide
-    mul-wide
-    slice-reshared-read-wide
-    wide-requires
+    add-wide16
+    mul-wide16
+    slice-reshared-read-wide16
+    wide16-requires
     shown-requires
     cast-terms
     mul-terms

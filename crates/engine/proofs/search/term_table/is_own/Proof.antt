@@ -17,11 +17,15 @@ shared-slice-read-result c = omega arith
 
 returns : tie.Need-returns
 unfolding own
-returns c = ap (λ (k : ℕ). eqb (getD (c .before .before .before .before .args .kinds .now) k 0) 1) (c .before .before .position .ensures)
+returns c = ap (λ (k : ℕ). eqb (getD (c .before .before .before .before .args .kinds .now) k 0) 1) (c .before .before .position .ensures .0)
 
 returns-2 : tie.Need-returns-2
 unfolding own
-returns-2 c = sym (ap (λ (x : ℕ). eqb x 1) (ap (λ (k : ℕ). getD (c .before .before .before .args .kinds .now) k 0) (sym (c .before .position .ensures)) ∙ List·getD-eq-default (c .before .before .before .args .kinds .now) 0 (omega arith)))
+returns-2 c =
+    let given = c .before .before .before .args in
+    sym (ap (λ (x : ℕ). eqb x 1) (ap (λ (k : ℕ). getD (given .kinds .now) k 0) (sym (c .before .position .ensures .0)) ∙ List·getD-eq-default
+    (given .kinds .now) 0
+    (omega arith)))
 
 pub is-own-spec : {M : Type 1} → statement M
 is-own-spec =

@@ -12,14 +12,14 @@ returns-2 c = λ codes size. absurd (omega arith)
 classify-requires : tie.Need-classify-requires
 classify-requires c κs = (omega arith, omega arith)
 
-settle-requires : tie.Need-settle-requires
-settle-requires c κs = (omega arith, omega arith)
+enter-clauses-requires : tie.Need-enter-clauses-requires
+enter-clauses-requires c κs = (omega arith, omega arith)
 
 same-length : tie.Need-same-length
 same-length c = omega arith
 
 returns-3 : tie.Need-returns-3
-returns-3 c = λ codes size. c .before .before .settle .ensures
+returns-3 c = λ codes size. c .before .before .enter-clauses .ensures
 
 pub list-spec : {M : Type 1} → statement M
 list-spec =
@@ -28,6 +28,6 @@ list-spec =
     returns
     returns-2
     classify-requires
-    settle-requires
+    enter-clauses-requires
     same-length
     returns-3)

@@ -16,6 +16,23 @@ Inv-loop kinds work misses₀ w count rows k₀ misses k = (length misses ≡ le
 abbrev μ-loop : tie.MeasureT-loop
 μ-loop kinds work misses₀ w count rows k₀ misses k = length kinds - k
 
+-- Back along the path, to the place behind a call.
+abbrev back-to-at-loop : tie.After-slice-known2 Inv-loop μ-loop → tie.At-loop Inv-loop μ-loop
+back-to-at-loop at =
+    let in-loop = at .before .before .before .before .before .before in
+    in-loop .before
+
+abbrev back-to-start : tie.After-ones Inv-loop μ-loop → tie.Start Inv-loop μ-loop
+back-to-start at =
+    let after-shared-slice-known = at .before .before .before .before .before .before in
+    after-shared-slice-known .before
+
+abbrev back-to-least : tie.After-slice-known2 Inv-loop μ-loop → tie.After-least Inv-loop μ-loop
+back-to-least at = (back-to-at-loop at) .before
+
+abbrev back-to-start-2 : tie.After-slice-known2 Inv-loop μ-loop → tie.Start Inv-loop μ-loop
+back-to-start-2 at = (back-to-least at) .before .before .before .before
+
 mul-least : tie.Need-mul-least Inv-loop μ-loop
 mul-least c = omega arith
 
@@ -26,7 +43,9 @@ least-requires : tie.Need-least-requires Inv-loop μ-loop
 least-requires c κs = tt
 
 loop-holds : tie.Need-loop-holds Inv-loop μ-loop
-loop-holds c = (omega arith, omega arith, missed-none (c .before .before .before .before .args .kinds .now) (c .before .before .before .before .args .work .now) (c .before .before .before .before .args .misses .now) (64 * c .before .before .before .before .args .w) (c .least .result))
+loop-holds c =
+    let given = c .before .before .before .before .args in
+    (omega arith, omega arith, missed-none (given .kinds .now) (given .work .now) (given .misses .now) (64 * given .w) (c .least .result))
 
 shared-slice-read-column : tie.Need-shared-slice-read-column Inv-loop μ-loop
 shared-slice-read-column c = omega arith
@@ -47,7 +66,15 @@ loop-less : tie.Need-loop-less Inv-loop μ-loop
 loop-less c = omega arith
 
 loop-again : tie.Need-loop-again Inv-loop μ-loop
-loop-again c = (omega arith, omega arith, subst (λ (m : List ℕ). Missed (c .before .before .before .before .before .before .before .before .before .before .before .before .args .kinds .now) (c .before .before .before .before .before .before .before .before .before .before .before .before .args .work .now) (64 * c .before .before .before .before .before .before .before .before .before .before .before .before .args .w) (c .before .before .before .before .before .before .before .before .least .result) (c .before .before .before .before .before .before .before .loop .k + 1) m) (sym (c .before .before .put .ensures)) (missed-more (c .before .before .before .before .before .before .before .loop .inv .2) (omega arith) (omega arith) _ _ _ refl (c .before .before .before .before .column .ensures)))
+loop-again c =
+    let loop = (back-to-at-loop c) .loop in
+    let given = (back-to-start-2 c) .args in (
+      omega arith,
+      omega arith,
+      subst (λ (m : List ℕ). Missed (given .kinds .now) (given .work .now) (64 * given .w) ((back-to-least c) .least .result)
+          (loop .k + 1) m) (sym (c .before .before .put .ensures)) (missed-more (loop .inv .2) (omega arith) (omega arith) _ _ _ refl
+          (c .before .before .before .before .column .ensures)),
+    )
 
 ones-requires : tie.Need-ones-requires Inv-loop μ-loop
 ones-requires c κs = omega arith
@@ -57,12 +84,15 @@ same-length c = omega arith
 
 returns : tie.Need-returns Inv-loop μ-loop
 returns c =
+    let least-call = c .before .before .before .least in
+    let given = (back-to-start c) .args in
     record {
-      rows = c .before .before .before .least .result;
+      rows = least-call .result;
       fits = omega arith;
-      enough = λ i low high. ⊎-elim (λ e. omega arith) (λ e. omega arith) (c .before .before .before .least .ensures .2);
+      enough = λ i low high. ⊎-elim (λ e. omega arith) (λ e. omega arith) (least-call .ensures .2);
       ones = c .ones .ensures;
-      missed = subst (λ (n : ℕ). Missed (c .before .before .before .before .before .before .before .args .kinds .now) (c .before .before .before .before .before .before .before .args .work .now) (64 * c .before .before .before .before .before .before .before .args .w) (c .before .before .before .least .result) n (c .before .before .loop .misses)) (omega arith) (c .before .before .loop .inv .2);
+      missed = subst (λ (n : ℕ). Missed (given .kinds .now) (given .work .now) (64 * given .w) (least-call .result) n (c .before .before .loop .misses))
+          (omega arith) (c .before .before .loop .inv .2);
     }
 
 pub look-spec : {M : Type 1} → statement M

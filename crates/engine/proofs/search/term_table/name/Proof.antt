@@ -18,17 +18,17 @@ abbrev μ-loop : tie.MeasureT-loop
 loop-holds : tie.Need-loop-holds Inv-loop μ-loop
 loop-holds c = (omega arith, omega arith, named-none (c .before .before .args .terms .now) (c .before .before .args .opened .now))
 
-add-wide : tie.Need-add-wide Inv-loop μ-loop
-add-wide c = omega arith
+add-wide16 : tie.Need-add-wide16 Inv-loop μ-loop
+add-wide16 c = omega arith
 
-mul-wide : tie.Need-mul-wide Inv-loop μ-loop
-mul-wide c = omega arith
+mul-wide16 : tie.Need-mul-wide16 Inv-loop μ-loop
+mul-wide16 c = omega arith
 
-shared-slice-read-wide : tie.Need-shared-slice-read-wide Inv-loop μ-loop
-shared-slice-read-wide c = omega arith
+shared-slice-read-wide16 : tie.Need-shared-slice-read-wide16 Inv-loop μ-loop
+shared-slice-read-wide16 c = omega arith
 
-wide-requires : tie.Need-wide-requires Inv-loop μ-loop
-wide-requires c κs = tt
+wide16-requires : tie.Need-wide16-requires Inv-loop μ-loop
+wide16-requires c κs = tt
 
 add-opened : tie.Need-add-opened Inv-loop μ-loop
 add-opened c = omega arith
@@ -46,13 +46,20 @@ loop-less : tie.Need-loop-less Inv-loop μ-loop
 loop-less c = omega arith
 
 loop-again : tie.Need-loop-again Inv-loop μ-loop
-loop-again c = (simp length-set (omega arith), omega arith, named-more (c .wide .result) (c .before .before .before .loop .inv .2) (omega arith) (c .wide .ensures))
+loop-again c = (
+  simp length-set (omega arith),
+  omega arith,
+  named-more (c .wide16 .result) (c .before .before .before .loop .inv .2) (omega arith)
+      (c .wide16 .ensures),
+)
 
 same-length : tie.Need-same-length Inv-loop μ-loop
 same-length c = omega arith
 
 returns : tie.Need-returns Inv-loop μ-loop
-returns c = subst (λ (n : ℕ). Named (c .before .before .before .before .args .terms .now) n (c .before .before .before .before .args .opened .now) (c .before .loop .opened)) (omega arith) (c .before .loop .inv .2)
+returns c =
+    let given = c .before .before .before .before .args in
+    subst (λ (n : ℕ). Named (given .terms .now) n (given .opened .now) (c .before .loop .opened)) (omega arith) (c .before .loop .inv .2)
 
 pub name-spec : {M : Type 1} → statement M
 name-spec =
@@ -61,10 +68,10 @@ name-spec =
     Inv-loop
     μ-loop
     loop-holds
-    add-wide
-    mul-wide
-    shared-slice-read-wide
-    wide-requires
+    add-wide16
+    mul-wide16
+    shared-slice-read-wide16
+    wide16-requires
     add-opened
     mul-opened
     slice-write-opened

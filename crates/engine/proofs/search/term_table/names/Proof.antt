@@ -16,17 +16,21 @@ Inv-loop codes start c e₀ e = Some (λ (d : ℕ). d ≡ c) (clause-of (drop e 
 abbrev μ-loop : tie.MeasureT-loop
 μ-loop codes start c e₀ e = length codes - e
 
+-- Back along the path, to the place behind a call.
+abbrev back-to-start : tie.Else1 Inv-loop μ-loop → tie.Start Inv-loop μ-loop
+back-to-start at = at .before .before .before .before .before .before
+
 loop-holds : tie.Need-loop-holds Inv-loop μ-loop
 loop-holds c = λ s. s
 
-mul-wide : tie.Need-mul-wide Inv-loop μ-loop
-mul-wide c = omega arith
+mul-wide16 : tie.Need-mul-wide16 Inv-loop μ-loop
+mul-wide16 c = omega arith
 
-shared-slice-read-wide : tie.Need-shared-slice-read-wide Inv-loop μ-loop
-shared-slice-read-wide c = omega arith
+shared-slice-read-wide16 : tie.Need-shared-slice-read-wide16 Inv-loop μ-loop
+shared-slice-read-wide16 c = omega arith
 
-wide-requires : tie.Need-wide-requires Inv-loop μ-loop
-wide-requires c κs = tt
+wide16-requires : tie.Need-wide16-requires Inv-loop μ-loop
+wide16-requires c κs = tt
 
 add-e : tie.Need-add-e Inv-loop μ-loop
 add-e c = omega arith
@@ -35,13 +39,22 @@ returns : tie.Need-returns Inv-loop μ-loop
 returns c = λ e. absurd (never-both e refl)
 
 returns-2 : tie.Need-returns-2 Inv-loop μ-loop
-returns-2 c = λ _. some-here (c .before .before .before .before .before .before .before .args .codes .now) (c .before .before .before .before .before .loop .e) (c .before .before .wide .result) (omega arith) (c .before .before .wide .ensures) (λ (d : ℕ). d ≡ c .before .before .before .before .before .before .before .args .c) (λ z. omega arith) (c .before .before .before .before .before .loop .inv) (omega arith)
+returns-2 c =
+    let loop = c .before .before .before .before .before .loop in
+    let given = (back-to-start (c .before)) .args in
+    λ _. some-here (given .codes .now) (loop .e) (c .before .before .wide16 .result) (omega arith) (c .before .before .wide16 .ensures)
+    (λ (d : ℕ). d ≡ given .c)
+    (λ z. omega arith) (loop .inv) (omega arith)
 
 loop-less : tie.Need-loop-less Inv-loop μ-loop
 loop-less c = omega arith
 
 loop-again : tie.Need-loop-again Inv-loop μ-loop
-loop-again c = some-later (c .before .before .before .before .before .before .before .args .codes .now) (c .before .before .before .before .before .loop .e) (c .before .before .wide .result) (omega arith) (c .before .before .wide .ensures) (λ (d : ℕ). d ≡ c .before .before .before .before .before .before .before .args .c) (λ z. omega arith) (c .before .before .before .before .before .loop .inv)
+loop-again c =
+    let loop = c .before .before .before .before .before .loop in
+    let given = (back-to-start (c .before)) .args in
+    some-later (given .codes .now) (loop .e) (c .before .before .wide16 .result) (omega arith) (c .before .before .wide16 .ensures) (λ (d : ℕ). d ≡ given .c)
+    (λ z. omega arith) (loop .inv)
 
 returns-3 : tie.Need-returns-3 Inv-loop μ-loop
 returns-3 c = λ e. absurd (never-both e refl)
@@ -53,9 +66,9 @@ names-spec =
     Inv-loop
     μ-loop
     loop-holds
-    mul-wide
-    shared-slice-read-wide
-    wide-requires
+    mul-wide16
+    shared-slice-read-wide16
+    wide16-requires
     add-e
     returns
     returns-2

@@ -32,7 +32,12 @@ loop-less : tie.Need-loop-less Inv-loop μ-loop
 loop-less c = omega arith
 
 loop-again : tie.Need-loop-again Inv-loop μ-loop
-loop-again c = (omega arith, omega arith, no-end-more (c .before .before .before .before .args .codes .now) (c .before .before .before .loop .inv .2) (λ z. omega arith))
+loop-again c = (
+  omega arith,
+  omega arith,
+  no-end-more (c .before .before .before .before .args .codes .now) (c .before .before .before .loop .inv .2)
+      (λ z. omega arith),
+)
 
 returns-2 : tie.Need-returns-2 Inv-loop μ-loop
 returns-2 c = record { ahead = omega arith; inside = omega arith; none = λ x a b. c .before .loop .inv .2 x a (omega arith) }

@@ -12,20 +12,28 @@ Inv-loop codes misses start rows left₀ e₀ left e = Reading codes misses star
 abbrev μ-loop : tie.MeasureT-loop
 μ-loop codes misses start rows left₀ e₀ left e = length codes - e
 
+-- Back along the path, to the place behind a call.
+abbrev back-to-at-loop : tie.After-shared-slice-known4 Inv-loop μ-loop → tie.At-loop Inv-loop μ-loop
+back-to-at-loop at =
+    let in-loop = at .before .before .before .before .before .before in
+    in-loop .before
+
 loop-holds : tie.Need-loop-holds Inv-loop μ-loop
-loop-holds c = reading-start (c .before .before .args .codes .now) (c .before .before .args .misses .now) (c .before .before .args .start) (c .before .before .args .rows)
+loop-holds c =
+    let given = c .before .before .args in
+    reading-start (given .codes .now) (given .misses .now) (given .start) (given .rows)
 
 returns : tie.Need-returns Inv-loop μ-loop
 returns c = c .before .before .loop .inv .so-far
 
-mul-wide : tie.Need-mul-wide Inv-loop μ-loop
-mul-wide c = omega arith
+mul-wide16 : tie.Need-mul-wide16 Inv-loop μ-loop
+mul-wide16 c = omega arith
 
-shared-slice-read-wide : tie.Need-shared-slice-read-wide Inv-loop μ-loop
-shared-slice-read-wide c = omega arith
+shared-slice-read-wide16 : tie.Need-shared-slice-read-wide16 Inv-loop μ-loop
+shared-slice-read-wide16 c = omega arith
 
-wide-requires : tie.Need-wide-requires Inv-loop μ-loop
-wide-requires c κs = tt
+wide16-requires : tie.Need-wide16-requires Inv-loop μ-loop
+wide16-requires c κs = tt
 
 add-e : tie.Need-add-e Inv-loop μ-loop
 add-e c = omega arith
@@ -43,13 +51,16 @@ loop-less : tie.Need-loop-less Inv-loop μ-loop
 loop-less c = omega arith
 
 loop-again : tie.Need-loop-again Inv-loop μ-loop
-loop-again c = reading-more (c .before .before .before .before .before .before .before .loop .inv) (c .before .before .before .wide .result) (omega arith) (c .before .before .before .wide .ensures) (λ z. omega arith)
+loop-again c =
+    let wide16-call = c .before .before .before .wide16 in
+    reading-more ((back-to-at-loop c) .loop .inv) (wide16-call .result) (omega arith) (wide16-call .ensures) (λ z. omega arith)
 
 loop-less-2 : tie.Need-loop-less-2 Inv-loop μ-loop
 loop-less-2 c = omega arith
 
 loop-again-2 : tie.Need-loop-again-2 Inv-loop μ-loop
-loop-again-2 c = reading-passed (c .before .before .before .before .before .before .loop .inv) (c .before .before .wide .result) (omega arith) (c .before .before .wide .ensures) (λ z. omega arith)
+loop-again-2 c = reading-passed (c .before .before .before .before .before .before .loop .inv) (c .before .before .wide16 .result) (omega arith)
+    (c .before .before .wide16 .ensures) (λ z. omega arith)
 
 returns-3 : tie.Need-returns-3 Inv-loop μ-loop
 returns-3 c = c .before .loop .inv .so-far
@@ -62,9 +73,9 @@ remaining-spec =
     μ-loop
     loop-holds
     returns
-    mul-wide
-    shared-slice-read-wide
-    wide-requires
+    mul-wide16
+    shared-slice-read-wide16
+    wide16-requires
     add-e
     returns-2
     mul-left

@@ -18,7 +18,13 @@ returns-3 : tie.Need-returns-3
 returns-3 c = (λ e. absurd (never-both e refl), λ _ fit. absurd (let k = fit .0 in let t = fit .1 in let w = fit .2 in let o = fit .4 in omega arith))
 
 returns-4 : tie.Need-returns-4
-returns-4 c = (λ e. (omega arith, omega arith, omega arith, leb-true _ _ e, omega arith), λ e fit. absurd (let n : c .before .before .before .before .args .count ≤ max-rows = fit .3 in let m : max-rows < c .before .before .before .before .args .count = leb-false (c .before .before .before .before .args .count) max-rows e in omega arith))
+returns-4 c =
+    let given = c .before .before .before .before .args in
+    let count = given .count in (
+      λ e. (omega arith, omega arith, omega arith, leb-true _ _ e, omega arith),
+      λ e fit. absurd
+          (let n : count ≤ max-rows = fit .3 in let m : max-rows < count = leb-false count max-rows e in omega arith),
+    )
 
 returns-5 : tie.Need-returns-5
 returns-5 c = (λ e. absurd (never-both e refl), λ _ fit. absurd (let k = fit .0 in let t = fit .1 in let w = fit .2 in let o = fit .4 in omega arith))

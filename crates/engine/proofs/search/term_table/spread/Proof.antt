@@ -31,7 +31,9 @@ join-requires : tie.Need-join-requires Inv-loop μ-loop
 join-requires c κs = omega arith
 
 loop-less : tie.Need-loop-less Inv-loop μ-loop
-loop-less c = omega (arith, and-le-r (c .before .before .before .before .before .before .loop .left) (c .before .before .before .before .before .before .loop .left - 1))
+loop-less c =
+    let loop = c .before .before .before .before .before .before .loop in
+    omega (arith, and-le-r (loop .left) (loop .left - 1))
 
 loop-again : tie.Need-loop-again Inv-loop μ-loop
 loop-again c = omega arith
