@@ -1,0 +1,2 @@
+-- The answer to a text, a witness file and moves, and its line.
+pub mod Answer
