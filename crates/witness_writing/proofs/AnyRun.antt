@@ -195,14 +195,17 @@ module _ (kinds : List ℕ) (literals : List ℤ) (clause-count : ℕ) (passes :
     f-true = file R-true [] (table-of (rows (o .S)))
 
     fine-true : write-cause R-true [] (table-of (rows (o .S))) (size R-true) ≡ 0
-    fine-true = true-fine (length kinds) clause-count (length (o .S)) (o .round) (some-S b is) (b .few-S) [] (table-of (rows (o .S))) (omega (arith, bytes-of-table (o .S)))
+    fine-true =
+        true-fine (length kinds) clause-count (length (o .S)) (o .round) (some-S b is) (b .few-S) [] (table-of (rows (o .S)))
+        (omega (arith, bytes-of-table (o .S)))
 
     rows-true : judging.claimed-rows f-true 1 ≡ table-of (rows (o .S))
     rows-true = again R-true [] (table-of (rows (o .S))) fine-true .existential-back ∙ all-rows (o .S) (length (o .S)) refl
 
     judged-true : outcome kinds literals 1 (table-of (rows (o .S))) (room (table-of (rows (o .S)))) zeros ≡ Judgement.Accepted
     judged-true =
-        judge-accepts kinds literals passes true (rows (o .S)) (b .wide-S) (omega (arith, some-S b is, length-rows (o .S))) (omega (arith, b .few-S, length-rows (o .S)))
+        judge-accepts kinds literals passes true (rows (o .S)) (b .wide-S) (omega (arith, some-S b is, length-rows (o .S)))
+        (omega (arith, b .few-S, length-rows (o .S)))
         (b .true-borne is)
 
     pub found-true : Finding.Accepted 1 ≡ judging.on-formula kinds literals clause-count f-true zeros .finding
@@ -212,7 +215,9 @@ module _ (kinds : List ℕ) (literals : List ℤ) (clause-count : ℕ) (passes :
         (claim-accepted kinds literals f-true 1 (table-of (rows (o .S))) rows-true judged-true)) .found
 
     pub short-true : length f-true ≤ 4106
-    short-true = omega (arith, again R-true [] (table-of (rows (o .S))) fine-true .whole, true-size (length kinds) clause-count (length (o .S)) (o .round) (some-S b is) (b .few-S))
+    short-true =
+        let most = true-size (length kinds) clause-count (length (o .S)) (o .round) (some-S b is) (b .few-S) in
+        omega (arith, again R-true [] (table-of (rows (o .S))) fine-true .whole, most)
 
   module _ (is : o .answer ≡ is-false) where
     abbrev R-false : Record
@@ -222,14 +227,17 @@ module _ (kinds : List ℕ) (literals : List ℤ) (clause-count : ℕ) (passes :
     f-false = file R-false (table-of (rows (o .A))) []
 
     fine-false : write-cause R-false (table-of (rows (o .A))) [] (size R-false) ≡ 0
-    fine-false = false-fine (length kinds) clause-count (length (o .A)) (o .round) (some-A b is) (b .few-A) (table-of (rows (o .A))) [] (omega (arith, bytes-of-table (o .A)))
+    fine-false =
+        false-fine (length kinds) clause-count (length (o .A)) (o .round) (some-A b is) (b .few-A) (table-of (rows (o .A))) []
+        (omega (arith, bytes-of-table (o .A)))
 
     rows-false : judging.claimed-rows f-false 0 ≡ table-of (rows (o .A))
     rows-false = again R-false (table-of (rows (o .A))) [] fine-false .universal-back ∙ all-rows (o .A) (length (o .A)) refl
 
     judged-false : outcome kinds literals 0 (table-of (rows (o .A))) (room (table-of (rows (o .A)))) zeros ≡ Judgement.Accepted
     judged-false =
-        judge-accepts kinds literals passes false (rows (o .A)) (b .wide-A) (omega (arith, some-A b is, length-rows (o .A))) (omega (arith, b .few-A, length-rows (o .A)))
+        judge-accepts kinds literals passes false (rows (o .A)) (b .wide-A) (omega (arith, some-A b is, length-rows (o .A)))
+        (omega (arith, b .few-A, length-rows (o .A)))
         (b .false-borne is)
 
     pub found-false : Finding.Accepted 0 ≡ judging.on-formula kinds literals clause-count f-false zeros .finding
@@ -239,4 +247,6 @@ module _ (kinds : List ℕ) (literals : List ℤ) (clause-count : ℕ) (passes :
         (claim-accepted kinds literals f-false 0 (table-of (rows (o .A))) rows-false judged-false)) .found
 
     pub short-false : length f-false ≤ 4106
-    short-false = omega (arith, again R-false (table-of (rows (o .A))) [] fine-false .whole, false-size (length kinds) clause-count (length (o .A)) (o .round) (some-A b is) (b .few-A))
+    short-false =
+        let most = false-size (length kinds) clause-count (length (o .A)) (o .round) (some-A b is) (b .few-A) in
+        omega (arith, again R-false (table-of (rows (o .A))) [] fine-false .whole, most)

@@ -98,13 +98,15 @@ module _ (u c k rounds : ℕ) (some-row : 1 ≤ k) (few : k ≤ max-rows) where
   pub true-fine : (U E : List ℕ) → 16 * k ≤ length E → write-cause of-true U E (size of-true) ≡ 0
   unfolding write-cause
   true-fine U E lent =
-      fine-by (ltb (size of-true) (size of-true)) (eqb k 0 || ltb max-rows k) (ltb (length E / 16) k) (le-ltb (size of-true) (size of-true) (omega arith)) in-count
+      fine-by (ltb (size of-true) (size of-true)) (eqb k 0 || ltb max-rows k) (ltb (length E / 16) k)
+      (le-ltb (size of-true) (size of-true) (omega arith)) in-count
       (le-ltb (length E / 16) k (omega (arith, lent)))
 
   pub false-fine : (U E : List ℕ) → 16 * k ≤ length U → write-cause of-false U E (size of-false) ≡ 0
   unfolding write-cause
   false-fine U E lent =
-      fine-by (ltb (size of-false) (size of-false)) ((eqb k 0 || ltb max-rows k) || false) (ltb (length U / 16) k || false) (le-ltb (size of-false) (size of-false) (omega arith))
+      fine-by (ltb (size of-false) (size of-false)) ((eqb k 0 || ltb max-rows k) || false) (ltb (length U / 16) k || false)
+      (le-ltb (size of-false) (size of-false) (omega arith))
       (or-none (eqb k 0 || ltb max-rows k) false in-count refl)
       (or-none (ltb (length U / 16) k) false (le-ltb (length U / 16) k (omega (arith, lent))) refl)
 

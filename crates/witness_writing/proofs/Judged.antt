@@ -40,7 +40,8 @@ no-cause-by : (formula : ℕ) (fits sized over stray : Bool) → formula ≡ 0 �
     → cond (eqb formula 0) (cond (not fits) 4 (cond (not sized) 5 (cond over 7 (cond stray 8 0)))) formula ≡ 0
 no-cause-by formula fits sized over stray a b c d e = rw (a, b, c, d, e) refl
 
-module _ (kinds : List ℕ) (literals : List ℤ) (passes : Causes.checked kinds literals ≡ Check.Accepted (Causes.sizes kinds literals)) (claim : Bool) (xs : List Row)
+module _ (kinds : List ℕ) (literals : List ℤ) (passes : Causes.checked kinds literals ≡ Check.Accepted (Causes.sizes kinds literals))
+    (claim : Bool) (xs : List Row)
     (wide : Wide (width kinds (bit claim)) xs) (some-rows : 1 ≤ length xs) (few-rows : length xs ≤ max-rows) where
   abbrev t : List ℕ
   t = table-of xs
@@ -61,7 +62,8 @@ module _ (kinds : List ℕ) (literals : List ℤ) (passes : Causes.checked kinds
   fits : table-fits t ≡ true
   unfolding table-fits
   fits =
-      ap₂ (λ (a b : Bool). a && b && eqb (length t % 16) 0) (le-leb 16 (length t) (omega (arith, bytes, some-rows))) (le-leb (length t) (max-rows * 16) (omega (arith, bytes, few-rows)))
+      ap₂ (λ (a b : Bool). a && b && eqb (length t % 16) 0) (le-leb 16 (length t) (omega (arith, bytes, some-rows)))
+      (le-leb (length t) (max-rows * 16) (omega (arith, bytes, few-rows)))
       ∙ eq-eqb (length t % 16) 0 (omega (arith, bytes))
 
   no-stray : stray-rows m (room t) t ≡ false

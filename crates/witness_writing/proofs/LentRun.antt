@@ -17,7 +17,7 @@ use Rattle.trimming_rules.specs.Proved.{Proved}
 use Rattle.study.specs.declared.Setting.{Setting}
 use Rattle.study.specs.Study.{settings-of, formula-of, preferences-of, given-of, cause, Ending, is-verdict, in-turn, studied}
 use Rattle.study.proofs.SettingLaws.{length-settings}
-use Rattle.study.proofs.CauseLaws.{some-setting, each-accepted, trimming-proved, passes-if-none}
+use Rattle.study.proofs.CauseLaws.{some-setting, list-passes, each-accepted, trimming-proved, passes-if-none}
 use Rattle.study.proofs.StudyRight.{Accepts, later-accepts}
 use Rattle.witness_writing.specs.WitnessRight.{Untrimmed}
 use Rattle.witness_writing.specs.Private.Steps.{Ran}
@@ -98,7 +98,8 @@ module _ {kinds : List ℕ} {literals : List ℤ} {e : Ending} (ends : Ends kind
       let on-A = rows-lent (ends .before .universal-rows) (fitting g fine .0) in
       let on-S = rows-lent (ends .before .existential-rows) (fitting g fine .1) in
       subst (λ (x : List ℤ). Borne kinds x (reached g)) lent-literals
-      (borne-so kinds (formula-of (ends .setting .trim) kinds literals) (prefer (preferences-of (ends .setting .preference))) (room (ends .before .universal-rows))
+      (borne-so kinds (formula-of (ends .setting .trim) kinds literals) (prefer (preferences-of (ends .setting .preference)))
+      (room (ends .before .universal-rows))
       (room (ends .before .existential-rows)) (ends .setting .clearing) (ends .setting .limit) (on-A .0) (on-A .1) (on-S .0) (on-S .1))
 
   after-so : left g ≡ after g (g .limit)
@@ -129,7 +130,7 @@ module _ (kinds : List ℕ) (literals : List ℤ) (settings : List ℕ) (found :
 
   pub study-lent : Untrimmed (settings-of settings) → Lent kinds literals (studied kinds literals settings found)
   study-lent untrimmed =
-      let some = some-setting kinds literals settings found none in
+      let some = some-setting settings (list-passes kinds literals settings found none) in
       let turns =
       turns-end kinds literals (trimming-proved kinds literals settings found none) (settings-of settings) 0 found
       (each-accepted kinds literals settings found none) untrimmed (omega (arith, length-settings settings, some)) in

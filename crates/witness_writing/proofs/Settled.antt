@@ -68,7 +68,8 @@ abbrev pub settles : Bool → Answer
 settles true = is-true
 settles false = is-false
 
-pub rows-accepted : (l : Lent) (limit : ℕ) (claim : Bool) → run l limit .answer ≡ settles claim → accepted claim (l .ks) (l .phi) (side-rows claim (run l limit)) ≡ true
+pub rows-accepted : (l : Lent) (limit : ℕ) (claim : Bool) → run l limit .answer ≡ settles claim
+    → accepted claim (l .ks) (l .phi) (side-rows claim (run l limit)) ≡ true
 unfolding accepted
 rows-accepted l limit true e =
     is-none-any-preferences (λ i. false) (l .prefer) universal (l .ks) (l .phi) (rows (run l limit .S))

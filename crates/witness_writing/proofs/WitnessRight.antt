@@ -2,7 +2,7 @@
 use Prim.Native.Nat.{ℕ, suc, _≤_}
 use native.Mathlib.Omega.{arith}
 use mathlib.Core.Path.{_≡_, refl, sym, ap, subst, _∙_}
-use mathlib.Core.Bool.{Bool, true, false, cond, _&&_}
+use mathlib.Core.Bool.{Bool, true, false, cond, _&&_, true≢false}
 use mathlib.Core.List.{List, []}
 use lib.Dec.{eqb, leb}
 use lib.IntN.{ℤ}
@@ -15,21 +15,24 @@ use Rattle.formula.proofs.Accepted.{accepted}
 use Rattle.rows.specs.Table.{table-of}
 use Rattle.rounds.specs.Run.{rows, Answer, is-false, is-true, spent, no-room-universal, no-room-existential, Outcome}
 use Rattle.engine.specs.declared.run.Answer.{Answer as Told}
-use Rattle.engine.specs.declared.run.Answer.the-variants.{False, True}
+use Rattle.engine.specs.declared.run.Answer.the-variants.{False, True, Spent, NoRoomUniversal, NoRoomExistential, Refused}
 use Rattle.engine.specs.Outcome.{Areas, named}
 use Rattle.text.specs.declared.Form.{Form}
 use Rattle.text.specs.Reading.{Read, Result, taken}
 use Rattle.text.specs.Form.{has-gates, form-read}
 use Rattle.text.proofs.TextLaws.{Passes}
 use Rattle.text.proofs.ReadAsLaws.{reading-passes}
+use Rattle.report.specs.Report.{put, put-count}
 use Rattle.witness.specs.declared.Record.{Record}
 use Rattle.witness.specs.File.{file, size, write-cause}
 use Rattle.judgement.specs.declared.Finding.the-variants as Finding
 use Rattle.judgement.specs.Finding as judging
 use Rattle.judgement.specs.JudgementRight.{Prints}
-use Rattle.study.specs.Study.{Ending, settings-of, cause, studied}
-use Rattle.witness_writing.specs.WitnessFile.{side-record, record-file, numbers-fit, file-of}
-use Rattle.witness_writing.specs.WitnessRight.{Untrimmed, Accepted, Judged, WitnessRight}
+use Rattle.study.specs.Study.{Ending, settings-of, cause, is-verdict, studied}
+use Rattle.decision.specs.declared.Decision.{Decision}
+use Rattle.decision.specs.Deciding.{Ending as Decided, decided}
+use Rattle.witness_writing.specs.WitnessFile.{side-record, record-file, numbers-fit, file-of, by-answer, decision-file}
+use Rattle.witness_writing.specs.WitnessRight.{Untrimmed, Accepted, file-left, WitnessRight}
 use Rattle.witness_writing.proofs.AnyRun.{true-record, false-record, true-writes, true-bytes, false-writes, false-bytes, found-true, short-true, found-false, short-false}
 use Rattle.witness_writing.proofs.LentRun.{Lent, study-lent}
 
@@ -81,6 +84,15 @@ module _ (form : Form) (text : List ℕ) (r : Read) (e : form-read form text ≡
   unfolding judging.printed-of judging.finding-of
   judged claim f found = ap judging.line-of (ap (λ (x : Result). judging.on-text x f zeros .finding) e ∙ sym found)
 
+  -- The file of what a study returned and left, for either value.
+  abbrev true-file : Ending → List ℕ
+  true-file e =
+      file-of true (length (r .kinds)) (r .clauses) (e .areas-left .existential-rows) (e .result .outcome .existential) (e .result .outcome .round)
+
+  abbrev false-file : Ending → List ℕ
+  false-file e =
+      file-of false (length (r .kinds)) (r .clauses) (e .areas-left .universal-rows) (e .result .outcome .universal) (e .result .outcome .round)
+
   module _ (end : Ending) (few : length (r .kinds) ≤ max-unknowns) (held : Lent (r .kinds) (r .literals) end) where
     abbrev o : Outcome
     o = held .end
@@ -88,8 +100,7 @@ module _ (form : Form) (text : List ℕ) (r : Read) (e : form-read form text ≡
     round-few : end .result .outcome .round ≤ suc max-rows
     round-few = omega (arith, held .ran .round-so, held .ran .few-rounds)
 
-    if-true : end .result .outcome .answer ≡ True
-        → Accepted form text (file-of true (length (r .kinds)) (r .clauses) (end .areas-left .existential-rows) (end .result .outcome .existential) (end .result .outcome .round)) "accepted 1\n"
+    if-true : end .result .outcome .answer ≡ True → Accepted form text (true-file end) "accepted 1\n"
     unfolding judging.accepted-line
     if-true told =
         let is = true-if (o .answer) (sym (held .ran .answer-so) ∙ told) in
@@ -99,13 +110,13 @@ module _ (form : Form) (text : List ℕ) (r : Read) (e : form-read form text ≡
         whole-file true (length (r .kinds)) (r .clauses) (end .result .outcome .existential) (end .result .outcome .round) (end .areas-left .existential-rows)
         (omega (arith, few)) (omega (arith, passes .few-clauses)) (omega (arith, rows-few)) (omega (arith, round-few)) writes in
         let same = whole ∙ true-bytes (length (r .kinds)) (r .clauses) (held .ran) is in
+        let found = found-true (r .kinds) (r .literals) (r .clauses) accepts o (held .borne) is in
         record {
-          accepted = subst (λ (x : List ℕ). Prints (form-read form text) x "accepted 1\n") (sym same) (judged 1 _ (found-true (r .kinds) (r .literals) (r .clauses) accepts o (held .borne) is));
+          accepted = subst (λ (x : List ℕ). Prints (form-read form text) x "accepted 1\n") (sym same) (judged 1 _ found);
           short = omega (arith, ap length same, short-true (r .kinds) (r .literals) (r .clauses) accepts o (held .borne) is);
         }
 
-    if-false : end .result .outcome .answer ≡ False
-        → Accepted form text (file-of false (length (r .kinds)) (r .clauses) (end .areas-left .universal-rows) (end .result .outcome .universal) (end .result .outcome .round)) "accepted 0\n"
+    if-false : end .result .outcome .answer ≡ False → Accepted form text (false-file end) "accepted 0\n"
     unfolding judging.accepted-line
     if-false told =
         let is = false-if (o .answer) (sym (held .ran .answer-so) ∙ told) in
@@ -115,14 +126,80 @@ module _ (form : Form) (text : List ℕ) (r : Read) (e : form-read form text ≡
         whole-file false (length (r .kinds)) (r .clauses) (end .result .outcome .universal) (end .result .outcome .round) (end .areas-left .universal-rows)
         (omega (arith, few)) (omega (arith, passes .few-clauses)) (omega (arith, rows-few)) (omega (arith, round-few)) writes in
         let same = whole ∙ false-bytes (length (r .kinds)) (r .clauses) (held .ran) is in
+        let found = found-false (r .kinds) (r .literals) (r .clauses) accepts o (held .borne) is in
         record {
-          accepted = subst (λ (x : List ℕ). Prints (form-read form text) x "accepted 0\n") (sym same) (judged 0 _ (found-false (r .kinds) (r .literals) (r .clauses) accepts o (held .borne) is));
+          accepted = subst (λ (x : List ℕ). Prints (form-read form text) x "accepted 0\n") (sym same) (judged 0 _ found);
           short = omega (arith, ap length same, short-false (r .kinds) (r .literals) (r .clauses) accepts o (held .borne) is);
         }
 
+-- ---- the file of a decision
+
+by-told : (d : Decision) (U E : List ℕ) (a : Told) → d .answer ≡ a → decision-file d U E ≡ by-answer a d U E
+unfolding decision-file
+by-told d U E a told = ap (λ (x : Told). by-answer x d U E) told
+
+no-verdict : (a : Told) (d : Decision) (U E : List ℕ) → is-verdict a ≡ false → by-answer a d U E ≡ []
+no-verdict True d U E h = absurd (true≢false h)
+no-verdict False d U E h = absurd (true≢false h)
+no-verdict Spent d U E h = refl
+no-verdict NoRoomUniversal d U E h = refl
+no-verdict NoRoomExistential d U E h = refl
+no-verdict (Refused cause) d U E h = refl
+
+module _ (form : Form) (text : List ℕ) (settings : List ℕ) (found : Areas) where
+  abbrev reading : Result
+  reading = form-read form text
+
+  -- With the reading that is known.
+  module _ (r : Read) (e : reading ≡ taken r) (untrimmed : Untrimmed (settings-of settings)) (none : cause (r .kinds) (r .literals) settings found ≡ 0) where
+    abbrev end : Decided
+    end = decided (taken r) settings found
+
+    held : Lent (r .kinds) (r .literals) (studied (r .kinds) (r .literals) settings found)
+    held = study-lent (r .kinds) (r .literals) settings found none untrimmed
+
+    few : length (r .kinds) ≤ max-unknowns
+    few = accepted (r .kinds) (r .literals) (passes form text r e .accepted) .few-unknowns
+
+    true-here : end .decision .answer ≡ True → Accepted form text (file-left end) "accepted 1\n"
+    true-here told =
+        subst (λ (bytes : List ℕ). Accepted form text bytes "accepted 1\n")
+        (sym (by-told (end .decision) (end .areas-left .universal-rows) (end .areas-left .existential-rows) True told))
+        (if-true form text r e (studied (r .kinds) (r .literals) settings found) few held told)
+
+    false-here : end .decision .answer ≡ False → Accepted form text (file-left end) "accepted 0\n"
+    false-here told =
+        subst (λ (bytes : List ℕ). Accepted form text bytes "accepted 0\n")
+        (sym (by-told (end .decision) (end .areas-left .universal-rows) (end .areas-left .existential-rows) False told))
+        (if-false form text r e (studied (r .kinds) (r .literals) settings found) few held told)
+
+    true-so : decided reading settings found .decision .answer ≡ True → Accepted form text (file-left (decided reading settings found)) "accepted 1\n"
+    true-so =
+        subst (λ (x : Result). decided x settings found .decision .answer ≡ True → Accepted form text (file-left (decided x settings found)) "accepted 1\n")
+        (sym e) true-here
+
+    false-so : decided reading settings found .decision .answer ≡ False → Accepted form text (file-left (decided reading settings found)) "accepted 0\n"
+    false-so =
+        subst (λ (x : Result). decided x settings found .decision .answer ≡ False → Accepted form text (file-left (decided x settings found)) "accepted 0\n")
+        (sym e) false-here
+
+  open-so : (end : Decided) → is-verdict (end .decision .answer) ≡ false → file-left end ≡ []
+  open-so end h =
+      let U = end .areas-left .universal-rows in
+      let E = end .areas-left .existential-rows in
+      by-told (end .decision) U E (end .decision .answer) refl ∙ no-verdict (end .decision .answer) (end .decision) U E h
+
 pub witness-right : WitnessRight
-witness-right form text r e settings found untrimmed none =
-    let end = studied (r .kinds) (r .literals) settings found in
-    let held = study-lent (r .kinds) (r .literals) settings found none untrimmed in
-    let few = accepted (r .kinds) (r .literals) (passes form text r e .accepted) .few-unknowns in
-    record { if-true = if-true form text r e end few held; if-false = if-false form text r e end few held }
+witness-right form text settings found =
+    record {
+      if-true = true-so form text settings found;
+      if-false = false-so form text settings found;
+      nothing = open-so form text settings found (decided (form-read form text) settings found);
+    }
+
+-- What was put by the decision's answer.
+pub told-put : (d : Decision) (U E out : List ℕ) {a : Told} {n : ℕ} {after : List ℕ} → d .answer ≡ a → n ≡ put-count (by-answer a d U E) out
+    → after ≡ put (by-answer a d U E) out → (n ≡ put-count (decision-file d U E) out) × (after ≡ put (decision-file d U E) out)
+told-put d U E out {a} told counted written =
+    let same = sym (by-told d U E a told) in
+    (counted ∙ ap (λ (bytes : List ℕ). put-count bytes out) same, written ∙ ap (λ (bytes : List ℕ). put bytes out) same)

@@ -20,7 +20,8 @@ unfolding put put-count
 nothing-put bytes buffer e = (rw (e, leb·zero (length buffer)) refl, rw (e, leb·zero (length buffer)) refl)
 
 -- What cannot be written into a buffer of its size can be written into none.
-still-refused : (map fits short : Bool) (rest : ℕ) → fits ≡ false → eqb (cond map 17 (cond fits 18 rest)) 0 ≡ false → eqb (cond map 17 (cond short 18 rest)) 0 ≡ false
+still-refused : (map fits short : Bool) (rest : ℕ) → fits ≡ false → eqb (cond map 17 (cond fits 18 rest)) 0 ≡ false
+    → eqb (cond map 17 (cond short 18 rest)) 0 ≡ false
 still-refused true fits short rest e h = refl
 still-refused false true short rest e h = absurd (true≢false e)
 still-refused false false true rest e h = refl

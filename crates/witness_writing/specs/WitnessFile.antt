@@ -4,7 +4,10 @@ use Prim.Native.Nat.{ℕ}
 use mathlib.Core.Bool.{Bool, true, false, cond, _&&_}
 use mathlib.Core.List.{List, []}
 use lib.Dec.{eqb, leb}
+use Rattle.engine.specs.declared.run.Answer.{Answer}
+use Rattle.engine.specs.declared.run.Answer.the-variants.{False, True, Spent, NoRoomUniversal, NoRoomExistential, Refused}
 use Rattle.witness.specs.declared.Record.{Record}
+use Rattle.decision.specs.declared.Decision.{Decision}
 use Rattle.witness.specs.File.{made, file, size, write-cause}
 
 -- A true formula is settled by existential rows: bits 0, 1, 3 and 4 stand. A false one by universal rows: bits 0, 1, 2 and 4.
@@ -23,3 +26,15 @@ numbers-fit unknowns clauses count rounds = leb unknowns 65535 && leb clauses 65
 unfoldable pub file-of : Bool → ℕ → ℕ → List ℕ → ℕ → ℕ → List ℕ
 file-of value unknowns clauses rows count rounds =
     cond (numbers-fit unknowns clauses count rounds) (record-file (side-record value unknowns clauses count rounds) rows) []
+
+-- By the answer of a decision that has left these universal and existential rows. Undecided or refused, there is no file.
+abbrev pub by-answer : Answer → Decision → List ℕ → List ℕ → List ℕ
+by-answer True d U E = file-of true (d .unknowns) (d .clauses) E (d .existential) (d .round)
+by-answer False d U E = file-of false (d .unknowns) (d .clauses) U (d .universal) (d .round)
+by-answer Spent d U E = []
+by-answer NoRoomUniversal d U E = []
+by-answer NoRoomExistential d U E = []
+by-answer (Refused cause) d U E = []
+
+unfoldable pub decision-file : Decision → List ℕ → List ℕ → List ℕ
+decision-file d U E = by-answer (d .answer) d U E

@@ -19,22 +19,28 @@ same-length c = search needs
 
 returns : tie.Need-returns
 returns c =
-    let write-call = c .before .before .before .before .before .write in
-    let given = c .before .before .before .before .before .before .before .before .before .args in
+    let write-place = c .before .before .before .before .before in
+    let write-call = write-place .write in
+    let given = write-place .before .before .before .before .args in
     let rows = given .rows .now in
-    let out = given .file .now in
-    (file-counted (given .«record») rows out (write-call .ensures .0) (c .before .length .given .1), write-call .ensures .1 .0 ∙ file-written (given .«record») rows out)
+    let out = given .file .now in (
+      file-counted (given .«record») rows out (write-call .ensures .0) (c .before .length .given .1),
+      write-call .ensures .1 .0 ∙ file-written (given .«record») rows out,
+    )
 
 same-length-2 : tie.Need-same-length-2
 same-length-2 c = search needs
 
 returns-2 : tie.Need-returns-2
 returns-2 c =
-    let write-call = c .before .before .before .before .write in
-    let given = c .before .before .before .before .before .before .before .before .args in
+    let write-place = c .before .before .before .before in
+    let write-call = write-place .write in
+    let given = write-place .before .before .before .before .args in
     let rows = given .rows .now in
-    let out = given .file .now in
-    (none-counted (given .«record») rows out (write-call .ensures .0) (c .enum-told .given .1), write-call .ensures .1 .0 ∙ file-written (given .«record») rows out)
+    let out = given .file .now in (
+      none-counted (given .«record») rows out (write-call .ensures .0) (c .enum-told .given .1),
+      write-call .ensures .1 .0 ∙ file-written (given .«record») rows out,
+    )
 
 pub put-file-spec : {M : Type 1} → statement M
 put-file-spec = tie.close (tie.spec write-requires enum-known-length enum-told same-length returns same-length-2 returns-2)

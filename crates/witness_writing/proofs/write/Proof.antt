@@ -1,44 +1,115 @@
--- Nothing where a number does not fit; else the file of the record. Assumes nothing.
-use mathlib.Core.Path.{sym, ap, _∙_}
-use native.Mathlib.Omega.{arith}
-use Rattle.report.specs.Report.{put, put-count}
-use Rattle.witness_writing.specs.WitnessFile.{file-of}
-use Rattle.witness_writing.proofs.WriteLaws.{nothing-put, fitting-file, no-file, each-fits, record-put}
-use Rattle.witness_writing.proofs.WitnessRight.{witness-right}
+-- By the decision's answer. Assumes nothing.
+use mathlib.Core.Path.{refl}
+use mathlib.Core.List.{[]}
+use Rattle.witness_writing.proofs.WriteLaws.{nothing-put}
+use Rattle.witness_writing.proofs.WitnessRight.{witness-right, told-put}
 use borrow.Author.Needs.{needs}
 use Rattle.witness_writing.proofs.write.Statement.{statement}
 use Rattle.witness_writing.proofs.write.Tie as tie
 
-fit-requires : tie.Need-fit-requires
-fit-requires c κs = search needs
+enum-told : tie.Need-enum-told
+enum-told c = search needs
 
-returns : tie.Need-returns
-returns c =
-    let given = c .before .before .before .before .args in
-    let bytes = file-of (given .value) (given .unknowns) (given .clauses) (given .rows .now) (given .count) (given .rounds) in
-    let none = no-file (given .value) (given .unknowns) (given .clauses) (given .rows .now) (given .count) (given .rounds) (sym (c .before .fit .ensures) ∙ c .if1 .left) in
-    let put-none = nothing-put bytes (given .file .now) none in
-    (put-none .0, (put-none .1, witness-right))
+write-side-requires : tie.Need-write-side-requires
+write-side-requires c κs = search needs
 
-record-of-requires : tie.Need-record-of-requires
-record-of-requires c κs =
-    let given = c .before .before .before .before .args in
-    each-fits (given .unknowns) (given .clauses) (given .count) (given .rounds) (sym (c .before .fit .ensures) ∙ c .if1 .taken)
+enum-told-2 : tie.Need-enum-told-2
+enum-told-2 c = search needs
 
-put-file-requires : tie.Need-put-file-requires
-put-file-requires c κs = search needs
+write-side-requires-2 : tie.Need-write-side-requires-2
+write-side-requires-2 c κs = search needs
+
+enum-told-3 : tie.Need-enum-told-3
+enum-told-3 c = search needs
+
+enum-told-4 : tie.Need-enum-told-4
+enum-told-4 c = search needs
+
+enum-told-5 : tie.Need-enum-told-5
+enum-told-5 c = search needs
+
+enum-told-6 : tie.Need-enum-told-6
+enum-told-6 c = search needs
 
 same-length : tie.Need-same-length
 same-length c = search needs
 
+returns : tie.Need-returns
+returns c =
+    let side-place = c .before .before in
+    let side-call = side-place .write-side in
+    let given = side-place .before .before .before .before .before .before .before .args in
+    let U = given .universal-rows .now in
+    let E = given .existential-rows .now in
+    let done = told-put (given .decision) U E (given .file .now) (c .before .before .before .before .enum-told .given .1) (side-call .ensures .0) (side-call .ensures .1) in
+    (done .0, (done .1, witness-right))
+
+same-length-2 : tie.Need-same-length-2
+same-length-2 c = search needs
+
 returns-2 : tie.Need-returns-2
 returns-2 c =
-    let put-call = c .before .before .put-file in
-    let given = c .before .before .before .before .before .before .before .before .before .args in
-    let fits = sym (c .before .before .before .before .before .before .fit .ensures) ∙ c .before .before .before .before .before .if1 .taken in
-    let file = fitting-file (given .value) (given .unknowns) (given .clauses) (given .rows .now) (given .count) (given .rounds) fits in
-    let done = record-put (given .rows .now) (given .file .now) (c .before .before .before .before .record-of .ensures) (sym file) (put-call .ensures .0) (put-call .ensures .1) in
+    let side-place = c .before .before in
+    let side-call = side-place .write-side2 in
+    let given = side-place .before .before .before .before .before .before .before .args in
+    let U = given .universal-rows .now in
+    let E = given .existential-rows .now in
+    let done = told-put (given .decision) U E (given .file .now) (c .before .before .before .before .enum-told2 .given .1) (side-call .ensures .0) (side-call .ensures .1) in
+    (done .0, (done .1, witness-right))
+
+returns-3 : tie.Need-returns-3
+returns-3 c =
+    let given = c .before .before .before .before .before .args in
+    let U = given .universal-rows .now in
+    let E = given .existential-rows .now in
+    let none = nothing-put [] (given .file .now) refl in
+    let done = told-put (given .decision) U E (given .file .now) (c .enum-told3 .given .1) (none .0) (none .1) in
+    (done .0, (done .1, witness-right))
+
+returns-4 : tie.Need-returns-4
+returns-4 c =
+    let given = c .before .before .before .before .before .args in
+    let U = given .universal-rows .now in
+    let E = given .existential-rows .now in
+    let none = nothing-put [] (given .file .now) refl in
+    let done = told-put (given .decision) U E (given .file .now) (c .enum-told4 .given .1) (none .0) (none .1) in
+    (done .0, (done .1, witness-right))
+
+returns-5 : tie.Need-returns-5
+returns-5 c =
+    let given = c .before .before .before .before .before .args in
+    let U = given .universal-rows .now in
+    let E = given .existential-rows .now in
+    let none = nothing-put [] (given .file .now) refl in
+    let done = told-put (given .decision) U E (given .file .now) (c .enum-told5 .given .1) (none .0) (none .1) in
+    (done .0, (done .1, witness-right))
+
+returns-6 : tie.Need-returns-6
+returns-6 c =
+    let given = c .before .before .before .before .before .args in
+    let U = given .universal-rows .now in
+    let E = given .existential-rows .now in
+    let none = nothing-put [] (given .file .now) refl in
+    let done = told-put (given .decision) U E (given .file .now) (c .enum-told6 .given .1) (none .0) (none .1) in
     (done .0, (done .1, witness-right))
 
 pub write-spec : {M : Type 1} → statement M
-write-spec = tie.close (tie.spec fit-requires returns record-of-requires put-file-requires same-length returns-2)
+write-spec =
+    tie.close
+    (tie.spec
+    enum-told
+    write-side-requires
+    enum-told-2
+    write-side-requires-2
+    enum-told-3
+    enum-told-4
+    enum-told-5
+    enum-told-6
+    same-length
+    returns
+    same-length-2
+    returns-2
+    returns-3
+    returns-4
+    returns-5
+    returns-6)
