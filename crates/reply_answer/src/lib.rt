@@ -9,7 +9,7 @@ ghost use mathlib.Core.Path.{_≡_};
 ghost use Rattle.report.specs.Report.{put, put-count};
 ghost use Rattle.text.specs.Reading.{read-as};
 ghost use Rattle.text.specs.Offered.{offered};
-ghost use Rattle.reply_answer.specs.Answer.{on-claim, on-record, on-formula, on-text, value-line, line-of, printed};
+ghost use Rattle.reply_answer.specs.Answer.{on-claim, on-record, on-formula, on-text, value-line, line-of, printed as line};
 ghost use mathlib.Core.Bool.{false};
 
 // A refusal has its number and the text's line, 0 for the causes of the file, the rows and the moves.
@@ -27,8 +27,8 @@ pub const LONGEST: usize = 64;
 // Puts the line at the start of `out`, if it fits: how many bytes it is. A buffer of `LONGEST` bytes is long enough for all. The moves are one byte
 // each in prefix order, 0 false and 1 true.
 pub fn print(input: &[u8], length: usize, file: &[u8], moves: &[u8], out: &mut [u8]) -> usize
-    ensures counted { λ r. ⌜ r ≡ put-count (printed (offered (now (input .entry)) length) (now (file .entry)) (now (moves .entry))) (now (out .entry)) ⌝ }
-    ensures written { λ _. ⌜ now (out .exit) ≡ put (printed (offered (now (input .entry)) length) (now (file .entry)) (now (moves .entry))) (now (out .entry)) ⌝ }
+    ensures counted { λ r. ⌜ r ≡ put-count (line (offered (now (input .entry)) length) (now (file .entry)) (now (moves .entry))) (now (out .entry)) ⌝ }
+    ensures written { λ _. ⌜ now (out .exit) ≡ put (line (offered (now (input .entry)) length) (now (file .entry)) (now (moves .entry))) (now (out .entry)) ⌝ }
 {
     let answer = find(input, length, file, moves);
     put_line(answer, out)
