@@ -1,0 +1,5 @@
+-- The laws of the study by cases.
+pub mod AcceptedLaws
+pub mod ReplyLaws
+pub mod ToldLaws
+pub mod CasesRight
