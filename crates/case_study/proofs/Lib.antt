@@ -3,3 +3,5 @@ pub mod AcceptedLaws
 pub mod ReplyLaws
 pub mod ToldLaws
 pub mod CasesRight
+pub mod PathLaws
+pub mod NameLaws

@@ -4,7 +4,8 @@
 use Prim.Native.Nat.{ℕ, zero, suc, _+_, _-_}
 use mathlib.Core.Bool.{Bool, true, false, cond}
 use mathlib.Core.List.{List, [], _∷_}
-use lib.IntN.{ℤ}
+use lib.Dec.{ltb}
+use lib.IntN.{ℤ, natAbs}
 use lib.ListN.{length}
 use Rattle.formula.specs.Causes.{any}
 use Rattle.case_rules.specs.Restricted.{restricted}
@@ -42,3 +43,19 @@ unfoldable pub to-ask : List ℕ → List Bool → ℕ
 to-ask [] path = most-studies 0
 to-ask (kind ∷ kinds) [] = most-studies (length (kind ∷ kinds))
 to-ask (kind ∷ kinds) (value ∷ path) = second-ones (agree value (first-value kind)) (length kinds) + to-ask kinds path
+
+-- The way down from a formula that is not decided: unknowns that no clause names are passed over, the next one is set to its first value.
+unfoldable pub way-down : List ℕ → List ℤ → List Bool
+way-down [] literals = []
+way-down (kind ∷ kinds) literals =
+    let passed = way-down kinds (restricted (second-value kind ∷ []) literals) in
+    cond (any names-first literals) (first-value kind ∷ []) (second-value kind ∷ passed)
+
+-- How many unknowns in front no clause names, at most m: the place of the nearest name.
+abbrev pub nearer : ℕ → ℕ → ℕ
+nearer m zero = m
+nearer m (suc v) = cond (ltb v m) v m
+
+unfoldable pub unnamed : ℕ → List ℤ → ℕ
+unnamed m [] = m
+unnamed m (z ∷ literals) = unnamed (nearer m (natAbs z)) literals
