@@ -5,3 +5,6 @@ pub mod ToldLaws
 pub mod CasesRight
 pub mod PathLaws
 pub mod NameLaws
+pub mod LaidLaws
+pub mod ByteLaws
+pub mod MakeLaws

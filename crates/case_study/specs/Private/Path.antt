@@ -1,18 +1,22 @@
 -- The place that a decision by cases has reached, as the values of the unknowns that are set: the formula there, and what the whole comes to once the
 -- place has been told. Cited by contracts of private functions alone.
 -- Assumes nothing.
-use Prim.Native.Nat.{ℕ, zero, suc, _+_, _-_}
+use Prim.Native.Nat.{ℕ, zero, suc, _+_, _-_, _≤_, _<_}
+use mathlib.Core.Path.{_≡_}
 use mathlib.Core.Bool.{Bool, true, false, cond}
-use mathlib.Core.List.{List, [], _∷_}
+use mathlib.Core.List.{List, [], _∷_, _++_}
+use mathlib.Core.Option.{some}
 use lib.Dec.{ltb}
 use lib.IntN.{ℤ, natAbs}
-use lib.ListN.{length}
+use lib.ListN.{length, getD, take, drop}
 use Rattle.formula.specs.Causes.{any}
 use Rattle.case_rules.specs.Restricted.{restricted}
 use Rattle.case_rules.specs.ByCases.{names-first}
 use Rattle.case_rules.specs.Budget.{most-studies}
+use Rattle.restriction.specs.Outcome.{values-of}
 use Rattle.study.specs.declared.Setting.{Setting}
-use Rattle.case_study.specs.Cases.{State, Told, second-value, first-value, half, agree, both-cases, sharing, decide-by}
+use Rattle.case_study.specs.Cases.{State, Reply, is, undecided, stopped, Told, told, second-value, first-value, half, agree, both-cases}
+use Rattle.case_study.specs.Cases.{Asking, by-run, sharing, decide-by}
 
 -- The formula with one unknown more set; one that no clause names is passed over.
 abbrev pub step : Setting → List ℕ → List ℤ → Bool → List ℤ
@@ -59,3 +63,58 @@ nearer m (suc v) = cond (ltb v m) v m
 unfoldable pub unnamed : ℕ → List ℤ → ℕ
 unnamed m [] = m
 unnamed m (z ∷ literals) = unnamed (nearer m (natAbs z)) literals
+
+-- The way down where j unknowns are passed over.
+unfoldable pub way-of : List ℕ → ℕ → List Bool
+way-of [] j = []
+way-of (kind ∷ kinds) zero = first-value kind ∷ []
+way-of (kind ∷ kinds) (suc j) = second-value kind ∷ way-of kinds j
+
+-- The first entries of a table are a formula.
+pub record Laid (formula table : List ℤ) (used : ℕ) : Type 0 where
+  pub inside : used ≤ length table
+  pub laid : take used table ≡ formula
+
+-- Bytes that are 0 or 1.
+abbrev pub Known : List ℕ → Type 0
+Known bytes = (i : ℕ) → getD bytes i 0 ≤ 1
+
+-- The values of the first unknowns, and behind them the second value of each.
+pub record Placed (kinds values : List ℕ) (depth : ℕ) : Type 0 where
+  pub as-long : length values ≡ length kinds
+  pub below : depth ≤ length kinds
+  pub known : Known values
+  pub behind : drop depth values ≡ drop depth kinds
+
+abbrev pub path-of : List ℕ → ℕ → List Bool
+path-of values depth = values-of (take depth values)
+
+-- The way down was gone.
+pub record Descended (kinds : List ℕ) (literals : List ℤ) (values : List ℕ) (depth : ℕ) (after : List ℕ) (deeper : ℕ) : Type 0 where
+  pub placed : Placed kinds after deeper
+  pub gone : path-of after deeper ≡ path-of values depth ++ way-of (drop depth kinds) (unnamed (length kinds - depth) literals)
+
+-- The way up was gone with a verdict: to the top, or to a level whose second case is next.
+pub record Climbed (kinds values : List ℕ) (depth : ℕ) (v : Bool) (after : List ℕ) (level : ℕ) : Type 0 where
+  pub placed : Placed kinds after level
+  pub told-at-top : level ≡ 0
+      → (s : Setting) (bound n : ℕ) (literals : List ℤ) (st : State)
+      → resume s bound n kinds literals (path-of values depth) (told (some v) st) ≡ told (some v) st
+  pub turned : (level ≡ 0 → ⊥)
+      → (s : Setting) (bound n : ℕ) (literals : List ℤ) (st : State)
+      → resume s bound n kinds literals (path-of values depth) (told (some v) st)
+      ≡ resume s bound n kinds literals (path-of after level)
+      (decide-by s bound n (sharing v) (drop level kinds) (formula-at s kinds literals (path-of after level)) st)
+  pub fewer : (level ≡ 0 → ⊥) → to-ask kinds (path-of after level) < to-ask kinds (path-of values depth)
+
+-- The code's numbers of replies, and of ways to ask.
+abbrev pub reply-numbered : ℕ → Reply
+reply-numbered zero = is false
+reply-numbered (suc zero) = is true
+reply-numbered (suc (suc zero)) = undecided
+reply-numbered (suc (suc (suc n))) = stopped
+
+abbrev pub asking-numbered : ℕ → Asking
+asking-numbered zero = sharing false
+asking-numbered (suc zero) = sharing true
+asking-numbered (suc (suc n)) = by-run
