@@ -8,3 +8,5 @@ pub mod NameLaws
 pub mod LaidLaws
 pub mod ByteLaws
 pub mod MakeLaws
+pub mod AskLaws
+pub mod WalkLaws

@@ -18,8 +18,12 @@ ghost use Rattle.formula.specs.Formula.{max-entries};
 ghost use Rattle.trimming_rules.specs.Trimming.{trimmed};
 ghost use Rattle.case_rules.specs.Restricted.{IsAccepted, restricted};
 ghost use Rattle.restriction.specs.Outcome.{value-of, values-of, wrong-values};
-ghost use Rattle.study.specs.Study.{formula-of};
+ghost use Rattle.engine.specs.Outcome.{areas};
+ghost use Rattle.study.specs.Study.{formula-of, preferences-of};
+ghost use Rattle.case_study.specs.Cases.{state, most-runs, most-rounds, up-to, larger as larger-of, counted as counted-so, asked, reply-of, is-reached as reached};
+ghost use Rattle.case_study.specs.Cases.{run-of, is-accepted};
 ghost use Rattle.case_study.specs.Private.Path.{step, formula-at, nearer as nearer-of, unnamed as unnamed-in, Laid, Known, Placed, Descended, Climbed};
+ghost use Rattle.case_study.specs.Private.Path.{reply-numbered, shares, shared-work};
 
 // What the runs made so far have come to: the rows of the last one, how many were made, the sum of their rounds, and the most unknowns that were set.
 pub struct Progress {
@@ -181,3 +185,182 @@ fn climb(kinds: &[u8], depth: usize, verdict: u8, values: &mut [u8]) -> usize
     }
     0
 }
+
+// ---- a formula asked
+
+// What a formula is found to be: 0 false, 1 true, 2 undecided.
+struct Replied {
+    reply: u32,
+    made: Progress,
+}
+
+const UNDECIDED: u32 = 2;
+
+// Whether no further run is allowed.
+fn is_reached(bound: u32, runs: u32) -> bool
+    ensures { λ r. ⌜ r ≡ reached bound runs ⌝ }
+{
+    if bound == 0 {
+        return false;
+    }
+    if bound <= runs {
+        return true;
+    }
+    false
+}
+
+// Whether the rows of the last run bear out the claim for this formula, too.
+fn serves(
+    kinds: &[u8],
+    literals: &[i32],
+    claim: u32,
+    made: Progress,
+    universal_rows: &[u8],
+    existential_rows: &[u8],
+    work: &mut [u8],
+) -> bool
+    ensures { λ r. ⌜ r ≡ shares claim (now (kinds .entry)) (now (literals .entry)) (now («universal_rows» .entry)) (now («existential_rows» .entry)) made (now (work .entry)) ⌝ }
+    ensures { λ _. ⌜ now (work .exit) ≡ shared-work claim (now (kinds .entry)) (now (literals .entry)) (now («universal_rows» .entry)) (now («existential_rows» .entry)) made (now (work .entry)) ⌝ }
+{
+    let universal = made.universal;
+    let existential = made.existential;
+    if claim == 0 {
+        return is_accepted(judge::judge(kinds, literals, 0, universal_rows, universal, work));
+    }
+    if claim == 1 {
+        return is_accepted(judge::judge(kinds, literals, 1, existential_rows, existential, work));
+    }
+    false
+}
+
+fn is_accepted(judgement: Judgement) -> bool
+    ensures { λ r. ⌜ r ≡ is-accepted judgement ⌝ }
+{
+    match judgement {
+        Judgement::NotBorneOut => false,
+        Judgement::Accepted => true,
+        Judgement::Refused(_) => false,
+    }
+}
+
+// The run of the cases' setting.
+fn run_case(
+    kinds: &[u8],
+    literals: &[i32],
+    setting: Setting,
+    depth: usize,
+    made: Progress,
+    universal_rows: &mut [u8],
+    universal_marks: &mut [u16],
+    universal_counts: &mut [u32],
+    existential_rows: &mut [u8],
+    existential_marks: &mut [u16],
+    existential_counts: &mut [u32],
+    work: &mut [u8],
+) -> Replied
+    ensures { λ r. ⌜ asked (reply-numbered (r .reply))
+        (state (areas (now («universal_rows» .exit)) (now («universal_marks» .exit)) (now («universal_counts» .exit)) (now («existential_rows» .exit)) (now («existential_marks» .exit)) (now («existential_counts» .exit)) (now (work .exit))) (r .made))
+        ≡ run-of setting depth (now (kinds .entry)) (now (literals .entry))
+        (state (areas (now («universal_rows» .entry)) (now («universal_marks» .entry)) (now («universal_counts» .entry)) (now («existential_rows» .entry)) (now («existential_marks» .entry)) (now («existential_counts» .entry)) (now (work .entry))) made) ⌝ }
+{
+    let limit = setting.limit;
+    let clearing = setting.clearing;
+    let preference = setting.preference;
+    let byte = [byte_of(preference); 1];
+    let lent = lent_of(preference);
+    let outcome = engine::run::run(
+        kinds,
+        literals,
+        &byte[0..lent],
+        universal_rows,
+        universal_marks,
+        universal_counts,
+        existential_rows,
+        existential_marks,
+        existential_counts,
+        work,
+        limit,
+        clearing,
+    );
+    let answer = outcome.answer;
+    Replied {
+        reply: reply_of(answer),
+        made: counted(depth, outcome, made),
+    }
+}
+
+// The preference byte, and how many are lent: one, or none for house preferences.
+fn byte_of(preference: u32) -> u8
+    ensures { λ r. ⌜ (preference < 256 → r ≡ preference) ⌝ }
+{
+    if preference < study::HOUSE {
+        return preference as u8;
+    }
+    0
+}
+
+fn lent_of(preference: u32) -> usize
+    ensures { λ r. ⌜ r ≡ length (preferences-of preference) ⌝ }
+{
+    if preference < study::HOUSE {
+        return 1;
+    }
+    0
+}
+
+fn reply_of(answer: Answer) -> u32
+    ensures { λ r. ⌜ reply-numbered r ≡ reply-of answer ⌝ }
+{
+    match answer {
+        Answer::False => 0,
+        Answer::True => 1,
+        Answer::Spent => UNDECIDED,
+        Answer::NoRoomUniversal => UNDECIDED,
+        Answer::NoRoomExistential => UNDECIDED,
+        Answer::Refused(_) => UNDECIDED,
+    }
+}
+
+fn counted(depth: usize, outcome: Outcome, made: Progress) -> Progress
+    ensures { λ r. ⌜ r ≡ counted-so depth outcome made ⌝ }
+{
+    Progress {
+        universal: outcome.universal,
+        existential: outcome.existential,
+        runs: one_more(made.runs),
+        rounds: together(made.rounds, outcome.round),
+        depth: larger(made.depth, depth),
+    }
+}
+
+fn one_more(runs: u32) -> u32
+    ensures { λ r. ⌜ r ≡ up-to most-runs (runs + 1) ⌝ }
+{
+    if runs < MOST_RUNS {
+        return runs + 1;
+    }
+    MOST_RUNS
+}
+
+fn together(rounds: u32, round: u32) -> u32
+    ensures { λ r. ⌜ r ≡ up-to most-rounds (rounds + round) ⌝ }
+{
+    let sum = rounds as u64 + round as u64;
+    if sum <= MOST_ROUNDS {
+        return sum as u32;
+    }
+    999_999_999
+}
+
+fn larger(a: usize, b: usize) -> usize
+    ensures { λ r. ⌜ r ≡ larger-of a b ⌝ }
+{
+    if a < b {
+        return b;
+    }
+    a
+}
+
+const MOST_RUNS: u32 = 4_294_967_295;
+
+const MOST_ROUNDS: u64 = 999_999_999;

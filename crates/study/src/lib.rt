@@ -126,7 +126,7 @@ fn refused(cause: u32) -> Studied
 }
 
 // The cause that a run with the limit 0 gives, or where it is that limit the list's, or 0.
-pub fn first_cause(of_run: u32, settings: &[u32]) -> u32
+fn first_cause(of_run: u32, settings: &[u32]) -> u32
     ensures { λ r. ⌜ r ≡ cond (eqb «of_run» 6) (list-cause (now (settings .entry))) «of_run» ⌝ }
 {
     if of_run == NO_LIMIT {
@@ -136,7 +136,7 @@ pub fn first_cause(of_run: u32, settings: &[u32]) -> u32
 }
 
 // Cause 26 or 6 of the list, or 0.
-pub fn list_cause(settings: &[u32]) -> u32
+fn list_cause(settings: &[u32]) -> u32
     ensures { λ r. ⌜ r ≡ list-cause (now (settings .entry)) ⌝ }
 {
     if settings.len() == 0 {
@@ -348,7 +348,7 @@ fn chosen<'a>(trim: u32, literals: &'a [i32], table: &'a [i32], entries: usize) 
 }
 
 // The preference byte, and how many are lent: one, or none for house preferences.
-pub fn byte_of(preference: u32) -> u8
+fn byte_of(preference: u32) -> u8
     ensures { λ r. ⌜ (preference < 256 → r ≡ preference) ⌝ }
 {
     if preference < HOUSE {
@@ -357,7 +357,7 @@ pub fn byte_of(preference: u32) -> u8
     0
 }
 
-pub fn lent_of(preference: u32) -> usize
+fn lent_of(preference: u32) -> usize
     ensures { λ r. ⌜ r ≡ length (preferences-of preference) ⌝ }
 {
     if preference < HOUSE {

@@ -10,12 +10,14 @@ use lib.Dec.{ltb}
 use lib.IntN.{ℤ, natAbs}
 use lib.ListN.{length, getD, take, drop}
 use Rattle.formula.specs.Causes.{any}
+use Rattle.judge.specs.Judge.{outcome as judged, work-after}
 use Rattle.case_rules.specs.Restricted.{restricted}
 use Rattle.case_rules.specs.ByCases.{names-first}
 use Rattle.case_rules.specs.Budget.{most-studies}
 use Rattle.restriction.specs.Outcome.{values-of}
 use Rattle.study.specs.declared.Setting.{Setting}
-use Rattle.case_study.specs.Cases.{State, Reply, is, undecided, stopped, Told, told, second-value, first-value, half, agree, both-cases}
+use Rattle.case_study.specs.declared.Progress.{Progress}
+use Rattle.case_study.specs.Cases.{is-accepted, State, Reply, is, undecided, stopped, Told, told, second-value, first-value, half, agree, both-cases}
 use Rattle.case_study.specs.Cases.{Asking, by-run, sharing, decide-by}
 
 -- The formula with one unknown more set; one that no clause names is passed over.
@@ -118,3 +120,14 @@ abbrev pub asking-numbered : ℕ → Asking
 asking-numbered zero = sharing false
 asking-numbered (suc zero) = sharing true
 asking-numbered (suc (suc n)) = by-run
+
+-- Whether the rows of the last run serve, by the number of the claim: universal ones for 0, existential ones for 1; and what the judge leaves.
+unfoldable pub shares : ℕ → List ℕ → List ℤ → List ℕ → List ℕ → Progress → List ℕ → Bool
+shares zero kinds literals A S made work = is-accepted (judged kinds literals 0 A (made .universal) work)
+shares (suc zero) kinds literals A S made work = is-accepted (judged kinds literals 1 S (made .existential) work)
+shares (suc (suc n)) kinds literals A S made work = false
+
+unfoldable pub shared-work : ℕ → List ℕ → List ℤ → List ℕ → List ℕ → Progress → List ℕ → List ℕ
+shared-work zero kinds literals A S made work = work-after kinds literals 0 A (made .universal) work
+shared-work (suc zero) kinds literals A S made work = work-after kinds literals 1 S (made .existential) work
+shared-work (suc (suc n)) kinds literals A S made work = work
