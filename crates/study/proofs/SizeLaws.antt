@@ -44,10 +44,10 @@ same-cause kinds literals preferences a b limit clear-every s =
 
 -- ---- what fits
 
-record SideFits (rows marks counts : List ℕ) : Type 0 where
-  some-row : 1 ≤ room rows
-  one-mark : length marks ≡ room rows
-  one-count : length counts ≡ room rows
+pub record SideFits (rows marks counts : List ℕ) : Type 0 where
+  pub some-row : 1 ≤ room rows
+  pub one-mark : length marks ≡ room rows
+  pub one-count : length counts ≡ room rows
 
 side : (rows marks counts : List ℕ) → side-fits rows marks ≡ true → eqb (length counts) (room rows) ≡ true → SideFits rows marks counts
 unfolding side-fits table-fits
@@ -74,10 +74,10 @@ module _ (found : Areas) (fits : Fits found) where
       and-eq-true-iff (eqb (length (found .universal-counts)) (room (found .universal-rows))) (eqb (length (found .existential-counts)) (room (found .existential-rows))) .0
       (fits .counts)
 
-  fits-A : SideFits (found .universal-rows) (found .universal-marks) (found .universal-counts)
+  pub fits-A : SideFits (found .universal-rows) (found .universal-marks) (found .universal-counts)
   fits-A = side (found .universal-rows) (found .universal-marks) (found .universal-counts) (fits-both .0) (counts-both .0)
 
-  fits-S : SideFits (found .existential-rows) (found .existential-marks) (found .existential-counts)
+  pub fits-S : SideFits (found .existential-rows) (found .existential-marks) (found .existential-counts)
   fits-S = side (found .existential-rows) (found .existential-marks) (found .existential-counts) (fits-both .1) (counts-both .1)
 
 -- ---- what is left
