@@ -21,9 +21,9 @@ ghost use Rattle.restriction.specs.Outcome.{value-of, values-of, wrong-values};
 ghost use Rattle.engine.specs.Outcome.{areas};
 ghost use Rattle.study.specs.Study.{formula-of, preferences-of};
 ghost use Rattle.case_study.specs.Cases.{state, most-runs, most-rounds, up-to, larger as larger-of, counted as counted-so, asked, reply-of, is-reached as reached};
-ghost use Rattle.case_study.specs.Cases.{run-of, is-accepted};
+ghost use Rattle.case_study.specs.Cases.{run-of, is-accepted, reply-to};
 ghost use Rattle.case_study.specs.Private.Path.{step, formula-at, nearer as nearer-of, unnamed as unnamed-in, Laid, Known, Placed, Descended, Climbed};
-ghost use Rattle.case_study.specs.Private.Path.{reply-numbered, shares, shared-work};
+ghost use Rattle.case_study.specs.Private.Path.{reply-numbered, asking-numbered, shares, shared-work};
 
 // What the runs made so far have come to: the rows of the last one, how many were made, the sum of their rounds, and the most unknowns that were set.
 pub struct Progress {
@@ -188,7 +188,7 @@ fn climb(kinds: &[u8], depth: usize, verdict: u8, values: &mut [u8]) -> usize
 
 // ---- a formula asked
 
-// What a formula is found to be: 0 false, 1 true, 2 undecided.
+// What a formula is found to be: 0 false, 1 true, 2 undecided, 3 no further run is allowed.
 struct Replied {
     reply: u32,
     made: Progress,
@@ -196,7 +196,63 @@ struct Replied {
 
 const UNDECIDED: u32 = 2;
 
-// Whether no further run is allowed.
+const STOPPED: u32 = 3;
+
+// Asks a formula with its first `depth` unknowns set: for a claim, 0 or 1, which is the first case's verdict, first by the rows that settled the first case, then by a run.
+fn ask(
+    kinds: &[u8],
+    literals: &[i32],
+    setting: Setting,
+    claim: u32,
+    bound: u32,
+    depth: usize,
+    made: Progress,
+    universal_rows: &mut [u8],
+    universal_marks: &mut [u16],
+    universal_counts: &mut [u32],
+    existential_rows: &mut [u8],
+    existential_marks: &mut [u16],
+    existential_counts: &mut [u32],
+    work: &mut [u8],
+) -> Replied
+    ensures { λ r. ⌜ asked (reply-numbered (r .reply))
+        (state (areas (now («universal_rows» .exit)) (now («universal_marks» .exit)) (now («universal_counts» .exit)) (now («existential_rows» .exit)) (now («existential_marks» .exit)) (now («existential_counts» .exit)) (now (work .exit))) (r .made))
+        ≡ reply-to (asking-numbered claim) setting bound depth (now (kinds .entry)) (now (literals .entry))
+        (state (areas (now («universal_rows» .entry)) (now («universal_marks» .entry)) (now («universal_counts» .entry)) (now («existential_rows» .entry)) (now («existential_marks» .entry)) (now («existential_counts» .entry)) (now (work .entry))) made) ⌝ }
+{
+    if serves(
+        kinds,
+        literals,
+        claim,
+        made,
+        universal_rows,
+        existential_rows,
+        work,
+    ) {
+        return Replied { reply: claim, made };
+    }
+    if is_reached(bound, made.runs) {
+        return Replied {
+            reply: STOPPED,
+            made,
+        };
+    }
+    run_case(
+        kinds,
+        literals,
+        setting,
+        depth,
+        made,
+        universal_rows,
+        universal_marks,
+        universal_counts,
+        existential_rows,
+        existential_marks,
+        existential_counts,
+        work,
+    )
+}
+
 fn is_reached(bound: u32, runs: u32) -> bool
     ensures { λ r. ⌜ r ≡ reached bound runs ⌝ }
 {
