@@ -2,3 +2,4 @@
 pub mod FeeLaws
 pub mod RecordedRight
 pub mod PutLaws
+pub mod WithinLaws
