@@ -121,6 +121,7 @@ module _ {A : Type 0} where
   pub every_some : (Q R : A → Type 0) (B : Type 0) → ((x : A) → Q x → R x → B) → (xs : List A) → Every Q xs → Some R xs → B
   every_some Q R B f (x ∷ xs) a (inl r) = f x a.0 r
   every_some Q R B f (x ∷ xs) a (inr s) = every_some Q R B f xs a.1 s
+  every_some Q R B f [] a x'' = elim x'' [ ]
 
 -- ---- positions and ends
 
@@ -135,3 +136,4 @@ onto_some c (x ∷ xs) e = let z : ◌≡◌ {A = ℕ} 0 1 = cc in omega arith
 pub clauses_some : (cs : List ℕ) → HasEnd cs → code_clauses cs ≢ []
 clauses_some (zero ∷ cs) h e = let z : ◌≡◌ {A = ℕ} 0 1 = cc in omega arith
 clauses_some (suc c ∷ cs) h e = onto_some (suc c) (code_clauses cs) e
+clauses_some [] h e = elim h [ ]

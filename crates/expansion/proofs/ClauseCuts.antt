@@ -23,6 +23,7 @@ module _ {A : Type 0} where
   pub some_map : (Q R : A → Type 0) → ((x : A) → Q x → R x) → (xs : List A) → Some Q xs → Some R xs
   some_map Q R f (x ∷ xs) (inl q) = inl (f x q)
   some_map Q R f (x ∷ xs) (inr s) = inr (some_map Q R f xs s)
+  some_map Q R f [] x' = elim x' [ ]
 
 -- ---- clauses of literals
 
@@ -30,6 +31,7 @@ module _ {L : Type 0} (true_at : (ℕ → Bool) → L → Bool) where
   pub clause_true : (f : ℕ → Bool) (c : List L) → Some (λ z. true_at f z ≡ true) c → clause_at true_at f c ≡ true
   clause_true f (z ∷ c) (inl e) = rw e refl
   clause_true f (z ∷ c) (inr s) = rw (clause_true f c s) (or-true (true_at f z))
+  clause_true f [] x' = elim x' [ ]
 
   pub clause_false : (f : ℕ → Bool) (c : List L) → Every (λ z. true_at f z ≡ false) c → clause_at true_at f c ≡ false
   clause_false f [] e = refl
@@ -52,6 +54,7 @@ module _ {L : Type 0} (true_at : (ℕ → Bool) → L → Bool) where
   true_clause f (x ∷ cs) c e (inl q) = subst (λ (y : List L). clause_at true_at f y ≡ true) q
       ((and-eq-true_iff (clause_at true_at f x) (matrix_at true_at cs f)).0 e).0
   true_clause f (x ∷ cs) c e (inr s) = true_clause f cs c ((and-eq-true_iff (clause_at true_at f x) (matrix_at true_at cs f)).0 e).1 s
+  true_clause f [] c e x'' = elim x'' [ ]
 
   -- ---- over a node
 

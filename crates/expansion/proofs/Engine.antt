@@ -106,6 +106,7 @@ module _ (n : ℕ) (f g : ℕ → Bool) (same : (j : ℕ) → j < n → f j ≡ 
   literal_same : (z : ℤ) → Names n z → literal_at f z ≡ literal_at g z
   literal_same (pos (suc x)) h = same x h
   literal_same (negsuc x) h = ap not (same x h)
+  literal_same (pos zero) h = elim h [ ]
 
   clause_same : (c : Clause) → Every (Names n) c → clause_at literal_at f c ≡ clause_at literal_at g c
   clause_same [] h = refl

@@ -166,7 +166,7 @@ module _ (prefer : ℕ → Bool) (side : Kind) (ks : List Kind) (cs : List Claus
 
   pub model_led : (known : Row) → LeadsModels prefer (flags side ks) (goal side (matrix cs)) rows known
       → (m : Values) → Model (problem prefer side ks cs rows row) m → 0 < length rows
-      → (k : ℕ) → ((j : ℕ) → j ≤ k → (problem prefer side ks cs rows row).own_val j ≡ true)
+      → (k : ℕ) → ((j : ℕ) → j ≤ k → (problem prefer side ks cs rows row).own j ≡ true)
       → ((j : ℕ) → j < k → get_or known j false ≡ m 0 j)
       → (get_or known k false ≡ m 0 k) ⊎ (get_or known k false ≡ (problem prefer side ks cs rows row).wanted 0 k)
   unfolding problem wanted

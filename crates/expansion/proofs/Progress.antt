@@ -65,7 +65,7 @@ search_answers prefer side ks phi rows new found = of_model (first_model prefer 
     of_model (some vs) e f =
         let σ = strategy_of (flags side ks) rows vs in
         let is : new ≡ map (yield (flags side ks) σ) rows = cc in
-        (σ, record { wins = wins_each _ _ σ rows (first_some prefer _ _ rows vs e); within = λ r h. rw is (in_map _ r rows h) }, is)
+        (σ, record { wins = wins_each (flags side ks) (goal side phi) σ rows (first_some prefer (flags side ks) (goal side phi) rows vs e); within = λ r h. rw is (in_map _ r rows h) }, is)
 
 -- If a strategy of the other side that wins over `old` keeps within the rows, a search over the rows yields a row that is not in `old`.
 pub yields_fresh : (prefer : ℕ → Bool) (side : Kind) (ks : List Kind) (phi : List Bool → Bool) (rows old new : List Row) (ρ : Strategy) (r : Row)

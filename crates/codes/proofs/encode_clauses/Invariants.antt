@@ -1,0 +1,15 @@
+-- `codes::encode_clauses` meets its contract. The loop's invariant: the codes are those of the clauses passed.
+-- Assumes nothing.
+use Prim.Native.Nat.{◌-◌, ◌≤◌}
+use native.Mathlib.Omega.{arith}
+use mathlib.Core.Path.{◌≡◌, refl, ◌∙◌}
+use lib.ListN.{length}
+use Rattle.codes.proofs.ReadLaws.{EncodedTo, none_encoded, more_encoded, all_written, all_counted}
+use Rattle.codes.proofs.encode_clauses.Given as goal
+
+abbrev pub invariant-loop-from : goal.invariant-loop-from
+invariant-loop-from l =
+    (l.from ≤ length l.literals) × (l.to ≤ l.from) × (length l.codes ≡ length l.initial.codes) × EncodedTo l.literals l.from l.to l.codes
+
+abbrev pub decreases-loop-from : goal.decreases-loop-from
+decreases-loop-from l = length l.literals - l.from
