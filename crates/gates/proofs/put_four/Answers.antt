@@ -1,0 +1,24 @@
+-- `gates::put_four` meets its contract. Assumes nothing.
+use borrow.Author.Rules.{rules}
+use Rattle.gates.proofs.EntryLaws.{opposite_small, four_put}
+use Rattle.gates.proofs.put_four.Goals as goal
+
+pub overflow_sub-not_g : goal.overflow_sub-not_g
+overflow_sub-not_g c = opposite_small c.args.g c.requires.0
+
+pub overflow_sub-not_s : goal.overflow_sub-not_s
+overflow_sub-not_s c = opposite_small c.args.s c.requires.1
+
+pub overflow_sub-not_t : goal.overflow_sub-not_t
+overflow_sub-not_t c = opposite_small c.args.t c.requires.2
+
+pub returns : goal.returns
+returns c =
+    let put_triple3_call = c.put_triple-3 in
+    let put_triple2_call = c.put_triple-2 in
+    let put_triple_call = c.put_triple in
+    let given = c.args in
+    let small = c.requires in
+    four_put given.entries.now put_triple_call.new.entries put_triple2_call.new.entries put_triple3_call.new.entries
+    c.put_triple-4.new.entries given.at given.g given.s given.t small.0 small.1 small.2
+    put_triple_call.ensures put_triple2_call.ensures put_triple3_call.ensures c.put_triple-4.ensures

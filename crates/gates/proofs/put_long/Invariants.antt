@@ -1,0 +1,22 @@
+-- `gates::put_long` meets its contract. The loop's invariant: what the inputs left would add makes the whole. Assumes nothing.
+use Prim.Native.Nat.{◌≤◌, ◌-◌, ◌+◌}
+use native.Mathlib.Omega.{arith}
+use mathlib.Core.Path.{◌≡◌, refl, sym, ap, ◌∙◌}
+use mathlib.Core.List.{[], ◌∷◌, ◌++◌, map}
+use borrow.Author.Rules.{rules}
+use lib.IntN.{ℤ, pos}
+use lib.ListN.{length, get_or, drop, length-set}
+use lib.Seq.{sets}
+use mir.Facts.{to_z-of_z}
+use mir.Syntax.{w32}
+use mir.Val.{to_z, of_z}
+use Rattle.gates.specs.Private.Steps.{turn, long_entries}
+use Rattle.gates.proofs.EntryLaws.{small_at, small_bits, stored, long_first, long_more, long_done}
+use Rattle.gates.proofs.put_long.Given as goal
+
+abbrev pub invariant-loop-i : goal.invariant-loop-i
+invariant-loop-i l = (l.i ≤ length l.inputs) × (length l.entries ≡ length l.initial.entries) × (l.to ≡ l.initial.to + l.i) ×
+    (sets l.initial.entries l.initial.to (map (turn l.turned) l.inputs ++ (pos 0 ∷ [])) ≡ sets l.entries l.to (map (turn l.turned) (drop l.i l.inputs) ++ (pos 0 ∷ [])))
+
+abbrev pub decreases-loop-i : goal.decreases-loop-i
+decreases-loop-i l = length l.inputs - l.i

@@ -1,0 +1,21 @@
+-- `gates::put_pairs` meets its contract. The loop's invariant: what the inputs left would add makes the whole. Assumes nothing.
+use Prim.Native.Nat.{◌≤◌, ◌-◌, ◌+◌, ◌*◌}
+use native.Mathlib.Omega.{arith}
+use mathlib.Core.Path.{◌≡◌, refl, sym, ap, ◌∙◌}
+use borrow.Author.Rules.{rules}
+use lib.IntN.{ℤ, pos}
+use lib.ListN.{length, get_or, drop, length-set}
+use lib.Seq.{sets}
+use mir.Facts.{to_z-of_z}
+use mir.Syntax.{w32}
+use mir.Val.{to_z, of_z}
+use Rattle.gates.proofs.EntryLaws.{small_at, small_bits, stored, pairs_more, pairs_done}
+use Rattle.gates.specs.Private.Steps.{pair_entries}
+use Rattle.gates.proofs.put_pairs.Given as goal
+
+abbrev pub invariant-loop-i : goal.invariant-loop-i
+invariant-loop-i l = (l.i ≤ length l.inputs) × (length l.entries ≡ length l.initial.entries) × (l.to ≡ l.at + 3 * l.i) ×
+    (sets l.initial.entries l.at (pair_entries l.first l.turned l.inputs) ≡ sets l.entries l.to (pair_entries l.first l.turned (drop l.i l.inputs)))
+
+abbrev pub decreases-loop-i : goal.decreases-loop-i
+decreases-loop-i l = length l.inputs - l.i
