@@ -19,7 +19,7 @@ const HIGHEST: i32 = Formula::UNKNOWNS as i32;
 const LOWEST: i32 = -HIGHEST;
 
 // The entries read and written, where a clause ends.
-#[derive(Drop)]
+#[derive(Clone, Copy)]
 struct Ends {
     read: usize,
     written: usize,

@@ -9,7 +9,7 @@ ghost use Rattle.formula.specs.Literal.{magnitude_at, negative_at};
 ghost use Rattle.formula.specs.Progress.{fresh};
 
 // The sizes of an accepted formula.
-#[derive(Drop)]
+#[derive(Clone, Copy)]
 pub struct Formula {
     pub unknowns: usize,
     pub universals: usize,
@@ -18,7 +18,7 @@ pub struct Formula {
 }
 
 // The round that a run has reached and the counts of its two row tables.
-#[derive(Drop)]
+#[derive(Clone, Copy)]
 pub struct Progress {
     pub round: u32,
     pub universal: usize,
@@ -26,7 +26,7 @@ pub struct Progress {
 }
 
 // A refusal has the number of its cause.
-#[derive(Drop)]
+#[derive(Clone, Copy)]
 pub enum Check {
     Accepted(Formula),
     Refused(u32),

@@ -55,7 +55,7 @@ pub extern "C" fn probe_read_gates(
 }
 
 // What a reading returns besides its number.
-#[derive(Drop)]
+#[derive(Clone, Copy)]
 struct Told {
     unknowns: usize,
     entries: usize,

@@ -20,7 +20,7 @@ pub type Row = [u8; BYTES];
 pub const BITS: usize = 8 * BYTES;
 
 // A place, or none.
-#[derive(Drop)]
+#[derive(Clone, Copy)]
 pub enum Found {
     At(usize),
     Absent,
