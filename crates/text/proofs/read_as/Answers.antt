@@ -33,15 +33,14 @@ slice_bounds-close-end-3 c = sym c.read_lines-c.ensures.sized.names
 pub overflow_add-result : goal.overflow_add-result
 overflow_add-result c = omega (arith, c.read_lines-c.ensures.sized.unknowns)
 
-pub returns-clause-written : goal.returns-clause-written
-returns-clause-written c =
+pub returns : goal.returns
+returns c =
     let given = c.args in
     let z = c.read_opening-o.ensures.sizes c.if-o-ne0.false in
     let own_kinds = c.read_lines-c.new.kinds in
     let own_literals = c.read_lines-c.new.literals in
     let own_names = c.read_lines-c.new.names in
-    let e = c.read_opening-o.ensures.right c.if-o-ne0.false ∙ sym c.read_lines-c.ensures.right ∙ outcome_taken c.read_lines-c.result own_kinds own_names own_literals (omega (arith, c.if-c-ne0.false)) in
-    rw e
+    let e = c.read_opening-o.ensures.right c.if-o-ne0.false ∙ sym c.read_lines-c.ensures.right ∙ outcome_taken c.read_lines-c.result own_kinds own_names own_literals (omega (arith, c.if-c-ne0.false)) in record { written = rw e
     (taken_whole c.read_lines-c.result own_kinds own_names own_literals c.read_lines-c.ensures.sized given.kinds.now given.literals.now given.names.now (z.0, z.1, z.2)
     (scan_placeable given.gates given.text.now (length given.kinds.now) (length given.literals.now) (length given.names.now) c.read_lines-c.result own_kinds own_names own_literals e)
-    c.close.ensures)
+    c.close.ensures) }
