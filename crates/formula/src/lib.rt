@@ -1,6 +1,8 @@
 // A quantified formula as it is lent: the limits, the test of causes 1 to 3, and the literals read at an index.
 // `Formula::check` promises the first cause that applies, or the sizes of an accepted formula, for every input; the other functions
 // answer for every input too. What a formula means is in specs/; rows and the run belong to other crates.
+#![tactic(auto)]
+
 ghost use Rattle.std.specs.Prelude.{◌≡◌, ◌^◌, ◌≤◌, ◌<◌, false, nat_abs, length};
 ghost use Rattle.formula.specs.Formula.{universal, prefix, max_entries};
 ghost use Rattle.formula.specs.Causes.{any, other_kind, zeros, ended, beyond, count, checked, number};
