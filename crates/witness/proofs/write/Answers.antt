@@ -16,10 +16,8 @@ use Rattle.witness.proofs.PutLaws.{fields_file, length_fields}
 use Rattle.witness.proofs.RoundTrip.{round_trip}
 use Rattle.witness.proofs.NumberLaws.{writing_numbered, writing_valued}
 use borrow.Author.Rules.{rules}
-use Rattle.witness.proofs.write.Statement.{statement}
-use Rattle.witness.proofs.write.Tie as tie
+use Rattle.witness.proofs.write.Goals as goal
 
--- All that is promised of what writing returns and leaves.
 module _ (r : Record) (u e out : List ℕ) where
   abbrev Promised : Written → List ℕ → Type 0
   Promised w left =
@@ -31,53 +29,39 @@ module _ (r : Record) (u e out : List ℕ) where
   so w left same after =
       (same, (after, (ap writing_number same ∙ writing_numbered r u e out, (ap length_written same ∙ writing_valued r u e out, round_trip))))
 
--- Back along the path, to the place behind a call.
-abbrev back-to-start : tie.After-slice-known2 → tie.Start
-back-to-start at =
-    let after_slice_known = at.before.before.before.before.before.before in
-    after_slice_known.before.before.before
+pub returns-then-cause-ne0 : goal.returns-then-cause-ne0
+unfolding out_after
+returns-then-cause-ne0 c =
+    let at_entry_lem = c.args in
+    let write_cause_call = c.write_cause-cause in
+    let r = at_entry_lem.«record» in
+    let u = at_entry_lem.universal.now in
+    let e = at_entry_lem.existential.now in
+    let out = at_entry_lem.out.now in
+    let refused = ne_eqb (write_cause r u e (length out)) 0 (λ z. c.if-cause-ne0.true (write_cause_call.ensures ∙ z)) in
+    let both = so r u e out _ _ (ap Refused write_cause_call.ensures ∙ sym (pass (Length (size r)) refused))
+    (sym (pass (file r u e ++ drop (size r) out) refused)) in
+    record { value = both.0; out_after = both.1.0; numbered = both.1.1.0; valued = both.1.1.1.0; round_trip = both.1.1.1.1 }
 
-write-cause-requires : tie.Need-write-cause-requires
-write-cause-requires c κs = search rules
+pub put_all-length-requires : goal.put_all-length-requires
+put_all-length-requires c =
+    let at_entry_lem = c.args in
+    (write_taken at_entry_lem.«record» at_entry_lem.universal.now at_entry_lem.existential.now (length at_entry_lem.out.now)
+    (sym c.write_cause-cause.ensures ∙ c.if-cause-ne0.false)).fitting
 
-returns : tie.Need-returns
+pub returns : goal.returns
 unfolding out_after
 returns c =
-    let at_entry_lem = c.before.before.before.before.before.args in
-    let write_cause_call = c.before.write-cause in
+    let at_entry_lem = c.args in
+    let put_all_call = c.put_all-length in
     let r = at_entry_lem.«record» in
     let u = at_entry_lem.universal.now in
     let e = at_entry_lem.existential.now in
     let out = at_entry_lem.out.now in
-    let refused = ne_eqb (write_cause r u e (length out)) 0 (λ z. c.if1.true (write_cause_call.ensures ∙ z)) in
-    so r u e out _ _ (ap Refused write_cause_call.ensures ∙ sym (pass (Length (size r)) refused))
-    (sym (pass (file r u e ++ drop (size r) out) refused))
-
-put-all-requires : tie.Need-put-all-requires
-put-all-requires c κs =
-    let at_entry_lem = c.before.before.before.before.before.before.args in
-    (write_taken at_entry_lem.«record» at_entry_lem.universal.now at_entry_lem.existential.now (length at_entry_lem.out.now)
-    (sym c.before.before.write-cause.ensures ∙ c.before.if1.false)).fitting
-
-same_length : tie.Need-same-length
-same_length c = search rules
-
-returns-2 : tie.Need-returns-2
-unfolding out_after
-returns-2 c =
-    let at_entry_lem = (back-to-start c).args in
-    let put_all_call = c.before.before.put_all in
-    let r = at_entry_lem.«record» in
-    let u = at_entry_lem.universal.now in
-    let e = at_entry_lem.existential.now in
-    let out = at_entry_lem.out.now in
-    let none = sym c.before.before.before.before.before.write-cause.ensures ∙ c.before.before.before.before.if1.false in
+    let none = sym c.write_cause-cause.ensures ∙ c.if-cause-ne0.false in
     let taken = eq-eqb (write_cause r u e (length out)) 0 none in
     let fitting : Fitting r u e (length out) = (write_taken r u e (length out) none).fitting in
     let place : put_all_call.result ≡ size r = omega (arith, put_all_call.ensures.place, length_fields r u e (length out) fitting) in
-    so r u e out _ _ (ap Length place ∙ sym (stop (Refused (write_cause r u e (length out))) taken))
-    (put_all_call.ensures.whole ∙ ap₂ (λ (l : List ℕ) (k : ℕ). l ++ drop k out) (fields_file r u e) place ∙ sym (stop out taken))
-
-pub write_spec : {M : Type 1} → statement M
-write_spec =
-    tie.close (tie.spec write-cause-requires returns put-all-requires same_length returns-2)
+    let both = so r u e out _ _ (ap Length place ∙ sym (stop (Refused (write_cause r u e (length out))) taken))
+    (put_all_call.ensures.whole ∙ ap₂ (λ (l : List ℕ) (k : ℕ). l ++ drop k out) (fields_file r u e) place ∙ sym (stop out taken)) in
+    record { value = both.0; out_after = both.1.0; numbered = both.1.1.0; valued = both.1.1.1.0; round_trip = both.1.1.1.1 }
