@@ -19,9 +19,9 @@ bounds-list-at c = omega arith
 
 pub propagate_clause-requires : goal.propagate_clause-requires
 propagate_clause-requires c = record {
-      lent = lent_still c.loop-at.invariant.1 c.requires.lent;
-      lo_le_i = (omega arith, omega arith, omega arith);
-    }
+  lent = lent_still c.loop-at.invariant.1 c.requires.lent;
+  lo_le_i = (omega arith, omega arith, omega arith);
+}
 
 pub shape_of-work-else-propagate_clause : goal.shape_of-work-else-propagate_clause
 shape_of-work-else-propagate_clause c = c.propagate_clause.auto.work ∙
@@ -53,11 +53,11 @@ loop-at-preserved c =
     let given = c.args in (
       omega arith,
       elim c.if-repeats.branch [
-        then-repeats w ↦ going_at loop.invariant.1 w.work-is w.sets-is
-      | else-repeats+then-propagate_clause w ↦ going_at (going_then loop.invariant.1 w.propagate_clause.result
-          (λ starts. w.propagate_clause.ensures
-          (starts_at given.codes.now given.list.now given.begin given.end loop.at _ loop.invariant.0 (omega arith)
-          c.wide16-start.ensures starts)) w.if-propagate_clause.true w.propagate_clause.auto.work w.propagate_clause.auto.sets) w.work-is w.sets-is
+        | then-repeats w ↦ going_at loop.invariant.1 w.work-is w.sets-is
+        | else-repeats+then-propagate_clause w ↦ going_at (going_then loop.invariant.1 w.propagate_clause.result
+            (λ starts. w.propagate_clause.ensures
+            (starts_at given.codes.now given.list.now given.begin given.end loop.at _ loop.invariant.0 (omega arith)
+            c.wide16-start.ensures starts)) w.if-propagate_clause.true w.propagate_clause.auto.work w.propagate_clause.auto.sets) w.work-is w.sets-is
       ],
     )
 

@@ -28,10 +28,10 @@ list_end-end-requires c = (c.requires.lent.index_lent, omega arith)
 
 pub propagate_list-requires : goal.propagate_list-requires
 propagate_list-requires c = record {
-      lent = lent_still c.loop-i.invariant.1 c.requires.lent;
-      end_in_bounds = c.list_end-end.ensures.0;
-      lo_le_i = (omega arith, omega arith, omega arith);
-    }
+  lent = lent_still c.loop-i.invariant.1 c.requires.lent;
+  end_in_bounds = c.list_end-end.ensures.0;
+  lo_le_i = (omega arith, omega arith, omega arith);
+}
 
 pub shape_of-work-else-propagate_list : goal.shape_of-work-else-propagate_list
 shape_of-work-else-propagate_list c = c.propagate_list.auto.work ∙
@@ -60,11 +60,11 @@ loop-i-preserved c =
     let loop = c.loop-i in (
       omega arith,
       elim c.if-level.branch [
-        then-level+then-propagate_list w ↦ going_at (going_then loop.invariant.1 w.propagate_list.result
-          (λ listed. w.propagate_list.ensures (lent_starts c.requires.lent listed w.falsified-c.result _ _ (omega arith)
-          w.wide16-begin.ensures w.list_end-end.ensures.1))
-          w.if-propagate_list.true w.propagate_list.auto.work w.propagate_list.auto.sets) w.work-is w.sets-is
-      | else-level w ↦ going_at loop.invariant.1 w.work-is w.sets-is
+        | then-level+then-propagate_list w ↦ going_at (going_then loop.invariant.1 w.propagate_list.result
+            (λ listed. w.propagate_list.ensures (lent_starts c.requires.lent listed w.falsified-c.result _ _ (omega arith)
+            w.wide16-begin.ensures w.list_end-end.ensures.1))
+            w.if-propagate_list.true w.propagate_list.auto.work w.propagate_list.auto.sets) w.work-is w.sets-is
+        | else-level w ↦ going_at loop.invariant.1 w.work-is w.sets-is
       ],
     )
 

@@ -1,5 +1,5 @@
 -- `solve`, `step`, `decide`, `flip` and `assume`, which call each other, meet their contracts. Assumes nothing.
-use Rattle.std.proofs.Common.{ℕ, ◌+◌, ◌*◌, ◌-◌, ◌<◌, length, false, refl, sym, ◌∙◌, arith, rules}
+use Rattle.std.proofs.Common.{length, false, refl, sym, ◌∙◌, arith}
 use Rattle.formula.specs.Formula.{max_unknowns}
 use Rattle.search_sets.specs.Private.Masks.{conflict}
 use Rattle.engine.proofs.search.CallLaws.{unites_words, fills_kept, fills, grows, adds, trims, resolves, has_at, parts, parts_there, stands, sets_rows}
@@ -7,7 +7,7 @@ use Rattle.engine.proofs.search.CallLaws.{opens_rows}
 use Rattle.engine.proofs.search.SearchSteps.{tries_refuted, tries_ruled_out, tries_searched, decides_first, decides_without, decides_flipped}
 use Rattle.engine.proofs.search.SearchSteps.{decides_second, decides_last, decides_neither, splits_first, splits_second, steps_reached, steps_split}
 use Rattle.engine.proofs.search.SearchSteps.{steps_decide, searches_won, searches_failed}
-use Rattle.engine.proofs.search.SolveLaws.{in_order, first_part, second_part, part_fits}
+use Rattle.engine.proofs.search.SolveLaws.{in_order}
 use Rattle.engine.proofs.search.solve.+assume_decide_flip_solve_step.Goals as goal
 
 -- ---- assume
