@@ -10,7 +10,7 @@ returns-else-fits c =
     tables_refused q.kinds.now q.literals.now q.universal_rows.now q.universal_marks.now q.universal_counts.now q.existential_rows.now
     q.existential_marks.now q.existential_counts.now q.work.now q.limit
     c.in-Accepted.formula (sym c.check.ensures.value ∙ c.in-Accepted.is) _
-    (sym c.fits2.ensures ∙ c.if-fits.false)
+    (sym c.fits.ensures ∙ c.if-fits.false)
 
 pub returns-else-counted : goal.returns-else-counted
 returns-else-counted c =
@@ -18,7 +18,7 @@ returns-else-counted c =
     counts_refused q.kinds.now q.literals.now q.universal_rows.now q.universal_marks.now q.universal_counts.now q.existential_rows.now
     q.existential_marks.now q.existential_counts.now q.work.now q.limit
     c.in-Accepted.formula (sym c.check.ensures.value ∙ c.in-Accepted.is)
-    (sym c.fits2.ensures ∙ c.if-fits.true) _ (sym c.counted.ensures ∙ c.if-counted.false)
+    (sym c.fits.ensures ∙ c.if-fits.true) _ (sym c.counted.ensures ∙ c.if-counted.false)
 
 pub returns-then-work-ne-WORK : goal.returns-then-work-ne-WORK
 returns-then-work-ne-WORK c =
@@ -26,7 +26,7 @@ returns-then-work-ne-WORK c =
     work_refused q.kinds.now q.literals.now q.universal_rows.now q.universal_marks.now q.universal_counts.now q.existential_rows.now
     q.existential_marks.now q.existential_counts.now q.work.now q.limit
     c.in-Accepted.formula (sym c.check.ensures.value ∙ c.in-Accepted.is)
-    (sym c.fits2.ensures ∙ c.if-fits.true)
+    (sym c.fits.ensures ∙ c.if-fits.true)
     (sym c.counted.ensures ∙ c.if-counted.true) _ c.if-work-ne-WORK.true
 
 pub returns-then-limit-eq0 : goal.returns-then-limit-eq0
@@ -35,7 +35,7 @@ returns-then-limit-eq0 c =
     limit_refused q.kinds.now q.literals.now q.universal_rows.now q.universal_marks.now q.universal_counts.now q.existential_rows.now
     q.existential_marks.now q.existential_counts.now q.work.now q.limit
     c.in-Accepted.formula (sym c.check.ensures.value ∙ c.in-Accepted.is)
-    (sym c.fits2.ensures ∙ c.if-fits.true)
+    (sym c.fits.ensures ∙ c.if-fits.true)
     (sym c.counted.ensures ∙ c.if-counted.true) c.if-work-ne-WORK.false _ c.if-limit-eq0.true
 
 pub returns-in-Refused : goal.returns-in-Refused
@@ -51,5 +51,5 @@ returns-else-limit-eq0 c =
     none_applies q.kinds.now q.literals.now q.universal_rows.now q.universal_marks.now q.universal_counts.now q.existential_rows.now
     q.existential_marks.now q.existential_counts.now q.work.now q.limit
     c.in-Accepted.formula (sym c.check.ensures.value ∙ c.in-Accepted.is)
-    (sym c.fits2.ensures ∙ c.if-fits.true)
+    (sym c.fits.ensures ∙ c.if-fits.true)
     (sym c.counted.ensures ∙ c.if-counted.true) c.if-work-ne-WORK.false c.if-limit-eq0.false

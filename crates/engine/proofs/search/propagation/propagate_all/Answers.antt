@@ -10,9 +10,9 @@ list_short-count-requires c = c.requires.index_lent
 
 pub propagate_rows-requires : goal.propagate_rows-requires
 propagate_rows-requires c = record {
-      lent = c.requires;
-      count_in_bounds = c.list_short-count.ensures.0;
-    }
+  lent = c.requires;
+  count_in_bounds = c.list_short-count.ensures.0;
+}
 
 pub shape_of-work : goal.shape_of-work
 shape_of-work c = c.propagate_rows.auto.work

@@ -6,7 +6,7 @@ use native.Mathlib.Omega.{arith}
 use Rattle.engine.specs.Private.Steps.{Starts}
 use Rattle.engine.proofs.search.PropagationLaws.{Going, going_start, going_then, going_at, going_ends, lent_still, starts_at}
 use Rattle.engine.proofs.search.propagation.propagate_list.Goals as goal
-use Rattle.engine.proofs.search.propagation.propagate_list.Goals.{else-repeats, then-repeats}
+use Rattle.engine.proofs.search.propagation.propagate_list.Goals.{else-repeats+then-propagate_clause, then-repeats}
 
 pub loop-at-init : goal.loop-at-init
 loop-at-init c = (omega arith, going_start)
@@ -19,9 +19,9 @@ bounds-list-at c = omega arith
 
 pub propagate_clause-requires : goal.propagate_clause-requires
 propagate_clause-requires c = record {
-      lent = lent_still c.loop-at.invariant.1 c.requires.lent;
-      lo_le_i = (omega arith, omega arith, omega arith);
-    }
+  lent = lent_still c.loop-at.invariant.1 c.requires.lent;
+  lo_le_i = (omega arith, omega arith, omega arith);
+}
 
 pub shape_of-work-else-propagate_clause : goal.shape_of-work-else-propagate_clause
 shape_of-work-else-propagate_clause c = c.propagate_clause.auto.work ∙
@@ -52,9 +52,13 @@ loop-at-preserved c =
     let loop = c.loop-at in
     let given = c.args in (
       omega arith,
-      elim c.if-repeats.branch [ then-repeats w ↦ going_at loop.invariant.1 w.1 w.2 | else-repeats w ↦ going_at (going_then loop.invariant.1 w.3.result
-          (λ starts. w.3.ensures (starts_at given.codes.now given.list.now given.begin given.end loop.at _ loop.invariant.0 (omega arith)
-          c.wide16-start.ensures starts)) w.8.taken w.3.kept.1.1.0 w.3.kept.1.1.1.0) w.9 w.10 ],
+      elim c.if-repeats.branch [
+        | then-repeats w ↦ going_at loop.invariant.1 w.work-is w.sets-is
+        | else-repeats+then-propagate_clause w ↦ going_at (going_then loop.invariant.1 w.propagate_clause.result
+            (λ starts. w.propagate_clause.ensures
+            (starts_at given.codes.now given.list.now given.begin given.end loop.at _ loop.invariant.0 (omega arith)
+            c.wide16-start.ensures starts)) w.if-propagate_clause.true w.propagate_clause.auto.work w.propagate_clause.auto.sets) w.work-is w.sets-is
+      ],
     )
 
 pub shape_of-work : goal.shape_of-work

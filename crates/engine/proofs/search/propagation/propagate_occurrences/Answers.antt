@@ -6,7 +6,7 @@ use native.Mathlib.Omega.{arith}
 use Rattle.engine.specs.Private.Steps.{Indexed}
 use Rattle.engine.proofs.search.PropagationLaws.{Going, going_start, going_then, going_at, going_ends, lent_still, lent_starts}
 use Rattle.engine.proofs.search.propagation.propagate_occurrences.Goals as goal
-use Rattle.engine.proofs.search.propagation.propagate_occurrences.Goals.{else-level, then-level}
+use Rattle.engine.proofs.search.propagation.propagate_occurrences.Goals.{else-level, then-level+then-propagate_list}
 
 pub loop-i-init : goal.loop-i-init
 loop-i-init c = (omega arith, going_start)
@@ -28,10 +28,10 @@ list_end-end-requires c = (c.requires.lent.index_lent, omega arith)
 
 pub propagate_list-requires : goal.propagate_list-requires
 propagate_list-requires c = record {
-      lent = lent_still c.loop-i.invariant.1 c.requires.lent;
-      end_in_bounds = c.list_end-end.ensures.0;
-      lo_le_i = (omega arith, omega arith, omega arith);
-    }
+  lent = lent_still c.loop-i.invariant.1 c.requires.lent;
+  end_in_bounds = c.list_end-end.ensures.0;
+  lo_le_i = (omega arith, omega arith, omega arith);
+}
 
 pub shape_of-work-else-propagate_list : goal.shape_of-work-else-propagate_list
 shape_of-work-else-propagate_list c = c.propagate_list.auto.work ∙
@@ -59,9 +59,13 @@ pub loop-i-preserved : goal.loop-i-preserved
 loop-i-preserved c =
     let loop = c.loop-i in (
       omega arith,
-      elim c.if-level.branch [ then-level w ↦ going_at (going_then loop.invariant.1 w.9.result
-          (λ listed. w.9.ensures (lent_starts c.requires.lent listed w.3.result _ _ (omega arith) w.5.ensures w.6.ensures.1))
-          w.14.taken w.9.kept.1.1.0 w.9.kept.1.1.1.0) w.15 w.16 | else-level w ↦ going_at loop.invariant.1 w.1 w.2 ],
+      elim c.if-level.branch [
+        | then-level+then-propagate_list w ↦ going_at (going_then loop.invariant.1 w.propagate_list.result
+            (λ listed. w.propagate_list.ensures (lent_starts c.requires.lent listed w.falsified-c.result _ _ (omega arith)
+            w.wide16-begin.ensures w.list_end-end.ensures.1))
+            w.if-propagate_list.true w.propagate_list.auto.work w.propagate_list.auto.sets) w.work-is w.sets-is
+        | else-level w ↦ going_at loop.invariant.1 w.work-is w.sets-is
+      ],
     )
 
 pub shape_of-work : goal.shape_of-work

@@ -56,10 +56,10 @@ loop-i-preserved c =
 
 pub propagate-requires : goal.propagate-requires
 propagate-requires c = record {
-      lent = lent_still c.loop-i.invariant
+  lent = lent_still c.loop-i.invariant
       (lent_noted c.requires.lent c.empty.auto.sets);
-      hi_in_bounds = omega arith;
-    }
+  hi_in_bounds = omega arith;
+}
 
 pub shape_of-work : goal.shape_of-work
 shape_of-work c = c.propagate.auto.work ∙ c.loop-i.invariant.work

@@ -6,7 +6,7 @@ use Rattle.engine.proofs.search.CallLaws.{matrix_of, fills_kept, fills}
 use Rattle.engine.proofs.search.GoalLaws.{reached_goal, reached_not}
 use borrow.Author.Rules.{rules}
 use Rattle.engine.proofs.search.solve.values_reach.Goals as goal
-use Rattle.engine.proofs.search.solve.values_reach.Goals.{else-side-eq0, then-side-eq0}
+use Rattle.engine.proofs.search.solve.values_reach.Goals.{else-side-eq0+then-all-2, then-side-eq0+else-all}
 
 pub returns-then-all : goal.returns-then-all
 returns-then-all c =
@@ -32,6 +32,6 @@ returns c =
     let pre = c.requires in
     reached_not given.codes.now given.side given.work.now given.i given.sets.now matrix_call.result
     (matrix_of given.codes.now given.work.now given.i pre.0 pre.2 pre.4 matrix_call.ensures) fill_call.new.sets
-    (elim c.if-side-eq0.branch [ then-side-eq0 w ↦ inl (w.if-side-eq0.true, w.1.left) | else-side-eq0 w ↦ inr (w.if-side-eq0.false, w.1.taken) ])
+    (elim c.if-side-eq0.branch [ then-side-eq0+else-all w ↦ inl (w.if-side-eq0.true, w.if-all.false) | else-side-eq0+then-all-2 w ↦ inr (w.if-side-eq0.false, w.if-all-2.true) ])
     (fills_kept _ pre.1 max_unknowns (omega arith) (omega arith) fill_call.ensures) (fills given.sets.now pre.1 max_unknowns (omega arith)
     fill_call.ensures)

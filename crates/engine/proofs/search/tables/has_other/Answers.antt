@@ -33,9 +33,12 @@ loop-i-preserved c =
     let l = c.args.codes.now in
     let i = loop.i in (
       omega arith,
-      elim c.if-is_other.branch [ then-is_other w ↦ any_found no_code l loop.found i loop.invariant.1 0 c.if-is_other.found loop_test.true (sym c.is_other.ensures ∙ w.if-is_other.true)
-          w.found-is | else-is_other w ↦ any_passed no_code l loop.found i loop.invariant.1 0 c.if-is_other.found loop_test.true (sym c.is_other.ensures ∙ w.if-is_other.false)
-          w.found-is ],
+      elim c.if-is_other.branch [
+        | then-is_other w ↦ any_found no_code l loop.found i loop.invariant.1 0 c.if-is_other.found loop_test.true (sym c.is_other.ensures ∙ w.if-is_other.true)
+            w.found-is
+        | else-is_other w ↦ any_passed no_code l loop.found i loop.invariant.1 0 c.if-is_other.found loop_test.true (sym c.is_other.ensures ∙ w.if-is_other.false)
+            w.found-is
+      ],
     )
 
 pub returns : goal.returns

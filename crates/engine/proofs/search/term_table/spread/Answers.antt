@@ -12,10 +12,10 @@ pub loop-left-init : goal.loop-left-init
 loop-left-init c = omega arith
 
 pub overflow_cast-i : goal.overflow_cast-i
-overflow_cast-i c = record { fits = omega (arith, trailing_le 64 c.loop-left.false) }
+overflow_cast-i c = record { fits = omega (arith, trailing_le 64 c.loop-left.left) }
 
 pub overflow_add-i : goal.overflow_add-i
-overflow_add-i c = omega (arith, trailing_le 64 c.loop-left.false)
+overflow_add-i c = omega (arith, trailing_le 64 c.loop-left.left)
 
 pub overflow_sub-left : goal.overflow_sub-left
 overflow_sub-left c = omega arith
@@ -26,13 +26,13 @@ join-requires c = omega arith
 pub loop-left-smaller-then-i-count : goal.loop-left-smaller-then-i-count
 loop-left-smaller-then-i-count c =
     let loop = c.loop-left in
-    omega (arith, and_le_r loop.false (loop.false - 1))
+    omega (arith, and_le_r loop.left (loop.left - 1))
 
 pub loop-left-preserved-then-i-count : goal.loop-left-preserved-then-i-count
 loop-left-preserved-then-i-count c = omega arith
 
 pub loop-left-smaller : goal.loop-left-smaller
-loop-left-smaller c = omega (arith, and_le_r c.loop-left.false (c.loop-left.false - 1))
+loop-left-smaller c = omega (arith, and_le_r c.loop-left.left (c.loop-left.left - 1))
 
 pub loop-left-preserved : goal.loop-left-preserved
 loop-left-preserved c = omega arith
