@@ -1,5 +1,7 @@
 // Malformed tables, and the number that each gets, a line each: formulas (causes 1 to 3, 0 if accepted), row tables (4 if refused, 0 if not),
 // studies that are to be charged (1 for the kinds, 21 and 22 for lent bands, 0 if charged).
+#![tactic(auto)]
+
 use fee::Charge;
 use formula::{Check, Formula};
 use libc::STDOUT_FILENO;

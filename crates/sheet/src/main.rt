@@ -1,5 +1,6 @@
 // The program: a season's records as text on standard input, its page or its refusal on standard output.
 // What is read, added up and printed is proved in `season`; here only buffers are made and handed on.
+#![tactic(auto)]
 
 ghost use Rattle.std.specs.Prelude.{◌≤◌};
 

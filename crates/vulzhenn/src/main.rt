@@ -1,5 +1,7 @@
 // The program: a formula in narrowed QDIMACS on standard input, its result or its refusal on standard output.
 // What is printed for which bytes is proved in `answer`; here they are read and written.
+#![tactic(auto)]
+
 ghost use Rattle.std.specs.Prelude.{◌≤◌};
 
 use formula::Formula;

@@ -1,5 +1,7 @@
 // The program: a formula in narrowed QDIMACS on standard input, or a gate list if descriptor 3 has a byte; the account of its decision on standard
 // output. What is printed for which bytes is proved in `account`; here they are read and written.
+#![tactic(auto)]
+
 ghost use Rattle.std.specs.Prelude.{◌≤◌, length};
 
 use formula::Formula;

@@ -1,5 +1,7 @@
 // The program: a byte that tells the form of the text (`text::form_told`), and behind it the text, on standard input; a witness file on descriptor 3;
 // the judge's finding on standard output. What is printed for which bytes is proved in `judgement`; here they are read and written.
+#![tactic(auto)]
+
 ghost use Rattle.std.specs.Prelude.{◌≤◌, ◌≡◌};
 ghost use Rattle.report.specs.Report.{put, put_count};
 ghost use Rattle.text.specs.Form.{form_told};

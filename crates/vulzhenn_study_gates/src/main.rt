@@ -1,5 +1,7 @@
 // The program: a gate list on standard input, the result of its study or its refusal on standard output.
 // What is printed for which bytes is proved in `study_answer`; here they are read and written.
+#![tactic(auto)]
+
 ghost use Rattle.std.specs.Prelude.{◌≤◌};
 
 use formula::Formula;

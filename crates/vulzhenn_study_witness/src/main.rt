@@ -1,5 +1,7 @@
 // The program: a formula in narrowed QDIMACS on standard input, the witness file of a study on standard output, or the study's lines or 01's refusal line on
 // standard error. What is written for which bytes is proved in `study_certificate`; here they are read and written.
+#![tactic(auto)]
+
 ghost use Rattle.std.specs.Prelude.{◌≤◌};
 
 use formula::Formula;

@@ -1,5 +1,7 @@
 // The program: a formula in narrowed QDIMACS on standard input, its trimmed text on standard output, or 01's refusal line on standard error.
 // What is written for which bytes is proved in `trimmed_text`; here they are read and written.
+#![tactic(auto)]
+
 ghost use Rattle.std.specs.Prelude.{◌≤◌};
 
 use formula::Formula;

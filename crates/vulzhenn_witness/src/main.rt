@@ -1,5 +1,7 @@
 // The program: a formula in narrowed QDIMACS on standard input, the witness file of the side that settled it on standard output, or 01's lines on
 // standard error. What is written for which bytes is proved in `certificate`; here they are read and written.
+#![tactic(auto)]
+
 ghost use Rattle.std.specs.Prelude.{◌≤◌};
 
 use formula::Formula;

@@ -1,6 +1,8 @@
 // 01's 'Runs worked by hand', K1 to K15, played through the public functions: what each returns, its rows and marks, and what it leaves.
 // Before each, every table that is lent to be written is filled with values of its own, so that a byte that changes past the counts, or on
 // a refusal, shows. A row is printed as a hexadecimal number, bit k of weight 2^k. The stored output is worked out from 01.
+#![tactic(auto)]
+
 ghost use Rattle.std.specs.Prelude.{◌*◌, ◌≤◌, length};
 ghost use Rattle.formula.specs.Formula.{max_rows};
 
