@@ -57,7 +57,7 @@ pub fn summarize(studies: &[Study]) -> Summary
     let mut t = tally::start();
     let mut i = 0; // the place of the next record
     while i < studies.len() {
-        let s = studies[i];
+        let s = &studies[i];
         t = tally::add(t, s.answer, s.rounds, s.fee);
         i += 1;
     }
