@@ -22,7 +22,7 @@ use study::Setting;
 use trimming::Trimmed;
 
 // What the runs made so far have come to: the rows of the last one, how many were made, the sum of their rounds, and the most unknowns that were set.
-#[derive(Drop)]
+#[derive(Clone, Copy)]
 pub struct Progress {
     pub universal: usize,
     pub existential: usize,
@@ -32,7 +32,7 @@ pub struct Progress {
 }
 
 // The outcome, the setting that gave it, from 0, or the number of settings where the cases did; the runs made by cases, and the most unknowns set there.
-#[derive(Drop)]
+#[derive(Clone, Copy)]
 pub struct Decided {
     pub outcome: Outcome,
     pub setting: usize,
@@ -187,7 +187,7 @@ fn climb(kinds: &[u8], depth: usize, verdict: u8, values: &mut [u8]) -> usize
 // ---- a formula asked
 
 // What a formula is found to be: 0 false, 1 true, 2 undecided, 3 no further run is allowed.
-#[derive(Drop)]
+#[derive(Clone, Copy)]
 struct Replied {
     reply: u32,
     made: Progress,

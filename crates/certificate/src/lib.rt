@@ -21,7 +21,7 @@ use text::Reading;
 use witness::{Record, Written};
 
 // How many bytes were put into each buffer.
-#[derive(Drop)]
+#[derive(Clone, Copy)]
 pub struct Counts {
     pub file: usize,
     pub lines: usize,

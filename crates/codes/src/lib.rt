@@ -2,6 +2,8 @@
 // once, its largest code first; a clause with v and -v, which is always true, is left out. `encode` is total: its contract gives the
 // number of entries used and every entry of the table, for whatever is lent. So is `encode_entries`, which leaves nothing out: each code
 // stands at its literal's place. What a formula means is left to `formula`.
+#![tactic(auto)]
+
 ghost use Rattle.std.specs.Prelude.{◌≡◌, ◌+◌, ◌-◌, ◌≤◌, ◌<◌, false, ◌++◌, map, nat_abs, length, take, drop, replicate};
 ghost use Rattle.formula.specs.Formula.{max_unknowns};
 ghost use Rattle.formula.specs.Causes.{any, beyond};
@@ -19,7 +21,7 @@ const HIGHEST: i32 = Formula::UNKNOWNS as i32;
 const LOWEST: i32 = -HIGHEST;
 
 // The entries read and written, where a clause ends.
-#[derive(Drop)]
+#[derive(Clone, Copy)]
 struct Ends {
     read: usize,
     written: usize,

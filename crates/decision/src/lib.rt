@@ -21,7 +21,7 @@ pub mod settings;
 // What is known of a text. Of one that is refused: the cause as `answer`, and its line; all else is 0. Of one that is taken: the outcome of the study
 // (the answer, the round in which it came, the counts of the two tables, the opening dispatch as a row, the length of its block), the setting that gave
 // it, from 1, and what was read (the unknowns, the entries of the literals, V and C).
-#[derive(Drop)]
+#[derive(Clone, Copy)]
 pub struct Decision {
     pub answer: Answer,
     pub round: u32,

@@ -20,7 +20,7 @@ use formula::{Check, Formula};
 use growth::Growth;
 use rows::Row;
 
-#[derive(Drop)]
+#[derive(Clone, Copy)]
 pub enum Answer {
     False,
     True,
@@ -31,7 +31,7 @@ pub enum Answer {
 }
 
 // The answer, the round in which it came, the counts of the two tables; the opening dispatch as a row, and the length of its block.
-#[derive(Drop)]
+#[derive(Clone, Copy)]
 pub struct Outcome {
     pub answer: Answer,
     pub round: u32,
@@ -42,7 +42,7 @@ pub struct Outcome {
 }
 
 // An outcome without its opening.
-#[derive(Drop)]
+#[derive(Clone, Copy)]
 struct End {
     answer: Answer,
     round: u32,
@@ -62,14 +62,14 @@ const NO_ROOM: u8 = 1;
 
 const GROWN: u8 = 2;
 
-#[derive(Drop)]
+#[derive(Clone, Copy)]
 struct Step {
     end: u8,
     count: usize,
 }
 
 // The first cause that applies, or 0; of an accepted formula the number of its universal unknowns.
-#[derive(Drop)]
+#[derive(Clone, Copy)]
 struct Checked {
     cause: u32,
     universals: usize,

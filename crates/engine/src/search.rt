@@ -26,7 +26,7 @@ mod solve;
 mod tables;
 mod term_table;
 
-#[derive(Drop)]
+#[derive(Clone, Copy)]
 pub enum Search {
     Found,
     NoModel,

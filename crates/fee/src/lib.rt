@@ -14,7 +14,7 @@ ghost use Rattle.fee.specs.ByBands.{next_on, by_bands, Summable};
 use formula::{Check, Formula};
 
 // A fee, or the number of the cause that refuses it.
-#[derive(Drop)]
+#[derive(Clone, Copy)]
 pub enum Charge {
     Cents(u64),
     Refused(u32),

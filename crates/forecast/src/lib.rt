@@ -15,7 +15,7 @@ use formula::{Check, Formula};
 
 // The copies over A and over S as they stand, and whether the free existential rows number at least the count of A. A refusal has the number
 // of its cause.
-#[derive(Drop)]
+#[derive(Clone, Copy)]
 pub enum Outlook {
     Needs {
         over_universal: usize,

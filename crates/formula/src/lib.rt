@@ -1,6 +1,8 @@
 // A quantified formula as it is lent: the limits, the test of causes 1 to 3, and the literals read at an index.
 // `Formula::check` promises the first cause that applies, or the sizes of an accepted formula, for every input; the other functions
 // answer for every input too. What a formula means is in specs/; rows and the run belong to other crates.
+#![tactic(auto)]
+
 ghost use Rattle.std.specs.Prelude.{◌≡◌, ◌^◌, ◌≤◌, ◌<◌, false, nat_abs, length};
 ghost use Rattle.formula.specs.Formula.{universal, prefix, max_entries};
 ghost use Rattle.formula.specs.Causes.{any, other_kind, zeros, ended, beyond, count, checked, number};
@@ -9,7 +11,7 @@ ghost use Rattle.formula.specs.Literal.{magnitude_at, negative_at};
 ghost use Rattle.formula.specs.Progress.{fresh};
 
 // The sizes of an accepted formula.
-#[derive(Drop)]
+#[derive(Clone, Copy)]
 pub struct Formula {
     pub unknowns: usize,
     pub universals: usize,
@@ -18,7 +20,7 @@ pub struct Formula {
 }
 
 // The round that a run has reached and the counts of its two row tables.
-#[derive(Drop)]
+#[derive(Clone, Copy)]
 pub struct Progress {
     pub round: u32,
     pub universal: usize,
@@ -26,7 +28,7 @@ pub struct Progress {
 }
 
 // A refusal has the number of its cause.
-#[derive(Drop)]
+#[derive(Clone, Copy)]
 pub enum Check {
     Accepted(Formula),
     Refused(u32),

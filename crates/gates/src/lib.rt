@@ -8,7 +8,7 @@ ghost use Rattle.gates.specs.Put.{entries_of, place_behind, laid};
 ghost use Rattle.gates.specs.Private.Steps.{turn, pair_entries, long_entries, gathered_entries, triple_entries, parity_entries};
 
 // What a gate computes: `&`, `|` and `^`.
-#[derive(Drop)]
+#[derive(Clone, Copy)]
 pub enum Function {
     And,
     Or,

@@ -13,7 +13,7 @@ use rows::Found;
 const ROW: usize = 16;
 
 // The table's count afterwards, or that the new rows don't all fit.
-#[derive(Drop)]
+#[derive(Clone, Copy)]
 pub enum Growth {
     Grown(usize),
     NoRoom,

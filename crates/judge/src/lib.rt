@@ -8,7 +8,7 @@ ghost use Rattle.judge.specs.Judge.{other_claim, Judged};
 use engine::search::Search;
 
 // A refusal has the number of its cause.
-#[derive(Drop)]
+#[derive(Clone, Copy)]
 pub enum Judgement {
     NotBorneOut,
     Accepted,

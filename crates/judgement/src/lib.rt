@@ -16,7 +16,7 @@ use text::{Form, Reading};
 use witness::Record;
 
 // An accepted claim is 0 or 1. A refusal has its number and the text's line, 0 for the file's causes.
-#[derive(Drop)]
+#[derive(Clone, Copy)]
 pub enum Finding {
     NotBorneOut,
     Accepted(u8),

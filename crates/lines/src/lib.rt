@@ -7,7 +7,7 @@ ghost use Rattle.lines.specs.Places.{before, spaces, Next};
 pub mod numbers;
 pub mod shapes;
 
-#[derive(Drop)]
+#[derive(Clone, Copy)]
 pub struct Word {
     pub start: usize,
     pub end: usize,

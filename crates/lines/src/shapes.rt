@@ -10,7 +10,7 @@ ghost use Rattle.lines.specs.Private.Steps.{OpeningRead};
 use crate::{next, numbers};
 
 // Whether a line has the p line's shape, V, and C or G; then O, with its sign, of a gate list.
-#[derive(Drop)]
+#[derive(Clone, Copy)]
 pub struct Problem {
     pub good: bool,
     pub variables: usize,
@@ -47,7 +47,7 @@ pub fn p_line(line: &[u8], gates: bool) -> Problem
 }
 
 // Whether a line opens as the p line does, and where its second word ends.
-#[derive(Drop)]
+#[derive(Clone, Copy)]
 struct Opening {
     good: bool,
     end: usize,

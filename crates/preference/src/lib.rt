@@ -1,6 +1,8 @@
 // Preferences: for each number the value that is tried first. They come from the bytes that the caller lends or, where none is lent, from
 // the house rule. `preference` promises the value that the definition `prefer` gives, for all bytes and numbers. That the rule is 01's entry
 // for every number is stated in specs/HouseRule.antt.
+#![tactic(auto)]
+
 ghost use Rattle.std.specs.Prelude.{◌≡◌};
 ghost use Rattle.preference.specs.Preference.{house as house_value, prefer};
 

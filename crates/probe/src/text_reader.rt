@@ -53,7 +53,7 @@ pub fn probe_read_gates(
 }
 
 // What a reading returns besides its number.
-#[derive(Drop)]
+#[derive(Clone, Copy)]
 struct Told {
     unknowns: usize,
     entries: usize,

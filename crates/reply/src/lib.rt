@@ -22,7 +22,7 @@ use restriction::Set;
 
 // The value of the next unknown, if it is the claim's side that sets it. There is none where neither value is borne out, which in a game played by these
 // replies from the start never happens. A refusal has the number of its cause.
-#[derive(Drop)]
+#[derive(Clone, Copy)]
 pub enum Next {
     Value(bool),
     OthersTurn,

@@ -13,7 +13,7 @@ use text::Reading;
 use witness::Record;
 
 // A refusal has its number and the text's line, 0 for the causes of the file, the rows and the moves.
-#[derive(Drop)]
+#[derive(Clone, Copy)]
 pub enum Answer {
     Replied(bool),
     OthersTurn,

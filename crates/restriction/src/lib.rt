@@ -13,7 +13,7 @@ ghost use Rattle.restriction.specs.Private.Walk.{Names, meets, stands as stands_
 use formula::{Check, Formula};
 
 // The entries used, zeros included; a refusal has the number of its cause.
-#[derive(Drop)]
+#[derive(Clone, Copy)]
 pub enum Set {
     Entries(usize),
     Refused(u32),

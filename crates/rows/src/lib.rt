@@ -1,6 +1,8 @@
 // Rows of 16 bytes, tables of rows and tables of marks (01, 'Rows').
 // Every public function is total: a row that is not wholly inside its table reads as not there, and nothing is written to it. What the rows
 // mean is left to the crates that search over them.
+#![tactic(auto)]
+
 ghost use Rattle.std.specs.Prelude.{◌≡◌, ◌&&◌, ◌+◌, ◌≤◌, min, eqb, length, take, drop, replicate};
 ghost use Rattle.std.proofs.Math.Seq.{paste};
 ghost use Rattle.rows.specs.Row.{bit_of};
@@ -20,7 +22,7 @@ pub type Row = [u8; BYTES];
 pub const BITS: usize = 8 * BYTES;
 
 // A place, or none.
-#[derive(Drop)]
+#[derive(Clone, Copy)]
 pub enum Found {
     At(usize),
     Absent,

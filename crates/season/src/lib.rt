@@ -21,7 +21,7 @@ pub const LONGEST: usize = 256;
 
 // A study: the answer's number, the rounds, the fee in cents.
 #[repr(C)]
-#[derive(Drop)]
+#[derive(Clone, Copy)]
 pub struct Study {
     pub answer: u32,
     pub rounds: u32,
@@ -30,7 +30,7 @@ pub struct Study {
 
 // The page: the studies in all and by answer, the sums, the most rounds and the first study that has them, from 1 (0 and 0 if there is no
 // study).
-#[derive(Drop)]
+#[derive(Clone, Copy)]
 pub struct Sheet {
     pub studies: u32,
     pub answer_0: u32,
@@ -44,7 +44,7 @@ pub struct Sheet {
     pub first: u32,
 }
 
-#[derive(Drop)]
+#[derive(Clone, Copy)]
 pub enum Summary {
     Page(Sheet),
     Refused(u32),

@@ -12,7 +12,7 @@ use lines::numbers;
 const DIGITS: usize = 9;
 
 // The number of the first line that is no record, 0 for none, and how many lines stand before it.
-#[derive(Drop)]
+#[derive(Clone, Copy)]
 pub(crate) struct Checked {
     pub(crate) other: u32,
     pub(crate) count: usize,
@@ -68,7 +68,7 @@ pub(crate) fn read(text: &[u8]) -> [Study; crate::STUDIES]
 }
 
 // Whether a line, without its LF, is three numbers parted by one space, and the numbers.
-#[derive(Drop)]
+#[derive(Clone, Copy)]
 struct Line {
     good: bool,
     answer: u32,
@@ -117,7 +117,7 @@ fn no_line() -> Line
 }
 
 // Whether a line has two spaces, and where they stand.
-#[derive(Drop)]
+#[derive(Clone, Copy)]
 struct Spaces {
     two: bool,
     first: usize,

@@ -11,7 +11,7 @@ const ANSWER: u32 = 4;
 const FEE: u32 = 100_000_000;
 
 // What has been added up so far, and whether an answer or a fee too high was among it.
-#[derive(Drop)]
+#[derive(Clone, Copy)]
 pub(crate) struct Tally {
     studies: u32,
     answer_0: u32,

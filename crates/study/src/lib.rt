@@ -18,7 +18,7 @@ use trimming::Trimmed;
 
 // How a run of a study is made: over the trimmed formula (1) or the lent one (0), with a preference byte or `HOUSE`, the universal table cleared in
 // each round that `clearing` divides, and never if it is 0, within the limit of rounds.
-#[derive(Drop)]
+#[derive(Clone, Copy)]
 pub struct Setting {
     pub trim: u32,
     pub preference: u32,
@@ -27,14 +27,14 @@ pub struct Setting {
 }
 
 // The outcome of the last run, and the number of its setting, from 0.
-#[derive(Drop)]
+#[derive(Clone, Copy)]
 pub struct Studied {
     pub outcome: Outcome,
     pub setting: usize,
 }
 
 // What may be asked of a setting: has it an unknown field, does it permit no round, does it trim.
-#[derive(Drop)]
+#[derive(Clone, Copy)]
 enum Asked {
     Unknown,
     NoRound,

@@ -13,7 +13,7 @@ use lines::{numbers, shapes};
 
 // How far a text was taken: V, and C or G; the names bound and those bound nowhere, the entries used, the clause or gate lines, the clauses made of
 // gates, a cause, 0 for none, and the line reached.
-#[derive(Drop)]
+#[derive(Clone, Copy)]
 pub(crate) struct Counts {
     pub(crate) variables: usize,
     pub(crate) clauses: usize,

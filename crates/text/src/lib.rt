@@ -26,7 +26,7 @@ mod opening;
 const TOO_LONG: u32 = 9;
 
 // The form of a text: clauses, gates, or the one that its p line tells.
-#[derive(Drop)]
+#[derive(Clone, Copy)]
 pub enum Form {
     Clauses,
     Gates,
@@ -47,7 +47,7 @@ pub fn form_told(byte: u8) -> Form
 }
 
 // What a text gives: the unknowns, the entries of the literals, V and C; or the cause's number and its line.
-#[derive(Drop)]
+#[derive(Clone, Copy)]
 pub enum Reading {
     Taken {
         unknowns: usize,

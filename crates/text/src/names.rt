@@ -8,14 +8,14 @@ use formula::Formula;
 use lines::numbers;
 
 // How far a prefix line was taken: the names bound, and a cause, 0 for none.
-#[derive(Drop)]
+#[derive(Clone, Copy)]
 pub(crate) struct Used {
     pub(crate) count: usize,
     pub(crate) cause: u32,
 }
 
 // How far a clause line was taken: the names bound nowhere, the entries used, and a cause, 0 for none.
-#[derive(Drop)]
+#[derive(Clone, Copy)]
 pub(crate) struct Added {
     pub(crate) free: usize,
     pub(crate) count: usize,
@@ -131,7 +131,7 @@ pub(crate) fn add_entries(
 }
 
 // A word of a clause line: its cause, 0 for none, its entry by name, its name, and whether the name is new.
-#[derive(Drop)]
+#[derive(Clone, Copy)]
 struct Word {
     cause: u32,
     literal: i32,

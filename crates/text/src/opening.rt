@@ -11,7 +11,7 @@ use formula::Formula;
 use lines::{numbers, shapes};
 
 // A text up to its p line: a cause, 0 for none, and its line, which is the p line's without one; then V, C or G, O, and where the next line starts.
-#[derive(Drop)]
+#[derive(Clone, Copy)]
 pub(crate) struct Opened {
     pub(crate) cause: u32,
     pub(crate) line: usize,
@@ -113,7 +113,7 @@ fn tells_gates(line: &[u8]) -> bool
     numbers::same(&line[form_start..form_end], b"gate")
 }
 
-#[derive(Drop)]
+#[derive(Clone, Copy)]
 struct Place {
     at: usize,
     line: usize,
@@ -140,7 +140,7 @@ fn comments(text: &[u8]) -> Place
 }
 
 // The p line's cause, 0 for none, its numbers, and its literal's name and sign.
-#[derive(Drop)]
+#[derive(Clone, Copy)]
 struct Problem {
     cause: u32,
     variables: usize,

@@ -15,7 +15,7 @@ use lines::{numbers, shapes};
 use named::Places;
 
 // How far clauses were put: a cause, 0 for none, the entries used, and the clauses made in all.
-#[derive(Drop)]
+#[derive(Clone, Copy)]
 pub struct Put {
     pub cause: u32,
     pub entries: usize,
@@ -138,7 +138,7 @@ fn put_clauses(
 }
 
 // The inputs read: the first cause, 0 for none, and how many there are.
-#[derive(Drop)]
+#[derive(Clone, Copy)]
 struct Inputs {
     cause: u32,
     count: usize,
@@ -181,7 +181,7 @@ fn read_inputs(
 }
 
 // An input: its cause, 0 for none, and its literal by name.
-#[derive(Drop)]
+#[derive(Clone, Copy)]
 struct Input {
     cause: u32,
     literal: i32,

@@ -17,7 +17,7 @@ use text::Reading;
 use trimming::Trimmed;
 
 // How many bytes were put into each buffer.
-#[derive(Drop)]
+#[derive(Clone, Copy)]
 pub struct Counts {
     pub text: usize,
     pub lines: usize,

@@ -41,6 +41,7 @@ module _ (ks : List Kind) where
       go : (b : Bool) → In z (keep test xs) → In z (cond b (x ∷ keep test xs) (keep test xs))
       go true j = inr j
       go false j = j
+  in_keep test [] z x'' t = elim x'' [ ]
 
   not_true : (b : Bool) → not b ≡ true → b ≡ false
   not_true true e = absurd (false≢true e)

@@ -76,6 +76,7 @@ module _ (P Q : ℕ → Block → Type 0) (same : (o : ℕ) (b : Block) → P o 
   pub some_later : (o : ℕ) (bs : List Block) → SomeAt P o bs → SomeAt Q o bs
   some_later o (b ∷ bs) (inl p) = inl (same o b p)
   some_later o (b ∷ bs) (inr i) = inr (some_later (o + length (whole b)) bs i)
+  some_later o [] x' = elim x' [ ]
 
   some_changed : (o : ℕ) (xs : List Block) (b d : Block) (ys : List Block) → length (whole d) ≡ length (whole b) → (P (o + length (laid xs)) b → ⊥) →
       SomeAt P o (xs ++ (b ∷ ys)) → SomeAt Q o (xs ++ (d ∷ ys))
@@ -103,6 +104,7 @@ some_split P o (b ∷ bs) (inl p) = record {
   holds = subst (λ (n : ℕ). P n b)
       (let e : o ≡ o + 0 = omega arith in e) p;
 }
+some_split P o [] x' = elim x' [ ]
 some_split P o (b ∷ bs) (inr i) =
     let s = some_split P (o + length (whole b)) bs i in
     record {
@@ -125,6 +127,7 @@ some_at P o (x ∷ xs) b ys p = inr
 every_not : (P : ℕ → Type 0) (s : ℕ) (l : List ℕ) → Every P l → (P s → ⊥) → In s l → ⊥
 every_not P s (x ∷ l) all never (inl e) = never (subst P (sym e) all.0)
 every_not P s (x ∷ l) all never (inr i) = every_not P s l all.1 never i
+every_not P s [] all never x3 = elim x3 [ ]
 
 pub in_has : (c : ℕ) (xs : List Block) (b : Block) (ys : List Block) → In (length (laid xs)) (names_from c 0 (xs ++ (b ∷ ys))) → block_has c b ≡ true
 in_has c xs b ys i = split (names_from c 0 xs) (names_below c 0 (length (laid xs)) xs (omega arith))

@@ -24,7 +24,7 @@ use formula::{Check, Formula};
 use trimming_marks::CODES;
 
 // The entries used, zeros included; a refusal has the number of its cause.
-#[derive(Drop)]
+#[derive(Clone, Copy)]
 pub enum Trimmed {
     Entries(usize),
     Refused(u32),

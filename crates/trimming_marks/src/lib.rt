@@ -1,6 +1,8 @@
 // A table of codes with marks, as trimming keeps it: 512 is added to what is dropped, so that every entry keeps its place and every clause
 // its name, the place of its first entry. Here stands what is read of one clause and what is dropped of one. Each function answers for
 // every table and every place; which clauses are looked at, and why, is left to `trimming`.
+#![tactic(auto)]
+
 ghost use Rattle.std.specs.Prelude.{◌≡◌, ◌+◌, ◌<◌, ◌++◌, length, take, drop};
 ghost use Rattle.formula.specs.Causes.{any};
 ghost use Rattle.codes.specs.Codes.{last_code, opposite as code_opposite};

@@ -121,6 +121,7 @@ module _ {A : Type 0} where
   pub every_in : (Q : A → Type 0) (xs : List A) (a : A) → Every Q xs → In a xs → Q a
   every_in Q (x ∷ xs) a e (inl p) = subst Q (sym p) e.0
   every_in Q (x ∷ xs) a e (inr i) = every_in Q xs a e.1 i
+  every_in Q [] a e x'' = elim x'' [ ]
 
   pub every_from : (Q : A → Type 0) (xs : List A) → ((a : A) → In a xs → Q a) → Every Q xs
   every_from Q [] f = tt
@@ -129,6 +130,7 @@ module _ {A : Type 0} where
   pub in_any : (test : A → Bool) (xs : List A) (a : A) → In a xs → test a ≡ true → any test xs ≡ true
   in_any test (x ∷ xs) a (inl p) e = rw (ap test (sym p) ∙ e)
   in_any test (x ∷ xs) a (inr i) e = rw (in_any test xs a i e) (or-true (test x))
+  in_any test [] a x'' e = elim x'' [ ]
 
   pub any_in : (test : A → Bool) (xs : List A) → any test xs ≡ true → (a : A) × In a xs × (test a ≡ true)
   any_in test [] e = absurd (false≢true e)
@@ -147,6 +149,7 @@ module _ {A : Type 0} where
       go true p (inl e) later = (inl e, ap test e ∙ p)
       go true p (inr i) later = let l = later i in (inr l.0, l.1)
       go false p i later = let l = later i in (inr l.0, l.1)
+  keep_in test [] a i = elim i [ ]
 
   pub keep_all : (test : A → Bool) (xs : List A) → ((a : A) → In a xs → test a ≡ true) → keep test xs ≡ xs
   keep_all test [] f = refl
@@ -180,6 +183,7 @@ in_has z c i = in_any (same z) c z i (same_itself z)
 pub clause_in : (vs : List Bool) (c : Clause) (z : ℤ) → In z c → literal vs z ≡ true → clause vs c ≡ true
 clause_in vs (y ∷ c) z (inl p) e = rw (ap (literal vs) (sym p) ∙ e)
 clause_in vs (y ∷ c) z (inr i) e = rw (clause_in vs c z i e) (or-true (literal vs y))
+clause_in vs [] z x'' e = elim x'' [ ]
 
 pub in_clause : (vs : List Bool) (c : Clause) → clause vs c ≡ true → (z : ℤ) × In z c × (literal vs z ≡ true)
 in_clause vs [] e = absurd (false≢true e)
@@ -222,6 +226,7 @@ matrix_in vs (d ∷ cs) c e (inr i) = matrix_in vs cs c (later (clause vs d) e) 
     later : (t : Bool) → (t && matrix cs vs) ≡ true → matrix cs vs ≡ true
     later true e = e
     later false e = absurd (false≢true e)
+matrix_in vs [] c e x'' = elim x'' [ ]
 
 pub in_matrix : (vs : List Bool) (cs : List Clause) → ((c : Clause) → In c cs → clause vs c ≡ true) → matrix cs vs ≡ true
 in_matrix vs [] f = refl

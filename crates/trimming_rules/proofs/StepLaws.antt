@@ -47,6 +47,7 @@ module _ {A : Type 0} where
       go true p (inl e) le later = absurd (never_both p (ap test (sym e) ∙ f))
       go true p (inr j) le later = let l = later j f in omega arith
       go false p i le later = omega arith
+  keep_less test [] a i f = elim i [ ]
 
   pub without_less : (test : A → Bool) (xs ys : List A) → without_first test xs ≡ some ys → length xs ≡ suc (length ys)
   without_less test [] ys e = absurd (none_not_some e)
@@ -143,6 +144,7 @@ without_clauses_falls z (d ∷ cs) c i h = go (has z d) refl i (without_clauses_
     go true p i le later = omega arith
     go false p (inl e) le later = absurd (never_both (sym (ap (has z) e) ∙ h) p)
     go false p (inr j) le later = let l = later j h in omega arith
+without_clauses_falls z [] c i h = elim i [ ]
 
 without_literal_falls : (z : ℤ) (cs : List Clause) (c : Clause) → In c cs → has z c ≡ true → size (without_literal z cs) < size cs
 without_literal_falls z (d ∷ cs) c (inl e) h =
@@ -153,6 +155,7 @@ without_literal_falls z (d ∷ cs) c (inr j) h =
     let k = keep_fewer (λ y. not (same z y)) d in
     let l = without_literal_falls z cs c j h in
     omega arith
+without_literal_falls z [] c x'' h = elim x'' [ ]
 
 set_true_less : (n : ℕ) (z : ℤ) (cs : List Clause) (c : Clause) → In c cs → has z c ≡ true → Less n cs (set_true z cs)
 set_true_less n z cs c i h =

@@ -12,7 +12,7 @@ ghost use Rattle.witness.specs.Private.Steps.{Placed, Put, Fitting, head, all_fi
 use formula::Formula;
 
 // A map and its fields, the counts of rows under their side's name.
-#[derive(Drop)]
+#[derive(Clone, Copy)]
 pub struct Record {
     pub map: u8,
     pub claim: u8,
@@ -23,21 +23,21 @@ pub struct Record {
     pub rounds: u16,
 }
 
-#[derive(Drop)]
+#[derive(Clone, Copy)]
 pub enum Reading {
     Taken(Record),
     Refused(u32),
 }
 
 // The file's length, or the number of the cause.
-#[derive(Drop)]
+#[derive(Clone, Copy)]
 pub enum Written {
     Length(usize),
     Refused(u32),
 }
 
 // Where the fields of a file start, and where the last one ends.
-#[derive(Drop)]
+#[derive(Clone, Copy)]
 struct Layout {
     sizes: usize,
     universal: usize,

@@ -1,9 +1,7 @@
 -- `codes::add` meets its contract. Assumes nothing.
 use native.Mathlib.Omega.{arith}
-use mathlib.Core.Logic.{⊎_elim}
 use lib.ListN.{length-set}
 use Rattle.codes.proofs.ReadLaws.{added_first, added_behind}
-use borrow.Author.Rules.{rules}
 use Rattle.codes.proofs.add.Goals as goal
 use Rattle.codes.proofs.add.Goals.{else-start-to, then-start-to+else-first-code}
 

@@ -1,11 +1,9 @@
 -- `codes::clear_behind` meets its contract. The loop's invariant: the entries before i are those before `end` and zeros.
 -- Assumes nothing.
 use Prim.Native.Nat.{◌-◌, ◌≤◌}
-use native.Mathlib.Omega.{arith}
-use mathlib.Core.Path.{◌≡◌, refl, ◌∙◌}
+use mathlib.Core.Path.{◌≡◌}
 use mathlib.Core.List.{◌++◌}
-use lib.ListN.{length, take, replicate, length-set}
-use Rattle.codes.proofs.ReadLaws.{zeros_none, zeros_more, zeros_all}
+use lib.ListN.{length, take, replicate}
 use Rattle.codes.proofs.clear_behind.Given as goal
 
 abbrev pub invariant-loop-i : goal.invariant-loop-i

@@ -5,7 +5,6 @@ use lib.ListN.{length}
 use Rattle.formula.specs.Formula.{max_unknowns}
 use Rattle.codes.proofs.EncodeLaws.{encoding_length, refused_longer, refused_beyond, refused_neither, nothing_made, all_made}
 use Rattle.codes.proofs.ReadLaws.{names_all}
-use borrow.Author.Rules.{rules}
 use Rattle.codes.proofs.encode.Goals as goal
 
 pub returns-then-codes-literals : goal.returns-then-codes-literals

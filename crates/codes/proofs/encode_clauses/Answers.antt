@@ -1,10 +1,8 @@
 -- `codes::encode_clauses` meets its contract. The loop's invariant: the codes are those of the clauses passed.
 -- Assumes nothing.
-use Prim.Native.Nat.{◌-◌, ◌≤◌}
 use native.Mathlib.Omega.{arith}
-use mathlib.Core.Path.{◌≡◌, refl, ◌∙◌}
-use lib.ListN.{length}
-use Rattle.codes.proofs.ReadLaws.{EncodedTo, none_encoded, more_encoded, all_written, all_counted}
+use mathlib.Core.Path.{refl, ◌∙◌}
+use Rattle.codes.proofs.ReadLaws.{none_encoded, more_encoded, all_written, all_counted}
 use Rattle.codes.proofs.encode_clauses.Goals as goal
 
 pub loop-from-init : goal.loop-from-init
@@ -32,6 +30,6 @@ shape_of-codes c = c.loop-from.invariant.2
 
 pub returns : goal.returns
 returns c = record {
-      value = all_counted c.loop-from.invariant.3 c.loop-from-test.false;
-      codes_after = all_written c.loop-from.invariant.3 c.loop-from-test.false;
-    }
+  value = all_counted c.loop-from.invariant.3 c.loop-from-test.false;
+  codes_after = all_written c.loop-from.invariant.3 c.loop-from-test.false;
+}

@@ -1,10 +1,9 @@
 -- `codes::encode_clauses` meets its contract. The loop's invariant: the codes are those of the clauses passed.
 -- Assumes nothing.
 use Prim.Native.Nat.{◌-◌, ◌≤◌}
-use native.Mathlib.Omega.{arith}
-use mathlib.Core.Path.{◌≡◌, refl, ◌∙◌}
+use mathlib.Core.Path.{◌≡◌}
 use lib.ListN.{length}
-use Rattle.codes.proofs.ReadLaws.{EncodedTo, none_encoded, more_encoded, all_written, all_counted}
+use Rattle.codes.proofs.ReadLaws.{EncodedTo}
 use Rattle.codes.proofs.encode_clauses.Given as goal
 
 abbrev pub invariant-loop-from : goal.invariant-loop-from

@@ -1,14 +1,12 @@
 -- `codes::encode_each` meets its contract. The loop's invariant: the codes of the literals passed stand at their places.
 -- Assumes nothing.
-use Prim.Native.Nat.{◌-◌, ◌≤◌}
 use native.Mathlib.Omega.{arith}
-use borrow.Author.Rules.{rules}
 use mathlib.Core.Path.{refl, ◌∙◌}
 use lib.IntN.{pos, nat_abs}
-use lib.ListN.{length, get_or}
+use lib.ListN.{get_or}
 use Rattle.codes.specs.Codes.{code_of}
 use Rattle.codes.proofs.Words.{bits}
-use Rattle.codes.proofs.EachLaws.{Each, length_each, each_more, each_all}
+use Rattle.codes.proofs.EachLaws.{length_each, each_more, each_all}
 use Rattle.codes.proofs.encode_each.Goals as goal
 
 pub loop-i-init : goal.loop-i-init

@@ -1,6 +1,5 @@
 -- `codes::encode_entries` meets its contract. Assumes nothing.
 use native.Mathlib.Omega.{arith}
-use borrow.Author.Rules.{rules}
 use mathlib.Core.Path.{sym, ◌∙◌}
 use lib.ListN.{length}
 use Rattle.formula.specs.Formula.{max_unknowns}

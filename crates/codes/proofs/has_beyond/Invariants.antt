@@ -1,17 +1,11 @@
 -- `codes::has_beyond` meets its contract. The loop's invariant: `found` is true if an entry passed is beyond 128.
 -- Assumes nothing.
 use Prim.Native.Nat.{◌≤◌, ◌-◌}
-use native.Mathlib.Omega.{arith}
-use borrow.Author.Rules.{rules}
-use mathlib.Core.Path.{◌≡◌, refl, sym, ◌∙◌}
+use mathlib.Core.Path.{◌≡◌}
 use mathlib.Core.Bool.{◌||◌}
-use mathlib.Core.Logic.{⊎_elim}
-use lib.IntN.{pos}
-use lib.ListN.{length, get_or, drop}
+use lib.ListN.{length, drop}
 use Rattle.formula.specs.Formula.{max_unknowns}
 use Rattle.formula.specs.Causes.{any, beyond}
-use Rattle.formula.proofs.Any.{any_found, any_passed, any_all}
-use Rattle.codes.proofs.Words.{bits}
 use Rattle.codes.proofs.has_beyond.Given as goal
 
 abbrev pub invariant-loop-i : goal.invariant-loop-i

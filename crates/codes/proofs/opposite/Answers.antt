@@ -1,7 +1,6 @@
 -- `codes::opposite` meets its contract. Assumes nothing.
 use borrow.Author.Tests.{eq-eqb, ne_eqb}
 use Rattle.codes.specs.Codes.{opposite}
-use borrow.Author.Rules.{rules}
 use Rattle.codes.proofs.opposite.Goals as goal
 
 pub returns-then-c-eq0 : goal.returns-then-c-eq0

@@ -1,12 +1,11 @@
 -- `codes::past_clause` meets its contract. The loop's invariant: what is passed is of the clause.
 -- Assumes nothing.
-use Prim.Native.Nat.{◌+◌, ◌-◌, ◌≤◌}
+use Prim.Native.Nat.{◌+◌}
 use native.Mathlib.Omega.{arith}
-use borrow.Author.Rules.{rules}
-use mathlib.Core.Path.{◌≡◌, refl, sym, ◌∙◌, ap}
+use mathlib.Core.Path.{refl, sym, ◌∙◌, ap}
 use mathlib.Core.List.{[]}
 use lib.IntN.{pos}
-use lib.ListN.{length, get_or, drop, drop_of_length-le}
+use lib.ListN.{get_or, drop, drop_of_length-le}
 use Rattle.formula.proofs.Places.{drop_front}
 use Rattle.codes.specs.Codes.{so_far, always_true, encoding_from}
 use Rattle.codes.proofs.Words.{code_of_zero, code_of_other}

@@ -85,6 +85,7 @@ module _ (Q : List ℕ → Type 0) where
   every_first codes end q rest = subst (λ (xs : List (List ℕ)). Every Q xs) (sym (shape codes end)) (q, rest)
     where
       shape : (cs : List ℕ) → HasEnd cs → code_clauses cs ≡ clause_of cs ∷ behind_first (code_clauses cs)
+      shape [] h = elim h [ ]
       shape (zero ∷ cs) h = refl
       shape (suc c ∷ cs) h = ap (code_onto (suc c)) (shape cs h) ∙ ap (λ (xs : List (List ℕ)). (suc c ∷ clause_of cs) ∷ xs)
           (sym (behind_onto (suc c) (code_clauses cs)))

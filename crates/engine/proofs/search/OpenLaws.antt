@@ -30,6 +30,7 @@ unfolding Hits
 hit_given {kinds} {work} {misses} {from} {rows} missed l less (c ∷ cs) coded (inl hit) =
     inl (⊎_elim (λ b. absurd (never_both b hit)) (λ g. g) (missed.every c l coded.0.0 coded.0.1 less))
 hit_given missed l less (c ∷ cs) coded (inr s) = inr (hit_given missed l less cs coded.1 s)
+hit_given {kinds = kinds} {work = work} {misses = misses} {from = from} {rows = rows} missed l less mathlib.Core.List.[] coded x'' = elim x'' [ ]
 
 module _ {kinds codes terms work before after misses : List ℕ} {w count all : ℕ} (coded : Coded (length kinds) codes)
     (so_far : Filled kinds codes terms work (64 * w) before) (looked : RowsLooked kinds work w count all misses)

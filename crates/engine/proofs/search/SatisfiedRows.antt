@@ -47,6 +47,7 @@ coded_every n (suc c ∷ cs) h =
 pub some_with : (Q R : ℕ → Type 0) (x : List ℕ) → Every Q x → Some R x → Some (λ c. Q c × R c) x
 some_with Q R (c ∷ x) q (inl r) = inl (q.0, r)
 some_with Q R (c ∷ x) q (inr r) = inr (some_with Q R x q.1 r)
+some_with Q R [] q x3 = elim x3 [ ]
 
 pub every_some_with : (Q R : ℕ → Type 0) (xs : List (List ℕ)) → Every (Every Q) xs → Every (Some R) xs → Every (Some (λ c. Q c × R c)) xs
 every_some_with Q R [] q r = tt

@@ -24,7 +24,7 @@ use codes::LAST_CODE;
 use formula::Formula;
 
 // A set of decisions, two words, if one was found, and the steps that are left.
-#[derive(Drop)]
+#[derive(Clone, Copy)]
 pub struct Reason {
     pub found: bool,
     pub low: u64,
@@ -39,7 +39,7 @@ const LEVELS: u64 = Formula::UNKNOWNS as u64;
 const ANY: usize = 1;
 
 // How a search of the row ends, and the steps that are left.
-#[derive(Drop)]
+#[derive(Clone, Copy)]
 struct End {
     refuted: bool,
     left: usize,

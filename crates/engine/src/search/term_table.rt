@@ -49,7 +49,7 @@ pub(crate) const NAMES: usize = ACROSS * (OTHERS + 1);
 pub(crate) const WORDS: usize = NAMES + OTHERS + 1;
 
 // Of 64 rows those in which an unknown is true, and those in which it is false.
-#[derive(Drop)]
+#[derive(Clone, Copy)]
 struct Values {
     on: u64,
     off: u64,

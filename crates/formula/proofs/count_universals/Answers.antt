@@ -1,14 +1,9 @@
 -- `formula::count_universals` meets its contract. The loop's invariant: `universals` is those among the kinds passed.
 -- Assumes nothing.
-use Prim.Native.Nat.{ℕ, ◌+◌, ◌-◌, ◌≤◌}
+use Prim.Native.Nat.{◌+◌}
 use native.Mathlib.Omega.{arith}
-use borrow.Author.Rules.{rules}
-use mathlib.Core.Path.{◌≡◌, ap}
-use mathlib.Core.List.{List}
-use mathlib.Core.Logic.{⊎_elim}
-use lib.ListN.{length, get_or, drop, drop_of_length-le}
-use Rattle.formula.specs.Formula.{universal, prefix}
-use Rattle.formula.specs.Causes.{count}
+use mathlib.Core.Path.{ap}
+use lib.ListN.{get_or, drop, drop_of_length-le}
 use Rattle.formula.proofs.Quantifiers.{count_universal, count_existential}
 use Rattle.formula.proofs.Places.{drop_front}
 use Rattle.formula.proofs.count_universals.Invariants.{universals_of}

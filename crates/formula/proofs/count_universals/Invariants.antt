@@ -1,16 +1,11 @@
 -- `formula::count_universals` meets its contract. The loop's invariant: `universals` is those among the kinds passed.
 -- Assumes nothing.
 use Prim.Native.Nat.{ℕ, ◌+◌, ◌-◌, ◌≤◌}
-use native.Mathlib.Omega.{arith}
-use borrow.Author.Rules.{rules}
-use mathlib.Core.Path.{◌≡◌, ap}
+use mathlib.Core.Path.{◌≡◌}
 use mathlib.Core.List.{List}
-use mathlib.Core.Logic.{⊎_elim}
-use lib.ListN.{length, get_or, drop, drop_of_length-le}
+use lib.ListN.{length, drop}
 use Rattle.formula.specs.Formula.{universal, prefix}
 use Rattle.formula.specs.Causes.{count}
-use Rattle.formula.proofs.Quantifiers.{count_universal, count_existential}
-use Rattle.formula.proofs.Places.{drop_front}
 use Rattle.formula.proofs.count_universals.Given as goal
 
 abbrev pub universals_of : List ℕ → ℕ

@@ -1,15 +1,9 @@
 -- `formula::count_zeros` meets its contract. The loop's invariant: `count` is the zeros among the entries passed.
 -- Assumes nothing.
 use Prim.Native.Nat.{◌+◌, ◌-◌, ◌≤◌}
-use native.Mathlib.Omega.{arith}
-use borrow.Author.Rules.{rules}
-use mathlib.Core.Path.{◌≡◌, ap}
-use mathlib.Core.Logic.{⊎_elim}
-use lib.IntN.{pos}
-use lib.ListN.{length, get_or, drop, drop_of_length-le}
+use mathlib.Core.Path.{◌≡◌}
+use lib.ListN.{length, drop}
 use Rattle.formula.specs.Causes.{zeros}
-use Rattle.formula.proofs.Entries.{zeros_zero, zeros_other}
-use Rattle.formula.proofs.Places.{drop_front}
 use Rattle.formula.proofs.count_zeros.Given as goal
 
 abbrev pub invariant-loop-i : goal.invariant-loop-i

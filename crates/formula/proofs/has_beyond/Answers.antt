@@ -1,15 +1,12 @@
 -- `formula::has_beyond` meets its contract. The loop's invariant: `found` is true if an entry passed is beyond the unknowns.
 -- Assumes nothing.
-use Prim.Native.Nat.{◌≤◌, ◌-◌}
 use native.Mathlib.Omega.{arith}
 use borrow.Author.Rules.{rules}
 use borrow.Author.Tests.{ltb-false, lt-ltb, le-ltb}
-use mathlib.Core.Path.{◌≡◌, refl, ◌∙◌}
-use mathlib.Core.Bool.{◌||◌}
-use mathlib.Core.Logic.{⊎_elim}
+use mathlib.Core.Path.{refl, ◌∙◌}
 use lib.IntN.{pos, nat_abs}
-use lib.ListN.{length, get_or, drop}
-use Rattle.formula.specs.Causes.{any, beyond}
+use lib.ListN.{get_or}
+use Rattle.formula.specs.Causes.{beyond}
 use Rattle.formula.proofs.Any.{any_found, any_passed, any_all, any_none}
 use Rattle.formula.proofs.Opposite.{nat_abs_bits}
 use Rattle.formula.proofs.has_beyond.Goals as goal
@@ -42,9 +39,12 @@ loop-i-preserved c =
     let z = get_or l i (pos 0) in
     let size = c.absolute.ensures ∙ nat_abs_bits z c.absolute-arg-1.given in (
       omega arith,
-      elim c.if-absolute-unknowns.branch [ then-absolute-unknowns w ↦ any_found (beyond n) l loop.found i loop.invariant.1 (pos 0) c.if-absolute-unknowns.found loop_test.true
-          (lt-ltb n (nat_abs z) (omega (arith, size, w.if-absolute-unknowns.true))) w.found-is | else-absolute-unknowns w ↦ any_passed (beyond n) l loop.found i loop.invariant.1 (pos 0) c.if-absolute-unknowns.found loop_test.true
-          (le-ltb n (nat_abs z) (omega (arith, size, w.if-absolute-unknowns.false))) w.found-is ],
+      elim c.if-absolute-unknowns.branch [
+        | then-absolute-unknowns w ↦ any_found (beyond n) l loop.found i loop.invariant.1 (pos 0) c.if-absolute-unknowns.found loop_test.true
+            (lt-ltb n (nat_abs z) (omega (arith, size, w.if-absolute-unknowns.true))) w.found-is
+        | else-absolute-unknowns w ↦ any_passed (beyond n) l loop.found i loop.invariant.1 (pos 0) c.if-absolute-unknowns.found loop_test.true
+            (le-ltb n (nat_abs z) (omega (arith, size, w.if-absolute-unknowns.false))) w.found-is
+      ],
     )
 
 pub returns : goal.returns

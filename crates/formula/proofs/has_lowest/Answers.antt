@@ -1,14 +1,11 @@
 -- `formula::has_lowest` meets its contract. The loop's invariant: `found` is true if an entry passed is the lowest number.
 -- Assumes nothing.
-use Prim.Native.Nat.{◌≤◌, ◌-◌}
 use native.Mathlib.Omega.{arith}
 use borrow.Author.Rules.{rules, sfits_of}
-use mathlib.Core.Path.{◌≡◌, refl}
-use mathlib.Core.Bool.{◌||◌}
-use mathlib.Core.Logic.{⊎_elim}
+use mathlib.Core.Path.{refl}
 use lib.IntN.{pos}
-use lib.ListN.{length, get_or, drop}
-use Rattle.formula.specs.Causes.{any, beyond}
+use lib.ListN.{get_or}
+use Rattle.formula.specs.Causes.{beyond}
 use Rattle.formula.proofs.Any.{any_found, any_passed, any_all}
 use Rattle.formula.proofs.Opposite.{beyond_lowest, beyond_other}
 use Rattle.formula.proofs.has_lowest.Goals as goal
@@ -30,9 +27,12 @@ loop-i-preserved c =
     let i = loop.i in
     let z = get_or l i (pos 0) in (
       omega arith,
-      elim c.if-literals-i.branch [ then-literals-i w ↦ any_found (beyond 2147483647) l loop.found i loop.invariant.1 (pos 0) c.if-literals-i.found c.loop-i-test.true
-          (beyond_lowest z w.if-literals-i.true) w.found-is | else-literals-i w ↦ any_passed (beyond 2147483647) l loop.found i loop.invariant.1 (pos 0) c.if-literals-i.found c.loop-i-test.true
-          (beyond_other z (sfits_of c.t7-1.given) w.if-literals-i.false) w.found-is ],
+      elim c.if-literals-i.branch [
+        | then-literals-i w ↦ any_found (beyond 2147483647) l loop.found i loop.invariant.1 (pos 0) c.if-literals-i.found c.loop-i-test.true
+            (beyond_lowest z w.if-literals-i.true) w.found-is
+        | else-literals-i w ↦ any_passed (beyond 2147483647) l loop.found i loop.invariant.1 (pos 0) c.if-literals-i.found c.loop-i-test.true
+            (beyond_other z (sfits_of c.t7-1.given) w.if-literals-i.false) w.found-is
+      ],
     )
 
 pub returns : goal.returns

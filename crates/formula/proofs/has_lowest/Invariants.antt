@@ -1,16 +1,10 @@
 -- `formula::has_lowest` meets its contract. The loop's invariant: `found` is true if an entry passed is the lowest number.
 -- Assumes nothing.
 use Prim.Native.Nat.{◌≤◌, ◌-◌}
-use native.Mathlib.Omega.{arith}
-use borrow.Author.Rules.{rules, sfits_of}
-use mathlib.Core.Path.{◌≡◌, refl}
+use mathlib.Core.Path.{◌≡◌}
 use mathlib.Core.Bool.{◌||◌}
-use mathlib.Core.Logic.{⊎_elim}
-use lib.IntN.{pos}
-use lib.ListN.{length, get_or, drop}
+use lib.ListN.{length, drop}
 use Rattle.formula.specs.Causes.{any, beyond}
-use Rattle.formula.proofs.Any.{any_found, any_passed, any_all}
-use Rattle.formula.proofs.Opposite.{beyond_lowest, beyond_other}
 use Rattle.formula.proofs.has_lowest.Given as goal
 
 abbrev pub invariant-loop-i : goal.invariant-loop-i

@@ -1,15 +1,10 @@
 -- `formula::has_other_kind` meets its contract. The loop's invariant: `found` is true if a kind passed is neither 0 nor 1.
 -- Assumes nothing.
 use Prim.Native.Nat.{◌≤◌, ◌-◌}
-use native.Mathlib.Omega.{arith}
-use borrow.Author.Rules.{rules}
-use mathlib.Core.Path.{◌≡◌, refl}
+use mathlib.Core.Path.{◌≡◌}
 use mathlib.Core.Bool.{◌||◌}
-use mathlib.Core.Logic.{⊎_elim}
-use lib.ListN.{length, get_or, drop}
+use lib.ListN.{length, drop}
 use Rattle.formula.specs.Causes.{any, other_kind}
-use Rattle.formula.proofs.Any.{any_found, any_passed, any_all}
-use Rattle.formula.proofs.Quantifiers.{other_above, kind_below}
 use Rattle.formula.proofs.has_other_kind.Given as goal
 
 abbrev pub invariant-loop-i : goal.invariant-loop-i

@@ -1,5 +1,4 @@
 -- `formula::magnitude_at` meets its contract. Assumes nothing.
-use borrow.Author.Rules.{rules}
 use mathlib.Core.Path.{sym, ap, ◌∙◌}
 use lib.ListN.{get_or, get_or-eq_default}
 use lib.IntN.{pos, nat_abs}

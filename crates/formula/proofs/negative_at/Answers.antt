@@ -1,5 +1,5 @@
 -- `formula::negative_at` meets its contract. Assumes nothing.
-use borrow.Author.Rules.{rules, sfits_of}
+use borrow.Author.Rules.{sfits_of}
 use mathlib.Core.Path.{sym, ap}
 use lib.ListN.{get_or, get_or-eq_default}
 use lib.IntN.{pos}

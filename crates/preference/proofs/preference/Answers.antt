@@ -1,10 +1,8 @@
 -- `preference::preference` meets its contract: the definition's two cases are the two that the code tests.
 -- Assumes nothing.
-use mathlib.Core.Path.{◌≡◌, ◌∙◌, sym}
+use mathlib.Core.Path.{◌∙◌, sym}
 use native.Mathlib.Nat.{mod-lt}
 use native.Mathlib.Omega.{arith}
-use lib.ListN.{length}
-use borrow.Author.Rules.{rules}
 use Rattle.preference.proofs.Laws.{prefer_none, prefer_lent}
 use Rattle.preference.proofs.preference.Goals as goal
 

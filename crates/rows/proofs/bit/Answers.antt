@@ -3,7 +3,6 @@ use mathlib.Core.Path.{sym, ap, ◌∙◌}
 use mathlib.Core.List.{List, []}
 use Prim.Native.Nat.{ℕ, zero-le}
 use native.Mathlib.Omega.{arith}
-use borrow.Author.Rules.{rules}
 use Rattle.rows.specs.Row.{bit_of}
 use Rattle.rows.proofs.RowLaws.{no_bit_past_end}
 use Rattle.rows.proofs.TableLaws.{row_at_outside, length_row_at, bit_of_row_at}

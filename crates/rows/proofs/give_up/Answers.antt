@@ -2,7 +2,6 @@
 use mathlib.Core.Path.{sym, ap, ◌∙◌}
 use Prim.Native.Nat.{ℕ, ◌*◌}
 use native.Mathlib.Omega.{arith}
-use borrow.Author.Rules.{rules}
 use Rattle.rows.specs.Access.{zeroed_from, places_below, rows_given_up, marks_given_up}
 use Rattle.rows.proofs.ZeroedLaws.{zeroed_from_none}
 use Rattle.rows.proofs.give_up.Goals as goal

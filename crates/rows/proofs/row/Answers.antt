@@ -3,9 +3,7 @@ use mathlib.Core.Path.{◌≡◌, refl, ap}
 use Prim.Native.Nat.{ℕ, ◌+◌, ◌-◌, ◌*◌}
 use native.Mathlib.Omega.{arith}
 use lib.ListN.{take, drop}
-use borrow.Author.Rules.{rules}
 use borrow.Author.Tests.{lt-ltb, le-ltb}
-use Rattle.rows.specs.Table.{inside}
 use Rattle.rows.specs.Access.{handed_back, handed_start}
 use Rattle.rows.proofs.TableLaws.{inside_true, inside_false, row_at_inside, row_at_outside}
 use Rattle.rows.proofs.row.Goals as goal

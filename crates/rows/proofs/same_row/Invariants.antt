@@ -1,12 +1,8 @@
 -- `rows::same_row` meets its contract. The loop's invariant: whether the bytes passed are equal. Assumes nothing.
-use mathlib.Core.Path.{◌≡◌, refl, ap, ◌∙◌}
-use mathlib.Core.Bool.{Bool, ◌&&◌}
-use Prim.Native.Nat.{ℕ, ◌+◌, ◌-◌, ◌≤◌}
-use native.Mathlib.Omega.{arith}
-use lib.Dec.{eqb}
-use lib.ListN.{get_or, take, drop}
+use mathlib.Core.Path.{◌≡◌}
+use Prim.Native.Nat.{◌-◌, ◌≤◌}
+use lib.ListN.{take, drop}
 use Rattle.rows.specs.Access.{same_bytes}
-use Rattle.rows.proofs.FindLaws.{same_parts_more}
 use Rattle.rows.proofs.same_row.Given as goal
 
 abbrev pub invariant-loop-p : goal.invariant-loop-p

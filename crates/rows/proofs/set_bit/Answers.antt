@@ -3,7 +3,6 @@ use mathlib.Core.Path.{sym, ap, ◌∙◌}
 use Prim.Native.Nat.{ℕ, ◌+◌, ◌*◌, ◌/◌}
 use lib.Bits.{bit_or}
 use lib.ListN.{get_or, set}
-use borrow.Author.Rules.{rules}
 use borrow.Author.Tests.{le-ltb}
 use Rattle.rows.specs.Stray.{row_bits}
 use Rattle.rows.specs.Access.{bit_set}

@@ -1,7 +1,6 @@
 -- `rows::stray_bit` meets its contract. The loop's invariant: no row passed has a stray bit. Assumes nothing.
 use mathlib.Core.Path.{◌≡◌, sym, ap, ◌∙◌}
 use mathlib.Core.Bool.{false}
-use Prim.Native.Nat.{ℕ, ◌-◌, ◌≤◌, ◌<◌}
 use native.Mathlib.Omega.{arith}
 use borrow.Author.Count.{below_none, below_more}
 use Rattle.rows.specs.Stray.{stray}

@@ -1,12 +1,9 @@
 -- `rows::stray_bit` meets its contract. The loop's invariant: no row passed has a stray bit. Assumes nothing.
-use mathlib.Core.Path.{◌≡◌, sym, ap, ◌∙◌}
+use mathlib.Core.Path.{◌≡◌}
 use mathlib.Core.Bool.{false}
 use Prim.Native.Nat.{ℕ, ◌-◌, ◌≤◌, ◌<◌}
-use native.Mathlib.Omega.{arith}
-use borrow.Author.Count.{below_none, below_more}
 use Rattle.rows.specs.Stray.{stray}
 use Rattle.rows.specs.Table.{row_at}
-use Rattle.rows.proofs.TableLaws.{below_count, row_at_inside, no_stray_outside, none_stray_rows, found_stray_rows}
 use Rattle.rows.proofs.stray_bit.Given as goal
 
 abbrev pub invariant-loop-i : goal.invariant-loop-i

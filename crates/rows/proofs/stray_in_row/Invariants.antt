@@ -1,15 +1,7 @@
 -- `rows::stray_in_row` meets its contract. The loop's invariant: the bytes passed behind the byte of bit m are zero. Assumes nothing.
-use mathlib.Core.Path.{◌≡◌, sym, ap, ◌∙◌}
-use mathlib.Core.Bool.{true, not-eq-not}
-use mathlib.Core.List.{List}
-use Prim.Native.Nat.{ℕ, ◌+◌, ◌-◌, ◌*◌, ◌/◌, ◌%◌, ◌^◌, ◌≤◌, ◌<◌}
-use native.Mathlib.Nat.{div-one}
-use native.Mathlib.Omega.{arith}
-use lib.ListN.{get_or, take, drop}
-use borrow.Author.Count.{below_more}
-use Rattle.rows.specs.Stray.{stray}
-use Rattle.rows.proofs.RowLaws.{none_stray, byte_beyond, none_stray_bytes}
-use Rattle.rows.proofs.TableLaws.{get_d_part}
+use mathlib.Core.Path.{◌≡◌}
+use Prim.Native.Nat.{ℕ, ◌+◌, ◌-◌, ◌/◌, ◌≤◌, ◌<◌}
+use lib.ListN.{get_or}
 use Rattle.rows.proofs.stray_in_row.Given as goal
 
 abbrev pub invariant-loop-p : goal.invariant-loop-p

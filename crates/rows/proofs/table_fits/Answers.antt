@@ -1,7 +1,6 @@
 -- `rows::table_fits` meets its contract. Assumes nothing.
 use Prim.Native.Nat.{◌*◌}
 use lib.ListN.{length}
-use borrow.Author.Rules.{rules}
 use borrow.Author.Tests.{le-leb, lt-leb}
 use Rattle.formula.specs.Formula.{max_rows}
 use Rattle.rows.specs.Table.{table_fits}

@@ -1,7 +1,6 @@
 -- `rows::write` meets its contract. Assumes nothing.
 use mathlib.Core.Path.{refl, sym, ap, ◌∙◌}
 use lib.ListN.{length}
-use borrow.Author.Rules.{rules}
 use borrow.Author.Tests.{lt-ltb, le-ltb}
 use Rattle.rows.specs.Access.{placed, rows_written, marks_written}
 use Rattle.rows.proofs.TableLaws.{inside_true, inside_false, row_at_inside}

@@ -1,10 +1,10 @@
 -- `rows::zero_bytes` meets its contract. The loop's invariant: the bytes passed are 0, and the length is as it was. Assumes nothing.
 use mathlib.Core.Path.{◌≡◌, refl, sym, ap, ◌∙◌}
 use mathlib.Core.List.{List}
-use Prim.Native.Nat.{ℕ, ◌-◌, ◌≤◌}
+use Prim.Native.Nat.{ℕ}
 use native.Mathlib.Numerals.{add-one}
 use native.Mathlib.Omega.{arith}
-use lib.ListN.{length, set, length-set}
+use lib.ListN.{set, length-set}
 use Rattle.rows.specs.Access.{zeroed_from}
 use Rattle.rows.proofs.ZeroedLaws.{zeroed_from_none, set_zeroed_from}
 use Rattle.rows.proofs.zero_bytes.Goals as goal

@@ -1,13 +1,10 @@
 -- `trimming_marks::has_clash` meets its contract. The loop's invariant: no entry passed is one that is looked for.
 -- Assumes nothing.
-use Prim.Native.Nat.{◌+◌, ◌-◌}
-use native.Mathlib.Omega.{arith}
-use borrow.Author.Rules.{rules}
-use mathlib.Core.Path.{◌≡◌, refl, sym, ◌∙◌, ap}
-use lib.ListN.{length, get_or, drop}
+use Prim.Native.Nat.{◌-◌}
+use mathlib.Core.Path.{◌≡◌}
+use lib.ListN.{length, drop}
 use Rattle.formula.specs.Causes.{any}
 use Rattle.trimming_marks.specs.Marks.{first_clause, noted_clash}
-use Rattle.trimming_marks.proofs.Walks.{clause_end, clause_more, clause_past, any_front, any_later}
 use Rattle.trimming_marks.proofs.has_clash.Given as goal
 
 abbrev pub invariant-loop-i : goal.invariant-loop-i

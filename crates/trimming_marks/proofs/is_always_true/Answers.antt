@@ -1,6 +1,5 @@
 -- `trimming_marks::is_always_true` meets its contract.
 -- Assumes nothing.
-use borrow.Author.Rules.{rules}
 use mathlib.Core.Path.{◌∙◌, ap}
 use lib.ListN.{drop}
 use Rattle.formula.specs.Causes.{any}

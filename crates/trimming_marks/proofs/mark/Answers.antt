@@ -1,12 +1,9 @@
 -- `trimming_marks::mark` meets its contract. The loop's invariant: what is marked so far, and the rest of the clause marked, are the whole.
 -- Assumes nothing.
-use Prim.Native.Nat.{◌+◌, ◌-◌}
+use Prim.Native.Nat.{◌+◌}
 use native.Mathlib.Omega.{arith}
-use borrow.Author.Rules.{rules}
-use mathlib.Core.Path.{◌≡◌, refl, sym, ◌∙◌, ap}
-use mathlib.Core.List.{◌++◌}
-use lib.ListN.{length, take, drop, length-set}
-use Rattle.trimming_marks.specs.Marks.{first_length, mark_clause}
+use mathlib.Core.Path.{refl, sym, ◌∙◌, ap}
+use lib.ListN.{length-set}
 use Rattle.trimming_marks.proofs.Walks.{length_end, length_moved, length_past, mark_end, mark_more, mark_past}
 use Rattle.trimming_marks.proofs.mark.Goals as goal
 

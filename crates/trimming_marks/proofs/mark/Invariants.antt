@@ -1,13 +1,10 @@
 -- `trimming_marks::mark` meets its contract. The loop's invariant: what is marked so far, and the rest of the clause marked, are the whole.
 -- Assumes nothing.
 use Prim.Native.Nat.{◌+◌, ◌-◌}
-use native.Mathlib.Omega.{arith}
-use borrow.Author.Rules.{rules}
-use mathlib.Core.Path.{◌≡◌, refl, sym, ◌∙◌, ap}
+use mathlib.Core.Path.{◌≡◌}
 use mathlib.Core.List.{◌++◌}
-use lib.ListN.{length, take, drop, length-set}
+use lib.ListN.{length, take, drop}
 use Rattle.trimming_marks.specs.Marks.{first_length, mark_clause}
-use Rattle.trimming_marks.proofs.Walks.{length_end, length_moved, length_past, mark_end, mark_more, mark_past}
 use Rattle.trimming_marks.proofs.mark.Given as goal
 
 abbrev pub invariant-loop-i : goal.invariant-loop-i

@@ -1,6 +1,5 @@
 -- `trimming_marks::marked` meets its contract.
 -- Assumes nothing.
-use borrow.Author.Rules.{rules}
 use borrow.Author.Tests.{le-leb, lt-leb, lt-ltb, le-ltb}
 use Rattle.trimming_marks.specs.Marks.{marked}
 use Rattle.trimming_marks.proofs.marked.Goals as goal

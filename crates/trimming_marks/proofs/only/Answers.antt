@@ -1,10 +1,9 @@
 -- `trimming_marks::only` meets its contract. The loop's invariant: `found` is the only entry passed that is left, or 0.
 -- Assumes nothing.
-use Prim.Native.Nat.{◌+◌, ◌-◌}
+use Prim.Native.Nat.{◌+◌}
 use native.Mathlib.Omega.{arith}
-use borrow.Author.Rules.{rules}
-use mathlib.Core.Path.{◌≡◌, refl, sym, ◌∙◌, ap}
-use lib.ListN.{length, get_or, drop}
+use mathlib.Core.Path.{refl, sym, ◌∙◌, ap}
+use lib.ListN.{get_or, drop}
 use borrow.Author.Tests.{lt-ltb, le-ltb, eq-eqb, ne_eqb}
 use Rattle.trimming_marks.specs.Marks.{first_clause, only}
 use Rattle.trimming_marks.proofs.Walks.{clause_end, clause_more, clause_past, only_second, only_first, only_dropped}

@@ -1,11 +1,8 @@
 -- `trimming_marks::past` meets its contract. The loop's invariant: the places passed and those left of the clause are its length.
 -- Assumes nothing.
-use Prim.Native.Nat.{◌+◌, ◌-◌}
+use Prim.Native.Nat.{◌+◌}
 use native.Mathlib.Omega.{arith}
-use borrow.Author.Rules.{rules}
-use mathlib.Core.Path.{◌≡◌, refl, sym, ◌∙◌, ap}
-use lib.ListN.{length, drop}
-use Rattle.trimming_marks.specs.Marks.{first_length}
+use mathlib.Core.Path.{refl, sym, ◌∙◌, ap}
 use Rattle.trimming_marks.proofs.Walks.{length_end, length_more, length_past}
 use Rattle.trimming_marks.proofs.past.Goals as goal
 

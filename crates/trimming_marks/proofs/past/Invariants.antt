@@ -1,12 +1,9 @@
 -- `trimming_marks::past` meets its contract. The loop's invariant: the places passed and those left of the clause are its length.
 -- Assumes nothing.
 use Prim.Native.Nat.{◌+◌, ◌-◌}
-use native.Mathlib.Omega.{arith}
-use borrow.Author.Rules.{rules}
-use mathlib.Core.Path.{◌≡◌, refl, sym, ◌∙◌, ap}
+use mathlib.Core.Path.{◌≡◌}
 use lib.ListN.{length, drop}
 use Rattle.trimming_marks.specs.Marks.{first_length}
-use Rattle.trimming_marks.proofs.Walks.{length_end, length_more, length_past}
 use Rattle.trimming_marks.proofs.past.Given as goal
 
 abbrev pub invariant-loop-i : goal.invariant-loop-i

@@ -1,10 +1,9 @@
 -- `trimming_marks::reducible` meets its contract. The loop's invariant: `low` is what the entries passed give.
 -- Assumes nothing.
-use Prim.Native.Nat.{◌+◌, ◌-◌}
+use Prim.Native.Nat.{◌+◌}
 use native.Mathlib.Omega.{arith}
-use borrow.Author.Rules.{rules}
-use mathlib.Core.Path.{◌≡◌, refl, sym, ◌∙◌, ap}
-use lib.ListN.{length, drop}
+use mathlib.Core.Path.{refl, sym, ◌∙◌, ap}
+use lib.ListN.{drop}
 use Rattle.trimming_marks.specs.Marks.{first_clause, reducible_from}
 use Rattle.trimming_marks.proofs.Walks.{clause_end, clause_more, clause_past}
 use Rattle.trimming_marks.proofs.reducible.Goals as goal

@@ -1,6 +1,5 @@
 -- `trimming_marks::unit` meets its contract.
 -- Assumes nothing.
-use borrow.Author.Rules.{rules}
 use mathlib.Core.Path.{sym, ◌∙◌, ap}
 use mathlib.Core.Bool.{Bool, cond}
 use lib.ListN.{drop}

@@ -1,7 +1,6 @@
 -- `formula::Formula::check` meets its contract: the tests stand in the order of the causes.
 -- Assumes nothing.
 use native.Mathlib.Omega.{arith}
-use borrow.Author.Rules.{rules}
 use mathlib.Core.Path.{◌≡◌, sym, ◌∙◌}
 use mathlib.Core.Bool.{false}
 use Rattle.formula.specs.Causes.{cause_1, cause_2, cause_3}

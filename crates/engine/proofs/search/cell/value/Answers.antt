@@ -1,0 +1,9 @@
+-- `cell::value` meets its contract. Assumes nothing.
+use mathlib.Core.Path.{sym}
+use native.Mathlib.Omega.{arith}
+use Rattle.search_cells.proofs.CellLaws.{value_at}
+use borrow.Author.Rules.{rules}
+use Rattle.engine.proofs.search.cell.value.Goals as goal
+
+pub returns : goal.returns
+returns c = sym (value_at c.args.i c.args.k (omega arith) (omega arith) c.args.work.now)

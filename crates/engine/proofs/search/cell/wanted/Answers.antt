@@ -1,0 +1,9 @@
+-- `cell::wanted` meets its contract. Assumes nothing.
+use mathlib.Core.Path.{sym}
+use native.Mathlib.Omega.{arith}
+use Rattle.search_cells.proofs.CellLaws.{wants_at}
+use borrow.Author.Rules.{rules}
+use Rattle.engine.proofs.search.cell.wanted.Goals as goal
+
+pub returns : goal.returns
+returns c = sym (wants_at c.args.i c.args.k (omega arith) (omega arith) c.args.work.now)

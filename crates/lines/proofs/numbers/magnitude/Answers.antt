@@ -1,0 +1,21 @@
+-- The word without its minus sign. Assumes nothing.
+use mathlib.Core.Path.{ap, sym, ◌∙◌}
+use native.Mathlib.Omega.{arith}
+use Rattle.lines.specs.Numbers.{number}
+use Rattle.lines.proofs.Words.{minus_inside, unsigned_minus, unsigned_plain}
+use borrow.Author.Rules.{rules}
+use Rattle.lines.proofs.numbers.magnitude.Goals as goal
+
+pub slice_bounds-number-count : goal.slice_bounds-number-count
+slice_bounds-number-count c = omega (arith, minus_inside c.args.word.now (sym c.negative.ensures ∙ c.if-negative.true))
+
+pub slice_bounds-number-start : goal.slice_bounds-number-start
+slice_bounds-number-start c = omega (arith, minus_inside c.args.word.now (sym c.negative.ensures ∙ c.if-negative.true))
+
+pub returns-then-negative : goal.returns-then-negative
+returns-then-negative c = c.number.ensures ∙ ap number (unsigned_minus c.args.word.now
+    (sym c.negative.ensures ∙ c.if-negative.true))
+
+pub returns-else-negative : goal.returns-else-negative
+returns-else-negative c = c.number-else-negative.ensures ∙ ap number (unsigned_plain c.args.word.now
+    (sym c.negative.ensures ∙ c.if-negative.false))

@@ -1,0 +1,62 @@
+-- `restriction::stands` meets its contract. The loop's invariant: no literal passed says whether the clause is kept.
+-- Assumes nothing.
+use Prim.Native.Nat.{◌-◌}
+use native.Mathlib.Omega.{arith}
+use borrow.Author.Rules.{rules}
+use mathlib.Core.Path.{◌≡◌, refl, sym, ◌∙◌}
+use lib.ListN.{length, drop}
+use Rattle.restriction.specs.Outcome.{values_of}
+use Rattle.restriction.specs.Private.Walk.{stands as stands_so}
+use Rattle.restriction.proofs.StandLaws.{at_last, at_end, at_true, at_other}
+use Rattle.restriction.proofs.stands.Goals as goal
+
+pub loop-i-init : goal.loop-i-init
+loop-i-init c = refl
+
+pub returns-then-name-eq0 : goal.returns-then-name-eq0
+returns-then-name-eq0 c =
+    let vs = values_of c.args.values.now in
+    let turn = c.loop-i in
+    let literals = c.args.literals.now in
+    let below = c.loop-i-test.true in
+    sym (turn.invariant ∙ at_end vs literals turn.i below (sym c.magnitude_at-name.ensures ∙ c.if-name-eq0.true))
+
+pub is_true-requires : goal.is_true-requires
+is_true-requires c = omega arith
+
+pub returns-then-is_true : goal.returns-then-is_true
+returns-then-is_true c =
+    let vs = values_of c.args.values.now in
+    let turn = c.loop-i in
+    let name = c.magnitude_at-name in
+    let sign = c.negative_at in
+    let literals = c.args.literals.now in
+    let below = c.loop-i-test.true in
+    let true_there = sym c.is_true.ensures ∙ c.if-is_true.true in
+    sym
+    (turn.invariant
+    ∙ at_true vs literals turn.i below name.result sign.result name.ensures sign.ensures c.if-name-eq0.false true_there)
+
+pub overflow_add-i : goal.overflow_add-i
+overflow_add-i c = omega arith
+
+pub loop-i-smaller : goal.loop-i-smaller
+loop-i-smaller c = omega arith
+
+pub loop-i-preserved : goal.loop-i-preserved
+loop-i-preserved c =
+    let vs = values_of c.args.values.now in
+    let turn = c.loop-i in
+    let name = c.magnitude_at-name in
+    let sign = c.negative_at in
+    let literals = c.args.literals.now in
+    let below = c.loop-i-test.true in
+    let other_there = sym c.is_true.ensures ∙ c.if-is_true.false in
+    turn.invariant
+    ∙ at_other vs literals turn.i below name.result sign.result name.ensures sign.ensures c.if-name-eq0.false other_there
+
+pub returns : goal.returns
+returns c =
+    let given = c.args in
+    let turn = c.loop-i in
+    sym (turn.invariant ∙ at_last (values_of given.values.now) given.literals.now turn.i c.loop-i-test.false)

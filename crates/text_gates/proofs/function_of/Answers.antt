@@ -1,0 +1,18 @@
+-- Assumes nothing.
+use mathlib.Core.Path.{refl, sym, ◌∙◌}
+use borrow.Author.Rules.{rules}
+use Rattle.text_gates.proofs.function_of.Goals as goal
+
+pub returns-then-same : goal.returns-then-same
+returns-then-same c = rw (sym c.same.ensures ∙ c.if-same.true) refl
+
+pub returns-then-same-2 : goal.returns-then-same-2
+returns-then-same-2 c = rw (
+  sym c.same.ensures ∙ c.if-same.false,
+  sym c.same-2.ensures ∙
+      c.if-same-2.true,
+) refl
+
+pub returns : goal.returns
+returns c = rw (sym c.same.ensures ∙ c.if-same.false, sym c.same-2.ensures ∙ c.if-same-2.false)
+    refl
