@@ -6,12 +6,12 @@ import re
 
 ROOT = pathlib.Path(__file__).resolve().parent.parent.parent
 NAMES = r"(?:\.\{(.*)\}| as (\S+))?"
-USE = re.compile(r"(?:unfoldable )?(?:pub )?use Rattle·([a-z_0-9]+?)(?:·specs|·proofs)?\.((?:specs|proofs)\.\S+?)" + NAMES + r"$")
-GHOST = re.compile(r"^\s*ghost (use Rattle·[^;]*);", re.M)
+USE = re.compile(r"(?:unfoldable )?(?:pub )?use Rattle\.([a-z_0-9]+)\.((?:specs|proofs)\.\S+?)" + NAMES + r"$")
+GHOST = re.compile(r"^\s*ghost (use Rattle\.[^;]*);", re.M)
 BEGIN = re.compile(r"(?:abbrev |unfoldable )?(?:pub )?(?:(?:data|record) (\S+) |([^\s(]\S*) :)")
 MEMBER = re.compile(r" +(?:pub )?([^:]+?) : ")
 WORD = re.compile(r"[^\s(){}\[\];,.λ]+(?:\.[^\s(){}\[\];,.]+)?")
-FUNCTION = re.compile(r'^[ \t]*(?:#\[no_mangle\]\s*)?pub\s+(?:extern\s+"C"\s+)?fn\s+(\w+)', re.M)
+FUNCTION = re.compile(r'^[ \t]*(?:#\[unsafe\(no_mangle\)\]\s*)?pub\s+(?:extern\s+"C"\s+)?fn\s+(\w+)', re.M)
 
 
 class Names:
@@ -25,9 +25,11 @@ class Names:
         if not use:
             return
         crate, module, names, alias = use.groups()
+        if not (ROOT / "crates" / crate).is_dir():
+            return  # the toolchain's own
         parts = module.split(".")
         if parts[1] == "declared":
-            path = (crate, "::".join(part for part in parts[2:] if part != "the-variants"))
+            path = (crate, "::".join(part for part in parts[2:] if part != "TheVariants"))
         else:
             path = f"crates/{crate}/{'/'.join(parts)}.antt"
         if names is None:
@@ -187,6 +189,6 @@ def public_functions():
         crate = source.relative_to(ROOT).parts[1]
         for function in FUNCTION.finditer(text):
             # a parameter's two values are no names
-            said = re.sub(r"\.(entry|exit)\b", "", clauses(text, function.end()))
+            said = re.sub(r"\.(old|new|now)\b", "", clauses(text, function.end()))
             there = filter(None, (meant(names, word) for word in WORD.findall(said)))
             yield f"{crate}::{function.group(1)}", set(there)

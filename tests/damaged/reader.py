@@ -94,7 +94,7 @@ def damaged(rng):
 
 def fault(given, verdicts="0|1"):
     """What is wrong with the program's output, or None. A text that is read must get one of the verdicts."""
-    printed = subprocess.run(["target/bin/vulzhenn"], input=given, capture_output=True, timeout=60).stdout.decode()
+    printed = subprocess.run(["crates/vulzhenn/out/vulzhenn"], input=given, capture_output=True, timeout=60).stdout.decode()
     wanted = read(given)
     if wanted[0]:
         right = printed == "c refused {} {}\n".format(*wanted)

@@ -17,16 +17,16 @@ pub struct Program {
     told: &'static [u8],
 }
 
-pub const VULZHENN: Program = Program { built: "target/bin/vulzhenn", options: &[], told: &[] };
-pub const GATES: Program = Program { built: "target/bin/vulzhenn_gates", options: &["gates"], told: &[] };
-pub const SHEET: Program = Program { built: "target/bin/sheet", options: &["sheet"], told: &[] };
-pub const WITNESS: Program = Program { built: "target/bin/vulzhenn_witness", options: &["witness"], told: &[] };
-pub const JUDGE: Program = Program { built: "target/bin/vulzhenn_judge", options: &["judge"], told: &[2] };
-pub const WITNESS_GATES: Program = Program { built: "target/bin/vulzhenn_witness_gates", options: &["witness", "--gates"], told: &[] };
-pub const STUDY_WITNESS: Program = Program { built: "target/bin/vulzhenn_study_witness", options: &["study", "--witness"], told: &[] };
+pub const VULZHENN: Program = Program { built: "crates/vulzhenn/out/vulzhenn", options: &[], told: &[] };
+pub const GATES: Program = Program { built: "crates/vulzhenn_gates/out/vulzhenn_gates", options: &["gates"], told: &[] };
+pub const SHEET: Program = Program { built: "crates/sheet/out/sheet", options: &["sheet"], told: &[] };
+pub const WITNESS: Program = Program { built: "crates/vulzhenn_witness/out/vulzhenn_witness", options: &["witness"], told: &[] };
+pub const JUDGE: Program = Program { built: "crates/vulzhenn_judge/out/vulzhenn_judge", options: &["judge"], told: &[2] };
+pub const WITNESS_GATES: Program = Program { built: "crates/vulzhenn_witness_gates/out/vulzhenn_witness_gates", options: &["witness", "--gates"], told: &[] };
+pub const STUDY_WITNESS: Program = Program { built: "crates/vulzhenn_study_witness/out/vulzhenn_study_witness", options: &["study", "--witness"], told: &[] };
 pub const STUDY_WITNESS_GATES: Program =
-    Program { built: "target/bin/vulzhenn_study_witness_gates", options: &["study", "--gates", "--witness"], told: &[] };
-pub const JUDGE_GATES: Program = Program { built: "target/bin/vulzhenn_judge", options: &["judge", "--gates"], told: &[1] };
+    Program { built: "crates/vulzhenn_study_witness_gates/out/vulzhenn_study_witness_gates", options: &["study", "--gates", "--witness"], told: &[] };
+pub const JUDGE_GATES: Program = Program { built: "crates/vulzhenn_judge/out/vulzhenn_judge", options: &["judge", "--gates"], told: &[1] };
 
 /// Runs it and says what is not as wanted, if anything. Returned with the wanted lines.
 pub fn compare(program: &Program, random: &mut Random, text: &[u8], read: &Result<Read, Refusal>, looks: usize) -> Result<(String, Option<String>), TooLong> {

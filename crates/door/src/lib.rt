@@ -24,16 +24,14 @@ use text::Reading;
 // The number of this interface: it grows when a function comes or changes.
 const VERSION: u32 = 3;
 
-#[unsafe(no_mangle)]
-pub extern "C" fn vulzhenn_version() -> u32
+pub fn vulzhenn_version() -> u32
     ensures { result ≡ version }
 {
     VERSION
 }
 
 // 1 for an accepted claim, 0 for one not borne out, 2 for a file of another formula, or 100 plus the number of the refusal.
-#[unsafe(no_mangle)]
-pub extern "C" fn vulzhenn_judge(text: &[u8], witness: &[u8], work: &mut [u8]) -> u32
+pub fn vulzhenn_judge(text: &[u8], witness: &[u8], work: &mut [u8]) -> u32
     ensures answered { result ≡ judged text.now witness.now work.old }
     ensures left { work.new ≡ judge_left text.now witness.now work.old }
     ensures right { JudgedRight text.now witness.now work.old }
@@ -47,8 +45,7 @@ pub extern "C" fn vulzhenn_judge(text: &[u8], witness: &[u8], work: &mut [u8]) -
 }
 
 // The length of the text's witness file, which is put at the start of `out`; 0 if it does not fit, or there is none.
-#[unsafe(no_mangle)]
-pub extern "C" fn vulzhenn_witness(text: &[u8], out: &mut [u8], work: &mut [u8]) -> usize
+pub fn vulzhenn_witness(text: &[u8], out: &mut [u8], work: &mut [u8]) -> usize
     ensures counted { result ≡ put_count (output text.now work.old).file out.old }
     ensures written { out.new ≡ put (output text.now work.old).file out.old }
     ensures left { work.new ≡ witness_left text.now work.old }
@@ -60,8 +57,7 @@ pub extern "C" fn vulzhenn_witness(text: &[u8], out: &mut [u8], work: &mut [u8])
 }
 
 // The answer's number, or 100 plus the number of the refusal.
-#[unsafe(no_mangle)]
-pub extern "C" fn vulzhenn_decide(text: &[u8], work: &mut [u8], limit: u32) -> u32
+pub fn vulzhenn_decide(text: &[u8], work: &mut [u8], limit: u32) -> u32
     ensures answered { result ≡ answer text.now work.old limit }
     ensures left { work.new ≡ work_after text.now work.old limit }
     ensures right { NumbersRight text.now work.old limit }
@@ -90,8 +86,7 @@ fn decide(kinds: &[u8], literals: &[i32], work: &mut [u8], limit: u32) -> u32
 }
 
 // The number of the study's answer, or 100 plus the number of the refusal.
-#[unsafe(no_mangle)]
-pub extern "C" fn vulzhenn_study(text: &[u8], work: &mut [u8]) -> u32
+pub fn vulzhenn_study(text: &[u8], work: &mut [u8]) -> u32
     ensures answered { result ≡ study_answer text.now work.old }
     ensures left { work.new ≡ study_work text.now work.old }
     ensures right { StudyNumbersRight text.now work.old }

@@ -31,8 +31,7 @@ use season::{Study, Summary};
 use trimming::Trimmed;
 
 // The first model of one side over rows of the other.
-#[unsafe(no_mangle)]
-pub extern "C" fn probe_first_model(
+pub fn probe_first_model(
     kinds: &[u8],
     literals: &[i32],
     preferences: &[u8],
@@ -72,8 +71,7 @@ fn refusal_number(cause: u32) -> u64
 }
 
 // Whether rows bear out a claim.
-#[unsafe(no_mangle)]
-pub extern "C" fn probe_judge(
+pub fn probe_judge(
     kinds: &[u8],
     literals: &[i32],
     rows: &[u8],
@@ -98,8 +96,7 @@ fn judge_number(answer: Judgement) -> u64
 }
 
 // A whole run; the round, the counts, the opening and the length of its block are written behind the last five references.
-#[unsafe(no_mangle)]
-pub extern "C" fn probe_run(
+pub fn probe_run(
     kinds: &[u8],
     literals: &[i32],
     preferences: &[u8],
@@ -146,8 +143,7 @@ pub extern "C" fn probe_run(
 }
 
 // The fee for so many rounds; its cents, 0 on a refusal, are written behind the last reference.
-#[unsafe(no_mangle)]
-pub extern "C" fn probe_fee(kinds: &[u8], rounds: u32, cents: &mut u64) -> u64
+pub fn probe_fee(kinds: &[u8], rounds: u32, cents: &mut u64) -> u64
     ensures value { result ≡ charge_number (charged kinds.now rounds) }
     ensures cents_after { cents.new ≡ cents_of (charged kinds.now rounds) }
 {
@@ -157,8 +153,7 @@ pub extern "C" fn probe_fee(kinds: &[u8], rounds: u32, cents: &mut u64) -> u64
 }
 
 // The same by lent bands.
-#[unsafe(no_mangle)]
-pub extern "C" fn probe_fee_with(
+pub fn probe_fee_with(
     firsts: &[u32],
     prices: &[u32],
     kinds: &[u8],
@@ -192,13 +187,7 @@ fn charge_cents(charge: Charge) -> u64
 }
 
 // A trimming; the entries used are written behind the last reference, 0 after a refusal.
-#[unsafe(no_mangle)]
-pub extern "C" fn probe_trim(
-    kinds: &[u8],
-    literals: &[i32],
-    output: &mut [i32],
-    used: &mut usize,
-) -> u64
+pub fn probe_trim(kinds: &[u8], literals: &[i32], output: &mut [i32], used: &mut usize) -> u64
     ensures value { result ≡ trim_number (trim_outcome kinds.now literals.now output.old) }
     ensures output_after { output.new ≡ output_after kinds.now literals.now output.old }
     ensures used_after { used.new ≡ entries_used (trim_outcome kinds.now literals.now output.old) }
@@ -227,8 +216,7 @@ fn used_entries(answer: Trimmed) -> usize
 }
 
 // The length of the row that is handed back.
-#[unsafe(no_mangle)]
-pub extern "C" fn probe_row_length(rows: &[u8], count: usize, place: usize) -> usize
+pub fn probe_row_length(rows: &[u8], count: usize, place: usize) -> usize
     ensures { result ≡ length (handed_back rows.now count place) }
 {
     let row = rows::row(rows, count, place);
@@ -236,8 +224,7 @@ pub extern "C" fn probe_row_length(rows: &[u8], count: usize, place: usize) -> u
 }
 
 // Byte j of the row that is handed back, or 0 past its end.
-#[unsafe(no_mangle)]
-pub extern "C" fn probe_row_byte(rows: &[u8], count: usize, place: usize, j: usize) -> u8
+pub fn probe_row_byte(rows: &[u8], count: usize, place: usize, j: usize) -> u8
     ensures { result ≡ get_or (handed_back rows.now count place) j 0 }
 {
     let row = rows::row(rows, count, place);
@@ -245,8 +232,7 @@ pub extern "C" fn probe_row_byte(rows: &[u8], count: usize, place: usize, j: usi
 }
 
 // Preference i.
-#[unsafe(no_mangle)]
-pub extern "C" fn probe_preference(lent: &[u8], i: usize) -> u8
+pub fn probe_preference(lent: &[u8], i: usize) -> u8
     ensures { result ≡ value_number (prefer lent.now i) }
 {
     if preference::preference(lent, i) {
@@ -257,8 +243,7 @@ pub extern "C" fn probe_preference(lent: &[u8], i: usize) -> u8
 }
 
 // A number of the page over a table of studies, chosen by `which`.
-#[unsafe(no_mangle)]
-pub extern "C" fn probe_season(studies: &[Study], which: u32) -> u64
+pub fn probe_season(studies: &[Study], which: u32) -> u64
     ensures { result ≡ season_number (summary studies.now) which }
 {
     page_number(season::summarize(studies), which)
@@ -292,8 +277,7 @@ fn cause_number(cause: u32, which: u32) -> u64
 }
 
 // The bytes printed for the records of a text.
-#[unsafe(no_mangle)]
-pub extern "C" fn probe_season_text(text: &[u8], out: &mut [u8]) -> usize
+pub fn probe_season_text(text: &[u8], out: &mut [u8]) -> usize
     ensures value { result ≡ put_count (printed text.now) out.old }
     ensures out_after { out.new ≡ put (printed text.now) out.old }
 {

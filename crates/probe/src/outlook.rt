@@ -7,8 +7,7 @@ ghost use Rattle.probe.specs.Outlook.{outlook_number};
 
 use forecast::Outlook;
 
-#[unsafe(no_mangle)]
-pub extern "C" fn probe_forecast(
+pub fn probe_forecast(
     kinds: &[u8],
     literals: &[i32],
     universal_rows: &[u8],

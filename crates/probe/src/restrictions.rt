@@ -6,8 +6,7 @@ ghost use Rattle.probe.specs.Restrictions.{set_number};
 
 use restriction::Set;
 
-#[unsafe(no_mangle)]
-pub extern "C" fn probe_set_first(
+pub fn probe_set_first(
     kinds: &[u8],
     literals: &[i32],
     values: &[u8],

@@ -6,8 +6,7 @@ ghost use Rattle.probe.specs.Numbers.{Reported};
 
 use rows::Row;
 
-#[unsafe(no_mangle)]
-pub extern "C" fn probe_study(
+pub fn probe_study(
     kinds: &[u8],
     literals: &[i32],
     settings: &[u32],

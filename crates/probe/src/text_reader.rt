@@ -6,8 +6,7 @@ ghost use Rattle.probe.specs.TextReader.{text_number as number_of, text_told, Te
 
 use text::Reading;
 
-#[unsafe(no_mangle)]
-pub extern "C" fn probe_read_text(
+pub fn probe_read_text(
     text: &[u8],
     kinds: &mut [u8],
     literals: &mut [i32],
@@ -30,8 +29,7 @@ pub extern "C" fn probe_read_text(
     text_number(answer)
 }
 
-#[unsafe(no_mangle)]
-pub extern "C" fn probe_read_gates(
+pub fn probe_read_gates(
     text: &[u8],
     kinds: &mut [u8],
     literals: &mut [i32],

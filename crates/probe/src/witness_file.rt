@@ -7,8 +7,7 @@ ghost use Rattle.probe.specs.WitnessFile.{reading_number, record_told, RecordTol
 use witness::{Reading, Record, Written};
 
 // The record of a file, zeros on a refusal.
-#[unsafe(no_mangle)]
-pub extern "C" fn probe_witness_read(
+pub fn probe_witness_read(
     file: &[u8],
     map: &mut u8,
     claim: &mut u8,
@@ -60,8 +59,7 @@ fn told_number(answer: Reading) -> u64
 }
 
 // Writes a file; its length, 0 on a refusal, goes behind the last reference.
-#[unsafe(no_mangle)]
-pub extern "C" fn probe_witness_write(
+pub fn probe_witness_write(
     universal: &[u8],
     existential: &[u8],
     out: &mut [u8],
@@ -111,8 +109,7 @@ fn written_number(answer: Written) -> u64
 }
 
 // The length of a side's rows.
-#[unsafe(no_mangle)]
-pub extern "C" fn probe_witness_rows_length(file: &[u8], universal: bool) -> usize
+pub fn probe_witness_rows_length(file: &[u8], universal: bool) -> usize
     ensures { result ≡ length (rows_back file.now universal) }
 {
     let rows = witness::rows(file, universal);
@@ -120,8 +117,7 @@ pub extern "C" fn probe_witness_rows_length(file: &[u8], universal: bool) -> usi
 }
 
 // Byte j of a side's rows, or 0 past their end.
-#[unsafe(no_mangle)]
-pub extern "C" fn probe_witness_rows_byte(file: &[u8], universal: bool, j: usize) -> u8
+pub fn probe_witness_rows_byte(file: &[u8], universal: bool, j: usize) -> u8
     ensures { result ≡ get_or (rows_back file.now universal) j 0 }
 {
     let rows = witness::rows(file, universal);

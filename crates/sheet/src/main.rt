@@ -4,20 +4,21 @@
 
 ghost use Rattle.std.specs.Prelude.{◌≤◌};
 
-use libc::{STDIN_FILENO, STDOUT_FILENO};
+use std::io;
+use std::io::Write;
 
-fn main() {
+fn main(rt: HostRuntime) -> io::Result<()> {
     // one byte more than a text may have, so that a longer one is seen
     let mut input = [0u8; season::BYTES + 1];
-    let length = io::read_full(STDIN_FILENO, &mut input);
-    print(&input[..length]);
+    let length = streams::read_full(&mut rt.stdin(), &mut input)?;
+    print(&rt, &input[..length])
 }
 
-fn print(text: &[u8]) {
+fn print(rt: &HostRuntime, text: &[u8]) -> io::Result<()> {
     let mut out = [0u8; season::LONGEST];
     let length = season::print(text, &mut out);
     let n = lower(length, season::LONGEST);
-    io::write_all(STDOUT_FILENO, &out[..n]);
+    rt.stdout().write_all(&out[..n])
 }
 
 fn lower(a: usize, b: usize) -> usize

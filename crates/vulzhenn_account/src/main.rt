@@ -5,19 +5,19 @@
 ghost use Rattle.std.specs.Prelude.{◌≤◌, length};
 
 use formula::Formula;
-use libc::{STDIN_FILENO, STDOUT_FILENO};
+use std::io;
+use std::io::Write;
 
-const FORM_FILENO: i32 = 3;
+const FORM: &str = "/dev/fd/3";
 
-fn main() {
+fn main(rt: HostRuntime) -> io::Result<()> {
     let mut input = [0u8; Formula::WORK];
-    let length = io::read_full(STDIN_FILENO, &mut input);
-    let more = read_on(length);
+    let length = streams::read_text(&mut rt.stdin(), &mut input)?;
     let mut form = [0u8; 1];
-    let gates = io::read_full(FORM_FILENO, &mut form);
+    let gates = streams::read_descriptor(&rt, FORM, &mut form)?;
     let mut out = [0u8; account::LONGEST];
-    let count = tell(gates, &input, length + more, &mut out);
-    io::write_all(STDOUT_FILENO, &out[..count]);
+    let count = tell(gates, &input, length, &mut out);
+    rt.stdout().write_all(&out[..count])
 }
 
 // The account of a text, or of a gate list.
@@ -28,15 +28,4 @@ fn tell(gates: usize, input: &[u8], size: usize, out: &mut [u8]) -> usize
         return account::account(input, size, out);
     }
     account::account_of_gates(input, size, out)
-}
-
-// Whether a text that fills the buffer goes on: 1 if a byte follows.
-fn read_on(length: usize) -> usize
-    ensures { result ≤ 1 }
-{
-    if length < Formula::WORK {
-        return 0;
-    }
-    let mut byte = [0u8; 1];
-    io::read_full(STDIN_FILENO, &mut byte)
 }

@@ -2,30 +2,40 @@
 // the judge's finding on standard output. What is printed for which bytes is proved in `judgement`; here they are read and written.
 #![tactic(auto)]
 
-ghost use Rattle.std.specs.Prelude.{◌≤◌, ◌≡◌};
+ghost use Rattle.std.specs.Prelude.{◌≡◌};
 ghost use Rattle.report.specs.Report.{put, put_count};
 ghost use Rattle.text.specs.Form.{form_told};
 ghost use Rattle.text.specs.Offered.{offered};
 ghost use Rattle.judgement.specs.Finding.{printed};
 
 use formula::Formula;
-use libc::{STDIN_FILENO, STDOUT_FILENO};
+use std::io;
+use std::io::Write;
 
-const FILE_FILENO: i32 = 3;
+const FILE: &str = "/dev/fd/3";
 
-fn main() {
+fn main(rt: HostRuntime) -> io::Result<()> {
     let mut told = [0u8; 1];
-    io::read_full(STDIN_FILENO, &mut told);
+    streams::read_full(&mut rt.stdin(), &mut told)?;
     let byte = told[0];
     let mut input = [0u8; Formula::WORK];
-    let length = io::read_full(STDIN_FILENO, &mut input);
-    let more = read_on(length);
-    let size = length + more;
+    let size = streams::read_text(&mut rt.stdin(), &mut input)?;
     let mut file = [0u8; judgement::FILE];
-    let file_length = io::read_full(FILE_FILENO, &mut file);
+    print_finding(&rt, byte, &input, size, &mut file)
+}
+
+// Reads the file into the buffer, and prints the finding.
+fn print_finding(
+    rt: &HostRuntime,
+    told: u8,
+    input: &[u8],
+    size: usize,
+    file: &mut [u8],
+) -> io::Result<()> {
+    let length = streams::read_descriptor(rt, FILE, file)?;
     let mut out = [0u8; judgement::LONGEST];
-    let count = put_finding(byte, &input, size, &file[..file_length], &mut out);
-    io::write_all(STDOUT_FILENO, &out[..count]);
+    let count = put_finding(told, input, size, &file[..length], &mut out);
+    rt.stdout().write_all(&out[..count])
 }
 
 // What is written for a first byte, a text and a file.
@@ -35,15 +45,4 @@ fn put_finding(told: u8, input: &[u8], size: usize, file: &[u8], out: &mut [u8])
 {
     let form = text::form_told(told);
     judgement::print(input, size, form, file, out)
-}
-
-// Whether a text that fills the buffer goes on: 1 if a byte follows.
-fn read_on(length: usize) -> usize
-    ensures { result ≤ 1 }
-{
-    if length < Formula::WORK {
-        return 0;
-    }
-    let mut byte = [0u8; 1];
-    io::read_full(STDIN_FILENO, &mut byte)
 }

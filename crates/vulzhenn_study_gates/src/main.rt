@@ -2,27 +2,14 @@
 // What is printed for which bytes is proved in `study_answer`; here they are read and written.
 #![tactic(auto)]
 
-ghost use Rattle.std.specs.Prelude.{◌≤◌};
-
 use formula::Formula;
-use libc::{STDIN_FILENO, STDOUT_FILENO};
+use std::io;
+use std::io::Write;
 
-fn main() {
+fn main(rt: HostRuntime) -> io::Result<()> {
     let mut input = [0u8; Formula::WORK];
-    let length = io::read_full(STDIN_FILENO, &mut input);
-    let more = read_on(length);
+    let length = streams::read_text(&mut rt.stdin(), &mut input)?;
     let mut out = [0u8; study_answer::LONGEST];
-    let count = study_answer::answer_gates(&input, length + more, &mut out);
-    io::write_all(STDOUT_FILENO, &out[..count]);
-}
-
-// Whether a text that fills the buffer goes on: 1 if a byte follows.
-fn read_on(length: usize) -> usize
-    ensures { result ≤ 1 }
-{
-    if length < Formula::WORK {
-        return 0;
-    }
-    let mut byte = [0u8; 1];
-    io::read_full(STDIN_FILENO, &mut byte)
+    let count = study_answer::answer_gates(&input, length, &mut out);
+    rt.stdout().write_all(&out[..count])
 }

@@ -9,7 +9,8 @@ ghost use Rattle.formula.specs.Formula.{max_rows};
 use engine::run::{Answer, Outcome};
 use formula::{Check, Formula};
 use judge::Judgement;
-use libc::STDOUT_FILENO;
+use std::io;
+use std::io::Write;
 
 // The first of each table's values. The bytes are 10 to 98, of which no row of these runs has any, and the marks are over the limit.
 const UNIVERSAL_ROWS: u8 = 10;
@@ -31,74 +32,82 @@ const KINDS_1: [u8; 2] = [1, 0];
 
 const LITERALS_1: [i32; 6] = [1, 2, 0, -1, -2, 0];
 
-fn main() {
-    k1_to_k6();
-    k7_to_k10();
-    k11();
-    k12_and_k13();
-    k14();
-    k15();
+fn main(rt: HostRuntime) -> io::Result<()> {
+    k1_to_k6(&rt)?;
+    k7_to_k10(&rt)?;
+    k11(&rt)?;
+    k12_and_k13(&rt)?;
+    k14(&rt)?;
+    k15(&rt)
 }
 
-fn k1_to_k6() {
-    play_usual(b"K1", &KINDS_1, &LITERALS_1);
+fn k1_to_k6(rt: &HostRuntime) -> io::Result<()> {
+    play_usual(rt, b"K1", &KINDS_1, &LITERALS_1)?;
     // The unknown that the text names 2 is now the first.
-    play_usual(b"K2", &[0, 1], &[2, 1, 0, -2, -1, 0]);
-    play_usual(b"K3", b"", &[0; 0]);
-    play_usual(b"K4", b"", &[0]);
-    play_usual(b"K5", &[1], &[1, 0]);
-    play_run(b"K6", &[1], &[1, 0], &[1], AMPLE, AMPLE, LIMIT);
+    play_usual(rt, b"K2", &[0, 1], &[2, 1, 0, -2, -1, 0])?;
+    play_usual(rt, b"K3", b"", &[0; 0])?;
+    play_usual(rt, b"K4", b"", &[0])?;
+    play_usual(rt, b"K5", &[1], &[1, 0])?;
+    play_run(rt, b"K6", &[1], &[1, 0], &[1], AMPLE, AMPLE, LIMIT)
 }
 
-fn k7_to_k10() {
-    play_run(b"K7", &KINDS_1, &LITERALS_1, b"", AMPLE, AMPLE, 1);
-    play_run(b"K8", &KINDS_1, &LITERALS_1, b"", AMPLE, AMPLE, 0);
-    play_run(b"K9", &KINDS_1, &LITERALS_1, b"", 1, 1, LIMIT);
-    play_run(b"K10", &KINDS_1, &LITERALS_1, b"", 2, 1, LIMIT);
+fn k7_to_k10(rt: &HostRuntime) -> io::Result<()> {
+    play_run(rt, b"K7", &KINDS_1, &LITERALS_1, b"", AMPLE, AMPLE, 1)?;
+    play_run(rt, b"K8", &KINDS_1, &LITERALS_1, b"", AMPLE, AMPLE, 0)?;
+    play_run(rt, b"K9", &KINDS_1, &LITERALS_1, b"", 1, 1, LIMIT)?;
+    play_run(rt, b"K10", &KINDS_1, &LITERALS_1, b"", 2, 1, LIMIT)
 }
 
-fn k11() {
+fn k11(rt: &HostRuntime) -> io::Result<()> {
     let mut rows = [0u8; 32];
     rows[16] = 1;
-    play_judge(b"K11, rows 0 and 1", &KINDS_1, &LITERALS_1, &rows, 2);
-    play_judge(b"K11, row 1 alone", &KINDS_1, &LITERALS_1, &rows[16..], 1);
+    play_judge(rt, b"K11, rows 0 and 1", &KINDS_1, &LITERALS_1, &rows, 2)?;
+    play_judge(
+        rt,
+        b"K11, row 1 alone",
+        &KINDS_1,
+        &LITERALS_1,
+        &rows[16..],
+        1,
+    )
 }
 
-fn k12_and_k13() {
+fn k12_and_k13(rt: &HostRuntime) -> io::Result<()> {
     let literals = [1, 2, 4, 0, -1, -2, 4, 0, 3, -4, 0];
-    play_usual(b"K12", &[1, 0, 1, 0], &literals);
-    play_usual(b"K13", &[1], &[1, -1, 0]);
+    play_usual(rt, b"K12", &[1, 0, 1, 0], &literals)?;
+    play_usual(rt, b"K13", &[1], &[1, -1, 0])
 }
 
-fn k14() {
+fn k14(rt: &HostRuntime) -> io::Result<()> {
     let kinds = [0];
     let literals = [-2_147_483_648, 0];
-    play_usual(b"K14", &kinds, &literals);
-    play_judge(b"K14, judge", &kinds, &literals, &[0; 16], 1);
-    play_check(b"K14, check", &kinds, &literals);
+    play_usual(rt, b"K14", &kinds, &literals)?;
+    play_judge(rt, b"K14, judge", &kinds, &literals, &[0; 16], 1)?;
+    play_check(rt, b"K14, check", &kinds, &literals)
 }
 
-fn k15() {
+fn k15(rt: &HostRuntime) -> io::Result<()> {
     let existential = [0u8; 129];
     let universal = [1u8; 128];
     let none = [0i32; 0];
-    play_usual(b"K15, 128 existential", &existential[..128], &none);
-    play_usual(b"K15, 128 universal", &universal, &none);
-    play_judge(b"K15, 128, judge", &universal, &none, &[0; 16], 1);
-    play_check(b"K15, 128, check", &universal, &none);
-    play_usual(b"K15, 129", &existential, &none);
-    play_judge(b"K15, 129, judge", &existential, &none, &[0; 16], 1);
-    play_check(b"K15, 129, check", &existential, &none);
+    play_usual(rt, b"K15, 128 existential", &existential[..128], &none)?;
+    play_usual(rt, b"K15, 128 universal", &universal, &none)?;
+    play_judge(rt, b"K15, 128, judge", &universal, &none, &[0; 16], 1)?;
+    play_check(rt, b"K15, 128, check", &universal, &none)?;
+    play_usual(rt, b"K15, 129", &existential, &none)?;
+    play_judge(rt, b"K15, 129, judge", &existential, &none, &[0; 16], 1)?;
+    play_check(rt, b"K15, 129, check", &existential, &none)
 }
 
 // 'House preferences, ample rows, limit 9, unless said.'
-fn play_usual(name: &[u8], kinds: &[u8], literals: &[i32]) {
-    play_run(name, kinds, literals, b"", AMPLE, AMPLE, LIMIT);
+fn play_usual(rt: &HostRuntime, name: &[u8], kinds: &[u8], literals: &[i32]) -> io::Result<()> {
+    play_run(rt, name, kinds, literals, b"", AMPLE, AMPLE, LIMIT)
 }
 
 // Plays a run with so many rows lent on each side, and prints what it returns and leaves. The tables go on past what is lent, and all of
 // them is looked at.
 fn play_run(
+    rt: &HostRuntime,
     name: &[u8],
     kinds: &[u8],
     literals: &[i32],
@@ -106,7 +115,7 @@ fn play_run(
     universal_room: usize,
     existential_room: usize,
     limit: u32,
-)
+) -> io::Result<()>
     requires { (universal_room ≤ max_rows) × (existential_room ≤ max_rows) }
 {
     let mut universal_rows = [0u8; 16 * Formula::ROWS];
@@ -136,15 +145,16 @@ fn play_run(
         existential_room,
         limit,
     );
-    print(name);
+    print(rt, name)?;
     print_run(
+        rt,
         end,
         &universal_rows,
         &universal_marks,
         &existential_rows,
         &existential_marks,
         &work,
-    );
+    )
 }
 
 // The run over the first rows of each side's tables.
@@ -183,102 +193,114 @@ fn lend(
 }
 
 fn print_run(
+    rt: &HostRuntime,
     end: Outcome,
     universal_rows: &[u8],
     universal_marks: &[u16],
     existential_rows: &[u8],
     existential_marks: &[u16],
     work: &[u8],
-) {
+) -> io::Result<()> {
     let universal = lower(end.universal, AMPLE);
     let existential = lower(end.existential, AMPLE);
-    if print_outcome(end) {
+    if print_outcome(rt, end)? {
         print_side(
+            rt,
             b"  universal rows",
             universal_rows,
             universal_marks,
             universal,
-        );
+        )?;
         print_side(
+            rt,
             b"  existential rows",
             existential_rows,
             existential_marks,
             existential,
-        );
-        print(b"  past the counts");
+        )?;
+        print(rt, b"  past the counts")?;
         print_found(
+            rt,
             universal_kept(universal_rows, universal_marks, universal)
                 && existential_kept(existential_rows, existential_marks, existential),
-        );
-        print(b", work area");
-        print_zero(work);
+        )?;
+        print(rt, b", work area")?;
+        print_zero(rt, work)?;
     } else {
-        print(b"  all");
+        print(rt, b"  all")?;
         print_found(
+            rt,
             universal_kept(universal_rows, universal_marks, 0)
                 && existential_kept(existential_rows, existential_marks, 0)
                 && as_found(work, WORK, 0),
-        );
+        )?;
     }
-    print(b"\n");
+    print(rt, b"\n")
 }
 
 // Prints what a run returns. Whether it is an answer.
-fn print_outcome(end: Outcome) -> bool {
+fn print_outcome(rt: &HostRuntime, end: Outcome) -> io::Result<bool> {
     let answer = end.answer;
     match answer {
-        Answer::False => print(b": false"),
-        Answer::True => print(b": true"),
-        Answer::Spent => print(b": spent"),
-        Answer::NoRoomUniversal => print(b": no room universal"),
-        Answer::NoRoomExistential => print(b": no room existential"),
+        Answer::False => print(rt, b": false")?,
+        Answer::True => print(rt, b": true")?,
+        Answer::Spent => print(rt, b": spent")?,
+        Answer::NoRoomUniversal => print(rt, b": no room universal")?,
+        Answer::NoRoomExistential => print(rt, b": no room existential")?,
         Answer::Refused(cause) => {
-            print_refusal(cause);
-            return false;
+            print_refusal(rt, cause)?;
+            return Ok(false);
         }
     }
-    print_number(b", round ", end.round as u64);
-    print_number(b", universal ", end.universal as u64);
-    print_number(b", existential ", end.existential as u64);
-    print(b"\n");
-    true
+    print_number(rt, b", round ", end.round as u64)?;
+    print_number(rt, b", universal ", end.universal as u64)?;
+    print_number(rt, b", existential ", end.existential as u64)?;
+    print(rt, b"\n")?;
+    Ok(true)
 }
 
 // Plays the judge on claim 1, and prints what it returns and leaves.
-fn play_judge(name: &[u8], kinds: &[u8], literals: &[i32], rows: &[u8], count: usize) {
+fn play_judge(
+    rt: &HostRuntime,
+    name: &[u8],
+    kinds: &[u8],
+    literals: &[i32],
+    rows: &[u8],
+    count: usize,
+) -> io::Result<()> {
     let mut work = [0u8; Formula::WORK];
     fill(&mut work, WORK);
     let judgement = judge::judge(kinds, literals, 1, rows, count, &mut work);
-    print(name);
-    let answered = print_judgement(judgement);
-    print(b"  work area");
+    print(rt, name)?;
+    let answered = print_judgement(rt, judgement)?;
+    print(rt, b"  work area")?;
     if answered {
-        print_zero(&work);
+        print_zero(rt, &work)?;
     } else {
-        print_found(as_found(&work, WORK, 0));
+        print_found(rt, as_found(&work, WORK, 0))?;
     }
-    print(b"\n");
+    print(rt, b"\n")
 }
 
 // Prints what the judge returns. Whether it is an answer.
-fn print_judgement(judgement: Judgement) -> bool {
+fn print_judgement(rt: &HostRuntime, judgement: Judgement) -> io::Result<bool> {
     match judgement {
-        Judgement::NotBorneOut => print(b": not borne out\n"),
-        Judgement::Accepted => print(b": accepted\n"),
+        Judgement::NotBorneOut => print(rt, b": not borne out\n")?,
+        Judgement::Accepted => print(rt, b": accepted\n")?,
         Judgement::Refused(cause) => {
-            print_refusal(cause);
-            return false;
+            print_refusal(rt, cause)?;
+            return Ok(false);
         }
     }
-    true
+    Ok(true)
 }
 
 // Plays the check of a formula, which is lent nothing that it could change.
-fn play_check(name: &[u8], kinds: &[u8], literals: &[i32]) {
-    print(name);
+fn play_check(rt: &HostRuntime, name: &[u8], kinds: &[u8], literals: &[i32]) -> io::Result<()> {
+    print(rt, name)?;
     match Formula::check(kinds, literals) {
-        Check::Accepted(_) => print(b": accepted\n"),
-        Check::Refused(cause) => print_refusal(cause),
+        Check::Accepted(_) => print(rt, b": accepted\n"),
+        Check::Refused(cause) => print_refusal(rt, cause),
     }
 }
 
@@ -296,11 +318,11 @@ fn fill_marks(marks: &mut [u16], first: u16) {
 }
 
 fn value(first: u8, i: usize) -> u8 {
-    std::num::wrapping_add_u8(first, (i % 29) as u8)
+    first.wrapping_add((i % 29) as u8)
 }
 
 fn mark_value(first: u16, i: usize) -> u16 {
-    std::num::wrapping_add_u16(first, (i % 256) as u16)
+    first.wrapping_add((i % 256) as u16)
 }
 
 // Whether the table has its own values from an index on.
@@ -350,53 +372,65 @@ fn is_zero(table: &[u8]) -> bool {
     true
 }
 
-fn print_side(name: &[u8], rows: &[u8], marks: &[u16], count: usize) {
-    print(name);
+fn print_side(
+    rt: &HostRuntime,
+    name: &[u8],
+    rows: &[u8],
+    marks: &[u16],
+    count: usize,
+) -> io::Result<()> {
+    print(rt, name)?;
     if count == 0 {
-        print(b" none\n");
-        return;
+        return print(rt, b" none\n");
     }
-    print_rows(rows, count);
-    print(b", marks");
-    print_marks(marks, count);
-    print(b"\n");
+    print_rows(rt, rows, count)?;
+    print(rt, b", marks")?;
+    print_marks(rt, marks, count)?;
+    print(rt, b"\n")
 }
 
-fn print_rows(rows: &[u8], count: usize) {
+fn print_rows(rt: &HostRuntime, rows: &[u8], count: usize) -> io::Result<()> {
     for i in 0..count {
-        print_row(rows::row(rows, count, i));
+        print_row(rt, rows::row(rows, count, i))?;
     }
+    Ok(())
 }
 
 // A space and the row's number, without leading zeros.
-fn print_row(row: &[u8]) {
-    print(b" ");
+fn print_row(rt: &HostRuntime, row: &[u8]) -> io::Result<()> {
+    print(rt, b" ")?;
     let mut left = row.len();
     let mut digits = 1;
     while left > 0 {
         left -= 1;
-        digits = print_byte(row[left], digits, left);
+        digits = print_byte(rt, row[left], digits, left)?;
     }
+    Ok(())
 }
 
 // Prints a byte in so many digits, but none of the zeros before the first one; how many digits the next byte has.
-fn print_byte(byte: u8, digits: usize, left: usize) -> usize {
+fn print_byte(rt: &HostRuntime, byte: u8, digits: usize, left: usize) -> io::Result<usize> {
     if byte == 0 && digits == 1 && left > 0 {
-        return 1;
+        return Ok(1);
     }
-    io::print_hex(STDOUT_FILENO, byte as u64, digits);
-    2
+    if digits == 1 {
+        print!(rt; "{byte:x}")?;
+    } else {
+        print!(rt; "{byte:02x}")?;
+    }
+    Ok(2)
 }
 
-fn print_marks(marks: &[u16], count: usize) {
+fn print_marks(rt: &HostRuntime, marks: &[u16], count: usize) -> io::Result<()> {
     let end = lower(count, marks.len());
     for i in 0..end {
-        print_mark(marks[i]);
+        print_mark(rt, marks[i])?;
     }
+    Ok(())
 }
 
-fn print_mark(mark: u16) {
-    print_number(b" ", mark as u64);
+fn print_mark(rt: &HostRuntime, mark: u16) -> io::Result<()> {
+    print_number(rt, b" ", mark as u64)
 }
 
 fn lower(a: usize, b: usize) -> usize
@@ -405,32 +439,32 @@ fn lower(a: usize, b: usize) -> usize
     if a < b { a } else { b }
 }
 
-fn print_refusal(cause: u32) {
-    print_number(b": refused ", cause as u64);
-    print(b"\n");
+fn print_refusal(rt: &HostRuntime, cause: u32) -> io::Result<()> {
+    print_number(rt, b": refused ", cause as u64)?;
+    print(rt, b"\n")
 }
 
-fn print_found(holds: bool) {
+fn print_found(rt: &HostRuntime, holds: bool) -> io::Result<()> {
     if holds {
-        print(b" as found");
+        print(rt, b" as found")
     } else {
-        print(b" changed");
+        print(rt, b" changed")
     }
 }
 
-fn print_zero(work: &[u8]) {
+fn print_zero(rt: &HostRuntime, work: &[u8]) -> io::Result<()> {
     if is_zero(work) {
-        print(b" zero");
+        print(rt, b" zero")
     } else {
-        print(b" not zero");
+        print(rt, b" not zero")
     }
 }
 
-fn print_number(label: &[u8], number: u64) {
-    print(label);
-    io::print_decimal(STDOUT_FILENO, number);
+fn print_number(rt: &HostRuntime, label: &[u8], number: u64) -> io::Result<()> {
+    print(rt, label)?;
+    print!(rt; "{number}")
 }
 
-fn print(text: &[u8]) {
-    io::write_all(STDOUT_FILENO, text);
+fn print(rt: &HostRuntime, text: &[u8]) -> io::Result<()> {
+    rt.stdout().write_all(text)
 }
