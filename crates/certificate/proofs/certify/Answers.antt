@@ -10,35 +10,20 @@ use Rattle.text.proofs.OfferedLaws.{offered_whole, of_whole}
 use Rattle.certificate.specs.declared.Counts.{Counts}
 use Rattle.certificate.specs.Certificate.{on_text, work_by, Delivered}
 use Rattle.certificate.proofs.CertificateRight.{certificate_right}
-use Rattle.certificate.proofs.certify.Statement.{statement}
-use Rattle.certificate.proofs.certify.Tie as tie
+use Rattle.certificate.proofs.certify.Goals as goal
 
 -- A text that fills its buffer is the one that is offered.
 whole_delivered : (text file lines work : Bytes) {r : Counts} {file' lines' : Bytes} → Delivered (on_text (read_as false (offered text (length text))) work) file lines r file' lines'
     → Delivered (on_text (read_as false text) work) file lines r file' lines'
 whole_delivered text file lines work {r} {file'} {lines'} h = of_whole (λ (t : Bytes). Delivered (on_text (read_as false t) work) file lines r file' lines') text h
 
-certify-as-requires : tie.Need-certify-as-requires
-certify-as-requires c κs = search rules
-
-same_length : tie.Need-same-length
-same_length c = search rules
-
-same-length-2 : tie.Need-same-length-2
-same-length-2 c = search rules
-
-same-length-3 : tie.Need-same-length-3
-same-length-3 c = search rules
-
-returns : tie.Need-returns
+pub returns : goal.returns
 unfolding read
 returns c =
-    let given = c.before.before.before.before.before.before.before.before.before.before.before.before.before.before.args in
+    let given = c.args in
     let text = given.text.now in
-    let done = c.before.before.before.before.before.before.certify-as.ensures in (
-      whole_delivered text given.file.now given.lines.now given.work.now done.0,
-      (done.1 ∙ ap (λ (t : Bytes). work_by (read_as false t) given.work.now) (offered_whole text), certificate_right text),
-    )
-
-pub certify-spec : {M : Type 1} → statement M
-certify-spec = tie.close (tie.spec certify-as-requires same_length same-length-2 same-length-3 returns)
+    let done = c.certify_as.ensures in record {
+      delivered = whole_delivered text given.file.now given.lines.now given.work.now done.delivered;
+      left = done.work_after ∙ ap (λ (t : Bytes). work_by (read_as false t) given.work.now) (offered_whole text);
+      proved = certificate_right text;
+    }
