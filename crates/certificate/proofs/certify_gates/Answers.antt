@@ -8,7 +8,7 @@ use Rattle.certificate.proofs.certify_gates.Goals as goal
 pub returns : goal.returns
 unfolding read_gates
 returns c = record {
-      delivered = c.certify_as.ensures.delivered;
-      left = c.certify_as.ensures.work_after;
-      proved = gates_certificate_right (offered c.args.input.now c.args.length);
-    }
+  delivered = c.certify_as.ensures.delivered;
+  left = c.certify_as.ensures.work_after;
+  proved = gates_certificate_right (offered c.args.input.now c.args.length);
+}

@@ -8,7 +8,7 @@ use Rattle.certificate.proofs.certify_offered.Goals as goal
 pub returns : goal.returns
 unfolding read
 returns c = record {
-      delivered = c.certify_as.ensures.delivered;
-      left = c.certify_as.ensures.work_after;
-      proved = certificate_right (offered c.args.input.now c.args.length);
-    }
+  delivered = c.certify_as.ensures.delivered;
+  left = c.certify_as.ensures.work_after;
+  proved = certificate_right (offered c.args.input.now c.args.length);
+}

@@ -8,6 +8,6 @@ deliver-requires c = (ran c.args.kinds.now c.args.literals.now c.args.work.now c
 
 pub returns : goal.returns
 returns c = record {
-      delivered = c.deliver.ensures;
-      work_after = work_so c.args.kinds.now c.args.literals.now c.args.work.now c.requires.0 c.requires.1 c.decide_rows-end.ensures;
-    }
+  delivered = c.deliver.ensures;
+  work_after = work_so c.args.kinds.now c.args.literals.now c.args.work.now c.requires.0 c.requires.1 c.decide_rows-end.ensures;
+}
