@@ -3,6 +3,8 @@
 // `account` and `account_of_gates` promise, for every input and buffer, the bytes that the definition (specs/Account.antt) gives; what the lines say of the
 // formula is stated in specs/AccountRight.antt.
 // Reading belongs to `text`, the run to `run`, 01's lines to `report`; here what one returns is handed to the next, and the other lines are written.
+#![tactic(auto)]
+
 ghost use Rattle.std.specs.Prelude.{◌+◌, ◌*◌, ◌≤◌, ◌≡◌, ◌++◌, map, length, take};
 ghost use Rattle.rows.specs.Row.{row_of};
 ghost use Rattle.rows.specs.Table.{row_at, rows_of};

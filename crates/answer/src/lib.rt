@@ -2,6 +2,8 @@
 // `answer_within` and `answer_gates_within` promise, for every text in an area that becomes the run's work area and every buffer, the bytes that the
 // definition (specs/Printed.antt) gives, what they say of the formula, or of the circuit, and every byte of the area at exit (specs/Within.antt).
 // Reading belongs to `text`, the run to `decision`, the lines to `report`; here what one returns is handed to the next.
+#![tactic(auto)]
+
 ghost use Rattle.std.specs.Prelude.{◌≡◌, length, replicate};
 ghost use Rattle.formula.specs.Formula.{work_size};
 ghost use Rattle.formula.specs.Causes.{checked, sizes};

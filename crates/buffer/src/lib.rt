@@ -1,5 +1,7 @@
 // Bytes put into a lent buffer, one part behind the other. `append` promises, for every buffer, place and part, the definition's bytes and the
 // place behind them; a part that does not fit leaves the buffer as found.
+#![tactic(auto)]
+
 ghost use Rattle.std.specs.Prelude.{◌≡◌, ◌++◌, ◌+◌, ◌≤◌, length, take, drop};
 ghost use Rattle.buffer.specs.Buffer.{appended, place_behind};
 

@@ -2,11 +2,10 @@
 -- cleared. Assumes nothing.
 use Prim.Native.Nat.{ℕ, zero, suc, ◌≤◌}
 use native.Mathlib.Omega.{arith}
-use mathlib.Core.Path.{◌≡◌, refl, sym, ap, subst, ◌∙◌}
+use mathlib.Core.Path.{◌≡◌, refl, sym, subst}
 use mathlib.Core.Bool.{Bool, true, false}
 use mathlib.Core.List.{List, []}
 use mathlib.Core.Option.{Option, none, some, none-ne-some}
-use lib.IntN.{ℤ}
 use Rattle.formula.specs.Formula.{existential, universal}
 use Rattle.formula.specs.Meaning.{meaning}
 use Rattle.expansion.specs.Play.{Row}

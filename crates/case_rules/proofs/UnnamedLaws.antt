@@ -1,14 +1,12 @@
 -- An unknown that no clause names makes no difference, so one case of it is enough. Assumes nothing.
 use Prim.Native.Nat.{ℕ, zero, suc}
-use native.Mathlib.Omega.{arith}
 use mathlib.Core.Path.{◌≡◌, refl, sym, ap, ap₂, ◌∙◌}
-use mathlib.Core.Bool.{Bool, true, false, ◌&&◌, ◌||◌, not, true≢false}
+use mathlib.Core.Bool.{Bool, true, false, ◌&&◌, ◌||◌, true≢false}
 use mathlib.Core.List.{List, [], ◌∷◌}
-use borrow.Author.Tests.{eq-eqb}
 use lib.IntN.{ℤ, pos, negsuc}
 use Rattle.formula.specs.Formula.{Kind, existential, universal, kind_of, prefix, Clause, onto, clauses}
 use Rattle.formula.specs.Causes.{any}
-use Rattle.formula.specs.Meaning.{literal, clause, matrix, after, meaning, verdict}
+use Rattle.formula.specs.Meaning.{literal, clause, matrix, meaning, verdict}
 use Rattle.formula.proofs.Any.{or_none}
 use Rattle.case_rules.specs.Restricted.{restricted}
 use Rattle.case_rules.specs.ByCases.{by_kind, names_first}

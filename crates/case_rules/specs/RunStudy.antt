@@ -3,7 +3,7 @@ use Rattle.std.specs.Prelude.{ℕ, ◌≤◌, Bool, true, false, List, ℤ}
 use Rattle.std.proofs.Math.Option.{Option, none, some}
 use Rattle.formula.specs.Formula.{prefix, clauses}
 use Rattle.formula.specs.Meaning.{matrix}
-use Rattle.rounds.specs.Run.{rows, Answer, is_false, is_true, spent, no_room_universal, no_room_existential, Outcome, Lent, run}
+use Rattle.rounds.specs.Run.{Answer, is_false, is_true, spent, no_room_universal, no_room_existential, Lent, run}
 use Rattle.case_rules.specs.ByCases.{Study, RightStudy, EndsStudy}
 
 abbrev pub answer_as : Answer → Option Bool

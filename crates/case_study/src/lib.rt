@@ -2,6 +2,8 @@
 // more. With no bound on these runs there is an answer for every accepted formula.
 // `decide` promises, for all that is lent, the outcome and every lent byte that the definition (specs/Decided.antt) gives, and what specs/CasesRight.antt
 // says of it. Runs belong to `engine`, the study to `study`, setting unknowns to `restriction`, judging rows to `judge`.
+#![tactic(auto)]
+
 ghost use Rattle.std.specs.Prelude.{◌+◌, ◌-◌, ◌/◌, ◌≤◌, ◌<◌, ◌≡◌, cond, ◌||◌, false, eqb, length, take, drop, get_or};
 ghost use Rattle.formula.specs.Formula.{max_entries};
 ghost use Rattle.trimming_rules.specs.Trimming.{trimmed};

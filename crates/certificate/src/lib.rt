@@ -2,6 +2,8 @@
 // `certify` and `certify_gates` promise, for every text, buffers and work area, the bytes that the definition (specs/Certificate.antt) gives; that the
 // file is accepted is stated in specs/CertificateRight.antt.
 // Reading belongs to `text`, the run to `decision`, the file to `witness`, lines to `report`; here what one returns is handed to the next.
+#![tactic(auto)]
+
 ghost use Rattle.std.specs.Prelude.{◌≤◌, ◌<◌, ◌≡◌, length, replicate};
 ghost use Rattle.formula.specs.Formula.{max_unknowns, max_clauses, work_size};
 ghost use Rattle.formula.specs.Causes.{checked, sizes};

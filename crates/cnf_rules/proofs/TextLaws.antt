@@ -1,11 +1,11 @@
 -- The text is its parts, and is read as the clauses. Assumes nothing.
-use Prim.Native.Nat.{ℕ, zero, suc, ◌+◌, ◌*◌, ◌<◌, ◌≤◌}
+use Prim.Native.Nat.{ℕ, zero, suc, ◌+◌, ◌-◌, ◌*◌, ◌<◌, ◌≤◌}
 use native.Mathlib.Nat.{mul-suc}
 use native.Mathlib.Omega.{arith}
 use mathlib.Core.Path.{◌≡◌, refl, sym, ap, ◌∙◌}
-use mathlib.Core.Bool.{Bool, true, false, ◌&&◌}
+use mathlib.Core.Bool.{Bool, true, false}
 use mathlib.Core.List.{List, [], ◌∷◌, ◌++◌, append_assoc, append-nil}
-use mathlib.Core.Option.{Option, some}
+use mathlib.Core.Option.{some}
 use borrow.Author.Tests.{ne_eqb, leb-true}
 use lib.Dec.{eqb, leb}
 use lib.IntN.{ℤ, pos, negsuc}
@@ -18,7 +18,6 @@ use Rattle.expansion.specs.OtherSide.{side_of}
 use Rattle.expansion.specs.Play.{Row}
 use Rattle.lines.specs.Lines.{Bytes}
 use Rattle.lines.specs.Numbers.{is_digit, all_digits, value}
-use Rattle.named.specs.Named.{signed}
 use Rattle.numerals.proofs.DigitLaws.{and_both, decimal_some, decimal_digits, decimal_value}
 use Rattle.report.specs.Report.{ascii, decimal}
 use Rattle.trimming_rules.specs.Trimming.{entries}
@@ -28,7 +27,7 @@ use Rattle.trimming_rules.proofs.Trimmed.{clauses_entries}
 use Rattle.writing.specs.Writing.{p_line}
 use Rattle.cnf_rules.specs.Clauses.{copy_number, row_clauses, over_rows, expansion, variables, clause_count}
 use Rattle.cnf_rules.specs.Text.{word, line, lines, claim_lines, names_words, value_digits, row_line, row_lines, head, part, parts, text}
-use Rattle.cnf_rules.specs.Dimacs.{past_comments, behind, in_front, numbers, Problem, problem_in, problem_behind, dimacs}
+use Rattle.cnf_rules.specs.Dimacs.{past_comments, behind, in_front, numbers, problem_in, problem_behind, dimacs}
 use Rattle.cnf_rules.specs.Right.{Named, EachNamed, AllNamed, TextRight}
 use Rattle.cnf_rules.proofs.Right.{named}
 
@@ -123,7 +122,7 @@ digits_read : (minus : Bool) (v : ℕ) (ds rest : Bytes) → all_digits ds ≡ t
 digits_read minus v [] rest e = refl
 digits_read minus v (d ∷ ds) rest e =
     let both = and_both (is_digit d) (all_digits ds) e in
-    rw both.0 (digits_read minus _ ds rest both.1)
+    rw both.0 (digits_read minus (v * 10 + (d - 48)) ds rest both.1)
 
 word_begun : (minus : Bool) (ds rest : Bytes) → 1 ≤ length ds → all_digits ds ≡ true → numbers false minus 0 (ds ++ rest) ≡ numbers true minus (value 0 ds) rest
 word_begun minus [] rest long e = absurd (omega arith)

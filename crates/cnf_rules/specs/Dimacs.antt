@@ -1,6 +1,6 @@
 -- How a DIMACS text is read, by its own rule: lines that begin with c are passed over; then `p cnf`, and numbers, parted by a space or a line's end:
 -- the variables, the clauses, and the literals, with 0 behind each clause. Anything else is not read. Assumes nothing.
-use Rattle.std.specs.Prelude.{ℕ, zero, suc, ◌+◌, ◌-◌, ◌*◌, Bool, true, false, cond, ◌||◌, List, [], ◌∷◌, eqb, ℤ, pos, negsuc}
+use Rattle.std.specs.Prelude.{ℕ, ◌+◌, ◌-◌, ◌*◌, Bool, true, false, cond, ◌||◌, List, [], ◌∷◌, eqb, ℤ, pos, negsuc}
 use Rattle.std.proofs.Math.Option.{Option, none, some}
 use Rattle.formula.specs.Formula.{Clause, clauses}
 use Rattle.lines.specs.Lines.{Bytes}

@@ -2,6 +2,8 @@
 // `cause` and `part` promise, for all that is lent, the number and the bytes that the definitions give (specs/Output.antt, over those of
 // `cnf_rules`), put at the start of the buffer if they fit. The text is its parts one after the other, and unsatisfiable exactly if the judge accepts
 // the claim (`cnf_rules`' theorems). A row needs the rows up to its own, and a buffer of its own lines.
+#![tactic(auto)]
+
 ghost use Rattle.std.specs.Prelude.{ℕ, ◌+◌, ◌-◌, ◌*◌, ◌<◌, ◌≤◌, ◌≡◌, cond, [], ◌∷◌, ◌++◌, eqb, pos, length, get_or, take, drop};
 ghost use Rattle.formula.specs.Private.Accepted.{Accepted as AcceptedFormula};
 ghost use Rattle.formula.specs.Causes.{zeros};

@@ -2,6 +2,8 @@
 // Every public function is total: its contract gives every lent entry for whatever is lent. Which rows a search yields, and what the counts
 // then say of the run, are left to `run`.
 // A row costs a look through the yielded rows.
+#![tactic(auto)]
+
 ghost use Rattle.std.specs.Prelude.{◌≡◌, min, length};
 ghost use Rattle.rows.specs.Table.{one_a_row};
 ghost use Rattle.counts.specs.Counts.{was_yielded, one_more, counted_up, filled, updated};

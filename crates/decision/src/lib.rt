@@ -2,6 +2,8 @@
 // `decide` and `decide_within` promise, for all that is lent, the decision and every lent byte that the definition (specs/Deciding.antt) gives, all that is
 // promised of the run that answered, and what a decision says of the text (specs/DecisionRight.antt).
 // Reading belongs to `text`, the runs to `study`. What is put down of a decision is left to others. The settings of the commands are in `settings`.
+#![tactic(auto)]
+
 ghost use Rattle.std.specs.Prelude.{◌+◌, ◌≤◌, ◌<◌, ◌≡◌, cond, ◌++◌, ltb, length, take, drop};
 ghost use Rattle.formula.specs.Formula.{work_size};
 ghost use Rattle.text.specs.Offered.{offered};

@@ -2,6 +2,8 @@
 // `result` and `study` put the lines of a decision; `answer_within` and `study_within` decide a text in an area that becomes the work area, and put its lines.
 // Each promises, for every input, the bytes that the definition (specs/Lines.antt) gives, and the latter two what they say of the text (specs/LinesRight.antt).
 // Deciding belongs to `decision`, the lines to `report`.
+#![tactic(auto)]
+
 ghost use Rattle.std.specs.Prelude.{◌≡◌, length};
 ghost use Rattle.text.specs.Form.{form_read};
 ghost use Rattle.text.specs.Offered.{offered};

@@ -2,6 +2,8 @@
 // 01's line, and nothing is charged. `put` promises, for every decision, kinds and buffer, the bytes that the definition (specs/Recorded.antt) gives, and
 // that what is decided within the programs' limit of rounds is a record that the sheet takes (specs/RecordedRight.antt); `put_within` the same of a text,
 // from its bytes on, under any settings.
+#![tactic(auto)]
+
 ghost use Rattle.std.specs.Prelude.{◌≡◌};
 ghost use Rattle.report.specs.Report.{put as put_into, put_count};
 ghost use Rattle.text.specs.Offered.{offered};

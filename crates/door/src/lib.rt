@@ -3,6 +3,8 @@
 // Each function promises, for every input, the number and every byte that the definitions (specs/Door.antt, specs/Witness.antt) give, and cites what
 // they say (specs/Numbers.antt, specs/Witness.antt, specs/Study.antt, certificate's CertificateRight).
 // Reading belongs to `text`, the run to `decision`, the judge to `judgement`, the file to `certificate`, the study to `study_answer`; here what one returns is handed to the next.
+#![tactic(auto)]
+
 ghost use Rattle.std.specs.Prelude.{◌≡◌};
 ghost use Rattle.engine.specs.Outcome.{left};
 ghost use Rattle.decision.specs.Decision.{handed_on};

@@ -2,6 +2,8 @@
 // `fee`, by the built-in bands, and `fee_with`, by bands that are lent, promise for every input the cents that the definitions (specs/Fee.antt,
 // specs/Bands.antt) give, or the refusal; and of every fee, who pays it, what bands a table comes to and how it is rounded
 // (specs/FeesRight.antt). They cost as many steps as there are kinds and bands, however many the rounds are.
+#![tactic(auto)]
+
 ghost use Rattle.std.specs.Prelude.{◌≡◌, ◌≤◌, ◌<◌, ◌-◌, ◌^◌, ltb, drop};
 ghost use Rattle.formula.specs.Formula.{max_unknowns};
 ghost use Rattle.formula.specs.Causes.{any, cause_1};

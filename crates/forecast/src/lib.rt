@@ -2,6 +2,8 @@
 // `forecast` promises, for all that is lent, the numbers of the definition (specs/Outcome.antt) or the first cause that applies; and of every
 // accepted input that step 2 of a round from these tables can't end in no room where it says that they fit (specs/Forecast.antt).
 // It writes nothing and searches nothing: rounds belong to `run`.
+#![tactic(auto)]
+
 ghost use Rattle.std.specs.Prelude.{◌≡◌, ◌≤◌, ◌<◌, max, length};
 ghost use Rattle.formula.specs.Formula.{prefix, max_unknowns, max_rows};
 ghost use Rattle.rows.specs.Table.{row_at, room};

@@ -1,6 +1,8 @@
 // The clauses of one gate, put into a table of entries. `put` promises, for every function, literal, inputs, table and place, the definition's
 // entries and the place behind them; clauses that do not fit leave the table as found. It knows no text and no names: what a gate list means,
 // and what is refused of one, is left to others.
+#![tactic(auto)]
+
 ghost use Rattle.std.specs.Prelude.{◌≡◌, false, not, [], ◌∷◌, ◌+◌, ◌*◌, ◌^◌, ◌≤◌, ◌<◌, nat_abs, length};
 ghost use Rattle.std.proofs.lemmas.List.Edits.{sets};
 ghost use Rattle.formula.specs.Causes.{any, beyond};

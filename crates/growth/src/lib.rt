@@ -1,6 +1,8 @@
 // How a row table grows (01, 'The run'): the first universal row, then the new ones of the rows that a search yields, all of them or none.
 // Every public function is total: its contract gives every lent byte for whatever is lent. What the rows mean is left to `run`.
 // A yielded row costs a look through the table and through the yielded rows before it, twice.
+#![tactic(auto)]
+
 ghost use Rattle.std.specs.Prelude.{◌≡◌, replicate};
 ghost use Rattle.preference.specs.Preference.{prefer};
 ghost use Rattle.rows.specs.Access.{first_place, rows_written, marks_written};

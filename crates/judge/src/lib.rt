@@ -2,6 +2,8 @@
 // Promised, for all that is lent: accepted exactly if no model over the rows exists, else not borne out, or the number of the first cause
 // that applies. An accepted claim is the formula's verdict. The work area is zero after an answer, and as it was after a refusal.
 // Looking for a model is left to `search`.
+#![tactic(auto)]
+
 ghost use Rattle.std.specs.Prelude.{◌≡◌, cond, length};
 ghost use Rattle.judge.specs.Judge.{other_claim, Judged};
 

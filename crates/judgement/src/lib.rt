@@ -3,6 +3,8 @@
 // (specs/Finding.antt, specs/Numbers.antt) give; `print` the bytes of its line, for a text of either form. What an accepted claim says of the formula,
 // or of the circuit, is stated in specs/JudgementRight.antt.
 // Reading belongs to `text` and `witness`, judging to `judge`; here what one returns is handed to the next.
+#![tactic(auto)]
+
 ghost use Rattle.std.specs.Prelude.{◌≡◌};
 ghost use Rattle.report.specs.Report.{put, put_count};
 ghost use Rattle.text.specs.Form.{form_read};

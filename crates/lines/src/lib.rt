@@ -1,6 +1,8 @@
 // Bytes as lines and words (01, 'Text'), words as numbers, and the shapes of lines.
 // Every public function is total and says where something stands, what a word is worth or whether a line has a shape. What a line then gives, and
 // every cause of a refusal, is left to the readers.
+#![tactic(auto)]
+
 ghost use Rattle.std.specs.Prelude.{◌≡◌, ◌+◌, min, length, drop};
 ghost use Rattle.lines.specs.Places.{before, spaces, Next};
 

@@ -1,15 +1,15 @@
 -- Entries by position stay what they are for causes 1 to 3: as many clauses, the last one ended, no literal beyond n. Assumes nothing.
-use Prim.Native.Nat.{ℕ, zero, suc, ◌-◌, ◌≤◌}
+use Prim.Native.Nat.{ℕ, zero, suc, ◌-◌}
 use native.Mathlib.Omega.{arith}
 use mathlib.Core.Path.{◌≡◌, refl, ap, ◌∙◌}
 use mathlib.Core.Bool.{Bool, true, false}
-use mathlib.Core.List.{List, [], ◌∷◌, ◌++◌, map}
+use mathlib.Core.List.{List, [], ◌∷◌, map}
 use borrow.Author.Tests.{le-ltb}
 use lib.IntN.{ℤ, pos, negsuc, nat_abs}
-use lib.ListN.{length, get_or, replicate, length-replicate, length-append}
+use lib.ListN.{length, get_or}
 use Rattle.formula.specs.Causes.{any, other_kind, zeros, is_zero, ended, beyond}
 use Rattle.named.specs.Named.{position, signed, placed}
-use Rattle.named.specs.Names.{In, Known}
+use Rattle.named.specs.Names.{Known}
 use Rattle.named.specs.Closing.{closed_names, closed_kinds}
 use Rattle.named.proofs.Positions.{position_some}
 use Rattle.named.proofs.PlaceLaws.{position_within}

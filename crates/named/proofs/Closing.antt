@@ -1,17 +1,17 @@
 -- Names that no block binds, bound as existential ones in front of all blocks: the formula is true exactly if some values of them make
 -- what is behind them true. Assumes nothing.
-use Prim.Native.Nat.{ℕ, zero, suc, ◌+◌}
+use Prim.Native.Nat.{ℕ, zero, suc}
 use native.Mathlib.Omega.{arith}
-use mathlib.Core.Path.{◌≡◌, refl, sym, ap, ap₂, ◌∙◌}
-use mathlib.Core.Bool.{Bool, true, false, cond, not, ◌&&◌, ◌||◌, false≢true}
+use mathlib.Core.Path.{◌≡◌, refl, ap, ap₂, ◌∙◌}
+use mathlib.Core.Bool.{Bool, true, false, cond, not, ◌&&◌, ◌||◌}
 use mathlib.Core.List.{List, [], ◌∷◌, ◌++◌}
 use mathlib.Core.Logic.{◌⊎◌, inl, inr}
-use borrow.Author.Tests.{eq-eqb, ne_eqb, eqb-true, eqb-false}
+use borrow.Author.Tests.{eqb-true, eqb-false}
 use lib.Dec.{eqb}
-use lib.IntN.{ℤ, pos, negsuc}
+use lib.IntN.{pos, negsuc}
 use lib.ListN.{length}
-use Rattle.formula.specs.Formula.{Kind, existential, universal, Clause}
-use Rattle.named.specs.Named.{Values, with_value, by_name, named_clause, named_matrix, quantify, named_meaning}
+use Rattle.formula.specs.Formula.{Kind, existential, Clause}
+use Rattle.named.specs.Named.{Values, with_value, named_clause, named_matrix, quantify, named_meaning}
 use Rattle.named.specs.Names.{In, InAll, AllIn}
 
 abbrev pub existentials : List ℕ → List Kind → List Kind

@@ -1,16 +1,15 @@
 -- Closing keeps the meaning. Assumes nothing.
-use Prim.Native.Nat.{ℕ, zero, suc, ◌+◌}
-use native.Mathlib.Omega.{arith}
+use Prim.Native.Nat.{ℕ, suc}
 use mathlib.Core.Path.{◌≡◌, refl, sym, ap, ◌∙◌}
-use mathlib.Core.Bool.{Bool, true, false}
-use mathlib.Core.List.{List, [], ◌∷◌, ◌++◌, map}
+use mathlib.Core.Bool.{false}
+use mathlib.Core.List.{List, [], ◌∷◌}
 use lib.IntN.{ℤ}
-use lib.ListN.{length, length-append}
-use Rattle.formula.specs.Formula.{Kind, existential, prefix, Clause, clauses}
+use lib.ListN.{length}
+use Rattle.formula.specs.Formula.{Kind, existential, prefix, clauses}
 use Rattle.formula.specs.Meaning.{meaning, matrix, verdict}
-use Rattle.named.specs.Named.{Values, named_matrix, named_meaning, placed}
-use Rattle.named.specs.Names.{In, Distinct, Known}
-use Rattle.named.specs.Closing.{closed_names, closed_kinds, closed_literals, open_verdict}
+use Rattle.named.specs.Named.{Values, named_matrix, named_meaning}
+use Rattle.named.specs.Names.{Distinct, Known}
+use Rattle.named.specs.Closing.{closed_names, closed_kinds, closed_literals}
 use Rattle.named.specs.ClosingRight.{ClosingRight}
 use Rattle.named.proofs.Positions.{positions_right, known_clauses}
 use Rattle.named.proofs.Closing.{existentials, Looks, matrix_alike, opened, closed}

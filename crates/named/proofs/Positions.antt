@@ -1,17 +1,17 @@
 -- The formula by positions has the meaning of the formula by names. Assumes nothing.
-use Prim.Native.Nat.{ℕ, zero, suc, ◌+◌, ◌-◌}
+use Prim.Native.Nat.{ℕ, zero, suc, ◌+◌}
 use native.Mathlib.Omega.{arith}
 use mathlib.Core.Path.{◌≡◌, refl, sym, ap, ap₂, ◌∙◌}
-use mathlib.Core.Bool.{Bool, true, false, cond, not, ◌&&◌, ◌||◌}
+use mathlib.Core.Bool.{Bool, true, false, not, ◌&&◌, ◌||◌}
 use mathlib.Core.List.{List, [], ◌∷◌, map}
-use mathlib.Core.Logic.{◌⊎◌, inl, inr}
-use borrow.Author.Tests.{eq-eqb, ne_eqb, eqb-true, eqb-false}
+use mathlib.Core.Logic.{inl, inr}
+use borrow.Author.Tests.{ne_eqb, eqb-true, eqb-false}
 use lib.Dec.{eqb}
 use lib.IntN.{ℤ, pos, negsuc, neg_ℤ}
 use lib.ListN.{length, get_or}
 use Rattle.formula.specs.Formula.{Kind, existential, universal, Clause, clauses, onto, with_entry}
 use Rattle.formula.specs.Meaning.{literal, clause, matrix, after, meaning}
-use Rattle.named.specs.Named.{Values, with_value, by_name, named_clause, named_matrix, quantify, named_meaning, place_from, position, signed, placed}
+use Rattle.named.specs.Named.{Values, with_value, named_clause, named_matrix, named_meaning, place_from, position, placed}
 use Rattle.named.specs.Names.{In, Distinct, InAll, AllIn, Known}
 
 -- The values of the names that a list of values gives, over those of g.

@@ -1,6 +1,8 @@
 // Formulas by their names, as a text has them: their meaning, and the positions that a reader gives to names (specs/Named.antt); names that
 // no block binds, and the formula closed by them (specs/Closing.antt). The code has the limits of names and the literal of a name alone; `text`
 // is proved to read by these definitions.
+#![tactic(auto)]
+
 ghost use Rattle.std.specs.Prelude.{◌≡◌};
 ghost use Rattle.named.specs.Named.{signed as with_sign};
 

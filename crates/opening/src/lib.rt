@@ -1,5 +1,7 @@
 // The opening dispatch in bytes (02, C-11): the length of the prefix's first block, and the first bits of a row.
 // Both functions are total. From which table the row comes, and when, is left to `run`.
+#![tactic(auto)]
+
 ghost use Rattle.std.specs.Prelude.{◌≡◌};
 ghost use Rattle.opening.specs.Start.{equal_from_start, first_bits};
 

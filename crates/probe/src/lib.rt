@@ -1,6 +1,8 @@
 // The public functions of the engine below the program, exported with numbers for their answers, so that tests can lend tables of any size
 // and content. Each promises what the function that it calls promises. Of a row that is handed back the length and each byte are told, since
 // an exported function returns no reference.
+#![tactic(auto)]
+
 pub mod outlook;
 pub mod restrictions;
 pub mod study_runs;

@@ -2,6 +2,8 @@
 // the next unknown, so that the claim stays borne out. `next_move` promises, for all that is lent, what the definition gives (specs/Next.antt); that a game
 // in which its values are followed ends with the claim, whatever the other side chooses, is stated in specs/NextRight.antt.
 // The judge is asked over the rows that still fit, on the formula with the moves set; no new run is made, and the rows never grow.
+#![tactic(auto)]
+
 ghost use Rattle.std.specs.Prelude.{◌≡◌, false, cond, [], ◌∷◌, ◌++◌, ◌+◌, ◌≤◌, ◌<◌, length, take, replicate};
 ghost use Rattle.formula.specs.Formula.{kind_of, prefix, max_unknowns, work_size};
 ghost use Rattle.rows.specs.Table.{row_at, room};

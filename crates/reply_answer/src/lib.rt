@@ -1,6 +1,8 @@
 // The reply over a text, a witness file and moves, as a line. `print` promises, for every text, file and moves, the bytes that the definition gives
 // (specs/Answer.antt). Reading belongs to `text` and `witness`, the reply to `reply`; here what one returns is handed to the next. The sizes in the file
 // are not compared with the formula's: each reply is judged on the formula that is read.
+#![tactic(auto)]
+
 ghost use Rattle.std.specs.Prelude.{◌≡◌, false};
 ghost use Rattle.report.specs.Report.{put, put_count};
 ghost use Rattle.text.specs.Reading.{read_as};

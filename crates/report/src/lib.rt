@@ -2,6 +2,8 @@
 // for a season's page. Each writer promises, for all
 // numbers and buffers, the definition's bytes at the start of the buffer, the bytes past them as found, and how many were written; a
 // buffer that is too short is left as found.
+#![tactic(auto)]
+
 ghost use Rattle.std.specs.Prelude.{◌≡◌, ◌++◌, ◌+◌, ◌≤◌, length, take, drop};
 ghost use Rattle.report.specs.Report.{ascii, decimal, truth as Report·truth, line_one, line_two, result_lines, pair_line, refusal_line, put, put_count};
 ghost use Rattle.report.specs.Studied.{setting_line, study_lines};

@@ -2,6 +2,8 @@
 // `set_first` promises, for all that is lent, the answer and every entry of the output table that the definition gives; the theorems on such formulas
 // (`case_rules`) hold of what is written, so its verdict is what the lent formula means with these values. Its kinds are those behind the first
 // ones, a part of the lent table, so no kinds are written.
+#![tactic(auto)]
+
 ghost use Rattle.std.specs.Prelude.{◌≡◌, Bool, ◌++◌, ℕ, ◌+◌, ◌-◌, ◌≤◌, ◌<◌, pos, nat_abs, length, get_or, drop};
 ghost use Rattle.formula.specs.Formula.{max_unknowns};
 ghost use Rattle.formula.specs.Causes.{any, other_kind};

@@ -1,6 +1,8 @@
 // The table of cells in the work area, a cell for each row and position (specs/Cells.antt), and the steps over whole parts of it.
 // Every public function is total: its contract gives every lent byte for whatever is lent, and nothing is changed unless the sizes are
 // right. What the cells mean, and the cells one by one, are left to `search`.
+#![tactic(auto)]
+
 ghost use Rattle.std.specs.Prelude.{◌≡◌, cond, ◌+◌, ◌≤◌, ◌<◌, length};
 ghost use Rattle.formula.specs.Formula.{max_unknowns, max_rows, work_size};
 ghost use Rattle.rows.specs.Row.{weight, bytes_of};

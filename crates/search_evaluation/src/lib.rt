@@ -1,6 +1,8 @@
 // What clauses and literals are worth in one row of the table of cells: which are false, unit, satisfied or true.
 // Every public function is total: it gives a fixed answer if the area is no table or has no such row, and a defined one for any codes.
 // Nothing is changed. What follows from the answers is left to the search.
+#![tactic(auto)]
+
 ghost use Rattle.std.specs.Prelude.{◌≡◌, ◌<◌, false, length, drop};
 ghost use Rattle.formula.specs.Formula.{max_unknowns, max_rows, work_size};
 ghost use Rattle.codes.specs.Codes.{row_position};

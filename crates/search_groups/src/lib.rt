@@ -2,6 +2,8 @@
 // values, at least the number of unknowns if there is none. Nothing is written.
 // Every public function is total: asked about what is not in its tables, it answers what the definition says. Who sorts the rows and what
 // their values are is left to others.
+#![tactic(auto)]
+
 ghost use Rattle.std.specs.Prelude.{◌≡◌, ◌<◌, length};
 ghost use Rattle.formula.specs.Formula.{max_unknowns, max_rows, work_size};
 ghost use Rattle.search_groups.specs.Groups.{copy_start, copy_end, agreement_of, is_repeated, split_row, split_position, is_open, open_position};

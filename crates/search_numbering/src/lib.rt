@@ -2,6 +2,8 @@
 // written into the table of cells (crate `search_cells`) for each sorted row that has it. `fill` is total: its contract gives every byte of the
 // table for whatever is lent. How the rows were sorted is left to the caller.
 // A position costs a pass over the sorted rows, one over the lent rows and one over the cells written.
+#![tactic(auto)]
+
 ghost use Rattle.std.specs.Prelude.{◌≡◌, ℕ, ◌+◌, ◌*◌, ◌≤◌, ◌<◌, eqb, length, get_or};
 ghost use Rattle.formula.specs.Formula.{max_unknowns, max_rows, work_size};
 ghost use Rattle.preference.specs.Preference.{prefer};

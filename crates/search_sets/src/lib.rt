@@ -2,6 +2,8 @@
 // Every public function is total: its contract gives the table at exit, or the answer, for whatever is lent. A table has `WORDS` words, and
 // sets at the places below `PLACES`; elsewhere nothing is changed and nothing is had. What the sets stand for is left to others, and so are
 // the words behind them.
+#![tactic(auto)]
+
 ghost use Rattle.std.specs.Prelude.{◌≡◌, ◌-◌, ◌<◌, length};
 ghost use Rattle.formula.specs.Formula.{max_unknowns};
 ghost use Rattle.search_sets.specs.Sets.{set_places, sets_size, has_place, numbers_fit, words_put, words_joined, words_met, set_joined, bit_added, bit_at};

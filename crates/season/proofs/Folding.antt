@@ -71,6 +71,10 @@ pub record Led (t u : Tally) (ss : List Study) : Type 0 where
   pub most_is : u.most ≡ max t.most (most ss)
   pub first_is : u.first ≡ cond (ltb t.most (most ss)) (t.studies + first_with (most ss) ss) t.first
 
+-- the first study with the most rounds, where a later one has more than the study at the front
+first_later : (s : Study) (ss : List Study) → s.rounds < most ss → first_with (most (s ∷ ss)) (s ∷ ss) ≡ suc (first_with (most ss) ss)
+first_later s ss h = ap (λ (r : ℕ). first_with r (s ∷ ss)) (max_right s.rounds (most ss) (omega arith)) ∙ rw (ne_eqb s.rounds (most ss) (λ q. omega arith))
+
 module _ (t : Tally) (s : Study) (ss : List Study) (u : Tally) where
   -- the study s leads
   ahead : t.most < s.rounds → (v : Tally) → v.most ≡ s.rounds → v.first ≡ t.studies + 1 → v.studies ≡ t.studies + 1 → Led v u ss → Led t u (s ∷ ss)
@@ -82,12 +86,11 @@ module _ (t : Tally) (s : Study) (ss : List Study) (u : Tally) where
           record {
             most_is = l.most_is ∙ rw (em, max_right s.rounds (most ss) (omega arith), max_right t.most (most ss) (omega arith));
             first_is = l.first_is ∙ rw (
+              first_later s ss lt,
               em,
               e,
               max_right s.rounds (most ss) (omega arith),
               lt-ltb t.most (most ss) (omega arith),
-              ne_eqb s.rounds
-                  (most ss) (λ q. omega arith),
             ) (omega arith);
           }
       elim' false e =
@@ -107,12 +110,11 @@ module _ (t : Tally) (s : Study) (ss : List Study) (u : Tally) where
           record {
             most_is = l.most_is ∙ rw (em, max_right s.rounds (most ss) (omega arith));
             first_is = l.first_is ∙ rw (
+              first_later s ss (omega arith),
               em,
               e,
               max_right s.rounds (most ss) (omega arith),
               lt-ltb t.most (most ss) lt,
-              ne_eqb s.rounds (most ss)
-                  (λ q. omega arith),
             ) (omega arith);
           }
       elim' false e =
@@ -166,7 +168,7 @@ first_of s ss = cases (ltb s.rounds (most ss)) refl
     cases : (b : Bool) → ltb s.rounds (most ss) ≡ b → cond b (1 + first_with (most ss) ss) 1 ≡ first_with (max s.rounds (most ss)) (s ∷ ss)
     cases true e =
         let lt : s.rounds < most ss = ltb-true _ _ e in
-        rw (max_right s.rounds (most ss) (omega arith), ne_eqb s.rounds (most ss) (λ q. omega arith)) (omega arith)
+        omega (arith, first_later s ss lt)
     cases false e = rw (max_left s.rounds (most ss) (ltb-false _ _ e), eq-eqb s.rounds s.rounds refl)
 
 fold_first : (ss : List Study) → length ss ≤ max_studies → (fold fresh ss).first ≡ first_with (most ss) ss

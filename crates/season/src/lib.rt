@@ -2,6 +2,8 @@
 // total and say what comes out for every input.
 // `summarize` is thin: it takes each record apart and hands its three numbers to `tally`. Bytes as lines and words as numbers are left to
 // `lines`, the printed lines to `report`.
+#![tactic(auto)]
+
 ghost use Rattle.std.specs.Prelude.{◌≡◌, ◌≤◌, take};
 ghost use Rattle.report.specs.Report.{put, put_count};
 ghost use Rattle.season.specs.Season.{max_studies, summary, Summarized};
@@ -57,7 +59,7 @@ pub fn summarize(studies: &[Study]) -> Summary
     let mut t = tally::start();
     let mut i = 0; // the place of the next record
     while i < studies.len() {
-        let s = studies[i];
+        let s = &studies[i];
         t = tally::add(t, s.answer, s.rounds, s.fee);
         i += 1;
     }

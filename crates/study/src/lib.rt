@@ -3,6 +3,8 @@
 // `study` promises, for all that is lent, the outcome, the setting that gave it and every lent byte that the definition (specs/Study.antt) gives, that
 // its answer is the verdict whatever the settings, and all that is promised of the last run (specs/StudyRight.antt).
 // The run belongs to `run`, trimming to `trimming`. A study costs its runs, and if a setting trims one trimming and one test of the formula more.
+#![tactic(auto)]
+
 ghost use Rattle.std.specs.Prelude.{◌*◌, ◌/◌, ◌≤◌, ◌<◌, ◌≡◌, ◌||◌, cond, ◌∷◌, [], eqb, length, take};
 ghost use Rattle.formula.specs.Causes.{any};
 ghost use Rattle.trimming.specs.Outcome.{outcome, output_after, used};

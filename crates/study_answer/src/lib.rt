@@ -2,6 +2,8 @@
 // `answer` and `answer_gates` promise, for every text and buffer, the bytes that the definition (specs/Printed.antt) gives, and what they say of the
 // formula or of the circuit (specs/AnswerRight.antt); `decide`, for every formula and work area, the study by the house list (specs/House.antt).
 // Reading belongs to `text`, the runs to `study`, the lines to `report`; here what one returns is handed to the next.
+#![tactic(auto)]
+
 ghost use Rattle.std.specs.Prelude.{◌≡◌, true, false};
 ghost use Rattle.formula.specs.Causes.{checked, sizes};
 ghost use Rattle.formula.specs.declared.Check.TheVariants.{Accepted};

@@ -3,6 +3,8 @@
 // `certify` promises, for every text, buffers and work area, the bytes that the definition (specs/StudyCertificate.antt) gives; that the file is accepted is
 // stated in specs/StudyCertificateRight.antt.
 // Reading belongs to `text`, the runs to `study`, the file to `witness`, lines to `report`; here what one returns is handed to the next.
+#![tactic(auto)]
+
 ghost use Rattle.std.specs.Prelude.{◌≤◌, ◌<◌, ◌≡◌, true, false, length};
 ghost use Rattle.formula.specs.Formula.{max_unknowns, max_clauses, work_size};
 ghost use Rattle.formula.specs.Causes.{checked, sizes};

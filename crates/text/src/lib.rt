@@ -3,6 +3,8 @@
 // nowhere are existential in front of everything, `read_gates` that the verdict of what it writes is the circuit's value under the prefix.
 // They are one reader, `read_as`, which is told the form of the text; `read_form` is it over the front of a buffer, and finds the form out by the p line
 // if it is to. What a formula means is left to others.
+#![tactic(auto)]
+
 ghost use Rattle.std.specs.Prelude.{length, ◌≡◌};
 ghost use Rattle.text.specs.Reading.{read as definition, read_gates as gates_definition, scan, result_of, ReadSo, text_causes, gates_causes};
 ghost use Rattle.text.specs.Offered.{offered};

@@ -1,6 +1,8 @@
 // The clauses of a gate line, and of a gate list's O, put into a table of entries by name. Every public function is total: its contract gives the
 // cause, the counts and every lent entry for whatever is lent. Which line is read, where names are bound, and what a gate list means is left to
 // `text` and `named`; the clauses of one gate are put by `gates`.
+#![tactic(auto)]
+
 ghost use Rattle.std.specs.Prelude.{◌≡◌, true, cond, [], ◌∷◌, ℕ, ◌+◌, ◌≤◌, ◌<◌, ltb, pos, nat_abs, length, get_or, set};
 ghost use Rattle.formula.specs.Formula.{max_clauses};
 ghost use Rattle.lines.specs.Shapes.{is_gate};

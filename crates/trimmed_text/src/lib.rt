@@ -2,6 +2,8 @@
 // `trim_text` promises, for every text and buffers, the bytes that the definition (specs/TrimmedText.antt) gives; that they are read as the trimmed
 // formula, which has the text's verdict, is stated in specs/TrimmedTextRight.antt.
 // Reading belongs to `text`, trimming to `trimming`, writing to `writer`, the refusal's line to `report`; here what one returns is handed to the next.
+#![tactic(auto)]
+
 ghost use Rattle.std.specs.Prelude.{◌≤◌, ◌≡◌, length, take};
 ghost use Rattle.formula.specs.Causes.{checked, number};
 ghost use Rattle.report.specs.Report.{put, put_count};

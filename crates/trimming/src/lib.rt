@@ -3,6 +3,8 @@
 // the theorems on trimming hold (`trimming_rules`). It makes the changes in rounds, which come to the same as one at a time: always-true clauses
 // are dropped once; then in each round every clause is reduced and one literal is made true, at most once an unknown.
 // What one clause tells and loses belongs to `trimming_marks`.
+#![tactic(auto)]
+
 ghost use Rattle.std.specs.Prelude.{◌≡◌, ℕ, zero, ◌+◌, ◌≤◌, ◌<◌, List, [], ◌∷◌, ◌++◌, map, length, take, drop, replicate, true, false, not, cond, eqb, ltb, get_or, set, ◌-◌, ◌/◌};
 ghost use Rattle.formula.specs.Formula.{max_unknowns, max_entries, prefix, Clause};
 ghost use Rattle.formula.specs.Private.Accepted.{Accepted as AcceptedFormula};

@@ -2,6 +2,8 @@
 // `read`, `rows` and `write` promise, for every input, the outcome and every byte that the definition (specs/File.antt) gives; that an accepted
 // file is what the writer makes of it, and that what is written is read again, is stated in specs/RoundTrip.antt. Whether rows bear a claim out is
 // the judge's to say. Reading and writing are one pass.
+#![tactic(auto)]
+
 ghost use Rattle.std.specs.Prelude.{◌≡◌, true, ◌||◌, [], ◌∷◌, ◌+◌, ◌*◌, ◌/◌, ◌%◌, ◌^◌, ◌≤◌, ◌<◌, eqb, length, get_or, take, drop};
 ghost use Rattle.witness.specs.File.{stands as bit_stands, part, if_stands, two_bytes, word, rows_field, end_of, record_of, bad_claim, bad_count};
 ghost use Rattle.witness.specs.File.{bad_counts, content_cause, file_cause, size, over_lent, write_cause, reading, reading_number, record_read};

@@ -1,6 +1,8 @@
 // The witness file of a decision: the rows of the side that settled a formula, written as a file that the judge accepts.
 // `write` promises, for all that is lent, the bytes that the definition (specs/WitnessFile.antt) gives; that the judge accepts them, for any list of
 // settings none of which trims, is stated in specs/WitnessRight.antt. Reading and deciding belong to `decision`, the file's format to `witness`.
+#![tactic(auto)]
+
 ghost use Rattle.std.specs.Prelude.{◌≡◌, ◌<◌};
 ghost use Rattle.report.specs.Report.{put, put_count};
 ghost use Rattle.witness_writing.specs.WitnessFile.{side_record, record_file, file_of, numbers_fit, decision_file};

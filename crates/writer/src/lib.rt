@@ -1,6 +1,8 @@
 // Writes the text of a formula, in the format that `text` reads.
 // `write` promises, for all that is lent, the bytes that the definition gives (specs/Output.antt, over that of `writing`), put at the start of the
 // buffer if they fit; and that they are read as the formula (`writing`'s theorem).
+#![tactic(auto)]
+
 ghost use Rattle.std.specs.Prelude.{◌+◌, ◌≤◌, ◌≡◌, ◌++◌, length};
 ghost use Rattle.formula.specs.Causes.{zeros};
 ghost use Rattle.formula.specs.Private.Accepted.{Accepted as AcceptedFormula};

@@ -15,8 +15,10 @@ overflow_sub-existentials c =
 pub returns-then-cause-ne0 : goal.returns-then-cause-ne0
 returns-then-cause-ne0 c =
     let args = c.args in
-    let g = (given args.kinds.now args.literals.now args.universal_rows.now args.universal args.existential_rows.now args.existential) in record { proved = tables_refused g c.in-Accepted.formula (sym c.check.ensures.value ∙ c.in-Accepted.is)
-    c.table_cause-cause.result c.table_cause-cause.ensures c.if-cause-ne0.true }
+    let g = (given args.kinds.now args.literals.now args.universal_rows.now args.universal args.existential_rows.now args.existential) in record {
+      proved = tables_refused g c.in-Accepted.formula (sym c.check.ensures.value ∙ c.in-Accepted.is)
+          c.table_cause-cause.result c.table_cause-cause.ensures c.if-cause-ne0.true;
+    }
 
 pub copies-requires : goal.copies-requires
 copies-requires c =
@@ -49,13 +51,17 @@ overflow_sub-result c =
 
 pub returns-in-Refused : goal.returns-in-Refused
 returns-in-Refused c =
-    let args = c.args in record { proved = formula_refused (given args.kinds.now args.literals.now args.universal_rows.now args.universal args.existential_rows.now
-    args.existential) c.in-Refused.cause (sym c.check.ensures.value ∙ c.in-Refused.is) }
+    let args = c.args in record {
+      proved = formula_refused (given args.kinds.now args.literals.now args.universal_rows.now args.universal args.existential_rows.now
+          args.existential) c.in-Refused.cause (sym c.check.ensures.value ∙ c.in-Refused.is);
+    }
 
 pub returns-else-cause-ne0 : goal.returns-else-cause-ne0
 unfolding fits
 returns-else-cause-ne0 c =
     let table_cause_call = c.table_cause-cause in
     let args = c.args in
-    let g = (given args.kinds.now args.literals.now args.universal_rows.now args.universal args.existential_rows.now args.existential) in record { proved = answered g c.in-Accepted.formula (sym c.check.ensures.value ∙ c.in-Accepted.is) table_cause_call.result table_cause_call.ensures
-    c.if-cause-ne0.false c.copies.result c.copies-in-Accepted.result _ c.copies.ensures c.copies-in-Accepted.ensures refl }
+    let g = (given args.kinds.now args.literals.now args.universal_rows.now args.universal args.existential_rows.now args.existential) in record {
+      proved = answered g c.in-Accepted.formula (sym c.check.ensures.value ∙ c.in-Accepted.is) table_cause_call.result table_cause_call.ensures
+          c.if-cause-ne0.false c.copies.result c.copies-in-Accepted.result _ c.copies.ensures c.copies-in-Accepted.ensures refl;
+    }

@@ -3,7 +3,6 @@ use native.Mathlib.Omega.{arith}
 use mathlib.Core.Path.{◌∙◌}
 use lib.IntN.{pos}
 use lib.ListN.{get_or}
-use borrow.Author.Rules.{rules}
 use Rattle.gates.specs.Private.Steps.{parity_entries}
 use Rattle.gates.proofs.EntryLaws.{small_bits, small_at, length_four, none_of_four, four_inputs}
 use Rattle.gates.proofs.SetLaws.{put_whole, put_short, put_none}

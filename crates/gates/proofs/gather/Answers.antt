@@ -7,7 +7,6 @@ use lib.IntN.{ℤ}
 use lib.ListN.{length}
 use lib.Seq.{sets}
 use mir.Facts.{to_z-of_z}
-use borrow.Author.Rules.{rules}
 use Rattle.gates.specs.Private.Steps.{pair_entries, long_entries, gathered_entries}
 use Rattle.gates.proofs.EntryLaws.{length_gathered, gathered_put}
 use Rattle.gates.proofs.SetLaws.{put_whole, put_short}

@@ -1,7 +1,6 @@
 -- `gates::put` meets its contract. Assumes nothing.
 use mathlib.Core.Path.{sym, ap, ◌∙◌}
 use lib.ListN.{length}
-use borrow.Author.Rules.{rules}
 use Rattle.formula.proofs.Opposite.{nat_abs_other}
 use Rattle.gates.specs.Put.{place_behind, laid}
 use Rattle.gates.proofs.EntryLaws.{small_bits, opposite_small}

@@ -1,5 +1,4 @@
 -- `gates::put_four` meets its contract. Assumes nothing.
-use borrow.Author.Rules.{rules}
 use Rattle.gates.proofs.EntryLaws.{opposite_small, four_put}
 use Rattle.gates.proofs.put_four.Goals as goal
 

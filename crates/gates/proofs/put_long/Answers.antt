@@ -1,16 +1,13 @@
 -- `gates::put_long` meets its contract. The loop's invariant: what the inputs left would add makes the whole. Assumes nothing.
-use Prim.Native.Nat.{◌≤◌, ◌-◌, ◌+◌}
 use native.Mathlib.Omega.{arith}
-use mathlib.Core.Path.{◌≡◌, refl, sym, ap, ◌∙◌}
-use mathlib.Core.List.{[], ◌∷◌, ◌++◌, map}
-use borrow.Author.Rules.{rules}
+use mathlib.Core.Path.{refl, sym, ap, ◌∙◌}
 use lib.IntN.{ℤ, pos}
-use lib.ListN.{length, get_or, drop, length-set}
+use lib.ListN.{get_or, length-set}
 use lib.Seq.{sets}
 use mir.Facts.{to_z-of_z}
 use mir.Syntax.{w32}
 use mir.Val.{to_z, of_z}
-use Rattle.gates.specs.Private.Steps.{turn, long_entries}
+use Rattle.gates.specs.Private.Steps.{long_entries}
 use Rattle.gates.proofs.EntryLaws.{small_at, small_bits, stored, long_first, long_more, long_done}
 use Rattle.gates.proofs.put_long.Goals as goal
 

@@ -1,10 +1,8 @@
 -- `gates::put_pairs` meets its contract. The loop's invariant: what the inputs left would add makes the whole. Assumes nothing.
-use Prim.Native.Nat.{◌≤◌, ◌-◌, ◌+◌, ◌*◌}
 use native.Mathlib.Omega.{arith}
-use mathlib.Core.Path.{◌≡◌, refl, sym, ap, ◌∙◌}
-use borrow.Author.Rules.{rules}
+use mathlib.Core.Path.{refl, sym, ap, ◌∙◌}
 use lib.IntN.{ℤ, pos}
-use lib.ListN.{length, get_or, drop, length-set}
+use lib.ListN.{get_or, length-set}
 use lib.Seq.{sets}
 use mir.Facts.{to_z-of_z}
 use mir.Syntax.{w32}

@@ -1,15 +1,8 @@
 -- `gates::put_pairs` meets its contract. The loop's invariant: what the inputs left would add makes the whole. Assumes nothing.
 use Prim.Native.Nat.{◌≤◌, ◌-◌, ◌+◌, ◌*◌}
-use native.Mathlib.Omega.{arith}
-use mathlib.Core.Path.{◌≡◌, refl, sym, ap, ◌∙◌}
-use borrow.Author.Rules.{rules}
-use lib.IntN.{ℤ, pos}
-use lib.ListN.{length, get_or, drop, length-set}
+use mathlib.Core.Path.{◌≡◌}
+use lib.ListN.{length, drop}
 use lib.Seq.{sets}
-use mir.Facts.{to_z-of_z}
-use mir.Syntax.{w32}
-use mir.Val.{to_z, of_z}
-use Rattle.gates.proofs.EntryLaws.{small_at, small_bits, stored, pairs_more, pairs_done}
 use Rattle.gates.specs.Private.Steps.{pair_entries}
 use Rattle.gates.proofs.put_pairs.Given as goal
 

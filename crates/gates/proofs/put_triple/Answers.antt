@@ -3,7 +3,6 @@ use native.Mathlib.Omega.{arith}
 use lib.ListN.{length-set}
 use lib.IntN.{pos}
 use mir.Facts.{to_z-of_z}
-use borrow.Author.Rules.{rules}
 use Rattle.gates.proofs.SetLaws.{set_four}
 use Rattle.gates.proofs.put_triple.Goals as goal
 

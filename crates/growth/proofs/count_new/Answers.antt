@@ -29,17 +29,20 @@ loop-j-preserved c =
     let given = c.args in
     let f : ℕ → Bool = λ q. is_new given.rows.now given.count given.yielded.now q in
     let counted = loop.invariant.0 in
-    elim c.if-is_new.branch [ then-is_new w ↦ (
-      w.new-is ∙ ap (λ (n : ℕ). n + 1) counted ∙ sym (count_below_next j f true (sym c.is_new.ensures ∙ w.if-is_new.true)),
-      omega (arith, w.new-is),
-      omega
-          arith,
-    ) | else-is_new w ↦ (
-      w.new-is ∙ counted ∙ sym (add-zero (count_below j f)) ∙ sym (count_below_next j f false (sym c.is_new.ensures ∙ w.if-is_new.false)),
-      omega
-          (arith, w.new-is),
-      omega arith,
-    ) ]
+    elim c.if-is_new.branch [
+      | then-is_new w ↦ (
+        w.new-is ∙ ap (λ (n : ℕ). n + 1) counted ∙ sym (count_below_next j f true (sym c.is_new.ensures ∙ w.if-is_new.true)),
+        omega (arith, w.new-is),
+        omega
+            arith,
+      )
+      | else-is_new w ↦ (
+        w.new-is ∙ counted ∙ sym (add-zero (count_below j f)) ∙ sym (count_below_next j f false (sym c.is_new.ensures ∙ w.if-is_new.false)),
+        omega
+            (arith, w.new-is),
+        omega arith,
+      )
+    ]
 
 pub returns : goal.returns
 returns c =

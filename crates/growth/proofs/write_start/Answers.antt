@@ -30,16 +30,19 @@ loop-k-preserved c =
     let row = c.loop-k.row in
     let so_far = c.loop-k.invariant.0 in
     let long = c.loop-k.invariant.2 in
-    elim c.if-preference.branch [ then-preference w ↦ (
-      w.row-is ∙ w.set_bit.ensures ∙ ap (λ (r : List ℕ). bit_set r 0 k) so_far
-          ∙ sym (with_preferred_next f k (replicate 16 0) true (sym c.preference.ensures ∙ w.if-preference.true)),
-      omega arith,
-      ap length (w.row-is ∙ w.set_bit.ensures) ∙ length_bit_set row 0 k ∙ long,
-    ) | else-preference w ↦ (
-      w.row-is ∙ so_far ∙ sym (with_preferred_next f k (replicate 16 0) false (sym c.preference.ensures ∙ w.if-preference.false)),
-      omega arith,
-      ap length w.row-is ∙ long,
-    ) ]
+    elim c.if-preference.branch [
+      | then-preference w ↦ (
+        w.row-is ∙ w.set_bit.ensures ∙ ap (λ (r : List ℕ). bit_set r 0 k) so_far
+            ∙ sym (with_preferred_next f k (replicate 16 0) true (sym c.preference.ensures ∙ w.if-preference.true)),
+        omega arith,
+        ap length (w.row-is ∙ w.set_bit.ensures) ∙ length_bit_set row 0 k ∙ long,
+      )
+      | else-preference w ↦ (
+        w.row-is ∙ so_far ∙ sym (with_preferred_next f k (replicate 16 0) false (sym c.preference.ensures ∙ w.if-preference.false)),
+        omega arith,
+        ap length w.row-is ∙ long,
+      )
+    ]
 
 pub returns : goal.returns
 returns c =

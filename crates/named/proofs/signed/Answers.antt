@@ -5,7 +5,6 @@ use lib.IntN.{pos, neg_ℤ}
 use mir.Syntax.{w32}
 use mir.ValLaws.{to_z-of_z}
 use Rattle.named.proofs.Negation.{as_positive, as_negative, negative_fits}
-use borrow.Author.Rules.{rules}
 use Rattle.named.proofs.signed.Goals as goal
 
 pub overflow_sub-result : goal.overflow_sub-result

@@ -34,16 +34,19 @@ loop-k-preserved c =
     let row = loop.row in
     let so_far = loop.invariant.0 in
     let full = loop.invariant.2 in
-    elim c.if-bit.branch [ then-bit w ↦ (
-      w.row-is ∙ w.set_bit.ensures ∙ ap (λ (r : List ℕ). bit_set r 0 k) so_far
-          ∙ sym (with_preferred_next f k (replicate 16 0) true (sym c.bit.ensures ∙ w.if-bit.true)),
-      omega arith,
-      ap long (w.row-is ∙ w.set_bit.ensures) ∙ length_bit_set row 0 k ∙ full,
-    ) | else-bit w ↦ (
-      w.row-is ∙ so_far ∙ sym (with_preferred_next f k (replicate 16 0) false (sym c.bit.ensures ∙ w.if-bit.false)),
-      omega arith,
-      ap long w.row-is ∙ full,
-    ) ]
+    elim c.if-bit.branch [
+      | then-bit w ↦ (
+        w.row-is ∙ w.set_bit.ensures ∙ ap (λ (r : List ℕ). bit_set r 0 k) so_far
+            ∙ sym (with_preferred_next f k (replicate 16 0) true (sym c.bit.ensures ∙ w.if-bit.true)),
+        omega arith,
+        ap long (w.row-is ∙ w.set_bit.ensures) ∙ length_bit_set row 0 k ∙ full,
+      )
+      | else-bit w ↦ (
+        w.row-is ∙ so_far ∙ sym (with_preferred_next f k (replicate 16 0) false (sym c.bit.ensures ∙ w.if-bit.false)),
+        omega arith,
+        ap long w.row-is ∙ full,
+      )
+    ]
 
 pub returns : goal.returns
 returns c =

@@ -7,8 +7,8 @@ use Rattle.report.proofs.answers.Goals as goal
 pub returns : goal.returns
 unfolding answers_line
 returns c = record {
-      upper_bound = omega arith;
-      text_after = rw (
+  upper_bound = omega arith;
+  text_after = rw (
     c.append.ensures.out_after_2,
     c.field-e.ensures.text_after,
     c.field-d.ensures.text_after,
@@ -16,4 +16,4 @@ returns c = record {
     c.field-b.ensures.text_after,
     c.field-a.ensures.text_after,
   );
-    }
+}

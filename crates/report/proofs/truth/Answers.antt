@@ -6,15 +6,15 @@ use Rattle.report.proofs.truth.Goals as goal
 
 pub returns-then-answer-eq0 : goal.returns-then-answer-eq0
 returns-then-answer-eq0 c = record {
-      upper_bound = omega arith;
-      text_after = rw c.if-answer-eq0.true c.append.ensures.out_after_2;
-    }
+  upper_bound = omega arith;
+  text_after = rw c.if-answer-eq0.true c.append.ensures.out_after_2;
+}
 
 pub returns-then-answer-eq1 : goal.returns-then-answer-eq1
 returns-then-answer-eq1 c = record {
-      upper_bound = omega arith;
-      text_after = rw c.if-answer-eq1.true c.append-then-answer-eq1.ensures.out_after_2;
-    }
+  upper_bound = omega arith;
+  text_after = rw c.if-answer-eq1.true c.append-then-answer-eq1.ensures.out_after_2;
+}
 
 pub returns : goal.returns
 returns c =

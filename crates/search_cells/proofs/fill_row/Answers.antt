@@ -42,11 +42,14 @@ pub loop-k-preserved : goal.loop-k-preserved
 loop-k-preserved c =
     let given = c.args in
     let loop = c.loop-k in
-    elim c.if-kinds-k.branch [ then-kinds-k t ↦ let turn = turn_other given.kinds.now given.rows.now given.side given.row given.i loop.k loop.bit loop.work (omega arith)
-    loop.invariant.1 t.bit.result t.set.new.work t.if-kinds-k.true t.bit.ensures t.set.ensures in
-    (omega arith, t.bit-is ∙ turn.0, omega (arith, ap length t.work-is), rw t.work-is (loop.invariant.3 ∙ turn.1)) | else-kinds-k t ↦ let turn = turn_own given.kinds.now given.rows.now given.side given.row given.i loop.k loop.bit loop.work (omega arith)
-    loop.invariant.1 t.if-kinds-k.false in
-    (omega arith, t.bit-is ∙ turn.0, omega (arith, ap length t.work-is), rw t.work-is (loop.invariant.3 ∙ turn.1)) ]
+    elim c.if-kinds-k.branch [
+      | then-kinds-k t ↦ let turn = turn_other given.kinds.now given.rows.now given.side given.row given.i loop.k loop.bit loop.work (omega arith)
+          loop.invariant.1 t.bit.result t.set.new.work t.if-kinds-k.true t.bit.ensures t.set.ensures in
+          (omega arith, t.bit-is ∙ turn.0, omega (arith, ap length t.work-is), rw t.work-is (loop.invariant.3 ∙ turn.1))
+      | else-kinds-k t ↦ let turn = turn_own given.kinds.now given.rows.now given.side given.row given.i loop.k loop.bit loop.work (omega arith)
+          loop.invariant.1 t.if-kinds-k.false in
+          (omega arith, t.bit-is ∙ turn.0, omega (arith, ap length t.work-is), rw t.work-is (loop.invariant.3 ∙ turn.1))
+    ]
 
 pub shape_of-work : goal.shape_of-work
 shape_of-work c = omega arith

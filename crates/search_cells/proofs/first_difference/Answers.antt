@@ -48,8 +48,11 @@ loop-k-preserved c =
     let given = c.args in
     let loop = c.loop-k in
     let same : differ given.kinds.now given.side given.work.now given.i loop.k ≡ false =
-    elim c.if-kinds-k.branch [ then-kinds-k+else-value t ↦ differ_other given.kinds.now given.side given.work.now given.i loop.k t.value.result t.value-then-kinds-k.result t.if-kinds-k.true t.value.ensures
-    t.value-then-kinds-k.ensures ∙ t.if-value.false | else-kinds-k t ↦ differ_own given.kinds.now given.side given.work.now given.i loop.k t.if-kinds-k.false ] in (
+    elim c.if-kinds-k.branch [
+      | then-kinds-k+else-value t ↦ differ_other given.kinds.now given.side given.work.now given.i loop.k t.value.result t.value-then-kinds-k.result t.if-kinds-k.true t.value.ensures
+          t.value-then-kinds-k.ensures ∙ t.if-value.false
+      | else-kinds-k t ↦ differ_own given.kinds.now given.side given.work.now given.i loop.k t.if-kinds-k.false
+    ] in (
       omega arith,
       loop.invariant.1 ∙ first_from_step (differ given.kinds.now given.side given.work.now given.i) loop.k (length given.kinds.now)
           false (omega arith) same,

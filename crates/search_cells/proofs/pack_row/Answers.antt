@@ -62,9 +62,12 @@ pub loop-k-preserved : goal.loop-k-preserved
 loop-k-preserved c =
     let given = c.args in
     let loop = c.loop-k in
-    elim c.if-kinds-k.branch [ then-kinds-k t ↦ rw (t.work-is, t.bit-is) (row_packed_own given.kinds.now given.row given.i given.side (omega arith) loop.k loop.bit _ loop.work
-    loop.invariant (omega arith) (omega arith) t.if-kinds-k.true t.value-value.result t.value-value.ensures t.set_if.new.work t.set_if.ensures) | else-kinds-k t ↦ rw (t.work-is, t.bit-is) (row_packed_other given.kinds.now given.row given.i given.side (omega arith) loop.k loop.bit _ loop.work
-    loop.invariant (omega arith) t.if-kinds-k.false) ]
+    elim c.if-kinds-k.branch [
+      | then-kinds-k t ↦ rw (t.work-is, t.bit-is) (row_packed_own given.kinds.now given.row given.i given.side (omega arith) loop.k loop.bit _ loop.work
+          loop.invariant (omega arith) (omega arith) t.if-kinds-k.true t.value-value.result t.value-value.ensures t.set_if.new.work t.set_if.ensures)
+      | else-kinds-k t ↦ rw (t.work-is, t.bit-is) (row_packed_other given.kinds.now given.row given.i given.side (omega arith) loop.k loop.bit _ loop.work
+          loop.invariant (omega arith) t.if-kinds-k.false)
+    ]
 
 pub shape_of-work : goal.shape_of-work
 shape_of-work c =

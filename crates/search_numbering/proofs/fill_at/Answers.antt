@@ -7,9 +7,9 @@ use Rattle.search_numbering.proofs.fill_at.Goals as goal
 
 pub group-requires : goal.group-requires
 group-requires c = let p = c.requires in record {
-      count_le_max_rows = omega arith;
-      by_index = zeros_at max_rows;
-    }
+  count_le_max_rows = omega arith;
+  by_index = zeros_at max_rows;
+}
 
 pub number_copies-next-requires : goal.number_copies-next-requires
 number_copies-next-requires c =

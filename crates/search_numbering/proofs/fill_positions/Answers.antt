@@ -31,20 +31,23 @@ pub loop-k-preserved : goal.loop-k-preserved
 loop-k-preserved c =
     let a = c.args in
     let l = c.loop-k in
-    elim c.if-kinds-k.branch [ then-kinds-k t ↦ let turn = filled_own a.kinds.now a.preferences.now a.place.now a.differences.now a.side l.k l.number l.work (omega arith)
-    t.if-kinds-k.true in (
-      omega arith,
-      omega (arith, ap length t.work-is),
-      omega (
-        arith,
-        t.fill_at-number.ensures.value,
-        copies_at_most a.differences.now a.place.now l.k,
-        c.requires,
-      ),
-      rw (t.work-is, t.number-is, t.fill_at-number.ensures.value, t.fill_at-number.ensures.work_after) (sym turn ∙ l.invariant.3),
-    ) | else-kinds-k t ↦ let turn = filled_other a.kinds.now a.preferences.now a.place.now a.differences.now a.side l.k l.number l.work (omega arith)
-    t.if-kinds-k.false in
-    (omega arith, omega (arith, ap length t.work-is), omega arith, rw (t.work-is, t.number-is) (sym turn ∙ l.invariant.3)) ]
+    elim c.if-kinds-k.branch [
+      | then-kinds-k t ↦ let turn = filled_own a.kinds.now a.preferences.now a.place.now a.differences.now a.side l.k l.number l.work (omega arith)
+          t.if-kinds-k.true in (
+            omega arith,
+            omega (arith, ap length t.work-is),
+            omega (
+              arith,
+              t.fill_at-number.ensures.value,
+              copies_at_most a.differences.now a.place.now l.k,
+              c.requires,
+            ),
+            rw (t.work-is, t.number-is, t.fill_at-number.ensures.value, t.fill_at-number.ensures.work_after) (sym turn ∙ l.invariant.3),
+          )
+      | else-kinds-k t ↦ let turn = filled_other a.kinds.now a.preferences.now a.place.now a.differences.now a.side l.k l.number l.work (omega arith)
+          t.if-kinds-k.false in
+          (omega arith, omega (arith, ap length t.work-is), omega arith, rw (t.work-is, t.number-is) (sym turn ∙ l.invariant.3))
+    ]
 
 pub shape_of-work : goal.shape_of-work
 shape_of-work c = omega arith

@@ -65,19 +65,22 @@ loop-row-preserved c =
       c.shared_slice_known-in-loop-row-2-1.given
           wide_call.result,
     ) in
-    elim c.if-notes-start-eq0.branch [ then-notes-start-eq0 t ↦ (
-      omega arith,
-      ap length t.notes-is ∙ length-set l.notes wide2_call.result t.note_of.result ∙ l.invariant.1,
-      omega arith,
-      rw (t.notes-is, t.next-is) (numbered_new a.preferences.now a.first.now a.place.now a.number l.row l.next l.notes (omega arith) l.invariant.3
-          wide_call.result wide2_call.result wide_call.ensures wide2_call.ensures byte t.if-notes-start-eq0.true t.note_of.result t.note_of.ensures),
-    ) | else-notes-start-eq0 t ↦ (
-      omega arith,
-      ap length t.notes-is ∙ l.invariant.1,
-      omega arith,
-      rw (t.notes-is, t.next-is) (numbered_old a.preferences.now a.first.now a.place.now a.number l.row l.next l.notes (omega arith) l.invariant.3
-          wide_call.result wide2_call.result wide_call.ensures wide2_call.ensures t.if-notes-start-eq0.false),
-    ) ]
+    elim c.if-notes-start-eq0.branch [
+      | then-notes-start-eq0 t ↦ (
+        omega arith,
+        ap length t.notes-is ∙ length-set l.notes wide2_call.result t.note_of.result ∙ l.invariant.1,
+        omega arith,
+        rw (t.notes-is, t.next-is) (numbered_new a.preferences.now a.first.now a.place.now a.number l.row l.next l.notes (omega arith) l.invariant.3
+            wide_call.result wide2_call.result wide_call.ensures wide2_call.ensures byte t.if-notes-start-eq0.true t.note_of.result t.note_of.ensures),
+      )
+      | else-notes-start-eq0 t ↦ (
+        omega arith,
+        ap length t.notes-is ∙ l.invariant.1,
+        omega arith,
+        rw (t.notes-is, t.next-is) (numbered_old a.preferences.now a.first.now a.place.now a.number l.row l.next l.notes (omega arith) l.invariant.3
+            wide_call.result wide2_call.result wide_call.ensures wide2_call.ensures t.if-notes-start-eq0.false),
+      )
+    ]
 
 pub shape_of-notes : goal.shape_of-notes
 shape_of-notes c = omega arith

@@ -14,9 +14,9 @@ returns-then-o-ne0 c = record { written = refused_whole (c.read_opening-o.ensure
 
 pub read_lines-c-requires : goal.read_lines-c-requires
 read_lines-c-requires c = record {
-      kinds_len = (length-replicate {A = ℕ} max_unknowns 0, length-replicate {A = ℕ} max_unknowns 0, length-replicate {A = ℤ} max_entries (pos 0));
-      at_in_bounds = (c.read_opening-o.ensures.within c.if-o-ne0.false, c.read_opening-o.ensures.line c.if-o-ne0.false, c.read_opening-o.ensures.small c.if-o-ne0.false, c.read_opening-o.ensures.named c.if-o-ne0.false);
-    }
+  kinds_len = (length-replicate {A = ℕ} max_unknowns 0, length-replicate {A = ℕ} max_unknowns 0, length-replicate {A = ℤ} max_entries (pos 0));
+  at_in_bounds = (c.read_opening-o.ensures.within c.if-o-ne0.false, c.read_opening-o.ensures.line c.if-o-ne0.false, c.read_opening-o.ensures.small c.if-o-ne0.false, c.read_opening-o.ensures.named c.if-o-ne0.false);
+}
 
 pub returns-then-c-ne0 : goal.returns-then-c-ne0
 returns-then-c-ne0 c = record { written = refused_whole (c.read_opening-o.ensures.right c.if-o-ne0.false ∙ sym c.read_lines-c.ensures.right ∙ outcome_refused c.read_lines-c.result c.read_lines-c.new.kinds c.read_lines-c.new.names c.read_lines-c.new.literals (λ e. omega (arith, c.if-c-ne0.true))) }
@@ -40,7 +40,9 @@ returns c =
     let own_kinds = c.read_lines-c.new.kinds in
     let own_literals = c.read_lines-c.new.literals in
     let own_names = c.read_lines-c.new.names in
-    let e = c.read_opening-o.ensures.right c.if-o-ne0.false ∙ sym c.read_lines-c.ensures.right ∙ outcome_taken c.read_lines-c.result own_kinds own_names own_literals (omega (arith, c.if-c-ne0.false)) in record { written = rw e
-    (taken_whole c.read_lines-c.result own_kinds own_names own_literals c.read_lines-c.ensures.sized given.kinds.now given.literals.now given.names.now (z.0, z.1, z.2)
-    (scan_placeable given.gates given.text.now (length given.kinds.now) (length given.literals.now) (length given.names.now) c.read_lines-c.result own_kinds own_names own_literals e)
-    c.close.ensures) }
+    let e = c.read_opening-o.ensures.right c.if-o-ne0.false ∙ sym c.read_lines-c.ensures.right ∙ outcome_taken c.read_lines-c.result own_kinds own_names own_literals (omega (arith, c.if-c-ne0.false)) in record {
+      written = rw e
+          (taken_whole c.read_lines-c.result own_kinds own_names own_literals c.read_lines-c.ensures.sized given.kinds.now given.literals.now given.names.now (z.0, z.1, z.2)
+          (scan_placeable given.gates given.text.now (length given.kinds.now) (length given.literals.now) (length given.names.now) c.read_lines-c.result own_kinds own_names own_literals e)
+          c.close.ensures);
+    }

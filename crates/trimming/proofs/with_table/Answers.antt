@@ -8,6 +8,6 @@ over_table-requires c = let given = c.requires in (given.0, given.1, given.0.few
 
 pub returns : goal.returns
 returns c = let trimming = c.over_table in record {
-      value = trimming.ensures.value;
-      output_after = trimming.ensures.output_after;
-    }
+  value = trimming.ensures.value;
+  output_after = trimming.ensures.output_after;
+}

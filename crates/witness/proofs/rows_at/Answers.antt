@@ -27,6 +27,6 @@ returns-then-there c =
 
 pub returns : goal.returns
 returns c = record {
-      own = (refl, rw c.if-there.false (omega arith));
-      result_value = rw c.if-there.false;
-    }
+  own = (refl, rw c.if-there.false (omega arith));
+  result_value = rw c.if-there.false;
+}
