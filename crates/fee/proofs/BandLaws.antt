@@ -25,7 +25,7 @@ none_begun p r f fs [] h e = refl
 none_begun p r f [] (q ∷ qs) h e = rw (lt-leb f r h)
 none_begun p r f (g ∷ gs) (q ∷ qs) h e =
     let l : f < g = rise_here f g gs e in
-    rw (lt-leb f r h) (none_begun p r g gs qs (omega arith) (rise_later f g gs e))
+    ap (λ (b : Bool). last_price (cond b q p) (g ∷ gs) qs r) (lt-leb f r h) ∙ none_begun p r g gs qs (omega arith) (rise_later f g gs e)
 
 -- .. and no round up to r counts for them.
 none_counted : (r f : ℕ) (fs ps : List ℕ) → r < f → rises (f ∷ fs) ≡ true → by_bands r (f ∷ fs) ps ≡ 0
