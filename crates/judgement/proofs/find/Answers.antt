@@ -10,27 +10,20 @@ use Rattle.text.proofs.OfferedLaws.{of_whole}
 use Rattle.judgement.specs.declared.Finding.{Finding}
 use Rattle.judgement.specs.Finding.{finding_of, left_of, on_text, Finds}
 use Rattle.judgement.proofs.JudgementRight.{finding_right}
-use Rattle.judgement.proofs.find.Statement.{statement}
-use Rattle.judgement.proofs.find.Tie as tie
+use Rattle.judgement.proofs.find.Goals as goal
 
 -- A text that fills its buffer is the one that is offered.
 whole_found : (text file work : Bytes) {r : Finding} {after : Bytes} → Finds (on_text (form_read Clauses (offered text (length text))) file) work r after
     → Finds (on_text (form_read Clauses text) file) work r after
 whole_found text file work {r} {after} h = of_whole (λ (t : Bytes). Finds (on_text (form_read Clauses t) file) work r after) text h
 
-find-as-requires : tie.Need-find-as-requires
-find-as-requires c κs = search rules
-
-same_length : tie.Need-same-length
-same_length c = search rules
-
-returns : tie.Need-returns
+pub returns : goal.returns
 unfolding read finding_of left_of
 returns c =
-    let given = c.before.before.before.before.before.before.before.args in
+    let given = c.args in
     let text = given.text.now in
-    let found = whole_found text given.file.now given.work.now c.before.before.find-as.ensures in
-    (found.found, (found.area, finding_right text given.file.now given.work.now))
-
-pub find_spec : {M : Type 1} → statement M
-find_spec = tie.close (tie.spec find-as-requires same_length returns)
+    let found = whole_found text given.file.now given.work.now c.find_as.ensures in record {
+      found = found.found;
+      left = found.area;
+      proved = finding_right text given.file.now given.work.now;
+    }
