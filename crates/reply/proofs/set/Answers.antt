@@ -19,9 +19,9 @@ returns-in-Refused c =
     let given = c.args in
     let fine = c.requires in record {
       upper_bound = absurd
-    (set_not_refused given.kinds.now given.literals.now given.moves.now given.left.now fine.0 fine.1 fine.2 _
-    c.set_first.ensures.value c.in-Refused.is);
+          (set_not_refused given.kinds.now given.literals.now given.moves.now given.left.now fine.0 fine.1 fine.2 _
+          c.set_first.ensures.value c.in-Refused.is);
       left_after = absurd
-    (set_not_refused given.kinds.now given.literals.now given.moves.now given.left.now fine.0 fine.1 fine.2 _
-    c.set_first.ensures.value c.in-Refused.is);
+          (set_not_refused given.kinds.now given.literals.now given.moves.now given.left.now fine.0 fine.1 fine.2 _
+          c.set_first.ensures.value c.in-Refused.is);
     }

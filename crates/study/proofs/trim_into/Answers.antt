@@ -6,12 +6,12 @@ use Rattle.study.proofs.trim_into.Goals as goal
 
 pub returns-in-Entries : goal.returns-in-Entries
 returns-in-Entries c = record {
-      value = sym (ap used c.in-Entries.is) ∙ ap used c.trim.ensures.value;
-      table_after = c.trim.ensures.output_after;
-    }
+  value = sym (ap used c.in-Entries.is) ∙ ap used c.trim.ensures.value;
+  table_after = c.trim.ensures.output_after;
+}
 
 pub returns-in-Refused : goal.returns-in-Refused
 returns-in-Refused c = record {
-      value = sym (ap used c.in-Refused.is) ∙ ap used c.trim.ensures.value;
-      table_after = c.trim.ensures.output_after;
-    }
+  value = sym (ap used c.in-Refused.is) ∙ ap used c.trim.ensures.value;
+  table_after = c.trim.ensures.output_after;
+}

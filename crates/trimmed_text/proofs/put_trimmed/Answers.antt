@@ -15,6 +15,6 @@ slice_bounds-write-end c = sym (length-take-le _ _ c.trim-entries.ensures.upper_
 
 pub returns : goal.returns
 returns c = let so = left_output c.args.kinds.now c.args.literals.now c.args.names.now c.args.variables c.requires c.trim-entries.ensures.left_after in record {
-      value = c.write.ensures.counted ∙ ap (λ bytes. put_count bytes c.args.out.now) so;
-      out_after = c.write.ensures.written ∙ ap (λ bytes. put bytes c.args.out.now) so;
-    }
+  value = c.write.ensures.counted ∙ ap (λ bytes. put_count bytes c.args.out.now) so;
+  out_after = c.write.ensures.written ∙ ap (λ bytes. put bytes c.args.out.now) so;
+}

@@ -10,6 +10,6 @@ returns-in-Entries c =
 
 pub returns-in-Refused : goal.returns-in-Refused
 returns-in-Refused c = record {
-      upper_bound = absurd (never_refused c.args.kinds.now c.args.literals.now c.args.left.now c.requires.0 c.requires.1 c.trim.ensures.value c.trim.ensures.output_after c.in-Refused.field-0 c.in-Refused.is);
-      left_after = absurd (never_refused c.args.kinds.now c.args.literals.now c.args.left.now c.requires.0 c.requires.1 c.trim.ensures.value c.trim.ensures.output_after c.in-Refused.field-0 c.in-Refused.is);
-    }
+  upper_bound = absurd (never_refused c.args.kinds.now c.args.literals.now c.args.left.now c.requires.0 c.requires.1 c.trim.ensures.value c.trim.ensures.output_after c.in-Refused.field-0 c.in-Refused.is);
+  left_after = absurd (never_refused c.args.kinds.now c.args.literals.now c.args.left.now c.requires.0 c.requires.1 c.trim.ensures.value c.trim.ensures.output_after c.in-Refused.field-0 c.in-Refused.is);
+}

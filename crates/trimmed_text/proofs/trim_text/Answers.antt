@@ -44,13 +44,13 @@ put_trimmed-count-requires c = front_writable (offered c.args.input.now c.args.l
 pub returns-in-Refused : goal.returns-in-Refused
 unfolding read
 returns-in-Refused c = record {
-      delivered = refusal_delivered (offered c.args.input.now c.args.length) c.args.out.now c.args.lines.now (read_refused c.read_offered.ensures.written c.in-Refused.is) c.refusal-count.ensures.value c.refusal-count.ensures.out_after;
-      proved = trimmed_text_right (offered c.args.input.now c.args.length);
-    }
+  delivered = refusal_delivered (offered c.args.input.now c.args.length) c.args.out.now c.args.lines.now (read_refused c.read_offered.ensures.written c.in-Refused.is) c.refusal-count.ensures.value c.refusal-count.ensures.out_after;
+  proved = trimmed_text_right (offered c.args.input.now c.args.length);
+}
 
 pub returns-in-Taken : goal.returns-in-Taken
 unfolding read
 returns-in-Taken c = record {
-      delivered = text_delivered (offered c.args.input.now c.args.length) c.args.out.now c.args.lines.now (read_taken c.read_offered.ensures.written c.in-Taken.is).formula (read_taken c.read_offered.ensures.written c.in-Taken.is).whole (front_text (offered c.args.input.now c.args.length) (read_taken c.read_offered.ensures.written c.in-Taken.is) (names_read (read_taken c.read_offered.ensures.written c.in-Taken.is).formula (read_taken c.read_offered.ensures.written c.in-Taken.is).whole c.read_offered.ensures.written c.in-Taken.is)) c.put_trimmed-count.ensures.value c.put_trimmed-count.ensures.out_after;
-      proved = trimmed_text_right (offered c.args.input.now c.args.length);
-    }
+  delivered = text_delivered (offered c.args.input.now c.args.length) c.args.out.now c.args.lines.now (read_taken c.read_offered.ensures.written c.in-Taken.is).formula (read_taken c.read_offered.ensures.written c.in-Taken.is).whole (front_text (offered c.args.input.now c.args.length) (read_taken c.read_offered.ensures.written c.in-Taken.is) (names_read (read_taken c.read_offered.ensures.written c.in-Taken.is).formula (read_taken c.read_offered.ensures.written c.in-Taken.is).whole c.read_offered.ensures.written c.in-Taken.is)) c.put_trimmed-count.ensures.value c.put_trimmed-count.ensures.out_after;
+  proved = trimmed_text_right (offered c.args.input.now c.args.length);
+}
