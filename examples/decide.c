@@ -1,6 +1,6 @@
 /* Decides a formula from a file, or from standard input, and prints the verdict in words.
  *
- *     rt staticlib door
+ *     tests/library door
  *     gcc -O2 -Iinclude examples/decide.c target/staticlib/libdoor.a -o target/decide
  *     target/decide examples/published/d000-ex4.qdimacs
  *

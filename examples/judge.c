@@ -1,6 +1,6 @@
 /* Judges a witness file about a formula, and prints what is found in words; with --claim 0 or 1 the file is to be accepted with that value.
  *
- *     rt staticlib door
+ *     tests/library door
  *     gcc -O2 -Iinclude examples/judge.c target/staticlib/libdoor.a -o target/judge
  *     target/judge [--claim 1] examples/published/d000-ex4.qdimacs ex4.witness
  *

@@ -1,6 +1,6 @@
 /* Decides a formula from a file, or from standard input, by a study, and prints the verdict in words.
  *
- *     rt staticlib door
+ *     tests/library door
  *     gcc -O2 -Iinclude examples/study.c target/staticlib/libdoor.a -o target/study
  *     target/study examples/published/d000-ex4.qdimacs
  *

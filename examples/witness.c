@@ -1,6 +1,6 @@
 /* Writes the witness file of a formula.
  *
- *     rt staticlib door
+ *     tests/library door
  *     gcc -O2 -Iinclude examples/witness.c target/staticlib/libdoor.a -o target/witness
  *     target/witness examples/published/d000-ex4.qdimacs ex4.witness
  *

@@ -1,6 +1,6 @@
 /* Vulzhenn: decides a quantified Boolean formula in narrowed QDIMACS, writes the rows that bear the answer out, and judges such rows.
  *
- * Link with what `pkg-config --cflags --libs vulzhenn` says of an installed copy, or with target/staticlib/libdoor.a, which `rt staticlib door` proves and
+ * Link with what `pkg-config --cflags --libs vulzhenn` says of an installed copy, or with target/staticlib/libdoor.a, which `tests/library door` proves and
  * writes for x86-64 Linux. It uses memcpy, memmove and memset, and nothing else of the C library. What each function returns and leaves is defined in
  * crates/door/specs and proved for every input.
  */

@@ -78,8 +78,15 @@ pub extern "C" fn probe_run(
     opening: &mut Row,
     block: &mut usize,
 ) -> u64
-    ensures reported { Reported (returned (given kinds.now literals.now preferences.now (areas universal_rows.old universal_marks.old universal_counts.old existential_rows.old existential_marks.old existential_counts.old work.old) limit clear_every)) result round.new universal.new existential.new opening.new block.new }
-    ensures left { areas universal_rows.new universal_marks.new universal_counts.new existential_rows.new existential_marks.new existential_counts.new work.new ≡ run_left (given kinds.now literals.now preferences.now (areas universal_rows.old universal_marks.old universal_counts.old existential_rows.old existential_marks.old existential_counts.old work.old) limit clear_every) }
+    ensures reported { Reported (returned
+        (given kinds.now literals.now preferences.now
+        (areas universal_rows.old universal_marks.old universal_counts.old existential_rows.old existential_marks.old existential_counts.old
+        work.old) limit clear_every)) result round.new universal.new existential.new opening.new block.new }
+    ensures left { areas universal_rows.new universal_marks.new universal_counts.new existential_rows.new existential_marks.new
+        existential_counts.new work.new ≡ run_left
+        (given kinds.now literals.now preferences.now
+        (areas universal_rows.old universal_marks.old universal_counts.old existential_rows.old existential_marks.old existential_counts.old
+        work.old) limit clear_every) }
 {
     probe::probe_run(
         kinds,

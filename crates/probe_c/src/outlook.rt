@@ -15,8 +15,10 @@ pub extern "C" fn probe_forecast(
     over_existential: &mut usize,
 ) -> u64
     ensures value { result ≡ outlook_number (outcome (given kinds.now literals.now universal_rows.now universal existential_rows.now existential)) }
-    ensures over_universal_after { over_universal.new ≡ universal_copies (outcome (given kinds.now literals.now universal_rows.now universal existential_rows.now existential)) }
-    ensures over_existential_after { over_existential.new ≡ existential_copies (outcome (given kinds.now literals.now universal_rows.now universal existential_rows.now existential)) }
+    ensures over_universal_after { over_universal.new ≡ universal_copies
+        (outcome (given kinds.now literals.now universal_rows.now universal existential_rows.now existential)) }
+    ensures over_existential_after { over_existential.new ≡ existential_copies
+        (outcome (given kinds.now literals.now universal_rows.now universal existential_rows.now existential)) }
 {
     probe::outlook::probe_forecast(
         kinds,

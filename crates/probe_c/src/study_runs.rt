@@ -25,9 +25,16 @@ pub extern "C" fn probe_study(
     block: &mut usize,
     setting: &mut usize,
 ) -> u64
-    ensures reported { Reported (studied kinds.now literals.now settings.now (areas universal_rows.old universal_marks.old universal_counts.old existential_rows.old existential_marks.old existential_counts.old work.old)).result.outcome result round.new universal.new existential.new opening.new block.new }
-    ensures setting { setting.new ≡ (studied kinds.now literals.now settings.now (areas universal_rows.old universal_marks.old universal_counts.old existential_rows.old existential_marks.old existential_counts.old work.old)).result.setting }
-    ensures left { areas universal_rows.new universal_marks.new universal_counts.new existential_rows.new existential_marks.new existential_counts.new work.new ≡ (studied kinds.now literals.now settings.now (areas universal_rows.old universal_marks.old universal_counts.old existential_rows.old existential_marks.old existential_counts.old work.old)).areas_left }
+    ensures reported { Reported (studied kinds.now literals.now settings.now
+        (areas universal_rows.old universal_marks.old universal_counts.old existential_rows.old existential_marks.old existential_counts.old
+        work.old)).result.outcome result round.new universal.new existential.new opening.new block.new }
+    ensures setting { setting.new ≡ (studied kinds.now literals.now settings.now
+        (areas universal_rows.old universal_marks.old universal_counts.old existential_rows.old existential_marks.old existential_counts.old
+        work.old)).result.setting }
+    ensures left { areas universal_rows.new universal_marks.new universal_counts.new existential_rows.new existential_marks.new
+        existential_counts.new work.new ≡ (studied kinds.now literals.now settings.now
+        (areas universal_rows.old universal_marks.old universal_counts.old existential_rows.old existential_marks.old existential_counts.old
+        work.old)).areas_left }
 {
     probe::study_runs::probe_study(
         kinds,

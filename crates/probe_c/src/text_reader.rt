@@ -15,7 +15,8 @@ pub extern "C" fn probe_read_text(
     clauses: &mut usize,
     line: &mut usize,
 ) -> u64
-    ensures { TextRead (definition text.now (length kinds.old) (length literals.old) (length names.old)) result unknowns.new entries.new variables.new clauses.new line.new kinds.old literals.old names.old kinds.new literals.new names.new }
+    ensures { TextRead (definition text.now (length kinds.old) (length literals.old) (length names.old)) result unknowns.new entries.new
+        variables.new clauses.new line.new kinds.old literals.old names.old kinds.new literals.new names.new }
 {
     probe::text_reader::probe_read_text(
         text, kinds, literals, names, unknowns, entries, variables, clauses, line,
@@ -34,7 +35,8 @@ pub extern "C" fn probe_read_gates(
     clauses: &mut usize,
     line: &mut usize,
 ) -> u64
-    ensures { TextRead (gates_definition text.now (length kinds.old) (length literals.old) (length names.old)) result unknowns.new entries.new variables.new clauses.new line.new kinds.old literals.old names.old kinds.new literals.new names.new }
+    ensures { TextRead (gates_definition text.now (length kinds.old) (length literals.old) (length names.old)) result unknowns.new entries.new
+        variables.new clauses.new line.new kinds.old literals.old names.old kinds.new literals.new names.new }
 {
     probe::text_reader::probe_read_gates(
         text, kinds, literals, names, unknowns, entries, variables, clauses, line,

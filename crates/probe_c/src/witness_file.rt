@@ -45,8 +45,10 @@ pub extern "C" fn probe_witness_write(
     rounds: u16,
     length: &mut usize,
 ) -> u64
-    ensures value { result ≡ writing_number (writing (made map claim unknowns clauses universal_count existential_count rounds) universal.now existential.now out.old) }
-    ensures length_after { length.new ≡ length_told (writing (made map claim unknowns clauses universal_count existential_count rounds) universal.now existential.now out.old) }
+    ensures value { result ≡ writing_number (writing (made map claim unknowns clauses universal_count existential_count rounds) universal.now
+        existential.now out.old) }
+    ensures length_after { length.new ≡ length_told
+        (writing (made map claim unknowns clauses universal_count existential_count rounds) universal.now existential.now out.old) }
     ensures out_after { out.new ≡ out_after (made map claim unknowns clauses universal_count existential_count rounds) universal.now existential.now out.old }
 {
     probe::witness_file::probe_witness_write(

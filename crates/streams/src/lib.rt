@@ -73,3 +73,69 @@ pub fn read_descriptor<R: Files>(rt: &R, name: &str, buf: &mut [u8]) -> io::Resu
         }
     }
 }
+
+#[cfg(test)]
+mod tests {
+    use super::*;
+
+    // Gives two bytes at a time, and is interrupted before each.
+    #[derive(Drop)]
+    struct Drips<'a> {
+        rest: &'a [u8],
+        is_ready: bool,
+    }
+
+    impl<'a> Read for Drips<'a> {
+        fn read(&mut self, buf: &mut [u8]) -> io::Result<usize> {
+            self.is_ready = !self.is_ready;
+            if self.is_ready {
+                return Err(io::Error::from(ErrorKind::Interrupted));
+            }
+            let most = self.rest.len().min(buf.len()).min(2);
+            let (now, later) = self.rest.split_at(most);
+            buf[..most].copy_from_slice(now);
+            self.rest = later;
+            Ok(most)
+        }
+    }
+
+    fn dripping(rest: &[u8]) -> Drips<'_> {
+        Drips {
+            rest,
+            is_ready: false,
+        }
+    }
+
+    #[test]
+    fn fills_in_parts(rt: HostRuntime) -> io::Result<()> {
+        let mut buf = [9u8; 5];
+        let mut from = dripping(b"abcdefg");
+        assert_eq!(rt; read_full(&mut from, &mut buf)?, 5);
+        assert!(rt; buf == *b"abcde");
+        assert_eq!(rt; read_full(&mut from, &mut buf)?, 2);
+        assert!(rt; buf == *b"fgcde");
+        assert_eq!(rt; read_full(&mut from, &mut buf)?, 0);
+        Ok(())
+    }
+
+    #[test]
+    fn tells_a_text_that_goes_on(rt: HostRuntime) -> io::Result<()> {
+        let mut buf = [0u8; 3];
+        for (text, length) in [
+            (&b"ab"[..], 2),
+            (&b"abc"[..], 3),
+            (&b"abcd"[..], 4),
+            (&b"abcde"[..], 4),
+        ] {
+            assert_eq!(rt; read_text(&mut dripping(text), &mut buf)?, length);
+        }
+        Ok(())
+    }
+
+    #[test]
+    fn closed_descriptor_is_empty(rt: HostRuntime) -> io::Result<()> {
+        let mut buf = [0u8; 3];
+        assert_eq!(rt; read_descriptor(&rt, "/dev/fd/1000000", &mut buf)?, 0);
+        Ok(())
+    }
+}

@@ -1,7 +1,7 @@
 -- A file of over two million bytes is refused by its map and its length, and so is its front. Assumes nothing.
 use Prim.Native.Nat.{ℕ, zero, suc, ◌+◌, ◌*◌, ◌≤◌, ◌<◌}
 use native.Mathlib.Omega.{arith}
-use mathlib.Core.Path.{◌≡◌, refl, sym, ap, ◌∙◌}
+use mathlib.Core.Path.{◌≡◌, refl, ap, ◌∙◌}
 use mathlib.Core.Bool.{Bool, true, false, cond, true≢false}
 use mathlib.Core.List.{List, [], ◌∷◌}
 use borrow.Author.Tests.{leb-true, leb-false, ne_eqb}
@@ -10,8 +10,6 @@ use lib.ListN.{length, get_or, take, drop}
 use lib.Seq.{length-take-le, get_or-drop}
 use Rattle.text.specs.Reading.{Result, taken, refused}
 use Rattle.witness.specs.File.{if_stands, word, has, universal_at, universal_count, existential_at, existential_count, end_of, record_of, content_cause, file_cause}
-use Rattle.judgement.specs.declared.Finding.{Finding}
-use Rattle.judgement.specs.declared.Finding.TheVariants.{Refused}
 use Rattle.judgement.specs.Finding.{on_formula, on_text, finding_of}
 use Rattle.vulzhenn_judge.specs.Cut.{taken_in, CutRight}
 
