@@ -11,6 +11,6 @@ shape_of-out c = c.account_as.auto.out
 pub returns : goal.returns
 unfolding account read
 returns c = record {
-      delivered = c.account_as.ensures;
-      proved = account_right (offered c.args.input.now c.args.length);
-    }
+  delivered = c.account_as.ensures;
+  proved = account_right (offered c.args.input.now c.args.length);
+}

@@ -28,6 +28,6 @@ shape_of-text c = c.opening.auto.text ∙ c.prefix-named.auto.text ∙ c.results
 
 pub returns : goal.returns
 returns c = record {
-      upper_bound = omega (arith, c.requires.1, c.requires.2, c.results-head.ensures.upper_bound, c.prefix-named.ensures.upper_bound, c.opening.ensures.upper_bound);
-      text_after = rw (c.opening.ensures.text_after, c.prefix-named.ensures.text_after, c.results-head.ensures.text_after, c.number-number.ensures);
-    }
+  upper_bound = omega (arith, c.requires.1, c.requires.2, c.results-head.ensures.upper_bound, c.prefix-named.ensures.upper_bound, c.opening.ensures.upper_bound);
+  text_after = rw (c.opening.ensures.text_after, c.prefix-named.ensures.text_after, c.results-head.ensures.text_after, c.number-number.ensures);
+}

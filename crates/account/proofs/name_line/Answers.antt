@@ -7,6 +7,6 @@ use Rattle.account.proofs.name_line.Goals as goal
 
 pub returns : goal.returns
 returns c = record {
-      upper_bound = omega arith;
-      text_after = rw (c.append.ensures.text_after, c.field-next.ensures.text_after) (name_behind (take c.args.at c.args.text.now) c.args.label.now c.args.name);
-    }
+  upper_bound = omega arith;
+  text_after = rw (c.append.ensures.text_after, c.field-next.ensures.text_after) (name_behind (take c.args.at c.args.text.now) c.args.label.now c.args.name);
+}

@@ -15,6 +15,6 @@ shape_of-text c = c.append.auto.text ∙ c.field-next.auto.text ∙ c.result-two
 
 pub returns : goal.returns
 returns c = record {
-      upper_bound = omega (arith, two_few c.args.answer c.args.variables c.args.clauses c.args.rounds c.args.universal c.args.existential c.args.text.now c.result-two.ensures.value c.result-two.ensures.out_after c.requires, c.field-next.ensures.upper_bound, c.append.ensures.value);
-      text_after = head_so c.args.answer c.args.variables c.args.clauses c.args.rounds c.args.universal c.args.existential c.args.text.now c.result-two.ensures.value c.result-two.ensures.out_after c.requires c.field-next.ensures.text_after c.append.ensures.text_after;
-    }
+  upper_bound = omega (arith, two_few c.args.answer c.args.variables c.args.clauses c.args.rounds c.args.universal c.args.existential c.args.text.now c.result-two.ensures.value c.result-two.ensures.out_after c.requires, c.field-next.ensures.upper_bound, c.append.ensures.value);
+  text_after = head_so c.args.answer c.args.variables c.args.clauses c.args.rounds c.args.universal c.args.existential c.args.text.now c.result-two.ensures.value c.result-two.ensures.out_after c.requires c.field-next.ensures.text_after c.append.ensures.text_after;
+}

@@ -13,6 +13,6 @@ overflow_cast-result c = Fits-under w32 _ 4294967296 (omega (arith, c.one_number
 
 pub returns : goal.returns
 returns c = record {
-      value = c.one_number.ensures ∙ ap (λ (o : Outcome). one_number o.answer) c.decide_formula-end.ensures.returned;
-      work_after = c.decide_formula-end.ensures.left;
-    }
+  value = c.one_number.ensures ∙ ap (λ (o : Outcome). one_number o.answer) c.decide_formula-end.ensures.returned;
+  work_after = c.decide_formula-end.ensures.left;
+}

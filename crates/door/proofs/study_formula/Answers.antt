@@ -13,6 +13,6 @@ overflow_cast-result c = Fits-under w32 _ 4294967296 (omega (arith, c.one_number
 
 pub returns : goal.returns
 returns c = record {
-      value = c.one_number.ensures ∙ ap (λ (x : Studied). one_number x.outcome.answer) c.decide-end.ensures.result_so;
-      work_after = c.decide-end.ensures.work_so;
-    }
+  value = c.one_number.ensures ∙ ap (λ (x : Studied). one_number x.outcome.answer) c.decide-end.ensures.result_so;
+  work_after = c.decide-end.ensures.work_so;
+}

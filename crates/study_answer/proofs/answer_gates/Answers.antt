@@ -4,7 +4,7 @@ use Rattle.study_answer.proofs.answer_gates.Goals as goal
 
 pub returns : goal.returns
 returns c = record {
-      counted = c.answer_as.ensures.value;
-      written = c.answer_as.ensures.out_after;
-      proved = c.answer_as.ensures.study_answer_right;
-    }
+  counted = c.answer_as.ensures.value;
+  written = c.answer_as.ensures.out_after;
+  proved = c.answer_as.ensures.study_answer_right;
+}

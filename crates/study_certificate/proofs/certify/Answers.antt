@@ -4,7 +4,7 @@ use Rattle.study_certificate.proofs.certify.Goals as goal
 
 pub returns : goal.returns
 returns c = record {
-      delivered = c.certify_as.ensures.delivered;
-      left = c.certify_as.ensures.work_after;
-      proved = c.certify_as.ensures.study_certificate_right;
-    }
+  delivered = c.certify_as.ensures.delivered;
+  left = c.certify_as.ensures.work_after;
+  proved = c.certify_as.ensures.study_certificate_right;
+}

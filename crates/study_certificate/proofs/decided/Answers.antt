@@ -8,6 +8,6 @@ deliver-requires c = (ready_so c.args.kinds.now c.args.literals.now c.args.work.
 
 pub returns : goal.returns
 returns c = record {
-      delivered = formula_delivered c.args.kinds.now c.args.literals.now c.args.work.now c.requires.0 c.requires.1 c.study-end.ensures c.args.variables c.args.clauses c.args.file.now c.args.lines.now c.deliver.ensures;
-      work_after = work_so c.args.kinds.now c.args.literals.now c.args.work.now c.requires.0 c.requires.1 c.study-end.ensures;
-    }
+  delivered = formula_delivered c.args.kinds.now c.args.literals.now c.args.work.now c.requires.0 c.requires.1 c.study-end.ensures c.args.variables c.args.clauses c.args.file.now c.args.lines.now c.deliver.ensures;
+  work_after = work_so c.args.kinds.now c.args.literals.now c.args.work.now c.requires.0 c.requires.1 c.study-end.ensures;
+}
