@@ -34,7 +34,7 @@ locked_build() {
     needed=$(crates_needed)
     kept=$(crates_kept <<<"$needed")
     say "proving and building the program, $(wc -l <<<"$needed") crates; log in $log"
-    : >"$began"
+    : >"$began" && : >"$log"
     SECONDS=0
     set -m # the build is a process group of its own, so that all of it can be ended
     (check_program) >"$log" 2>&1 3<&- </dev/null &
@@ -78,21 +78,28 @@ watch_build() { # CRATES KEPT
     [ ! -t 2 ] || echo >&2
 }
 
-# How many crates are proved, the time, and about how long the others take. A crate counts once rt has told of its check, or if it was proved before. While
-# nothing is proved anew, nothing is said of the rest. The pace is that of the bytes proved so far; at first, while much is begun and little has ended, the
+# How many crates are proved, the time, and about how long the others take. A crate counts once rt has told of its check, or of the check of one above it, or if
+# it was proved before. While nothing is proved anew, nothing is said of the rest. The pace is that of the bytes proved so far; at first, while much is begun and little has ended, the
 # usual one weighs more.
 progress() { # CRATES KEPT
-    awk -v kept=" $2 " -v seconds="$SECONDS" -v processors="$(nproc)" -v usual="$PACE" '
-        told { before = NR; if (/^crate [a-z_0-9]+: /) { sub(/:$/, "", $2); ended[$2] } next }
-        $1 in ended { proved++; done += $2; next }
-        index(kept, " " $1 " ") { proved++; next }
-        { left += $2 }
+    awk -v kept="$2" -v seconds="$SECONDS" -v processors="$(nproc)" -v usual="$PACE" '
+        BEGIN { split(kept, list, " "); for (i in list) proven[list[i]] }
+        told { if (/^rt: running /) whole = 1; if (/^crate [a-z_0-9]+: /) { sub(/:$/, "", $2); ended[$2] } next }
+        { line[++crates] = $0 }
         END {
+            if (whole) { split(line[crates], word, " "); proven[word[1]] } # the program, which is the last
+            for (i = crates; i > 0; i--) {
+                n = split(line[i], word, " ")
+                if (word[1] in ended) done += word[2]
+                else if (!(word[1] in proven)) { left += word[2]; continue }
+                proved++
+                for (j = 3; j <= n; j++) proven[word[j]]
+            }
             if (processors > 4) processors = 4 # crates wait for each other
             pace = (120 * usual * processors + done) / (120 + seconds)
             minutes = int(left / pace / 60 + 1)
             about = !left || (!done && seconds < 10) ? "" : minutes == 1 ? ", about a minute left" : ", about " minutes " minutes left"
-            print proved + 0 " of " NR - before " crates proved, " seconds " s" about
+            print proved + 0 " of " crates " crates proved, " seconds " s" about
         }' told=1 "$made/$crate.log" told='' - <<<"$1"
 }
 
