@@ -59,7 +59,8 @@ kept_unless : (o : Option Bool) (left : ℕ) (by_cases : ℕ → Asked) → ((re
 kept_unless none left by_cases g = g left
 kept_unless (some w) left by_cases g = omega arith
 
-kept_within : (budget : ℕ) (o : Option Bool) (by_cases : ℕ → Asked) → ((rest : ℕ) → (by_cases rest).left ≤ rest) → (within_budget budget o by_cases).left ≤ budget
+kept_within : (budget : ℕ) (o : Option Bool) (by_cases : ℕ → Asked) → ((rest : ℕ) → (by_cases rest).left ≤ rest) →
+    (within_budget budget o by_cases).left ≤ budget
 kept_within zero o by_cases g = omega arith
 kept_within (suc left) o by_cases g = omega (arith, kept_unless o left by_cases g)
 
@@ -82,7 +83,8 @@ asked_meaning study right literals front path (k ∷ kinds) l a budget =
     (λ rest v e. meaning_by_next path (kind_of k) (prefix kinds) phi
     ∙ tells_both (kind_of k) (at true rest) (at false) (worth true) (worth false) (case true rest) (case false) v e)
 
-asked_kept : (study : Study) (literals : List ℤ) (path : List Bool) (kinds : List ℕ) (budget : ℕ) → (asked_behind study literals path kinds budget).left ≤ budget
+asked_kept : (study : Study) (literals : List ℤ) (path : List Bool) (kinds : List ℕ) (budget : ℕ) →
+    (asked_behind study literals path kinds budget).left ≤ budget
 asked_kept study literals path [] budget = kept_within budget (study path [] (restricted path literals)) (λ left. asked none left) (λ rest. omega arith)
 asked_kept study literals path (k ∷ kinds) budget =
     let at : Bool → ℕ → Asked = λ v left. asked_behind study literals (path ++ (v ∷ [])) kinds left in

@@ -109,7 +109,8 @@ search_both prefer at_true at_false side k ks phi rows others is_own e f =
 pub search_one : (prefer at_value : ℕ → Bool) (side k : Kind) (v : Bool) (ks : List Kind) (phi : List Bool → Bool) (rows : List Row) → own side k ≡ false
     → search at_value side ks (after v phi) rows ≡ none → search prefer side (k ∷ ks) phi (with_value v rows) ≡ none
 search_one prefer at_value side k v ks phi rows not_own e =
-    (search_none prefer side (k ∷ ks) phi (with_value v rows)).1 (loses_one side k v ks phi rows not_own ((search_none at_value side ks (after v phi) rows).0 e))
+    (search_none prefer side (k ∷ ks) phi (with_value v rows)).1
+    (loses_one side k v ks phi rows not_own ((search_none at_value side ks (after v phi) rows).0 e))
 
 own_if_not_offered : (claim : Bool) (k : Kind) → offered claim k ≡ false → own (side_of claim) k ≡ true
 own_if_not_offered claim k e = go (own (side_of claim) k) e

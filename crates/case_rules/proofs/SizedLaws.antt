@@ -75,7 +75,8 @@ gathered_sized_behind claim literals path (k ∷ kinds) (one v book) h s =
     (sized_with_value n v (gathered claim kinds book) (gathered_sized_behind claim literals (path ++ (v ∷ [])) kinds book parts.1 s))
 gathered_sized_behind claim literals path [] (both a b) h s = absurd (false≢true h)
 gathered_sized_behind claim literals path (k ∷ kinds) (both a b) h s =
-    let parts = (and-eq-true_iff (holds_behind claim literals (path ++ (true ∷ [])) kinds a) (holds_behind claim literals (path ++ (false ∷ [])) kinds b)).0 h in
+    let parts = (and-eq-true_iff (holds_behind claim literals (path ++ (true ∷ [])) kinds a) (holds_behind claim literals (path ++ (false ∷ [])) kinds b)).0
+    h in
     sized_together claim (kind_of k) (prefix kinds) (gathered claim kinds a) (gathered claim kinds b)
     (gathered_sized_behind claim literals (path ++ (true ∷ [])) kinds a parts.0 s.0)
     (gathered_sized_behind claim literals (path ++ (false ∷ [])) kinds b parts.1 s.1)

@@ -31,7 +31,8 @@ and_assoc true b c = refl
 and_assoc false b c = refl
 
 -- At what is not own two strategies make the same.
-play_at_others : (ts : List Bool) (σ τ : Strategy) (row : Row) (k : ℕ) → get_or ts k false ≡ false → get_or (play ts σ row) k false ≡ get_or (play ts τ row) k false
+play_at_others : (ts : List Bool) (σ τ : Strategy) (row : Row) (k : ℕ) → get_or ts k false ≡ false →
+    get_or (play ts σ row) k false ≡ get_or (play ts τ row) k false
 play_at_others [] σ τ row k o = refl
 play_at_others (true ∷ ts) σ τ row zero o = absurd (true≢false o)
 play_at_others (true ∷ ts) σ τ row (suc k) o = play_at_others ts (past_own σ) (past_own τ) row k o

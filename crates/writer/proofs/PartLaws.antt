@@ -67,7 +67,8 @@ pub prefix_none : (kinds names : List ℕ) → length kinds ≡ 0 → prefix_lin
 prefix_none [] names e = refl
 prefix_none (k ∷ ks) names e = absurd (omega arith)
 
-pub prefix_some : (kinds names : List ℕ) → (length kinds ≡ 0 → ⊥) → prefix_lines kinds names ≡ letter (get_or kinds 0 0) ++ blocks (get_or kinds 0 0) kinds names
+pub prefix_some : (kinds names : List ℕ) → (length kinds ≡ 0 → ⊥) →
+    prefix_lines kinds names ≡ letter (get_or kinds 0 0) ++ blocks (get_or kinds 0 0) kinds names
 prefix_some [] names other = absurd (other refl)
 prefix_some (k ∷ ks) names other = refl
 

@@ -9,7 +9,8 @@ use Rattle.case_study.proofs.lent_of.Goals as goal
 
 pub returns-then-preference-lt-HOUSE : goal.returns-then-preference-lt-HOUSE
 unfolding preferences_of
-returns-then-preference-lt-HOUSE c = let p = c.args.preference in sym (ap (λ (b : Bool). length (cond b (p ∷ []) [])) (lt-ltb p house c.if-preference-lt-HOUSE.true))
+returns-then-preference-lt-HOUSE c = let p = c.args.preference in sym
+    (ap (λ (b : Bool). length (cond b (p ∷ []) [])) (lt-ltb p house c.if-preference-lt-HOUSE.true))
 
 pub returns : goal.returns
 unfolding preferences_of

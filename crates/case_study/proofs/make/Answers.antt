@@ -30,14 +30,6 @@ slice_bounds-narrow-end c = omega (arith, c.loop-i-test.true, c.requires.2)
 pub slice_bounds-narrow-count-in-loop-i : goal.slice_bounds-narrow-count-in-loop-i
 slice_bounds-narrow-count-in-loop-i c = omega (arith, c.loop-i-test.true)
 
--- TODO no goal now for slice-bounds-narrow-start-2
--- part-narrow-start-2 : tie.Need-slice-bounds-narrow-start-2 invariant-loop decreases-loop
--- part-narrow-start-2 c = omega (arith, c.before.loop-test.true)
-
--- TODO no goal now for slice-bounds-narrow-end-2
--- part-narrow-end-2 : tie.Need-slice-bounds-narrow-end-2 invariant-loop decreases-loop
--- part-narrow-end-2 c = omega (arith, c.before.loop-test.true)
-
 pub narrow-entries-requires : goal.narrow-entries-requires
 narrow-entries-requires c = (next_accepted c.args.setting c.args.kinds.now (formula_of c.args.setting.trim c.args.kinds.now c.args.literals.now) c.args.values.now c.loop-i.table c.loop-i.left c.loop-i.entries c.loop-i.i c.loop-i.invariant (trimmed_accepted c.args.setting.trim c.args.kinds.now c.args.literals.now c.requires.0) c.requires.2 c.requires.1, c.loop-i.invariant.made.inside, some_kind_left c.args.setting c.args.kinds.now (formula_of c.args.setting.trim c.args.kinds.now c.args.literals.now) c.args.values.now c.loop-i.table c.loop-i.left c.loop-i.entries c.loop-i.i c.loop-i.invariant (trimmed_accepted c.args.setting.trim c.args.kinds.now c.args.literals.now c.requires.0) c.requires.2 c.requires.1 c.loop-i-test.true, some_value_left c.args.setting c.args.kinds.now (formula_of c.args.setting.trim c.args.kinds.now c.args.literals.now) c.args.values.now c.loop-i.table c.loop-i.left c.loop-i.entries c.loop-i.i c.loop-i.invariant (trimmed_accepted c.args.setting.trim c.args.kinds.now c.args.literals.now c.requires.0) c.requires.2 c.requires.1 c.loop-i-test.true, next_known c.args.setting c.args.kinds.now (formula_of c.args.setting.trim c.args.kinds.now c.args.literals.now) c.args.values.now c.loop-i.table c.loop-i.left c.loop-i.entries c.loop-i.i c.loop-i.invariant (trimmed_accepted c.args.setting.trim c.args.kinds.now c.args.literals.now c.requires.0) c.requires.2 c.requires.1 c.loop-i-test.true, c.loop-i.invariant.table_long, c.loop-i.invariant.left_long)
 

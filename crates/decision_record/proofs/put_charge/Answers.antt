@@ -11,12 +11,14 @@ use Rattle.decision_record.proofs.put_charge.Goals as goal
 pub returns-in-Cents : goal.returns-in-Cents
 returns-in-Cents c =
     let given = c.args in
-    let both = charge_put given.out.now given.answer given.rounds (Cents c.in-Cents.cents) c.in-Cents.is (c.study_record.ensures.value, c.study_record.ensures.out_after) in
+    let both = charge_put given.out.now given.answer given.rounds (Cents c.in-Cents.cents) c.in-Cents.is
+    (c.study_record.ensures.value, c.study_record.ensures.out_after) in
     record { value = both.0; out_after = both.1 }
 
 -- src/lib.rt:33:1
 pub returns-in-Refused : goal.returns-in-Refused
 returns-in-Refused c =
     let given = c.args in
-    let both = charge_put given.out.now given.answer given.rounds (Refused c.in-Refused.cause) c.in-Refused.is (c.refusal.ensures.value, c.refusal.ensures.out_after) in
+    let both = charge_put given.out.now given.answer given.rounds (Refused c.in-Refused.cause) c.in-Refused.is
+    (c.refusal.ensures.value, c.refusal.ensures.out_after) in
     record { value = both.0; out_after = both.1 }

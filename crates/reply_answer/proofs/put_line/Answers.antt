@@ -42,5 +42,6 @@ pub returns-in-Refused : goal.returns-in-Refused
 returns-in-Refused c =
     let refusal_call = c.refusal in
     let given = c.args in
-    let both = case_put given.out.now (Refused c.in-Refused.number c.in-Refused.line) c.in-Refused.is (refusal_call.ensures.value, refusal_call.ensures.out_after) in
+    let both = case_put given.out.now (Refused c.in-Refused.number c.in-Refused.line) c.in-Refused.is
+    (refusal_call.ensures.value, refusal_call.ensures.out_after) in
     record { value = both.0; out_after = both.1 }

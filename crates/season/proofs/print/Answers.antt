@@ -45,14 +45,16 @@ returns-then-count-gt-STUDIES-clause-value c =
     let text = c.args.text.now in
     let none = c.if-checked-ne0.false in
     let many : max_studies < length (lines text) = omega (arith, c.check-checked.ensures.counted none, c.if-count-gt-STUDIES.true) in
-    let put = c.refusal-then-count-gt-STUDIES.ensures in rw (printed_many text c.if-text-gt-BYTES.false c.check-checked.result.other c.check-checked.ensures.right none many) (put.value)
+    let put = c.refusal-then-count-gt-STUDIES.ensures in rw (printed_many text c.if-text-gt-BYTES.false c.check-checked.result.other
+    c.check-checked.ensures.right none many) (put.value)
 
 pub returns-then-count-gt-STUDIES-clause-out_after : goal.returns-then-count-gt-STUDIES-clause-out_after
 returns-then-count-gt-STUDIES-clause-out_after c =
     let text = c.args.text.now in
     let none = c.if-checked-ne0.false in
     let many : max_studies < length (lines text) = omega (arith, c.check-checked.ensures.counted none, c.if-count-gt-STUDIES.true) in
-    let put = c.refusal-then-count-gt-STUDIES.ensures in rw (printed_many text c.if-text-gt-BYTES.false c.check-checked.result.other c.check-checked.ensures.right none many) (put.out_after)
+    let put = c.refusal-then-count-gt-STUDIES.ensures in rw (printed_many text c.if-text-gt-BYTES.false c.check-checked.result.other
+    c.check-checked.ensures.right none many) (put.out_after)
 
 pub returns-then-count-gt-STUDIES-clause-proved : goal.returns-then-count-gt-STUDIES-clause-proved
 returns-then-count-gt-STUDIES-clause-proved c = season_right c.args.text.now
@@ -68,7 +70,8 @@ returns-clause-value c =
     let none = c.if-checked-ne0.false in
     let rows = ap (λ k. take k c.read.result) (c.check-checked.ensures.counted none) ∙ c.read.ensures in
     let page : c.over_first-page.result ≡ summary (records (lines text)) = c.over_first-page.ensures ∙ ap summary rows in
-    let put = c.show.ensures in rw (printed_page text c.if-text-gt-BYTES.false c.check-checked.result.other c.check-checked.ensures.right none, ← page) (put.value)
+    let put = c.show.ensures in rw (printed_page text c.if-text-gt-BYTES.false c.check-checked.result.other c.check-checked.ensures.right none, ← page)
+    (put.value)
 
 pub returns-clause-out_after : goal.returns-clause-out_after
 returns-clause-out_after c =
@@ -76,7 +79,8 @@ returns-clause-out_after c =
     let none = c.if-checked-ne0.false in
     let rows = ap (λ k. take k c.read.result) (c.check-checked.ensures.counted none) ∙ c.read.ensures in
     let page : c.over_first-page.result ≡ summary (records (lines text)) = c.over_first-page.ensures ∙ ap summary rows in
-    let put = c.show.ensures in rw (printed_page text c.if-text-gt-BYTES.false c.check-checked.result.other c.check-checked.ensures.right none, ← page) (put.out_after)
+    let put = c.show.ensures in rw (printed_page text c.if-text-gt-BYTES.false c.check-checked.result.other c.check-checked.ensures.right none, ← page)
+    (put.out_after)
 
 pub returns-clause-proved : goal.returns-clause-proved
 returns-clause-proved c = season_right c.args.text.now
