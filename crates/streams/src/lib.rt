@@ -1,12 +1,13 @@
 // How the programs read: until a buffer is full or the input ends. A read that fails is an error, and one that a signal interrupts is made again.
 #![tactic(auto)]
 
+mod descriptor;
+
 ghost use Rattle.std.specs.Prelude.{◌≡◌, ◌+◌, ◌<◌, ◌≤◌, length, IfOk};
 
-use std::fs::{File, OpenOptions};
+pub use descriptor::read_descriptor;
+use std::io;
 use std::io::{ErrorKind, Read};
-use std::rt::Files;
-use std::{fs, io};
 
 // Fills the buffer from its start; how many bytes there were.
 pub fn read_full<R: Read>(from: &mut R, buf: &mut [u8]) -> io::Result<usize>
@@ -48,30 +49,6 @@ pub fn read_text<R: Read>(from: &mut R, buf: &mut [u8]) -> io::Result<usize>
     let length = read_full(from, buf)?;
     let more = read_on(from, length, buf.len())?;
     Ok(length + more)
-}
-
-// Fills the buffer from an open descriptor, named as `/dev/fd/3`; how many bytes there were. None come from one that is closed.
-pub fn read_descriptor<R: Files>(rt: &R, name: &str, buf: &mut [u8]) -> io::Result<usize>
-    ensures { IfOk result (λ n. n ≤ length buf.new) }
-{
-    // A named pipe that no process has open for writing would keep the second opening waiting, so this process has, until then.
-    let writing = OpenOptions::new().read(true).write(true).open(rt, name);
-    let reading = File::open(rt, name);
-    drop(writing);
-    match reading {
-        Ok(file) => {
-            let mut file = file;
-            read_full(&mut file, buf)
-        }
-        Err(e) => {
-            if e.kind() != ErrorKind::NotFound {
-                return Err(e);
-            }
-            // where the names of the descriptors are
-            fs::metadata(rt, "/dev/fd")?;
-            Ok(0)
-        }
-    }
 }
 
 #[cfg(test)]
@@ -135,7 +112,7 @@ mod tests {
     #[test]
     fn closed_descriptor_is_empty(rt: HostRuntime) -> io::Result<()> {
         let mut buf = [0u8; 3];
-        assert_eq!(rt; read_descriptor(&rt, "/dev/fd/1000000", &mut buf)?, 0);
+        assert_eq!(rt; read_descriptor(1_000_000, &mut buf), 0);
         Ok(())
     }
 }

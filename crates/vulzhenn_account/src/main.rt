@@ -8,13 +8,13 @@ use formula::Formula;
 use std::io;
 use std::io::Write;
 
-const FORM: &str = "/dev/fd/3";
+const FORM_FILENO: i32 = 3;
 
 fn main(rt: HostRuntime) -> io::Result<()> {
     let mut input = [0u8; Formula::WORK];
     let length = streams::read_text(&mut rt.stdin(), &mut input)?;
     let mut form = [0u8; 1];
-    let gates = streams::read_descriptor(&rt, FORM, &mut form)?;
+    let gates = streams::read_descriptor(FORM_FILENO, &mut form);
     let mut out = [0u8; account::LONGEST];
     let count = tell(gates, &input, length, &mut out);
     rt.stdout().write_all(&out[..count])

@@ -12,7 +12,7 @@ use formula::Formula;
 use std::io;
 use std::io::Write;
 
-const FILE: &str = "/dev/fd/3";
+const FILE_FILENO: i32 = 3;
 
 fn main(rt: HostRuntime) -> io::Result<()> {
     let mut told = [0u8; 1];
@@ -32,7 +32,7 @@ fn print_finding(
     size: usize,
     file: &mut [u8],
 ) -> io::Result<()> {
-    let length = streams::read_descriptor(rt, FILE, file)?;
+    let length = streams::read_descriptor(FILE_FILENO, file);
     let mut out = [0u8; judgement::LONGEST];
     let count = put_finding(told, input, size, &file[..length], &mut out);
     rt.stdout().write_all(&out[..count])
