@@ -1,10 +1,12 @@
 -- From what the reader, the run and the writers promise to what is told. Assumes nothing.
-use Prim.Native.Nat.{ℕ, zero, suc, ◌+◌, ◌-◌, ◌*◌, ◌≤◌, ◌<◌}
+use Prim.Native.Nat.{ℕ, ◌+◌, ◌-◌, ◌*◌, ◌≤◌}
+use Rattle.std.specs.Prelude.{Result as Answered, Err, Ok}
+use Rattle.cause.specs.declared.Cause.{Cause}
 use native.Mathlib.Nat.{zero-add}
 use native.Mathlib.Omega.{arith}
 use mathlib.Core.Path.{◌≡◌, refl, sym, ap, ap₂, subst, ◌∙◌}
 use mathlib.Core.Bool.{Bool, true, cond, not}
-use mathlib.Core.List.{List, [], ◌∷◌, ◌++◌, map, append_assoc}
+use mathlib.Core.List.{List, [], ◌∷◌, ◌++◌}
 use lib.Dec.{eqb, leb}
 use lib.IntN.{ℤ}
 use lib.ListN.{length, take, drop, replicate, length-replicate, length-take, length-map, length-append}
@@ -12,26 +14,22 @@ use lib.Seq.{take_all, take_at, length-take-le}
 use Rattle.formula.specs.Formula.{work_size, max_unknowns, max_rows, Kind, kind_of, universal, existential, prefix}
 use Rattle.formula.specs.Causes.{count, checked, sizes}
 use Rattle.formula.specs.declared.Formula.{Formula}
-use Rattle.formula.specs.declared.Check.{Check}
-use Rattle.formula.specs.declared.Check.TheVariants.{Accepted, Refused}
 use Rattle.formula.proofs.Accepted.{accepted, accepted_sizes}
 use Rattle.rows.specs.Stray.{row_bits}
 use Rattle.rows.specs.Row.{row_of, bytes_of}
 use Rattle.rows.specs.Table.{row_at, rows_of}
 use Rattle.rows.proofs.RowLaws.{length_bytes_of, row_of_bytes_of}
 use Rattle.rows.proofs.TableLaws.{row_at_inside, length_rows_of}
-use Rattle.rounds.specs.Run.{Entry, Table, rows, Answer, is_false, is_true, spent, no_room_universal, no_room_existential, Outcome, number}
+use Rattle.rounds.specs.Run.{Answer, is_false, is_true, spent, no_room_universal, no_room_existential, Outcome}
 use Rattle.rounds.specs.Opening.{block, opening, opening_length}
-use Rattle.rounds.specs.Counts.{counts}
 use Rattle.rounds.proofs.Bounds.{count_in_room}
 use Rattle.rounds.proofs.Opening.{opening_right}
 use Rattle.engine.specs.declared.run.Outcome.{Outcome as Returned}
-use Rattle.engine.specs.Outcome.{areas, Given, accepted as passed, cause, number_of, reported, returned}
+use Rattle.engine.specs.Outcome.{areas, Given, accepted as passed, cause, number_of, reported}
 use Rattle.engine.specs.Ended.{Ended}
 use Rattle.engine.proofs.run.OutcomeLaws.{number_named}
-use Rattle.text.specs.Reading.{Read, Result, taken, refused, over, ReadSo}
-use Rattle.text.specs.declared.Reading.{Reading}
-use Rattle.text.specs.declared.Reading.TheVariants.{Taken}
+use Rattle.text.specs.Reading.{Reading, Read, Result, taken, refused, ReadSo}
+use Rattle.text.specs.declared.Taken.{Taken}
 use Rattle.text.proofs.FrontLaws.{Front}
 use Rattle.buffer.specs.Buffer.{appended, place_behind}
 use Rattle.report.specs.Report.{ascii, decimal, result_lines, refusal_line, put, put_count}
@@ -209,10 +207,11 @@ module _ (kinds : List ℕ) (literals : List ℤ) (names : List ℕ) (universals
         }
 
 -- A refusal.
-pub refusal_delivered : {result : Result} {n line : ℕ} (out : List ℕ) {r : ℕ} {out_then : List ℕ} → result ≡ refused n line
-    → r ≡ put_count (refusal_line n line) out → out_then ≡ put (refusal_line n line) out → Delivered (shown result) out r out_then
-refusal_delivered {n = n} {line = line} out e counted written =
-    delivered_as (ap shown (sym e)) (record { counted = counted; written = written; short = omega (arith, (refusal_most n line).most) })
+pub refusal_delivered : {result : Result} {n m line : ℕ} (out : List ℕ) {r : ℕ} {out_then : List ℕ} → result ≡ refused n line → m ≡ n
+    → r ≡ put_count (refusal_line m line) out → out_then ≡ put (refusal_line m line) out → Delivered (shown result) out r out_then
+refusal_delivered {m = m} {line = line} out e told counted written =
+    delivered_as (ap (λ (k : ℕ). refusal_line k line) told ∙ ap shown (sym e))
+    (record { counted = counted; written = written; short = omega (arith, (refusal_most m line).most) })
 
 -- 01's two lines at the start of a text, and the answer's number behind them.
 module _ (answer variables clauses rounds A S : ℕ) (text : List ℕ) {two : ℕ} {text₁ : List ℕ} (counted : two ≡ put_count (result_lines answer variables clauses rounds A S) text)
@@ -229,10 +228,10 @@ module _ (answer variables clauses rounds A S : ℕ) (text : List ℕ) {two : �
       whole_so ∙ ap (λ (l : List ℕ). l ++ ascii "\n") front_so ∙ ap (λ (l : List ℕ). l ++ ascii "c answer " ++ decimal answer ++ ascii "\n") whole_front.front
 
 -- The universal unknowns of a formula that `check` accepts.
-pub universals_so : (kinds : List ℕ) (literals : List ℤ) {f : Formula} → checked kinds literals ≡ Accepted f → f.universals ≡ count universal (prefix kinds)
+pub universals_so : (kinds : List ℕ) (literals : List ℤ) {f : Formula} → checked kinds literals ≡ Ok f → f.universals ≡ count universal (prefix kinds)
 universals_so kinds literals e = ap (λ (x : Formula). x.universals) (accepted_sizes kinds literals e)
 
-pub never_refused : {x : Check} {f : Formula} {n : ℕ} → x ≡ Accepted f → x ≡ Refused n → ⊥
+pub never_refused : {x : Answered Formula Cause} {f : Formula} {c : Cause} → x ≡ Ok f → x ≡ Err c → ⊥
 never_refused a b = let z : ◌≡◌ {A = ℕ} 0 1 = cc (a, b) in omega arith
 
 -- The names at the front of their table, where the text was taken: one for each kind.
@@ -241,21 +240,22 @@ pub record Named (result : Result) (unknowns : ℕ) (kinds names : List ℕ) (r 
   pub front : take unknowns names ≡ r.names
   pub as_many : length (take unknowns names) ≡ length (take unknowns kinds)
 
-pub names_so : (result : Result) {K : List ℕ} {L : List ℤ} {N K' : List ℕ} {L' : List ℤ} {N' : List ℕ} {outcome : Reading} {u e v c : ℕ}
-    → ReadSo result outcome K L N K' L' N' → outcome ≡ Taken u e v c → (f : Front result u e v c K' L') → Named result u K' N' f.formula
+pub names_so : (result : Result) {K : List ℕ} {L : List ℤ} {N K' : List ℕ} {L' : List ℤ} {N' : List ℕ} {outcome : Reading} {t : Taken}
+    → ReadSo result outcome K L N K' L' N' → outcome ≡ Ok t → (f : Front result t.unknowns t.entries t.variables t.clauses K' L')
+    → Named result t.unknowns K' N' f.formula
 names_so (refused n line) so is f = let z : ◌≡◌ {A = ℕ} 0 1 = cc f.whole in absurd (omega arith)
-names_so (taken q) {N = N} {K' = K'} {N' = N'} {u = u} so is f =
-    let many : u ≡ length q.names = cc so.returns in
+names_so (taken q) {N = N} {K' = K'} {N' = N'} {t = t} so is f =
+    let many : t.unknowns ≡ length q.names = cc so.returns in
     let same : q ≡ f.formula = cc f.whole in
-    let there : u ≤ length N' = omega (arith, many, ap length so.writes_names, length-append q.names (drop (length q.names) N)) in
+    let there : t.unknowns ≤ length N' = omega (arith, many, ap length so.writes_names, length-append q.names (drop (length q.names) N)) in
     record {
       there = there;
-      front = ap (take u) so.writes_names ∙ take_at q.names (drop (length q.names) N) u (sym many) ∙ ap (λ (x : Read). x.names) same;
-      as_many = length-take-le u N' there ∙ sym (length-take-le u K' f.kinds_there);
+      front = ap (take t.unknowns) so.writes_names ∙ take_at q.names (drop (length q.names) N) t.unknowns (sym many) ∙ ap (λ (x : Read). x.names) same;
+      as_many = length-take-le t.unknowns N' there ∙ sym (length-take-le t.unknowns K' f.kinds_there);
     }
 
 pub accepts_front : {result : Result} {u e v c : ℕ} {kinds : List ℕ} {literals : List ℤ} (names : List ℕ) (f : Front result u e v c kinds literals) → Named result u kinds names f.formula
-    → checked (take u kinds) (take e literals) ≡ Accepted (sizes (take u kinds) (take e literals)) → Accepts (take u kinds) (take e literals) (take u names)
+    → checked (take u kinds) (take e literals) ≡ Ok (sizes (take u kinds) (take e literals)) → Accepts (take u kinds) (take e literals) (take u names)
 accepts_front names f n passes = record { passes = passes; as_many = n.as_many }
 
 pub taken_lines : {result : Result} {u e v c : ℕ} {kinds : List ℕ} {literals : List ℤ} (names : List ℕ) (f : Front result u e v c kinds literals) → Named result u kinds names f.formula

@@ -1,12 +1,11 @@
 -- What an account says, for every text and gate list. Assumes nothing.
 use Prim.Native.Nat.{ℕ}
 use native.Mathlib.Omega.{arith}
-use mathlib.Core.Path.{◌≡◌, refl, sym, ap, subst, ◌∙◌}
+use mathlib.Core.Path.{◌≡◌, refl, ap, ◌∙◌}
 use mathlib.Core.Bool.{true, false}
 use mathlib.Core.List.{List, ◌++◌, append_assoc}
 use lib.ListN.{length, take}
 use lib.Seq.{take-length, take-append_seam}
-use Rattle.formula.specs.Formula.{max_unknowns, max_entries}
 use Rattle.formula.specs.Meaning.{verdict}
 use Rattle.rounds.proofs.Verdict.{verdict_right}
 use Rattle.rounds.proofs.Claim.{claim}

@@ -5,13 +5,12 @@
 // Reading belongs to `text`, the run to `run`, 01's lines to `report`; here what one returns is handed to the next, and the other lines are written.
 #![tactic(auto)]
 
-ghost use Rattle.std.specs.Prelude.{◌+◌, ◌*◌, ◌≤◌, ◌≡◌, ◌++◌, map, length, take};
+ghost use Rattle.std.specs.Prelude.{◌+◌, ◌*◌, ◌≤◌, ◌≡◌, ◌++◌, map, length, take, Ok};
 ghost use Rattle.rows.specs.Row.{row_of};
 ghost use Rattle.rows.specs.Table.{row_at, rows_of};
 ghost use Rattle.engine.specs.Outcome.{number_of};
 ghost use Rattle.formula.specs.Formula.{max_unknowns, max_rows, universal, prefix};
 ghost use Rattle.formula.specs.Causes.{count, checked, sizes};
-ghost use Rattle.formula.specs.declared.Check.TheVariants.{Accepted};
 ghost use Rattle.report.specs.Report.{decimal};
 ghost use Rattle.text.specs.Reading.{read_as};
 ghost use Rattle.text.specs.Offered.{offered};
@@ -20,8 +19,8 @@ ghost use Rattle.account.specs.AccountRight.{AccountRight, GatesAccountRight};
 ghost use Rattle.account.specs.Private.Steps.{joined, told, Tables, Accepts, Side};
 
 use engine::run::Outcome;
-use formula::{Check, Formula};
-use text::Reading;
+use formula::Formula;
+use text::Taken;
 
 // Room for every account.
 pub const LONGEST: usize = 106_496;
@@ -52,13 +51,15 @@ fn account_as(input: &[u8], length: usize, gates: bool, out: &mut [u8]) -> usize
     let mut literals = [0i32; Formula::ENTRIES];
     let mut names = [0u16; Formula::UNKNOWNS];
     match text::read_offered(input, length, gates, &mut kinds, &mut literals, &mut names) {
-        Reading::Refused { number, line } => report::refusal(out, number, line as u32),
-        Reading::Taken {
-            unknowns,
-            entries,
-            variables,
-            clauses,
-        } => decided(
+        Err(refusal) => report::refusal(out, refusal.cause.number(), refusal.line as u32),
+        Ok(
+            Taken {
+                unknowns,
+                entries,
+                variables,
+                clauses,
+            },
+        ) => decided(
             &kinds[..unknowns],
             &literals[..entries],
             &names[..unknowns],
@@ -123,12 +124,12 @@ fn decided(
 
 // How many unknowns of an accepted formula are universal.
 fn universal_unknowns(kinds: &[u8], literals: &[i32]) -> usize
-    requires { checked kinds.now literals.now ≡ Accepted (sizes kinds.now literals.now) }
+    requires { checked kinds.now literals.now ≡ Ok (sizes kinds.now literals.now) }
     ensures { result ≡ count universal (prefix kinds.now) }
 {
     match Formula::check(kinds, literals) {
-        Check::Accepted(sizes) => sizes.universals,
-        Check::Refused(_) => 0,
+        Ok(sizes) => sizes.universals,
+        Err(_) => 0,
     }
 }
 
@@ -239,10 +240,8 @@ fn prefix(text: &mut [u8], at: usize, kinds: &[u8], names: &[u16]) -> usize
     ensures text_after { take result text.new ≡ take at text.old ++ each prefix_line kinds.now names.now }
 {
     let mut end = at;
-    let mut i: usize = 0;
-    while i < kinds.len() {
-        end = kind_line(text, end, kinds[i], names[i]);
-        i += 1;
+    for (kind, name) in kinds.iter().zip(names) {
+        end = kind_line(text, end, *kind, *name);
     }
     end
 }
@@ -254,11 +253,8 @@ fn opening(text: &mut [u8], at: usize, row: &[u8], block: usize, names: &[u16]) 
     ensures text_after { take result text.new ≡ take at text.old ++ each value_line (row_of block (row_at row.now 0)) names.now }
 {
     let mut end = at;
-    let mut k: usize = 0;
-    while k < block {
-        let value = rows::bit(row, 0, k);
-        end = value_line(text, end, value, names[k]);
-        k += 1;
+    for (k, name) in names[..block].iter().enumerate() {
+        end = value_line(text, end, rows::bit(row, 0, k), *name);
     }
     end
 }
@@ -278,10 +274,8 @@ fn side(
     ensures text_after { take result text.new ≡ take at text.old ++ row_lines label.now (joined (rows_of m (length marks.now) rows.now) marks.now) counts.now }
 {
     let mut end = at;
-    let mut i: usize = 0;
-    while i < marks.len() {
-        end = row_line(text, end, label, marks[i], counts[i], m, rows, i);
-        i += 1;
+    for (i, mark) in marks.iter().enumerate() {
+        end = row_line(text, end, label, *mark, counts[i], m, rows, i);
     }
     end
 }
@@ -314,11 +308,8 @@ fn values(text: &mut [u8], at: usize, m: usize, rows: &[u8], i: usize) -> usize
     ensures value { result ≡ at + m }
     ensures text_after { take result text.new ≡ take at text.old ++ map digit (row_of m (row_at rows.now i)) }
 {
-    let mut k: usize = 0;
-    while k < m {
-        let value = rows::bit(rows, i, k);
-        text[at + k] = digit_of(value);
-        k += 1;
+    for k in 0..m {
+        text[at + k] = digit_of(rows::bit(rows, i, k));
     }
     at + m
 }

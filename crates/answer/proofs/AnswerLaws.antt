@@ -1,5 +1,6 @@
 -- From what `read`, `decide` and the writers promise to what `answer` prints. Assumes nothing.
 use Prim.Native.Nat.{ℕ, ◌+◌, ◌≤◌}
+use Rattle.std.specs.Prelude.{Ok}
 use native.Mathlib.Omega.{arith}
 use mathlib.Core.Path.{◌≡◌, refl, sym, ap, subst, ◌∙◌}
 use mathlib.Core.Bool.{Bool, true}
@@ -9,7 +10,6 @@ use lib.IntN.{ℤ}
 use lib.ListN.{length, take, replicate}
 use Rattle.formula.specs.Formula.{max_rows, max_clauses, work_size, universal, existential, prefix}
 use Rattle.formula.specs.Causes.{checked, sizes}
-use Rattle.formula.specs.declared.Check.TheVariants.{Accepted}
 use Rattle.rounds.proofs.Bounds.{count_in_room}
 use Rattle.engine.specs.declared.run.Outcome.{Outcome}
 use Rattle.engine.specs.Outcome.{number_of, cause, reported, returned, left}
@@ -24,7 +24,7 @@ use Rattle.decision.proofs.DecisionLaws.{cause_so, returned_so}
 use Rattle.answer.specs.Printed.{round_limit, settled, result_of, shown, printed_as}
 
 -- A formula that passes, over a work area: what the run returns and leaves, and the lines of it.
-module _ (kinds : List ℕ) (literals : List ℤ) (work : List ℕ) (passes : checked kinds literals ≡ Accepted (sizes kinds literals)) (sized : length work ≡ work_size) where
+module _ (kinds : List ℕ) (literals : List ℤ) (work : List ℕ) (passes : checked kinds literals ≡ Ok (sizes kinds literals)) (sized : length work ≡ work_size) where
   whole : eqb (length work) work_size ≡ true
   whole = ap (λ (n : ℕ). eqb n work_size) sized
 
@@ -68,7 +68,7 @@ module _ (gates : Bool) (text : List ℕ) where
     passes_so : Passes f.formula
     passes_so = reading_passes gates text f.formula f.whole
 
-    pub front_passes : checked (take u kinds) (take e literals) ≡ Accepted (sizes (take u kinds) (take e literals))
+    pub front_passes : checked (take u kinds) (take e literals) ≡ Ok (sizes (take u kinds) (take e literals))
     front_passes = rw (f.kinds_front, f.literals_front) passes_so.accepted
 
     pub variables_small : v ≤ max_variables

@@ -19,7 +19,7 @@ use Rattle.text.proofs.TextLaws.{OfText, Results, Passes, read_passes, refused_l
 use Rattle.report.specs.Report.{refusal_line}
 use Rattle.decision.specs.Decision.{own_lent}
 use Rattle.answer.specs.Printed.{round_limit, settled, result_of, shown, printed}
-use Rattle.answer.specs.AnswerRight.{Begins, Refusal, Result, ended, LinesRight, AnswerRight}
+use Rattle.answer.specs.AnswerRight.{Begins, Result, ended, LinesRight, AnswerRight}
 use Rattle.answer.proofs.PrintedLaws.{result_short, refusal_short, refusal_begins, refusal_not_true, refusal_not_false, refusal_not_undecided, Line, true_begins, false_begins, no_room_universal_begins, no_room_existential_begins, result_no_refusal, true_if_1, false_if_0, not_settled_if_minus}
 
 -- Lines of a reading whose causes and formulas are as the reader has them, and whose verdict means what is to be meant.

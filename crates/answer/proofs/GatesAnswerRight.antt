@@ -1,6 +1,6 @@
 -- What the printed lines of a gate list say, for every list. Assumes nothing.
 use Prim.Native.Nat.{ℕ}
-use mathlib.Core.Path.{◌≡◌, refl, sym, subst, ◌∙◌}
+use mathlib.Core.Path.{refl, sym, subst, ◌∙◌}
 use mathlib.Core.List.{List}
 use Rattle.formula.specs.Formula.{max_unknowns, max_entries}
 use Rattle.named.specs.Names.{In}

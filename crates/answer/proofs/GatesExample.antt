@@ -15,7 +15,7 @@ use Rattle.lines.specs.Lines.{lines, words}
 use Rattle.lines.specs.Numbers as Numbers
 use Rattle.lines.specs.Shapes.{is_comment, is_trimmed, is_problem, is_led, is_gate}
 use Rattle.named.specs.Named.{position}
-use Rattle.text.specs.Reading.{Read, taken, read_gates, gates_read, scan, closed, problem_cause, opened, body_line, prefix_line, gate_line, name_cause, gate_cause, output_cause}
+use Rattle.text.specs.Reading.{taken, read_gates, gates_read, scan, closed, problem_cause, opened, body_line, prefix_line, gate_line, name_cause, gate_cause, output_cause}
 use Rattle.report.specs.Report.{ascii, decimal, line_one, line_two, result_lines}
 use Rattle.decision.specs.Decision.{own_lent}
 use Rattle.answer.specs.Printed.{round_limit, settled, result_of, shown, gates_printed}

@@ -9,9 +9,8 @@ use lib.IntN.{ℤ}
 use lib.ListN.{length, take, drop, take-append-drop}
 use borrow.Author.Tests.{lt-ltb, le-ltb}
 use Rattle.formula.specs.Formula.{work_size}
-use Rattle.text.specs.declared.Reading.{Reading}
-use Rattle.text.specs.declared.Reading.TheVariants.{Taken, Refused}
-use Rattle.text.specs.Reading.{Result, refused, read_as, ReadSo}
+use Rattle.std.specs.Prelude.{Ok, Err}
+use Rattle.text.specs.Reading.{Reading, Result, refused, read_as, ReadSo}
 use Rattle.text.specs.Offered.{offered}
 use Rattle.text.proofs.OfferedLaws.{too_long_refused, offered_inside, offered_past}
 use Rattle.text.proofs.FrontLaws.{read_refused, read_taken}
@@ -45,8 +44,8 @@ module _ (gates : Bool) (text : List ℕ) {reading : Reading} {K : List ℕ} {L 
   reading_usable = go reading refl
     where
       go : (r : Reading) → reading ≡ r → ReadUsable r K' L'
-      go (Refused n line) e = omega (arith, line_small gates text (read_refused so e))
-      go (Taken u n v c) e =
+      go (Err r) e = omega (arith, line_small gates text (read_refused so e))
+      go (Ok t) e =
           let f = read_taken so e in
           record {
             kinds_there = f.kinds_there;
@@ -60,15 +59,15 @@ module _ (gates : Bool) (text : List ℕ) {reading : Reading} {K : List ℕ} {L 
   lines_printed = go reading refl
     where
       go : (r : Reading) → reading ≡ r → lines_of r K' L' ≡ printed_as gates text
-      go (Refused n line) e = refused_printed gates text (read_refused so e)
-      go (Taken u n v c) e = taken_printed gates text (read_taken so e)
+      go (Err r) e = refused_printed gates text (read_refused so e)
+      go (Ok t) e = taken_printed gates text (read_taken so e)
 
   area_used : (area : List ℕ) → work_after reading (take work_size area) ++ drop work_size area ≡ used (read_as gates text) area
   area_used area = go reading refl
     where
       go : (r : Reading) → reading ≡ r → work_after r (take work_size area) ++ drop work_size area ≡ used (read_as gates text) area
-      go (Refused n line) e = take-append-drop work_size area ∙ ap (λ (t : Result). used t area) (sym (read_refused so e))
-      go (Taken u n v c) e = ap (λ (t : Result). used t area) (sym (read_taken so e).whole)
+      go (Err r) e = take-append-drop work_size area ∙ ap (λ (t : Result). used t area) (sym (read_refused so e))
+      go (Ok t) e = ap (λ (t : Result). used t area) (sym (read_taken so e).whole)
 
 -- An area that is shorter than a work area, and one that is not.
 module _ (area : List ℕ) where

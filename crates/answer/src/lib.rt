@@ -4,10 +4,9 @@
 // Reading belongs to `text`, the run to `decision`, the lines to `report`; here what one returns is handed to the next.
 #![tactic(auto)]
 
-ghost use Rattle.std.specs.Prelude.{◌≡◌, length, replicate};
+ghost use Rattle.std.specs.Prelude.{◌≡◌, length, replicate, Ok};
 ghost use Rattle.formula.specs.Formula.{work_size};
 ghost use Rattle.formula.specs.Causes.{checked, sizes};
-ghost use Rattle.formula.specs.declared.Check.TheVariants.{Accepted};
 ghost use Rattle.text.specs.Reading.{text_read, gates_read, read_as};
 ghost use Rattle.text.specs.Offered.{offered};
 ghost use Rattle.answer.specs.Printed.{result_of, printed, gates_printed, printed_as};
@@ -17,7 +16,7 @@ ghost use Rattle.answer.specs.AnswerRight.{AnswerRight};
 ghost use Rattle.answer.specs.GatesAnswerRight.{GatesAnswerRight};
 
 use formula::Formula;
-use text::Reading;
+use text::{Refusal, Taken};
 
 // Room for every answer.
 pub const LONGEST: usize = 128;
@@ -70,7 +69,7 @@ fn within_as(area: &mut [u8], length: usize, gates: bool, out: &mut [u8]) -> usi
 
 // The lines of what was read; of a formula that was taken, which stands at the front of the tables, over the work area.
 fn put_lines(
-    reading: Reading,
+    reading: Result<Taken, Refusal>,
     kinds: &[u8],
     literals: &[i32],
     work: &mut [u8],
@@ -80,13 +79,15 @@ fn put_lines(
     ensures { Puts (lines_of reading kinds.now literals.now) (work_after reading work.old) out.old result out.new work.new }
 {
     match reading {
-        Reading::Refused { number, line } => report::refusal(out, number, line as u32),
-        Reading::Taken {
-            unknowns,
-            entries,
-            variables,
-            clauses,
-        } => decided(
+        Err(refusal) => report::refusal(out, refusal.cause.number(), refusal.line as u32),
+        Ok(
+            Taken {
+                unknowns,
+                entries,
+                variables,
+                clauses,
+            },
+        ) => decided(
             &kinds[..unknowns],
             &literals[..entries],
             variables as u32,
@@ -106,7 +107,7 @@ fn decided(
     work: &mut [u8],
     out: &mut [u8],
 ) -> usize
-    requires { (checked kinds.now literals.now ≡ Accepted (sizes kinds.now literals.now)) × (length work.old ≡ work_size) }
+    requires { (checked kinds.now literals.now ≡ Ok (sizes kinds.now literals.now)) × (length work.old ≡ work_size) }
     ensures { Puts (result_of kinds.now literals.now variables clauses) (replicate work_size 0) out.old result out.new work.new }
 {
     let end = decision::decide_formula(kinds, literals, work, ROUNDS);

@@ -2,7 +2,7 @@
 // place behind them; a part that does not fit leaves the buffer as found.
 #![tactic(auto)]
 
-ghost use Rattle.std.specs.Prelude.{◌≡◌, ◌++◌, ◌+◌, ◌≤◌, length, take, drop};
+ghost use Rattle.std.specs.Prelude.{◌≡◌};
 ghost use Rattle.buffer.specs.Buffer.{appended, place_behind};
 
 // All of `part` into `out` from `at` on, if it fits: the place behind it.
@@ -16,18 +16,7 @@ pub fn append(out: &mut [u8], at: usize, part: &[u8]) -> usize
     if out.len() - part.len() < at {
         return at;
     }
-    copy(out, at, part);
-    at + part.len()
-}
-
-// All of `part` into `out` from `at` on.
-fn copy(out: &mut [u8], at: usize, part: &[u8])
-    requires { at + length part.now ≤ length out.old }
-    ensures { out.new ≡ take at out.old ++ part.now ++ drop (at + length part.now) out.old }
-{
-    let mut i = 0;
-    while i < part.len() {
-        out[at + i] = part[i];
-        i += 1;
-    }
+    let end = at + part.len();
+    out[at..end].copy_from_slice(part);
+    end
 }

@@ -1,15 +1,14 @@
 -- A formula with its first unknowns set to values (its restriction by them), written as a formula again: clauses with a true literal are dropped, and
 -- so are literals that are false; the unknowns that are set are gone, and those behind them are named from 1. Assumes nothing.
-use Rattle.std.specs.Prelude.{ℕ, zero, suc, ◌≡◌, Bool, true, false, List, [], ◌∷◌, ℤ, pos, negsuc, length, drop}
+use Rattle.std.specs.Prelude.{ℕ, zero, suc, ◌≡◌, Bool, true, false, List, [], ◌∷◌, ℤ, pos, negsuc, length, drop, Ok}
 use Rattle.std.proofs.Math.Option.{Option, none, some}
 use Rattle.formula.specs.Formula.{Clause, clauses}
 use Rattle.formula.specs.Causes.{sizes, checked}
-use Rattle.formula.specs.declared.Check.TheVariants.{Accepted}
 use Rattle.trimming_rules.specs.Trimming.{entries}
 
 -- 'A formula to which none of the causes 1 to 3 applies is accepted.'
 abbrev pub IsAccepted : List ℕ → List ℤ → Type 0
-IsAccepted kinds literals = checked kinds literals ≡ Accepted (sizes kinds literals)
+IsAccepted kinds literals = checked kinds literals ≡ Ok (sizes kinds literals)
 
 -- The unknown at a position, where the first ones are set to values: it is one of them, and has its value; or it stands behind them, and has a
 -- position there.

@@ -1,39 +1,27 @@
 -- The formulas of cases are accepted if the formula is. Assumes nothing.
 use Prim.Native.Nat.{ℕ, zero, suc}
 use native.Mathlib.Omega.{arith}
-use mathlib.Core.Path.{◌≡◌, refl, sym, ap, ◌∙◌}
-use mathlib.Core.Bool.{Bool, true, false}
+use mathlib.Core.Path.{◌≡◌, refl, ap}
+use mathlib.Core.Bool.{Bool}
 use mathlib.Core.List.{List, [], ◌∷◌}
 use lib.IntN.{ℤ}
-use lib.ListN.{length}
-use Rattle.formula.specs.Causes.{cause_1, cause_2, cause_3, refused_if, checked, sizes, number as cause_number}
+use Rattle.formula.specs.Causes.{checked, number as cause_number}
 use Rattle.formula.specs.Meaning.{verdict}
-use Rattle.formula.specs.declared.Check.TheVariants.{Accepted}
 use Rattle.formula.proofs.Accepted.{accepted}
 use Rattle.trimming_rules.proofs.Carried.{proved}
 use Rattle.case_rules.specs.Restricted.{IsAccepted, restricted}
 use Rattle.case_rules.proofs.Proved.{restricted_right}
 use Rattle.study.specs.declared.Setting.{Setting}
 use Rattle.study.specs.Study.{formula_of}
+use Rattle.study.proofs.CauseLaws.{accepted_by_number}
 use Rattle.case_study.specs.Cases.{half}
-
-pub by_number : (kinds : List ℕ) (literals : List ℤ) → cause_number (checked kinds literals) ≡ 0 → IsAccepted kinds literals
-unfolding checked
-by_number kinds literals = by_causes (cause_1 kinds) (cause_2 literals) (cause_3 (length kinds) literals)
-  where
-    by_causes : (a b c : Bool) → cause_number (refused_if a 1 (refused_if b 2 (refused_if c 3 (Accepted (sizes kinds literals))))) ≡ 0
-        → refused_if a 1 (refused_if b 2 (refused_if c 3 (Accepted (sizes kinds literals)))) ≡ Accepted (sizes kinds literals)
-    by_causes true b c e = let z : ◌≡◌ {A = ℕ} 1 0 = e in absurd (omega arith)
-    by_causes false true c e = let z : ◌≡◌ {A = ℕ} 2 0 = e in absurd (omega arith)
-    by_causes false false true e = let z : ◌≡◌ {A = ℕ} 3 0 = e in absurd (omega arith)
-    by_causes false false false e = refl
 
 pub number_none : (kinds : List ℕ) (literals : List ℤ) → IsAccepted kinds literals → cause_number (checked kinds literals) ≡ 0
 number_none kinds literals a = ap cause_number a
 
 pub trimmed_accepted : (n : ℕ) (kinds : List ℕ) (literals : List ℤ) → IsAccepted kinds literals → IsAccepted kinds (formula_of n kinds literals)
 trimmed_accepted zero kinds literals a = a
-trimmed_accepted (suc n) kinds literals a = by_number kinds (formula_of (suc n) kinds literals) (proved kinds literals (accepted kinds literals a)).accepted_again
+trimmed_accepted (suc n) kinds literals a = accepted_by_number kinds (formula_of (suc n) kinds literals) (proved kinds literals (accepted kinds literals a)).accepted_again
 
 pub trimmed_verdict : (n : ℕ) (kinds : List ℕ) (literals : List ℤ) → IsAccepted kinds literals → verdict kinds (formula_of n kinds literals) ≡ verdict kinds literals
 trimmed_verdict zero kinds literals a = refl

@@ -3,12 +3,12 @@ use Prim.Native.Nat.{ℕ, zero, suc, ◌+◌, ◌-◌, ◌≤◌, ◌<◌}
 use native.Mathlib.Omega.{arith}
 use native.Mathlib.Numerals.{add-one}
 use mathlib.Core.Path.{◌≡◌, refl, sym, ap, subst, ◌∙◌}
-use mathlib.Core.Bool.{Bool, true, false, not, cond}
-use mathlib.Core.List.{List, [], ◌∷◌, ◌++◌, map, append_assoc, append-nil}
+use mathlib.Core.Bool.{Bool, true, false}
+use mathlib.Core.List.{List, [], ◌∷◌, ◌++◌, append_assoc}
 use mathlib.Core.Option.{some}
 use lib.IntN.{ℤ}
-use lib.ListN.{length, take, drop, get_or, set, length-set, length-take, length-map, take-append-drop}
-use lib.Seq.{take_all, get_or-set_same, get_or-set_other}
+use lib.ListN.{length, take, drop, get_or, set, length-set}
+use lib.Seq.{take_all}
 use Rattle.restriction.specs.Outcome.{value_of, values_of}
 use Rattle.study.specs.declared.Setting.{Setting}
 use Rattle.case_study.specs.Cases.{State, second_value, first_value, sharing, agree, Told, told, decide_by}
@@ -154,9 +154,6 @@ pub record Climbing (kinds values₀ : List ℕ) (depth : ℕ) (v : Bool) (value
       → resume s bound n kinds literals (path_of values₀ depth) (told (some v) st) ≡ resume s bound n kinds literals (path_of values level) (told (some v) st)
   pub rest : List Bool
   pub whole : path_of values₀ depth ≡ path_of values level ++ rest
-
-pub climbing_from : (kinds values : List ℕ) (depth : ℕ) (v : Bool) → Placed kinds values depth → Climbing kinds values depth v values depth
-climbing_from kinds values depth v p = record { placed = p; handed = λ s bound n literals st. refl; rest = []; whole = sym (append-nil (path_of values depth)) }
 
 module _ (kinds values₀ : List ℕ) (depth : ℕ) (v : Bool) (values : List ℕ) (level : ℕ) (going : Climbing kinds values₀ depth v values level) where
   pub climbed_top : level ≤ 0 → Climbed kinds values₀ depth v values 0

@@ -7,7 +7,7 @@ use mathlib.Core.List.{List, [], ◌∷◌}
 use mathlib.Core.Option.{Option, none, some}
 use lib.Dec.{eqb}
 use lib.IntN.{ℤ}
-use lib.ListN.{length, get_elem?}
+use lib.ListN.{length}
 use borrow.Author.Tests.{eq-eqb, ne_eqb, eqb-true, eqb-false}
 use Rattle.formula.specs.Causes.{any}
 use Rattle.formula.specs.Meaning.{verdict}
@@ -15,7 +15,7 @@ use Rattle.formula.proofs.Accepted.{accepting}
 use Rattle.trimming_rules.specs.Proved.{Proved}
 use Rattle.engine.specs.declared.run.Answer.{Answer}
 use Rattle.engine.specs.declared.run.Answer.TheVariants.{False, True, Spent, NoRoomUniversal, NoRoomExistential, Refused}
-use Rattle.engine.specs.Outcome.{Areas, cause as run_cause, refusal, returned, left}
+use Rattle.engine.specs.Outcome.{Areas, refusal, returned, left}
 use Rattle.case_rules.specs.Restricted.{IsAccepted}
 use Rattle.study.specs.declared.Setting.{Setting}
 use Rattle.study.specs.Study.{setting_from, settings_of, formula_of, given_of, unknown, no_round, cause as study_cause, is_verdict, in_turn, studied}
@@ -25,12 +25,12 @@ use Rattle.study.specs.Private.Turns.{SameSizes}
 use Rattle.study.proofs.CauseLaws.{Fits, passes, formula_accepted, trimming_proved, each_accepted}
 use Rattle.study.proofs.SizeLaws.{left_sizes}
 use Rattle.study.proofs.StudyRight.{Accepts, later_accepts, study_right}
-use Rattle.case_study.specs.Cases.{State, state, Reply, is, undecided, stopped, reply_of, by_run, Told, decide_by}
-use Rattle.case_study.specs.Decided.{cases_cause, cause, Ending, ending, no_runs, by_cases, answer_told, outcome_of, told_ending, study_ending, accepted_ending, decided}
+use Rattle.case_study.specs.Cases.{state, reply_of, by_run, decide_by}
+use Rattle.case_study.specs.Decided.{cases_cause, cause, ending, no_runs, by_cases, answer_told, told_ending, study_ending, accepted_ending, decided}
 use Rattle.case_study.specs.CasesRight.{CasesRight}
 use Rattle.case_study.proofs.AcceptedLaws.{trimmed_accepted, trimmed_verdict}
 use Rattle.case_study.proofs.ReplyLaws.{Tells, refit}
-use Rattle.case_study.proofs.ToldLaws.{Says, decide_says, Answers, decide_answers}
+use Rattle.case_study.proofs.ToldLaws.{Says, decide_says, decide_answers}
 
 -- ---- answers
 

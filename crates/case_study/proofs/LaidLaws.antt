@@ -1,34 +1,40 @@
 -- What the functions over a table of entries leave in it. Assumes nothing.
 use Prim.Native.Nat.{ℕ, zero, suc, ◌-◌, ◌≤◌, ◌<◌}
+use Rattle.std.specs.Prelude.{Result, Err, Ok}
+use Rattle.std.specs.Result.{result_unwrap_or}
+use Rattle.cause.specs.declared.Cause.{Cause}
+use Rattle.cause.specs.Cause.{caused}
 use native.Mathlib.Omega.{arith}
 use mathlib.Core.Path.{◌≡◌, refl, sym, ap, subst, ◌∙◌}
-use mathlib.Core.Bool.{Bool, true, false, cond, ◌||◌, true≢false}
-use mathlib.Core.List.{List, [], ◌∷◌, ◌++◌, map}
+use mathlib.Core.Bool.{Bool, true, false, cond, ◌||◌}
+use mathlib.Core.List.{List, [], ◌∷◌, ◌++◌}
 use lib.Dec.{eqb, ltb}
 use lib.IntN.{ℤ, pos, nat_abs}
 use lib.ListN.{length, take, drop, get_or, length-append, length-drop, length-map}
 use lib.Seq.{take_at}
 use borrow.Author.Tests.{eq-eqb, ne_eqb, ltb-false, le-ltb, lt-ltb}
-use Rattle.formula.specs.Formula.{max_entries}
 use Rattle.formula.specs.Causes.{any, other_kind, number as cause_number, checked}
 use Rattle.formula.proofs.Accepted.{accepted}
 use Rattle.formula.proofs.Any.{or_none}
 use Rattle.trimming_rules.specs.Trimming.{trimmed}
 use Rattle.trimming_rules.proofs.Carried.{proved}
 use Rattle.trimming.specs.Outcome as Trim
-use Rattle.trimming.specs.declared.Trimmed.TheVariants.{Entries as TrimEntries, Refused as TrimRefused}
 use Rattle.case_rules.specs.Restricted.{IsAccepted, restricted}
 use Rattle.case_rules.specs.ByCases.{names_first}
 use Rattle.case_rules.proofs.Proved.{restricted_right}
 use Rattle.restriction.specs.Outcome as Restrict
 use Rattle.restriction.specs.Outcome.{value_of, values_of, wrong_values}
-use Rattle.restriction.specs.declared.Set.TheVariants.{Entries, Refused}
 use Rattle.study.specs.declared.Setting.{Setting}
 use Rattle.study.specs.Study.{formula_of}
 use Rattle.case_study.specs.Cases.{half}
-use Rattle.case_study.specs.Private.Path.{step, formula_at, nearer, unnamed, Laid, Known}
-use Rattle.case_study.proofs.AcceptedLaws.{number_none, case_accepted}
+use Rattle.case_study.specs.Private.Path.{step, nearer, unnamed, Laid}
+use Rattle.case_study.proofs.AcceptedLaws.{number_none}
 use Rattle.case_study.proofs.NameLaws.{named_none, passed_one}
+
+-- The entries set, or none.
+pub entries_set : (r : Result ℕ Cause) → result_unwrap_or r 0 ≡ Restrict.used r
+entries_set (Ok n) = refl
+entries_set (Err cause) = refl
 
 laid_so : (formula output : List ℤ) → length formula ≤ length output → (r : ℕ) (table : List ℤ) → r ≡ length formula → table ≡ formula ++ drop (length formula) output
     → Laid formula table r
@@ -62,7 +68,7 @@ module _ (kinds : List ℕ) (literals : List ℤ) (a : IsAccepted kinds literals
         let left = restricted (values_of values) literals in
         let passed = eq-eqb (Restrict.cause kinds literals values output) 0 set_none in
         laid_so left output (omega (arith, room, (restricted_right (values_of values) kinds literals).no_more_entries few_values a)) r table
-        (on_r ∙ ap (λ (b : Bool). Restrict.used (cond b (Entries (length left)) (Refused (Restrict.cause kinds literals values output)))) passed)
+        (on_r ∙ ap (λ (b : Bool). Restrict.used (cond b (Ok (length left)) (Err (caused (Restrict.cause kinds literals values output))))) passed)
         (on_table ∙ ap (λ (b : Bool). cond b (left ++ drop (length left) output) output) passed)
 
   trim_none : Trim.cause kinds literals output ≡ 0
@@ -76,7 +82,7 @@ module _ (kinds : List ℕ) (literals : List ℤ) (a : IsAccepted kinds literals
       let left = trimmed kinds literals in
       let passed = eq-eqb (Trim.cause kinds literals output) 0 trim_none in
       laid_so left output (omega (arith, room, (proved kinds literals (accepted kinds literals a)).no_more_entries)) r table
-      (on_r ∙ ap (λ (b : Bool). Trim.used (cond b (TrimEntries (length left)) (TrimRefused (Trim.cause kinds literals output)))) passed)
+      (on_r ∙ ap (λ (b : Bool). Trim.used (cond b (Ok (length left)) (Err (caused (Trim.cause kinds literals output))))) passed)
       (on_table ∙ ap (λ (b : Bool). cond b (left ++ drop (length left) output) output) passed)
 
   -- As it is, or trimmed.
@@ -98,9 +104,6 @@ nearer_below most (suc v) h l =
 pub nearer_above : (most name : ℕ) → (name ≡ 0 → ⊥) → most ≤ name - 1 → most ≡ nearer most name
 nearer_above most zero h l = absurd (h refl)
 nearer_above most (suc v) h l = sym (ap (λ (b : Bool). cond b v most) (le-ltb v most (omega (arith, l))))
-
-pub nearer_none : (most name : ℕ) → name ≡ 0 → most ≡ nearer most name
-nearer_none most name e = sym (ap (nearer most) e)
 
 -- A pass over the entries.
 pub nearest_next : (literals : List ℤ) (i m : ℕ) → i < length literals

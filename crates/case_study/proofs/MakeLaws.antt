@@ -3,15 +3,14 @@ use Prim.Native.Nat.{ℕ, zero, suc, ◌+◌, ◌-◌, ◌≤◌, ◌<◌}
 use native.Mathlib.Omega.{arith}
 use native.Mathlib.Numerals.{add-one}
 use mathlib.Core.Path.{◌≡◌, refl, sym, ap, subst, ◌∙◌}
-use mathlib.Core.Bool.{Bool, true, false, cond, ◌||◌}
-use mathlib.Core.List.{List, [], ◌∷◌, ◌++◌}
-use lib.Dec.{eqb, ltb}
+use mathlib.Core.Bool.{Bool, false, cond, ◌||◌}
+use mathlib.Core.List.{List, [], ◌∷◌}
+use lib.Dec.{eqb}
 use lib.IntN.{ℤ}
-use lib.ListN.{length, take, drop, get_or, length-drop, length-take}
+use lib.ListN.{length, take, drop, get_or, length-drop}
 use lib.Seq.{take_all}
 use borrow.Author.Tests.{le-ltb}
 use Rattle.formula.specs.Formula.{max_entries}
-use Rattle.formula.specs.Causes.{any, other_kind}
 use Rattle.formula.proofs.Accepted.{accepted}
 use Rattle.formula.proofs.Quantifiers.{kind_below}
 use Rattle.case_rules.specs.Restricted.{IsAccepted, restricted}
@@ -19,7 +18,7 @@ use Rattle.restriction.specs.Outcome.{value_of, values_of, wrong_values}
 use Rattle.study.specs.declared.Setting.{Setting}
 use Rattle.study.specs.Study.{formula_of}
 use Rattle.case_study.specs.Private.Path.{step, formula_at, unnamed, Laid, Known, path_of}
-use Rattle.case_study.proofs.AcceptedLaws.{case_accepted, trimmed_accepted}
+use Rattle.case_study.proofs.AcceptedLaws.{case_accepted}
 use Rattle.case_study.proofs.PathLaws.{formula_nil, formula_accepted, formula_further}
 use Rattle.case_study.proofs.LaidLaws.{step_settled}
 use Rattle.case_study.proofs.ByteLaws.{path_snoc, drop_cons, path_length}
@@ -151,7 +150,3 @@ module _ (s : Setting) (kinds : List ℕ) (first : List ℤ) (values : List ℕ)
       where
         one_level : (kind : ℕ) (ks : List ℕ) (phi : List ℤ) (w : Bool) → formula_at s (kind ∷ ks) phi (w ∷ []) ≡ step s ks phi w
         one_level kind ks phi w = formula_nil s ks (step s ks phi w)
-
-  pub made_all : length values ≤ i → Laid (formula_at s kinds first (values_of values)) table entries
-  made_all all =
-      subst (λ (bs : List ℕ). Laid (formula_at s kinds first (values_of bs)) table entries) (take_all i values all) making.made

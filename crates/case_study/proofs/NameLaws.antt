@@ -1,23 +1,22 @@
 -- Unknowns in front that no clause names, counted in one pass: the way down. Assumes nothing.
-use Prim.Native.Nat.{ℕ, zero, suc, ◌+◌, ◌-◌, ◌≤◌, ◌<◌}
+use Prim.Native.Nat.{ℕ, zero, suc, ◌≤◌}
 use native.Mathlib.Omega.{arith}
-use mathlib.Core.Path.{◌≡◌, refl, sym, ap, ap₂, subst, ◌∙◌}
-use mathlib.Core.Bool.{Bool, true, false, not, cond, ◌||◌, true≢false, false≢true}
+use mathlib.Core.Path.{◌≡◌, refl, sym, ap, ap₂, ◌∙◌}
+use mathlib.Core.Bool.{Bool, true, false, cond, ◌||◌, true≢false, false≢true}
 use mathlib.Core.List.{List, [], ◌∷◌, ◌++◌, map}
-use mathlib.Core.Option.{Option, none, some}
+use mathlib.Core.Option.{some}
 use lib.Dec.{ltb}
 use lib.IntN.{ℤ, pos, negsuc, nat_abs}
-use lib.ListN.{length, drop, take, get_or}
+use lib.ListN.{length}
 use borrow.Author.Tests.{ltb-true, ltb-false, lt-ltb, le-ltb, eqb-true}
 use Rattle.formula.specs.Formula.{Clause, onto, clauses}
 use Rattle.formula.specs.Causes.{any, is_zero}
 use Rattle.formula.proofs.Any.{or_none}
-use Rattle.formula.proofs.Accepted.{Accepted, accepted}
+use Rattle.formula.proofs.Accepted.{accepted}
 use Rattle.trimming_rules.specs.Trimming.{entries}
 use Rattle.trimming_rules.proofs.Trimmed.{entries_clauses}
 use Rattle.case_rules.specs.Restricted.{IsAccepted, of_literal, in_front, of_clause, if_left, of_clauses, restricted}
 use Rattle.case_rules.specs.ByCases.{names_first}
-use Rattle.restriction.specs.Outcome.{value_of, values_of}
 use Rattle.case_study.specs.Cases.{second_value, first_value}
 use Rattle.case_study.specs.Private.Path.{way_down, nearer, unnamed, way_of}
 use Rattle.case_study.proofs.AcceptedLaws.{case_accepted}

@@ -1,10 +1,12 @@
 -- What a formula is found to be is its verdict; and where the areas fit and there is no bound it is asked, and the areas fit again. Assumes nothing.
 use Prim.Native.Nat.{ℕ, zero, suc, ◌≤◌}
+use Rattle.std.specs.Prelude.{Result, Ok, Err}
+use Rattle.cause.specs.declared.Cause.{Cause}
 use native.Mathlib.Omega.{arith}
-use mathlib.Core.Path.{◌≡◌, refl, sym, ap, subst, ◌∙◌}
+use mathlib.Core.Path.{◌≡◌, refl, sym, subst, ◌∙◌}
 use mathlib.Core.Bool.{Bool, true, false, cond, true≢false, false≢true}
-use mathlib.Core.List.{List, [], ◌∷◌}
-use mathlib.Core.Option.{Option, none, some, none-ne-some}
+use mathlib.Core.List.{List, []}
+use mathlib.Core.Option.{none}
 use lib.Dec.{eqb}
 use lib.IntN.{ℤ}
 use lib.ListN.{length, replicate, length-replicate}
@@ -14,13 +16,13 @@ use Rattle.formula.specs.Causes.{checked, cause_1, cause_2, cause_3}
 use Rattle.formula.specs.Meaning.{verdict, bit}
 use Rattle.preference.specs.Preference.{prefer}
 use Rattle.rows.specs.Table.{room}
-use Rattle.rounds.specs.Run.{is_false, is_true, spent, no_room_universal, no_room_existential, Answer as RunAnswer, run}
+use Rattle.rounds.specs.Run.{is_false, is_true, spent, no_room_universal, no_room_existential, Answer as RunAnswer}
 use Rattle.rounds.proofs.Verdict.{verdict_right}
 use Rattle.engine.specs.declared.run.Answer.{Answer}
 use Rattle.engine.specs.declared.run.Answer.TheVariants.{False, True, Spent, NoRoomUniversal, NoRoomExistential, Refused}
 use Rattle.engine.specs.Outcome.{Areas, Given, lent, cause as run_cause, reached, named, reported, refusal, returned, left}
 use Rattle.judge.specs.declared.Judgement.{Judgement}
-use Rattle.judge.specs.declared.Judgement.TheVariants.{NotBorneOut, Accepted, Refused as JudgeRefused}
+use Rattle.judge.specs.declared.Judgement.TheVariants.{NotBorneOut, Accepted}
 use Rattle.judge.specs.Judge.{cause as judge_cause, outcome as judged, work_after}
 use Rattle.judge.proofs.Verdict.{accepted_is_verdict}
 use Rattle.case_rules.specs.Restricted.{IsAccepted}
@@ -29,10 +31,10 @@ use Rattle.case_rules.proofs.RunEnds.{run_ends}
 use Rattle.study.specs.declared.Setting.{Setting}
 use Rattle.study.specs.Study.{preferences_of}
 use Rattle.study.specs.Private.Turns.{SameSizes}
-use Rattle.study.proofs.CauseLaws.{Fits, Passes, passes_if_none, none_if_passes}
+use Rattle.study.proofs.CauseLaws.{Fits, passes_if_none, none_if_passes}
 use Rattle.study.proofs.SizeLaws.{same_cause, left_sizes, fits_a, fits_s}
-use Rattle.case_study.specs.Cases.{State, state, Reply, is, undecided, stopped, Asked, asked, reply_of, is_reached, run_given, run_of, allowed_run}
-use Rattle.case_study.specs.Cases.{rows_for, count_for, is_accepted, serves, with_work, after_judge, Asking, by_run, sharing, passing, reply_to, at_end}
+use Rattle.case_study.specs.Cases.{State, Reply, is, undecided, stopped, Asked, asked, reply_of, is_reached, run_given, run_of, allowed_run}
+use Rattle.case_study.specs.Cases.{rows_for, count_for, is_accepted, serves, after_judge, Asking, by_run, sharing, passing, reply_to, at_end}
 use Rattle.case_study.proofs.AcceptedLaws.{number_none}
 
 -- ---- what is found is right
@@ -60,10 +62,10 @@ run_tells g = by_test (eqb (run_cause g) 0)
         tells_named (verdict g.kinds g.literals) (reached g).answer right.only_true right.only_false
     by_test false = tt
 
-accepted_so : (j : Judgement) → is_accepted j ≡ true → j ≡ Accepted
-accepted_so NotBorneOut e = absurd (false≢true e)
-accepted_so Accepted e = refl
-accepted_so (JudgeRefused n) e = absurd (false≢true e)
+accepted_so : (j : Result Judgement Cause) → is_accepted j ≡ true → j ≡ Ok Accepted
+accepted_so (Ok NotBorneOut) e = absurd (false≢true e)
+accepted_so (Ok Accepted) e = refl
+accepted_so (Err cause) e = absurd (false≢true e)
 
 bit_same : (v w : Bool) → bit v ≡ bit w → v ≡ w
 bit_same true true e = refl

@@ -1,13 +1,13 @@
 -- What the cases tell is the verdict, and with no bound they tell one. Assumes nothing.
 use Prim.Native.Nat.{ℕ, zero, suc, ◌-◌}
-use mathlib.Core.Path.{◌≡◌, refl, sym, ap, ap₂, subst, ◌∙◌}
+use mathlib.Core.Path.{◌≡◌, refl, sym, ap, subst, ◌∙◌}
 use mathlib.Core.Bool.{Bool, true, false, cond, ◌&&◌, ◌||◌, and-true, and-false}
 use mathlib.Core.List.{List, [], ◌∷◌}
 use mathlib.Core.Option.{Option, none, some}
 use lib.Dec.{eqb}
 use lib.IntN.{ℤ}
 use lib.ListN.{length}
-use Rattle.formula.specs.Formula.{Kind, kind_of}
+use Rattle.formula.specs.Formula.{kind_of}
 use Rattle.formula.specs.Causes.{any}
 use Rattle.formula.specs.Meaning.{verdict}
 use Rattle.case_rules.specs.Restricted.{IsAccepted, restricted}
@@ -15,10 +15,10 @@ use Rattle.case_rules.specs.ByCases.{by_kind, names_first}
 use Rattle.case_rules.proofs.Proved.{by_first, passed_over}
 use Rattle.study.specs.declared.Setting.{Setting}
 use Rattle.study.proofs.CauseLaws.{Fits}
-use Rattle.case_study.specs.Cases.{second_value, first_value, half, State, Reply, is, undecided, stopped, Asked, Asking, by_run, sharing, passing, reply_to, at_end}
-use Rattle.case_study.specs.Cases.{Told, told, unless, unless_asked, agree, second_unless, both_cases, if_named, decide_by}
+use Rattle.case_study.specs.Cases.{second_value, first_value, half, State, Reply, is, undecided, stopped, Asking, by_run, sharing, passing, reply_to, at_end}
+use Rattle.case_study.specs.Cases.{Told, told, unless, agree, second_unless, both_cases, if_named, decide_by}
 use Rattle.case_study.proofs.AcceptedLaws.{case_accepted, half_accepted, half_verdict}
-use Rattle.case_study.proofs.ReplyLaws.{Tells, reply_tells, Going, Settles, GoesOn, reply_goes, end_reply}
+use Rattle.case_study.proofs.ReplyLaws.{Tells, reply_tells, Going, Settles, reply_goes, end_reply}
 
 -- A verdict is this one.
 abbrev pub Says : Option Bool → Bool → Type 0

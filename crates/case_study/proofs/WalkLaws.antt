@@ -1,23 +1,24 @@
 -- The walk over all cases: what is left to be told, move by move. Assumes nothing.
 use Prim.Native.Nat.{ℕ, zero, suc, ◌+◌, ◌-◌, ◌≤◌, ◌<◌}
+use Rattle.std.specs.Prelude.{Option, Some, None}
 use native.Mathlib.Omega.{arith}
 use mathlib.Core.Path.{◌≡◌, refl, sym, ap, subst, ◌∙◌}
 use mathlib.Core.Bool.{Bool, true, false, cond}
 use mathlib.Core.List.{List, [], ◌∷◌, ◌++◌, append-nil}
 use mathlib.Core.Option.{none, some}
 use lib.IntN.{ℤ}
-use lib.ListN.{length, take, drop, length-append, length-drop}
+use lib.ListN.{length, drop, length-append, length-drop}
 use Rattle.engine.specs.Outcome.{Areas}
 use Rattle.formula.specs.Causes.{any}
 use Rattle.case_rules.specs.Restricted.{IsAccepted, restricted}
 use Rattle.case_rules.specs.ByCases.{names_first}
-use Rattle.restriction.specs.Outcome.{value_of, values_of}
 use Rattle.study.specs.declared.Setting.{Setting}
 use Rattle.study.specs.Study.{formula_of}
 use Rattle.case_study.specs.declared.Progress.{Progress}
+use Rattle.case_study.specs.declared.Reply.{Reply as Found}
 use Rattle.case_study.specs.Cases.{second_value, first_value, half, agree, both_cases, if_named, State, state, Reply, is, undecided, stopped, Asked, asked, Asking, by_run, sharing, passing, reply_to, at_end, Told, told, unless, decide_by}
 use Rattle.case_study.specs.Decided.{no_runs, by_cases}
-use Rattle.case_study.specs.Private.Path.{step, at_level, formula_at, resume, to_ask, unnamed, way_of, way_down, Placed, path_of, Descended, Climbed, reply_numbered, asking_numbered}
+use Rattle.case_study.specs.Private.Path.{step, at_level, formula_at, resume, to_ask, unnamed, way_of, way_down, Placed, path_of, Descended, Climbed, replied, asking_by}
 use Rattle.case_study.proofs.AcceptedLaws.{trimmed_accepted}
 use Rattle.case_study.proofs.PathLaws.{formula_nil, formula_accepted, formula_further, resume_nil, resume_further, goes_down, fewer_further, fewer_down}
 use Rattle.case_study.proofs.NameLaws.{way_counted}
@@ -25,14 +26,13 @@ use Rattle.case_study.proofs.ByteLaws.{path_length}
 
 -- ---- one formula asked
 
-never_passing : (claim : ℕ) → at_end (asking_numbered claim) ≡ asking_numbered claim
-never_passing zero = refl
-never_passing (suc zero) = refl
-never_passing (suc (suc n)) = refl
+never_passing : (claim : Option Bool) → at_end (asking_by claim) ≡ asking_by claim
+never_passing (Some v) = refl
+never_passing None = refl
 
-module _ (s : Setting) (bound n : ℕ) (phi : List ℤ) (claim : ℕ) (st : State) (r : Asked) where
+module _ (s : Setting) (bound n : ℕ) (phi : List ℤ) (claim : Option Bool) (st : State) (r : Asked) where
   abbrev how : Asking
-  how = asking_numbered claim
+  how = asking_by claim
 
   abbrev cases : ℕ → List ℕ → State → Told
   cases k ks =
@@ -95,14 +95,14 @@ resume_none s bound n (k ∷ kinds) literals (v ∷ path) st =
     either true = refl
     either false = refl
 
-pub record Going (s : Setting) (bound : ℕ) (kinds : List ℕ) (literals : List ℤ) (found present : Areas) (made : Progress) (values : List ℕ) (depth claim : ℕ) : Type 0 where
+pub record Going (s : Setting) (bound : ℕ) (kinds : List ℕ) (literals : List ℤ) (found present : Areas) (made : Progress) (values : List ℕ) (depth : ℕ) (claim : Option Bool) : Type 0 where
   pub placed : Placed kinds values depth
   pub same : by_cases kinds literals s bound found
       ≡ resume s bound (length kinds) kinds (formula_of s.trim kinds literals) (path_of values depth)
-      (decide_by s bound (length kinds) (asking_numbered claim) (drop depth kinds) (formula_at s kinds (formula_of s.trim kinds literals) (path_of values depth)) (state present made))
+      (decide_by s bound (length kinds) (asking_by claim) (drop depth kinds) (formula_at s kinds (formula_of s.trim kinds literals) (path_of values depth)) (state present made))
 
 pub going_from : (s : Setting) (bound : ℕ) (kinds : List ℕ) (literals : List ℤ) (found : Areas) (values : List ℕ) → Placed kinds values 0
-    → Going s bound kinds literals found found no_runs values 0 2
+    → Going s bound kinds literals found found no_runs values 0 None
 unfolding by_cases
 going_from s bound kinds literals found values placed =
     let first = formula_of s.trim kinds literals in
@@ -118,10 +118,10 @@ drop_twice zero b l h = let same : b ≡ 0 + b = omega arith in ap (λ (n : ℕ)
 drop_twice (suc a) b [] h = absurd (omega arith)
 drop_twice (suc a) b (x ∷ l) h = let same : suc (a + b) ≡ suc a + b = omega arith in drop_twice a b l (omega arith) ∙ ap (λ (n : ℕ). drop n (x ∷ l)) same
 
-module _ (s : Setting) (bound : ℕ) (kinds : List ℕ) (literals : List ℤ) (found present : Areas) (made : Progress) (values : List ℕ) (depth claim : ℕ)
+module _ (s : Setting) (bound : ℕ) (kinds : List ℕ) (literals : List ℤ) (found present : Areas) (made : Progress) (values : List ℕ) (depth : ℕ) (claim : Option Bool)
     (going : Going s bound kinds literals found present made values depth claim) (a : IsAccepted kinds literals) (ks : List ℕ) (on_ks : ks ≡ drop depth kinds)
-    (phi : List ℤ) (on_phi : phi ≡ formula_at s kinds (formula_of s.trim kinds literals) (path_of values depth)) (reply : ℕ) (exit : Areas) (after : Progress)
-    (on_ask : asked (reply_numbered reply) (state exit after) ≡ reply_to (asking_numbered claim) s bound depth ks phi (state present made)) where
+    (phi : List ℤ) (on_phi : phi ≡ formula_at s kinds (formula_of s.trim kinds literals) (path_of values depth)) (reply : Found) (exit : Areas) (after : Progress)
+    (on_ask : asked (replied reply) (state exit after) ≡ reply_to (asking_by claim) s bound depth ks phi (state present made)) where
   abbrev n : ℕ
   n = length kinds
 
@@ -140,45 +140,43 @@ module _ (s : Setting) (bound : ℕ) (kinds : List ℕ) (literals : List ℤ) (f
   depth_is : n - length ks ≡ depth
   depth_is = omega (arith, left_long, going.placed.below)
 
-  whole : by_cases kinds literals s bound found ≡ resume s bound n kinds first P (decide_by s bound n (asking_numbered claim) ks phi (state present made))
-  whole = going.same ∙ (λ d. resume s bound n kinds first P (decide_by s bound n (asking_numbered claim) (sym on_ks d) (sym on_phi d) (state present made)))
+  whole : by_cases kinds literals s bound found ≡ resume s bound n kinds first P (decide_by s bound n (asking_by claim) ks phi (state present made))
+  whole = going.same ∙ (λ d. resume s bound n kinds first P (decide_by s bound n (asking_by claim) (sym on_ks d) (sym on_phi d) (state present made)))
 
-  asked_so : asked (reply_numbered reply) (state exit after) ≡ reply_to (asking_numbered claim) s bound (n - length ks) ks phi (state present made)
-  asked_so = on_ask ∙ ap (λ (d : ℕ). reply_to (asking_numbered claim) s bound d ks phi (state present made)) (sym depth_is)
+  asked_so : asked (replied reply) (state exit after) ≡ reply_to (asking_by claim) s bound (n - length ks) ks phi (state present made)
+  asked_so = on_ask ∙ ap (λ (d : ℕ). reply_to (asking_by claim) s bound d ks phi (state present made)) (sym depth_is)
 
-  module _ (v : Bool) (on_reply : reply_numbered reply ≡ is v) where
+  module _ (v : Bool) (on_reply : replied reply ≡ is v) where
     verdict_here : by_cases kinds literals s bound found ≡ resume s bound n kinds first P (told (some v) (state exit after))
     verdict_here =
-        whole ∙ ap (resume s bound n kinds first P) (told_verdict s bound n phi claim (state present made) (asked (reply_numbered reply) (state exit after)) ks v asked_so on_reply)
+        whole ∙ ap (resume s bound n kinds first P) (told_verdict s bound n phi claim (state present made) (asked (replied reply) (state exit after)) ks v asked_so on_reply)
 
     pub told_at_last : (values_after : List ℕ) (level : ℕ) → Climbed kinds values depth v values_after level → level ≡ 0
         → by_cases kinds literals s bound found ≡ told (some v) (state exit after)
     told_at_last values_after level up top = verdict_here ∙ up.told_at_top top s bound n first (state exit after)
 
-    pub goes_up : (values_after : List ℕ) (level : ℕ) → Climbed kinds values depth v values_after level → (level ≡ 0 → ⊥) → asking_numbered reply ≡ sharing v
-        → Going s bound kinds literals found exit after values_after level reply
-    goes_up values_after level up below on_claim =
+    pub goes_up : (values_after : List ℕ) (level : ℕ) → Climbed kinds values depth v values_after level → (level ≡ 0 → ⊥)
+        → Going s bound kinds literals found exit after values_after level (Some v)
+    goes_up values_after level up below =
         record {
           placed = up.placed;
           same =
-              verdict_here ∙ up.turned below s bound n first (state exit after)
-              ∙ ap (λ (how : Asking). resume s bound n kinds first (path_of values_after level) (decide_by s bound n how (drop level kinds) (formula_at s kinds first (path_of values_after level)) (state exit after)))
-              (sym on_claim);
+              verdict_here ∙ up.turned below s bound n first (state exit after);
         }
 
-  pub told_stopped_here : reply_numbered reply ≡ stopped → by_cases kinds literals s bound found ≡ told none (state exit after)
+  pub told_stopped_here : replied reply ≡ stopped → by_cases kinds literals s bound found ≡ told none (state exit after)
   told_stopped_here on_reply =
-      whole ∙ ap (resume s bound n kinds first P) (told_stopped s bound n phi claim (state present made) (asked (reply_numbered reply) (state exit after)) ks asked_so on_reply)
+      whole ∙ ap (resume s bound n kinds first P) (told_stopped s bound n phi claim (state present made) (asked (replied reply) (state exit after)) ks asked_so on_reply)
       ∙ resume_none s bound n kinds first P (state exit after)
 
-  pub told_undecided_end : reply_numbered reply ≡ undecided → depth ≡ n → by_cases kinds literals s bound found ≡ told none (state exit after)
+  pub told_undecided_end : replied reply ≡ undecided → depth ≡ n → by_cases kinds literals s bound found ≡ told none (state exit after)
   told_undecided_end on_reply end =
       whole
       ∙ ap (resume s bound n kinds first P)
-      (told_at_end s bound n phi claim (state present made) (asked (reply_numbered reply) (state exit after)) ks asked_so on_reply (omega (arith, left_long, end)))
+      (told_at_end s bound n phi claim (state present made) (asked (replied reply) (state exit after)) ks asked_so on_reply (omega (arith, left_long, end)))
       ∙ resume_none s bound n kinds first P (state exit after)
 
-  module _ (on_reply : reply_numbered reply ≡ undecided) (some_left : depth < n) (values_after : List ℕ) (deeper : ℕ) (down : Descended kinds phi values depth values_after deeper) where
+  module _ (on_reply : replied reply ≡ undecided) (some_left : depth < n) (values_after : List ℕ) (deeper : ℕ) (down : Descended kinds phi values depth values_after deeper) where
     abbrev way : List Bool
     way = way_down ks phi
 
@@ -210,14 +208,14 @@ module _ (s : Setting) (bound : ℕ) (kinds : List ℕ) (literals : List ℤ) (f
         (λ d. formula_at s (sym behind d) (on_phi d) way)
         ∙ sym (formula_further s kinds first P way (omega (arith, long, some_left))) ∙ ap (formula_at s kinds first) (sym path_is)
 
-    pub goes_further : Going s bound kinds literals found exit after values_after deeper 2
+    pub goes_further : Going s bound kinds literals found exit after values_after deeper None
     goes_further =
         record {
           placed = down.placed;
           same =
               whole
               ∙ ap (resume s bound n kinds first P)
-              (told_undecided s bound n phi claim (state present made) (asked (reply_numbered reply) (state exit after)) ks asked_so on_reply (omega (arith, left_long, some_left))
+              (told_undecided s bound n phi claim (state present made) (asked (replied reply) (state exit after)) ks asked_so on_reply (omega (arith, left_long, some_left))
               ∙ goes_down s bound n ks phi (state exit after))
               ∙ (λ d. resume s bound n kinds first P (resume s bound n (sym behind d) (on_phi d) way (decide_by s bound n by_run (further_kinds d) (further_formula d) (state exit after))))
               ∙ sym (resume_further s bound n kinds first P way (decide_by s bound n by_run (drop deeper kinds) (formula_at s kinds first (path_of values_after deeper)) (state exit after)) (omega (arith, long, some_left)))

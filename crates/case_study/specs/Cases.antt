@@ -1,8 +1,9 @@
 -- Deciding by cases: a formula that a run does not decide is decided by the two cases of its first unknown, each a formula of one unknown less, in the
 -- same way, and with the areas as the runs before have left them.
 -- Assumes nothing.
-use Rattle.std.specs.Prelude.{ℕ, suc, ◌+◌, ◌-◌, Bool, true, false, not, ◌&&◌, cond, List, [], ◌∷◌, eqb, leb, ltb, ℤ, length}
+use Rattle.std.specs.Prelude.{ℕ, ◌+◌, ◌-◌, Bool, true, false, not, ◌&&◌, cond, List, [], ◌∷◌, eqb, leb, ltb, ℤ, length, Result, Ok, Err}
 use Rattle.std.proofs.Math.Option.{Option, none, some}
+use Rattle.cause.specs.declared.Cause.{Cause}
 use Rattle.formula.specs.Causes.{any}
 use Rattle.formula.specs.Meaning.{bit}
 use Rattle.engine.specs.declared.run.Answer.{Answer}
@@ -10,7 +11,7 @@ use Rattle.engine.specs.declared.run.Answer.TheVariants.{False, True, Spent, NoR
 use Rattle.engine.specs.declared.run.Outcome.{Outcome}
 use Rattle.engine.specs.Outcome.{Areas, areas, Given, given, returned, left}
 use Rattle.judge.specs.declared.Judgement.{Judgement}
-use Rattle.judge.specs.declared.Judgement.TheVariants.{NotBorneOut, Accepted, Refused as JudgeRefused}
+use Rattle.judge.specs.declared.Judgement.TheVariants.{NotBorneOut, Accepted}
 use Rattle.judge.specs.Judge.{outcome as judged, work_after}
 use Rattle.case_rules.specs.Restricted.{restricted}
 use Rattle.case_rules.specs.ByCases.{names_first}
@@ -115,10 +116,10 @@ abbrev pub count_for : Bool → Progress → ℕ
 count_for true p = p.existential
 count_for false p = p.universal
 
-abbrev pub is_accepted : Judgement → Bool
-is_accepted NotBorneOut = false
-is_accepted Accepted = true
-is_accepted (JudgeRefused n) = false
+abbrev pub is_accepted : Result Judgement Cause → Bool
+is_accepted (Ok NotBorneOut) = false
+is_accepted (Ok Accepted) = true
+is_accepted (Err cause) = false
 
 -- The judge's judgement of them, and what it leaves.
 unfoldable pub serves : Bool → List ℕ → List ℤ → State → Bool

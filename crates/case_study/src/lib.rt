@@ -10,18 +10,16 @@ ghost use Rattle.trimming_rules.specs.Trimming.{trimmed};
 ghost use Rattle.case_rules.specs.Restricted.{IsAccepted, restricted};
 ghost use Rattle.restriction.specs.Outcome.{value_of, values_of, wrong_values};
 ghost use Rattle.engine.specs.Outcome.{areas};
-ghost use Rattle.study.specs.Study.{formula_of, preferences_of};
+ghost use Rattle.study.specs.Study.{formula_of};
 ghost use Rattle.case_study.specs.Cases.{state, most_runs, most_rounds, up_to, larger as larger_of, counted as counted_so, asked, reply_of, is_reached as reached};
-ghost use Rattle.case_study.specs.Cases.{run_of, is_accepted, reply_to};
+ghost use Rattle.case_study.specs.Cases.{run_of, allowed_run, is_accepted, reply_to};
 ghost use Rattle.case_study.specs.Private.Path.{step, formula_at, nearer as nearer_of, unnamed as unnamed_in, Laid, Known, Placed, Descended, Climbed};
-ghost use Rattle.case_study.specs.Private.Path.{reply_numbered, asking_numbered, shares, shared_work};
+ghost use Rattle.case_study.specs.Private.Path.{replied, asking_by, shares, shared_work};
 
+use cause::Cause;
 use engine::run::{Answer, Outcome};
-use formula::Formula;
 use judge::Judgement;
-use restriction::Set;
 use study::Setting;
-use trimming::Trimmed;
 
 // What the runs made so far have come to: the rows of the last one, how many were made, the sum of their rounds, and the most unknowns that were set.
 #[derive(Clone, Copy)]
@@ -58,10 +56,8 @@ fn make(
 {
     let trim = setting.trim;
     let mut entries = settle(kinds, literals, trim, table);
-    let mut i = 0;
-    while i < values.len() {
+    for i in 0..values.len() {
         entries = narrow(&kinds[i..], setting, &values[i..], entries, table, left);
-        i += 1;
     }
     entries
 }
@@ -108,20 +104,14 @@ fn restrict(kinds: &[u8], literals: &[i32], values: &[u8], output: &mut [i32]) -
     requires { IsAccepted kinds.now literals.now × (length literals.now ≤ length output.old) × (wrong_values (length kinds.now) values.now ≡ false) }
     ensures { Laid (restricted (values_of values.now) literals.now) output.new result }
 {
-    match restriction::set_first(kinds, literals, values, output) {
-        Set::Entries(entries) => entries,
-        Set::Refused(_) => 0,
-    }
+    restriction::set_first(kinds, literals, values, output).unwrap_or(0)
 }
 
 fn trim_into(kinds: &[u8], literals: &[i32], output: &mut [i32]) -> usize
     requires { IsAccepted kinds.now literals.now × (length literals.now ≤ length output.old) }
     ensures { Laid (trimmed kinds.now literals.now) output.new result }
 {
-    match trimming::trim(kinds, literals, output) {
-        Trimmed::Entries(entries) => entries,
-        Trimmed::Refused(_) => 0,
-    }
+    trimming::trim(kinds, literals, output).unwrap_or(0)
 }
 
 // How many unknowns in front no clause names, at most `most`.
@@ -129,10 +119,8 @@ fn unnamed(literals: &[i32], most: usize) -> usize
     ensures { result ≡ unnamed_in most literals.now }
 {
     let mut nearest = most;
-    let mut i = 0;
-    while i < literals.len() {
-        nearest = nearer(nearest, formula::magnitude_at(literals, i) as usize);
-        i += 1;
+    for literal in literals {
+        nearest = nearer(nearest, literal.unsigned_abs() as usize);
     }
     nearest
 }
@@ -171,40 +159,40 @@ fn climb(kinds: &[u8], depth: usize, verdict: u8, values: &mut [u8]) -> usize
     requires { Placed kinds.now values.old depth × Known kinds.now × (verdict ≤ 1) }
     ensures { Climbed kinds.now values.old depth (value_of verdict) values.new result }
 {
-    let mut level = depth;
-    while level > 0 {
-        let above = level - 1;
-        let kind = kinds[above];
-        if values[above] != kind {
-            values[above] = kind;
+    for level in (0..depth).rev() {
+        let kind = kinds[level];
+        if values[level] != kind {
+            values[level] = kind;
             if verdict == kind {
-                return level;
+                return level + 1;
             }
         }
-        level = above;
     }
     0
 }
 
 // ---- a formula asked
 
-// What a formula is found to be: 0 false, 1 true, 2 undecided, 3 no further run is allowed.
+// What a formula is found to be: a verdict, undecided, or nothing, since no further run is allowed.
+#[derive(Clone, Copy)]
+enum Reply {
+    Is(bool),
+    Undecided,
+    Stopped,
+}
+
 #[derive(Clone, Copy)]
 struct Replied {
-    reply: u32,
+    reply: Reply,
     made: Progress,
 }
 
-const UNDECIDED: u32 = 2;
-
-const STOPPED: u32 = 3;
-
-// Asks a formula with its first `depth` unknowns set: for a claim, 0 or 1, which is the first case's verdict, first by the rows that settled the first case, then by a run.
+// Asks a formula with its first `depth` unknowns set: for a claim, which is the first case's verdict, first by the rows that settled that case, then by a run.
 fn ask(
     kinds: &[u8],
     literals: &[i32],
     setting: Setting,
-    claim: u32,
+    claim: Option<bool>,
     bound: u32,
     depth: usize,
     made: Progress,
@@ -216,25 +204,68 @@ fn ask(
     existential_counts: &mut [u32],
     work: &mut [u8],
 ) -> Replied
-    ensures { asked (reply_numbered result.reply)
+    ensures { asked (replied result.reply)
         (state (areas universal_rows.new universal_marks.new universal_counts.new existential_rows.new existential_marks.new existential_counts.new work.new) result.made)
-        ≡ reply_to (asking_numbered claim) setting bound depth kinds.now literals.now
+        ≡ reply_to (asking_by claim) setting bound depth kinds.now literals.now
         (state (areas universal_rows.old universal_marks.old universal_counts.old existential_rows.old existential_marks.old existential_counts.old work.old) made) }
 {
-    if serves(
+    if let Some(verdict) = claim {
+        if serves(
+            kinds,
+            literals,
+            verdict,
+            made,
+            universal_rows,
+            existential_rows,
+            work,
+        ) {
+            return Replied {
+                reply: Reply::Is(verdict),
+                made,
+            };
+        }
+    }
+    allowed(
         kinds,
         literals,
-        claim,
+        setting,
+        bound,
+        depth,
         made,
         universal_rows,
+        universal_marks,
+        universal_counts,
         existential_rows,
+        existential_marks,
+        existential_counts,
         work,
-    ) {
-        return Replied { reply: claim, made };
-    }
+    )
+}
+
+// The run, if a further one is allowed.
+fn allowed(
+    kinds: &[u8],
+    literals: &[i32],
+    setting: Setting,
+    bound: u32,
+    depth: usize,
+    made: Progress,
+    universal_rows: &mut [u8],
+    universal_marks: &mut [u16],
+    universal_counts: &mut [u32],
+    existential_rows: &mut [u8],
+    existential_marks: &mut [u16],
+    existential_counts: &mut [u32],
+    work: &mut [u8],
+) -> Replied
+    ensures { asked (replied result.reply)
+        (state (areas universal_rows.new universal_marks.new universal_counts.new existential_rows.new existential_marks.new existential_counts.new work.new) result.made)
+        ≡ allowed_run setting bound depth kinds.now literals.now
+        (state (areas universal_rows.old universal_marks.old universal_counts.old existential_rows.old existential_marks.old existential_counts.old work.old) made) }
+{
     if is_reached(bound, made.runs) {
         return Replied {
-            reply: STOPPED,
+            reply: Reply::Stopped,
             made,
         };
     }
@@ -270,7 +301,7 @@ fn is_reached(bound: u32, runs: u32) -> bool
 fn serves(
     kinds: &[u8],
     literals: &[i32],
-    claim: u32,
+    claim: bool,
     made: Progress,
     universal_rows: &[u8],
     existential_rows: &[u8],
@@ -281,23 +312,16 @@ fn serves(
 {
     let universal = made.universal;
     let existential = made.existential;
-    if claim == 0 {
-        return is_accepted(judge::judge(kinds, literals, 0, universal_rows, universal, work));
-    }
-    if claim == 1 {
+    if claim {
         return is_accepted(judge::judge(kinds, literals, 1, existential_rows, existential, work));
     }
-    false
+    is_accepted(judge::judge(kinds, literals, 0, universal_rows, universal, work))
 }
 
-fn is_accepted(judgement: Judgement) -> bool
+fn is_accepted(judgement: Result<Judgement, Cause>) -> bool
     ensures { result ≡ is_accepted judgement }
 {
-    match judgement {
-        Judgement::NotBorneOut => false,
-        Judgement::Accepted => true,
-        Judgement::Refused(_) => false,
-    }
+    matches!(judgement, Ok(Judgement::Accepted))
 }
 
 // The run of the cases' setting.
@@ -315,7 +339,7 @@ fn run_case(
     existential_counts: &mut [u32],
     work: &mut [u8],
 ) -> Replied
-    ensures { asked (reply_numbered result.reply)
+    ensures { asked (replied result.reply)
         (state (areas universal_rows.new universal_marks.new universal_counts.new existential_rows.new existential_marks.new existential_counts.new work.new) result.made)
         ≡ run_of setting depth kinds.now literals.now
         (state (areas universal_rows.old universal_marks.old universal_counts.old existential_rows.old existential_marks.old existential_counts.old work.old) made) }
@@ -323,8 +347,8 @@ fn run_case(
     let limit = setting.limit;
     let clearing = setting.clearing;
     let preference = setting.preference;
-    let byte = [byte_of(preference); 1];
-    let lent = lent_of(preference);
+    let byte = [study::byte_of(preference); 1];
+    let lent = study::lent_of(preference);
     let outcome = engine::run::run(
         kinds,
         literals,
@@ -346,35 +370,16 @@ fn run_case(
     }
 }
 
-// The preference byte, and how many are lent: one, or none for house preferences.
-fn byte_of(preference: u32) -> u8
-    ensures { preference < 256 → result ≡ preference }
-{
-    if preference < study::HOUSE {
-        return preference as u8;
-    }
-    0
-}
-
-fn lent_of(preference: u32) -> usize
-    ensures { result ≡ length (preferences_of preference) }
-{
-    if preference < study::HOUSE {
-        return 1;
-    }
-    0
-}
-
-fn reply_of(answer: Answer) -> u32
-    ensures { reply_numbered result ≡ reply_of answer }
+fn reply_of(answer: Answer) -> Reply
+    ensures { replied result ≡ reply_of answer }
 {
     match answer {
-        Answer::False => 0,
-        Answer::True => 1,
-        Answer::Spent => UNDECIDED,
-        Answer::NoRoomUniversal => UNDECIDED,
-        Answer::NoRoomExistential => UNDECIDED,
-        Answer::Refused(_) => UNDECIDED,
+        Answer::False => Reply::Is(false),
+        Answer::True => Reply::Is(true),
+        Answer::Spent => Reply::Undecided,
+        Answer::NoRoomUniversal => Reply::Undecided,
+        Answer::NoRoomExistential => Reply::Undecided,
+        Answer::Refused(_) => Reply::Undecided,
     }
 }
 

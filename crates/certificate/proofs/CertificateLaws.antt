@@ -1,5 +1,6 @@
 -- From what the reader, the run and the writers promise to what is delivered. Assumes nothing.
-use Prim.Native.Nat.{ℕ, ◌≤◌, ◌<◌}
+use Prim.Native.Nat.{ℕ, ◌≤◌}
+use Rattle.std.specs.Prelude.{Ok}
 use native.Mathlib.Omega.{arith}
 use mathlib.Core.Path.{◌≡◌, refl, sym, ap, ap₂, subst, ◌∙◌}
 use mathlib.Core.Bool.{Bool, true, false, cond}
@@ -8,13 +9,12 @@ use lib.Dec.{eqb, leb}
 use lib.IntN.{ℤ}
 use lib.ListN.{length, take, replicate}
 use borrow.Author.Tests.{eq-eqb, ne_eqb}
-use Rattle.formula.specs.Formula.{max_unknowns, max_rows, max_clauses, work_size, universal, existential, prefix, clauses}
+use Rattle.formula.specs.Formula.{max_unknowns, max_rows, max_clauses, work_size, prefix}
 use Rattle.formula.specs.Causes.{checked, sizes}
-use Rattle.formula.specs.declared.Check.TheVariants.{Accepted}
 use Rattle.formula.proofs.Accepted.{accepted}
 use Rattle.preference.specs.Preference.{prefer}
 use Rattle.rows.specs.Table.{table_of}
-use Rattle.rounds.specs.Run.{rows, Answer, is_false, is_true, spent, no_room_universal, no_room_existential, number, Outcome, run, highest}
+use Rattle.rounds.specs.Run.{rows, Answer, is_false, is_true, spent, no_room_universal, no_room_existential, number, Outcome, highest}
 use Rattle.engine.specs.declared.run.Outcome.{Outcome as Returned}
 use Rattle.engine.specs.Outcome.{Areas, Given, lent, cause, number_of, reported, row_bytes, given_up, after, left as run_left}
 use Rattle.text.specs.Reading.{max_variables, Result, refused, read_as}
@@ -28,7 +28,8 @@ use Rattle.decision.specs.Decision.{handed_on, Decided}
 use Rattle.decision.proofs.DecisionLaws.{cause_so, returned_so}
 use Rattle.answer.specs.Printed.{round_limit, settled}
 use Rattle.certificate.specs.declared.Counts.{Counts}
-use Rattle.certificate.specs.Certificate.{Output, only_file, only_lines, true_record, false_record, lines_of, by_answer, on_outcome, on_formula, on_text, work_by, Delivered}
+use Rattle.certificate.specs.Certificate.{Output, only_file, only_lines, true_record, false_record, lines_of, by_answer, on_outcome, on_formula, on_text}
+use Rattle.certificate.specs.Certificate.{work_by, Delivered}
 use Rattle.certificate.specs.Private.Steps.{Ran}
 use Rattle.certificate.proofs.AnyRun as any
 use Rattle.certificate.proofs.AnyRun.{true_if, false_if}
@@ -54,11 +55,13 @@ abbrev counts : ℕ → ℕ → Counts
 counts n k = record { file = n; lines = k }
 
 module _ (bytes file lines : List ℕ) {n : ℕ} where
-  pub lines_delivered : {lines_then : List ℕ} → n ≡ put_count bytes lines → lines_then ≡ put bytes lines → Delivered (only_lines bytes) file lines (counts 0 n) file lines_then
+  pub lines_delivered : {lines_then : List ℕ} → n ≡ put_count bytes lines → lines_then ≡ put bytes lines →
+      Delivered (only_lines bytes) file lines (counts 0 n) file lines_then
   lines_delivered counted written =
       record { file_counted = none_counted file; file_written = none_put file; lines_counted = counted; lines_written = written }
 
-  pub file_delivered : {file_then : List ℕ} → n ≡ put_count bytes file → file_then ≡ put bytes file → Delivered (only_file bytes) file lines (counts n 0) file_then lines
+  pub file_delivered : {file_then : List ℕ} → n ≡ put_count bytes file → file_then ≡ put bytes file →
+      Delivered (only_file bytes) file lines (counts n 0) file_then lines
   file_delivered counted written =
       record { file_counted = counted; file_written = written; lines_counted = none_counted lines; lines_written = none_put lines }
 
@@ -133,44 +136,45 @@ pub own_borne : (kinds : List ℕ) (literals : List ℤ) → any.Borne kinds lit
 own_borne kinds literals = any.borne_so kinds literals (prefer []) max_rows max_rows 0 round_limit (omega arith) (omega arith) (omega arith) (omega arith)
 
 -- What that run leaves.
-module _ (kinds : List ℕ) (literals : List ℤ) (work : List ℕ) (passes : checked kinds literals ≡ Accepted (sizes kinds literals)) (whole : length work ≡ work_size) where
-  abbrev g : Given
-  g = handed_on kinds literals work round_limit
+module _ (kinds : List ℕ) (literals : List ℤ) (work : List ℕ) (passes : checked kinds literals ≡ Ok (sizes kinds literals)) (whole : length work ≡ work_size)
+  where
+    abbrev g : Given
+    g = handed_on kinds literals work round_limit
 
-  abbrev end : Outcome
-  end = settled kinds literals
+    abbrev end : Outcome
+    end = settled kinds literals
 
-  sized : eqb (length work) work_size ≡ true
-  sized = eq-eqb (length work) work_size whole
+    sized : eqb (length work) work_size ≡ true
+    sized = eq-eqb (length work) work_size whole
 
-  -- What the rows were written over.
-  abbrev found : Areas
-  found = given_up (highest (lent g) round_limit) g.found
+    -- What the rows were written over.
+    abbrev found : Areas
+    found = given_up (highest (lent g) round_limit) g.found
 
-  left_so : run_left g ≡ after g round_limit
-  unfolding run_left
-  left_so =
-      let none : cause g ≡ 0 = cause_so kinds literals work round_limit passes ∙ (rw sized refl) in
-      rw none refl
+    left_so : run_left g ≡ after g round_limit
+    unfolding run_left
+    left_so =
+        let none : cause g ≡ 0 = cause_so kinds literals work round_limit passes ∙ (rw sized refl) in
+        rw none refl
 
-  pub few_unknowns : length kinds ≤ max_unknowns
-  few_unknowns = (accepted kinds literals passes).few_unknowns
+    pub few_unknowns : length kinds ≤ max_unknowns
+    few_unknowns = (accepted kinds literals passes).few_unknowns
 
-  module _ {r : Returned} {U E work_then : List ℕ} (d : Decided g r U E work_then) where
-    reported_so : r ≡ reported (prefix kinds) end
-    reported_so = d.returned_so ∙ returned_so kinds literals work round_limit passes sized refl
+    module _ {r : Returned} {U E work_then : List ℕ} (d : Decided g r U E work_then) where
+      reported_so : r ≡ reported (prefix kinds) end
+      reported_so = d.returned_so ∙ returned_so kinds literals work round_limit passes sized refl
 
-    u_so : U ≡ row_bytes end.A found.universal_rows
-    u_so = d.universal_so ∙ ap (λ (a : Areas). a.universal_rows) left_so
+      u_so : U ≡ row_bytes end.A found.universal_rows
+      u_so = d.universal_so ∙ ap (λ (a : Areas). a.universal_rows) left_so
 
-    e_so : E ≡ row_bytes end.S found.existential_rows
-    e_so = d.existential_so ∙ ap (λ (a : Areas). a.existential_rows) left_so
+      e_so : E ≡ row_bytes end.S found.existential_rows
+      e_so = d.existential_so ∙ ap (λ (a : Areas). a.existential_rows) left_so
 
-    pub work_so : work_then ≡ replicate work_size 0
-    work_so = d.work_so ∙ ap (λ (a : Areas). a.work) left_so
+      pub work_so : work_then ≡ replicate work_size 0
+      work_so = d.work_so ∙ ap (λ (a : Areas). a.work) left_so
 
-    pub ran : Ran end r U E
-    ran = any.ran_so (own_borne kinds literals) (prefix kinds) found.universal_rows found.existential_rows reported_so u_so e_so
+      pub ran : Ran end r U E
+      ran = any.ran_so (own_borne kinds literals) (prefix kinds) found.universal_rows found.existential_rows reported_so u_so e_so
 
 -- From the text's reading.
 abbrev by_length : List ℕ → List ℤ → ℕ → ℕ → Bool → Output
@@ -191,20 +195,23 @@ module _ (reading : Result) (work : List ℕ) where
     text_refused e d = certified _ (ap (λ (x : Result). on_text x work) (sym e)) (ap (λ (x : Result). work_by x work) (sym e)) d
 
     module _ {u e v c : ℕ} {kinds : List ℕ} {literals : List ℤ} (t : TextFront reading u e v c kinds literals) where
-      pub work_refused : (length work ≡ work_size → ⊥) → Delivered (only_lines (refusal_line 5 0)) file lines r file_then lines_then
+      pub work_refused : {n : ℕ} → n ≡ 5 → (length work ≡ work_size → ⊥) → Delivered (only_lines (refusal_line n 0)) file lines r file_then lines_then
           → Certified file lines r file_then lines_then work
-      work_refused short d =
+      work_refused five short d =
           let no = sym (ne_eqb (length work) work_size short) in
-          certified _ (ap (by_length t.formula.kinds t.formula.literals t.formula.variables t.formula.clauses) no ∙ ap (λ (x : Result). on_text x work) (sym t.whole))
+          certified _ (ap (λ (n : ℕ). only_lines (refusal_line n 0)) five ∙ ap (by_length t.formula.kinds t.formula.literals t.formula.variables
+          t.formula.clauses) no ∙ ap (λ (x : Result). on_text x work) (sym t.whole))
           (ap (λ (b : Bool). cond b (replicate work_size 0) work) no ∙ ap (λ (x : Result). work_by x work) (sym t.whole)) d
 
       pub text_decided : {work_then : List ℕ} → length work ≡ work_size → work_then ≡ replicate work_size 0
-          → Delivered (on_formula (take u kinds) (take e literals) v c) file lines r file_then lines_then → Certified file lines r file_then lines_then work_then
+          → Delivered (on_formula (take u kinds) (take e literals) v c) file lines r file_then lines_then → Certified file lines r file_then lines_then
+          work_then
       text_decided {work_then} whole cleared d =
           let yes = sym (eq-eqb (length work) work_size whole) in
           let here : Delivered (on_formula t.formula.kinds t.formula.literals t.formula.variables t.formula.clauses) file lines r file_then lines_then =
           rw (t.kinds_front, t.literals_front, t.variables_so, t.clauses_so) at d in
-          certified _ (ap (by_length t.formula.kinds t.formula.literals t.formula.variables t.formula.clauses) yes ∙ ap (λ (x : Result). on_text x work) (sym t.whole))
+          certified _ (ap (by_length t.formula.kinds t.formula.literals t.formula.variables t.formula.clauses) yes ∙ ap (λ (x : Result). on_text x work)
+          (sym t.whole))
           (cleared ∙ ap (λ (b : Bool). cond b (replicate work_size 0) work) yes ∙ ap (λ (x : Result). work_by x work) (sym t.whole)) here
 
 module _ (gates : Bool) (text : List ℕ) where
@@ -212,7 +219,7 @@ module _ (gates : Bool) (text : List ℕ) where
     passes_so : Passes t.formula
     passes_so = reading_passes gates text t.formula t.whole
 
-    pub front_passes : checked (take u kinds) (take e literals) ≡ Accepted (sizes (take u kinds) (take e literals))
+    pub front_passes : checked (take u kinds) (take e literals) ≡ Ok (sizes (take u kinds) (take e literals))
     front_passes = rw (t.kinds_front, t.literals_front) passes_so.accepted
 
     pub variables_small : v ≤ max_variables

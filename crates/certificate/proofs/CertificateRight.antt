@@ -1,5 +1,6 @@
 -- The file written for a text is accepted by the judge on that text, for every text. Assumes nothing.
 use Prim.Native.Nat.{ℕ, ◌≤◌}
+use Rattle.std.specs.Prelude.{Ok}
 use native.Mathlib.Omega.{arith}
 use mathlib.Core.Path.{◌≡◌, refl, sym, ap, subst, ◌∙◌}
 use mathlib.Core.Bool.{Bool, true, false, cond}
@@ -9,15 +10,12 @@ use Prim.Native.String.{String}
 use lib.Dec.{eqb}
 use lib.IntN.{ℤ}
 use lib.ListN.{length, replicate, length-replicate}
-use Rattle.formula.specs.Formula.{work_size, clauses}
+use Rattle.formula.specs.Formula.{work_size}
 use Rattle.formula.specs.Causes.{checked, sizes}
-use Rattle.formula.specs.declared.Check.TheVariants as Check
-use Rattle.judge.specs.Judge.{outcome}
 use Rattle.rounds.specs.Run.{Answer, is_false, is_true, spent, no_room_universal, no_room_existential, Outcome}
 use Rattle.text.specs.Reading.{Result, taken, refused, text_read, Read, read, read_gates, gates_read}
 use Rattle.text.proofs.TextLaws.{Passes}
 use Rattle.report.specs.Report.{line_one, result_lines, refusal_line}
-use Rattle.witness.specs.File.{file}
 use Rattle.answer.specs.Printed.{settled, result_of, shown, printed, gates_printed}
 use Rattle.text.proofs.ReadAsLaws.{reading_passes}
 use Rattle.answer.specs.AnswerRight.{Begins}
@@ -25,7 +23,6 @@ use Rattle.answer.proofs.PrintedLaws.{refusal_begins, Line, true_begins, false_b
 use Rattle.answer.proofs.AnswerRight.{answer_right}
 use Rattle.answer.proofs.GatesAnswerRight.{gates_answer_right}
 use Rattle.judgement.specs.declared.Finding.{Finding}
-use Rattle.judgement.specs.declared.Finding.TheVariants as Finding
 use Rattle.judgement.specs.Finding as judging
 use Rattle.judgement.specs.JudgementRight.{Prints}
 use Rattle.certificate.specs.Certificate.{Output, only_lines, lines_of, by_answer, on_outcome, on_formula, on_text, written_of, said_of}
@@ -76,7 +73,7 @@ module _ (reading : Result) (bytes : List ℕ) (shown_so : bytes ≡ shown readi
       (inl (subst (λ (bytes : List ℕ). Begins bytes "c refused ") (sym so) (refusal_begins n line)))
 
   -- The text is taken, and its formula has this outcome.
-  module _ (kinds : List ℕ) (literals : List ℤ) (variables clause_count : ℕ) (passes : checked kinds literals ≡ Check.Accepted (sizes kinds literals))
+  module _ (kinds : List ℕ) (literals : List ℤ) (variables clause_count : ℕ) (passes : checked kinds literals ≡ Ok (sizes kinds literals))
       (prints : bytes ≡ result_of kinds literals variables clause_count)
       (puts : on_text reading zeros ≡ on_formula kinds literals variables clause_count)
       (finds : (f : List ℕ) → judging.finding_of reading f zeros ≡ (judging.on_formula kinds literals clause_count f zeros).finding) where

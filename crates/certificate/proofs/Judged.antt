@@ -1,5 +1,6 @@
 -- Rows that the judge's definition accepts are accepted as bytes, with a work area of zeros. Assumes nothing.
 use Prim.Native.Nat.{ℕ, ◌*◌, ◌%◌, ◌≤◌}
+use Rattle.std.specs.Prelude.{Ok}
 use native.Mathlib.Omega.{arith}
 use mathlib.Core.Path.{◌≡◌, refl, sym, ap, ap₂, ◌∙◌}
 use mathlib.Core.Bool.{Bool, true, false, cond, not, ◌&&◌, ◌||◌}
@@ -11,15 +12,14 @@ use borrow.Author.Tests.{le-leb, le-ltb, eq-eqb}
 use Rattle.formula.specs.Formula.{max_unknowns, max_rows, work_size, prefix, clauses}
 use Rattle.formula.specs.Meaning.{matrix, bit}
 use Rattle.formula.specs.Causes as Causes
-use Rattle.formula.specs.declared.Check.TheVariants as Check
 use Rattle.rows.specs.Table.{rows_of, table_of, room, table_fits}
 use Rattle.rows.specs.Stray.{stray_rows}
 use Rattle.rows.proofs.TableLaws.{length_table_of}
 use Rattle.expansion.specs.OtherSide.{side_of, other}
 use Rattle.expansion.specs.Play.{Row}
 use Rattle.expansion.specs.Judge.{accepted}
+use Rattle.cause.specs.Cause.{unless_cause}
 use Rattle.judge.specs.declared.Judgement.{Judgement}
-use Rattle.judge.specs.declared.Judgement.TheVariants as Judgement
 use Rattle.judge.specs.Judge.{claims_true, other_claim, width, cause, borne_out, answer, outcome}
 use Rattle.engine.proofs.run.ByteLaws.{Wide, rows_of_table, no_stray_rows}
 use Rattle.engine.proofs.run.ExtendLaws.{few_unknowns}
@@ -40,7 +40,7 @@ no_cause_by : (formula : ℕ) (fits sized over stray : Bool) → formula ≡ 0 �
     → cond (eqb formula 0) (cond (not fits) 4 (cond (not sized) 5 (cond over 7 (cond stray 8 0)))) formula ≡ 0
 no_cause_by formula fits sized over stray a b c d e = rw (a, b, c, d, e) refl
 
-module _ (kinds : List ℕ) (literals : List ℤ) (passes : Causes.checked kinds literals ≡ Check.Accepted (Causes.sizes kinds literals)) (claim : Bool) (xs : List Row)
+module _ (kinds : List ℕ) (literals : List ℤ) (passes : Causes.checked kinds literals ≡ Ok (Causes.sizes kinds literals)) (claim : Bool) (xs : List Row)
     (wide : Wide (width kinds (bit claim)) xs) (some_rows : 1 ≤ length xs) (few_rows : length xs ≤ max_rows) where
   abbrev t : List ℕ
   t = table_of xs
@@ -61,7 +61,8 @@ module _ (kinds : List ℕ) (literals : List ℤ) (passes : Causes.checked kinds
   fits : table_fits t ≡ true
   unfolding table_fits
   fits =
-      ap₂ (λ (a b : Bool). a && b && eqb (length t % 16) 0) (le-leb 16 (length t) (omega (arith, bytes, some_rows))) (le-leb (length t) (max_rows * 16) (omega (arith, bytes, few_rows)))
+      ap₂ (λ (a b : Bool). a && b && eqb (length t % 16) 0) (le-leb 16 (length t) (omega (arith, bytes, some_rows)))
+      (le-leb (length t) (max_rows * 16) (omega (arith, bytes, few_rows)))
       ∙ eq-eqb (length t % 16) 0 (omega (arith, bytes))
 
   no_stray : stray_rows m (room t) t ≡ false
@@ -82,9 +83,9 @@ module _ (kinds : List ℕ) (literals : List ℤ) (passes : Causes.checked kinds
       (ap Causes.number passes) fits (ap (λ (n : ℕ). eqb n work_size) (length-replicate {A = ℕ} work_size 0)) (none_over claim (room t)) no_stray
 
   pub judge_accepts : accepted claim (prefix kinds) (matrix (clauses literals)) xs ≡ true
-      → outcome kinds literals (bit claim) t (room t) zeros ≡ Judgement.Accepted
+      → outcome kinds literals (bit claim) t (room t) zeros ≡ Ok Judgement.Accepted
   unfolding outcome borne_out
   judge_accepts right =
       let borne : borne_out kinds literals (bit claim) t (room t) ≡ true =
       ap₂ (λ (c : Bool) (rows : List Row). accepted c (prefix kinds) (matrix (clauses literals)) rows) (claims_so claim) rows_so ∙ right in
-      ap (λ (n : ℕ). cond (eqb n 0) (answer (borne_out kinds literals (bit claim) t (room t))) (Judgement.Refused n)) no_cause ∙ ap answer borne
+      ap (λ (n : ℕ). unless_cause n (answer (borne_out kinds literals (bit claim) t (room t)))) no_cause ∙ ap (λ (b : Bool). unless_cause 0 (answer b)) borne

@@ -4,10 +4,9 @@
 // Reading belongs to `text`, the run to `decision`, the file to `witness`, lines to `report`; here what one returns is handed to the next.
 #![tactic(auto)]
 
-ghost use Rattle.std.specs.Prelude.{◌≤◌, ◌<◌, ◌≡◌, length, replicate};
+ghost use Rattle.std.specs.Prelude.{◌≤◌, ◌<◌, ◌≡◌, length, replicate, Ok};
 ghost use Rattle.formula.specs.Formula.{max_unknowns, max_clauses, work_size};
 ghost use Rattle.formula.specs.Causes.{checked, sizes};
-ghost use Rattle.formula.specs.declared.Check.TheVariants.{Accepted};
 ghost use Rattle.text.specs.Reading.{read_as};
 ghost use Rattle.text.specs.Offered.{offered};
 ghost use Rattle.report.specs.Report.{refusal_line, put, put_count};
@@ -17,10 +16,11 @@ ghost use Rattle.certificate.specs.Certificate.{only_lines, on_formula, on_text,
 ghost use Rattle.certificate.specs.CertificateRight.{CertificateRight, GatesCertificateRight};
 ghost use Rattle.certificate.specs.Private.Steps.{Ran};
 
+use cause::Cause;
 use engine::run::Outcome;
 use formula::Formula;
-use text::Reading;
-use witness::{Record, Written};
+use text::Taken;
+use witness::Record;
 
 // How many bytes were put into each buffer.
 #[derive(Clone, Copy)]
@@ -91,15 +91,17 @@ fn certify_as(
     let mut literals = [0i32; Formula::ENTRIES];
     let mut names = [0u16; Formula::UNKNOWNS];
     match text::read_offered(input, length, gates, &mut kinds, &mut literals, &mut names) {
-        Reading::Refused { number, line } => refuse(number, line as u32, file, lines),
-        Reading::Taken {
-            unknowns,
-            entries,
-            variables,
-            clauses,
-        } => {
+        Err(refusal) => refuse(refusal.cause.number(), refusal.line as u32, file, lines),
+        Ok(
+            Taken {
+                unknowns,
+                entries,
+                variables,
+                clauses,
+            },
+        ) => {
             if work.len() != Formula::WORK {
-                return refuse(5, 0, file, lines);
+                return refuse(Cause::Work.number(), 0, file, lines);
             }
             decided(
                 &kinds[..unknowns],
@@ -135,7 +137,7 @@ fn decided(
     lines: &mut [u8],
     work: &mut [u8],
 ) -> Counts
-    requires { (checked kinds.now literals.now ≡ Accepted (sizes kinds.now literals.now)) × (length work.old ≡ work_size) × (clauses ≤ max_clauses) }
+    requires { (checked kinds.now literals.now ≡ Ok (sizes kinds.now literals.now)) × (length work.old ≡ work_size) × (clauses ≤ max_clauses) }
     ensures delivered { Delivered (on_formula kinds.now literals.now variables clauses) file.old lines.old result file.new lines.new }
     ensures work_after { work.new ≡ replicate work_size 0 }
 {
@@ -241,7 +243,7 @@ fn put_file(record: Record, universal: &[u8], existential: &[u8], file: &mut [u8
     ensures file_after { file.new ≡ put (file_of «record» universal.now existential.now) file.old }
 {
     match witness::write(record, universal, existential, file) {
-        Written::Length(length) => length,
-        Written::Refused(_) => 0,
+        Ok(length) => length,
+        Err(_) => 0,
     }
 }

@@ -6,8 +6,9 @@ use mathlib.Core.Bool.{Bool, true, false, not, cond}
 use mathlib.Core.List.{List, [], ◌∷◌, ◌++◌}
 use borrow.Author.Tests.{eq-eqb, ne_eqb, lt-ltb, le-ltb}
 use lib.Dec.{eqb, ltb}
-use lib.IntN.{ℤ, pos, nat_abs}
-use lib.ListN.{length, get_or, drop, length-append, drop_of_length-le}
+use lib.IntN.{ℤ, pos, negsuc, nat_abs}
+use lib.Signed.{lt_z}
+use lib.ListN.{length, get_or, drop, length-append}
 use Rattle.formula.specs.Literal.{negative, magnitude_at, negative_at}
 use Rattle.formula.proofs.Places.{drop_front}
 use Rattle.numerals.proofs.DigitLaws.{decimal_most}
@@ -59,15 +60,16 @@ module _ (places : List ℕ) (style t : ℕ) (minus : Bool) (name : ℕ) where
 
 -- ---- the walk
 
+pub sign_read : (z : ℤ) → lt_z z (pos 0) ≡ negative z
+sign_read (pos n) = le-ltb n 0 (omega arith)
+sign_read (negsuc n) = refl
+
 module _ (places : List ℕ) (style : ℕ) (kept : Bool) (t : ℕ) (literals : List ℤ) (i : ℕ) where
   module _ (n : ℕ) (minus : Bool) (below : i < length literals) (e : n ≡ magnitude_at literals i) (f : minus ≡ negative_at literals i) where
     pub next_entry : (kept_then : Bool) (t_then : ℕ) → kept_then ≡ kept_behind places kept (get_or literals i (pos 0)) (drop (i + 1) literals)
         → t_then ≡ cond (eqb n 0) (t + 1) t
         → walk places style kept t (drop i literals) ≡ entry_bytes places style kept t minus n ++ walk places style kept_then t_then (drop (i + 1) literals)
     next_entry kept_then t_then g h = rw (g, h, e, f, drop_front literals i (pos 0) below) refl
-
-  pub no_entry : length literals ≤ i → walk places style kept t (drop i literals) ≡ []
-  no_entry past = rw (drop_of_length-le literals past) refl
 
 pub later_number : (t n i first : ℕ) (t_then : ℕ) → t ≤ first + i → t_then ≡ cond (eqb n 0) (t + 1) t → t_then ≤ first + (i + 1)
 later_number t n i first t_then few e = go (eqb n 0) e
@@ -163,16 +165,6 @@ module _ (places : List ℕ) (low : Low places) where
       → (length (walked places 0 t literals) ≤ 18 * length literals)
       × (length (walked places 1 t literals) + length (walked places 2 t literals) ≤ 18 * length literals)
   walked_most t literals few short = walk_most (kept_from places literals) t literals (omega arith)
-
-  pub row_most : (claim t : ℕ) (literals : List ℤ) → t ≤ 557056 → length literals ≤ 8192 → length (row_bytes places claim t literals) ≤ 18 * length literals + 2
-  row_most zero t literals few short = omega (arith, (walked_most t literals few short).0)
-  row_most (suc claim) t literals few short =
-      omega (
-        arith,
-        (walked_most t literals few short).1,
-        length-append (walked places 1 t literals ++ walked places 2 t literals) (ascii "0\n"),
-        length-append (walked places 1 t literals) (walked places 2 t literals),
-      )
 
 pub row_zero : (places : List ℕ) (claim t : ℕ) (literals : List ℤ) → claim ≡ 0 → row_bytes places claim t literals ≡ walked places 0 t literals
 row_zero places claim t literals e = rw e refl

@@ -1,40 +1,19 @@
 -- Whether a clause is kept, and the first row with the same first bits, as the loops find them. Assumes nothing.
-use Prim.Native.Nat.{ℕ, zero, suc, ◌+◌, ◌≤◌, ◌<◌}
-use native.Mathlib.Numerals.{add-one}
+use Prim.Native.Nat.{ℕ, zero, suc, ◌≤◌, ◌<◌}
 use native.Mathlib.Omega.{arith}
 use mathlib.Core.Path.{◌≡◌, refl, sym, ap, subst, ◌∙◌}
 use mathlib.Core.Bool.{Bool, true, false, ◌&&◌, beq, true≢false, false≢true}
-use mathlib.Core.List.{List, [], ◌∷◌}
+use mathlib.Core.List.{List}
 use mathlib.Core.Logic.{⊎_elim, inl, inr, ◌⊎◌}
 use borrow.Author.Tests.{eq-eqb, ne_eqb}
-use lib.Dec.{eqb}
-use lib.IntN.{ℤ, pos, nat_abs}
-use lib.ListN.{length, get_or, drop, drop_of_length-le}
-use Rattle.formula.specs.Literal.{negative, magnitude_at, negative_at}
-use Rattle.formula.proofs.Places.{drop_front}
+use lib.IntN.{ℤ, pos}
+use lib.ListN.{get_or}
+use Rattle.formula.specs.Literal.{magnitude_at}
 use Rattle.rows.specs.Row.{bit_of}
 use Rattle.rows.specs.Table.{row_at}
-use Rattle.cnf_text.specs.Private.Walk.{place_of, true_so, kept_from, kept_behind, same_front, FirstLike}
+use Rattle.cnf_text.specs.Private.Walk.{kept_from, kept_behind, same_front, FirstLike}
 
 module _ (places : List ℕ) (literals : List ℤ) (i : ℕ) where
-  pub kept_none : length literals ≤ i → kept_from places (drop i literals) ≡ true
-  kept_none past = rw (drop_of_length-le literals past) refl
-
-  pub kept_end : i < length literals → magnitude_at literals i ≡ 0 → kept_from places (drop i literals) ≡ true
-  kept_end below e = rw (drop_front literals i (pos 0) below, eq-eqb (magnitude_at literals i) 0 e) refl
-
-  module _ (n : ℕ) (minus : Bool) (e : n ≡ magnitude_at literals i) (f : minus ≡ negative_at literals i) where
-    pub kept_true : i < length literals → (n ≡ 0 → ⊥) → true_so minus (place_of places n) ≡ true → kept_from places (drop i literals) ≡ false
-    kept_true below other g =
-        let found : true_so (negative_at literals i) (place_of places (magnitude_at literals i)) ≡ true = rw (← e, ← f) g in
-        rw (drop_front literals i (pos 0) below, ne_eqb (magnitude_at literals i) 0 (λ z. other (e ∙ z)), found) refl
-
-    pub kept_next : i < length literals → (n ≡ 0 → ⊥) → true_so minus (place_of places n) ≡ false
-        → kept_from places (drop i literals) ≡ kept_from places (drop (i + 1) literals)
-    kept_next below other g =
-        let found : true_so (negative_at literals i) (place_of places (magnitude_at literals i)) ≡ false = rw (← e, ← f) g in
-        rw (drop_front literals i (pos 0) below, ne_eqb (magnitude_at literals i) 0 (λ z. other (e ∙ z)), found) refl
-
   pub behind_end : (kept : Bool) (zs : List ℤ) (n : ℕ) → n ≡ magnitude_at literals i → n ≡ 0
       → kept_behind places kept (get_or literals i (pos 0)) zs ≡ kept_from places zs
   behind_end kept zs n e z = rw (eq-eqb (magnitude_at literals i) 0 (sym e ∙ z)) refl
@@ -49,9 +28,6 @@ beq_same : (b : Bool) → beq b b ≡ true
 beq_same true = refl
 beq_same false = refl
 
-beq_equal : (a b : Bool) → a ≡ b → beq a b ≡ true
-beq_equal a b e = rw e (beq_same b)
-
 beq_other : (a b : Bool) → (a ≡ b → ⊥) → beq a b ≡ false
 beq_other true true other = absurd (other refl)
 beq_other true false other = refl
@@ -64,9 +40,6 @@ and_false_left a b e = rw e refl
 module _ (table : List ℕ) (j i : ℕ) where
   abbrev bit_there : ℕ → ℕ → Bool
   bit_there row k = bit_of (row_at table row) k
-
-  pub same_next : (k : ℕ) → same_front table j i k ≡ true → bit_there j k ≡ bit_there i k → same_front table j i (k + 1) ≡ true
-  same_next k e f = rw (add-one k, e, beq_equal (bit_there j k) (bit_there i k) f) refl
 
   stays_false : (k m : ℕ) → k ≤ m → same_front table j i k ≡ false → same_front table j i m ≡ false
   stays_false k zero h e = let z : k ≡ 0 = omega arith in subst (λ n. same_front table j i n ≡ false) z e
@@ -97,15 +70,6 @@ differ_so f t u false false e g = true≢false (sym e ∙ u)
 differ_so f t u true false e g = true≢false g
 differ_so f t u false true e g = false≢true g
 
-pub same_so : (f : Bool → Bool → Bool) → (f true false ≡ true) → (f false true ≡ true) → (a b : Bool) → f a b ≡ false → a ≡ b
-same_so f t u true true e = refl
-same_so f t u false false e = refl
-same_so f t u true false e = absurd (true≢false (sym t ∙ e))
-same_so f t u false true e = absurd (true≢false (sym u ∙ e))
-
-pub same_whole : (table : List ℕ) (j i k m : ℕ) → k ≤ m → m ≤ k → same_front table j i k ≡ true → true ≡ same_front table j i m
-same_whole table j i k m a b e = let same : k ≡ m = omega arith in sym (subst (λ n. same_front table j i n ≡ true) same e)
-
 pub same_itself : (table : List ℕ) (i m : ℕ) → same_front table i i m ≡ true
 same_itself table i zero = refl
 same_itself table i (suc m) = rw (same_itself table i m, beq_same (bit_of (row_at table i) m)) refl
@@ -113,22 +77,6 @@ same_itself table i (suc m) = rw (same_itself table i m, beq_same (bit_of (row_a
 -- The rows before j are unlike row i.
 abbrev pub UnlikeBelow : List ℕ → ℕ → ℕ → ℕ → Type 0
 UnlikeBelow table i m j = (q : ℕ) → q < j → same_front table q i m ≡ false
-
-pub unlike_next : (table : List ℕ) (i m j : ℕ) → UnlikeBelow table i m j → same_front table j i m ≡ false → UnlikeBelow table i m (j + 1)
-unlike_next table i m j before e q below = go (split q j (omega arith))
-  where
-    split : (q j : ℕ) → q ≤ j → (q ≡ j) ⊎ (q < j)
-    split zero zero h = inl refl
-    split zero (suc j) h = inr (omega arith)
-    split (suc q) zero h = absurd (omega arith)
-    split (suc q) (suc j) h = ⊎_elim (λ (e : q ≡ j). inl (ap suc e)) (λ (l : q < j). inr (omega arith)) (split q j (omega arith))
-
-    go : (q ≡ j) ⊎ (q < j) → same_front table q i m ≡ false
-    go (inl same) = subst (λ n. same_front table n i m ≡ false) (sym same) e
-    go (inr less) = before q less
-
-pub found_there : (table : List ℕ) (i m j : ℕ) → j < i → UnlikeBelow table i m j → same_front table j i m ≡ true → FirstLike table i m j
-found_there table i m j below before e = record { inside = omega arith; like = e; none_before = before }
 
 pub found_itself : (table : List ℕ) (i m j : ℕ) → i ≤ j → UnlikeBelow table i m j → FirstLike table i m i
 found_itself table i m j past before =

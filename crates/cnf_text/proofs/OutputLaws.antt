@@ -1,5 +1,9 @@
 -- The causes as the code tests them, and what is put at the start of a buffer. Assumes nothing.
-use Prim.Native.Nat.{ℕ, zero, suc, ◌+◌, ◌-◌, ◌*◌, ◌%◌, ◌≤◌, ◌<◌}
+use Prim.Native.Nat.{ℕ, zero, suc, ◌+◌, ◌*◌, ◌%◌, ◌≤◌, ◌<◌}
+use Rattle.std.specs.Prelude.{Err, Ok, Result}
+use Rattle.cause.specs.declared.Cause.{Cause}
+use Rattle.cause.specs.Cause.{number as number_of}
+use Rattle.cause.proofs.Numbers.{from_1}
 use native.Mathlib.Omega.{arith}
 use mathlib.Core.Path.{◌≡◌, refl, sym, ap, ◌∙◌}
 use mathlib.Core.Bool.{Bool, true, false, not, cond, ◌||◌, ◌&&◌, and-false, true≢false}
@@ -8,10 +12,8 @@ use borrow.Author.Tests.{eq-eqb, ne_eqb, lt-ltb, le-ltb, leb-true}
 use lib.Dec.{eqb, ltb, leb, leb-zero}
 use lib.IntN.{ℤ}
 use lib.ListN.{length, take, replicate, length-replicate}
-use Rattle.formula.specs.Formula.{Kind, existential, universal, prefix, work_size, max_rows}
-use Rattle.formula.specs.Causes.{checked, number, cause_1, cause_2, cause_3, sizes, refused_if, count}
-use Rattle.formula.specs.declared.Check.{Check}
-use Rattle.formula.specs.declared.Check.TheVariants.{Accepted as Passed, Refused}
+use Rattle.formula.specs.Formula.{existential, universal, prefix, work_size, max_rows}
+use Rattle.formula.specs.Causes.{checked, number, count}
 use Rattle.formula.specs.declared.Formula.{Formula}
 use Rattle.formula.proofs.Accepted.{accepted_sizes}
 use Rattle.rows.specs.Stray.{stray_rows}
@@ -71,27 +73,20 @@ or_none : (b : Bool) → b || false ≡ b
 or_none true = refl
 or_none false = refl
 
-refused_not_zero : (a b c : Bool) (f : Formula) (n : ℕ) → refused_if a 1 (refused_if b 2 (refused_if c 3 (Passed f))) ≡ Refused n → eqb n 0 ≡ false
-refused_not_zero true b c f n e = let same : 1 ≡ n = cc in ne_eqb n 0 (λ z. omega arith)
-refused_not_zero false true c f n e = let same : 2 ≡ n = cc in ne_eqb n 0 (λ z. omega arith)
-refused_not_zero false false true f n e = let same : 3 ≡ n = cc in ne_eqb n 0 (λ z. omega arith)
-refused_not_zero false false false f n e = absurd (let z : ◌≡◌ {A = ℕ} 0 1 = cc in omega arith)
-
 module _ (kinds : List ℕ) (literals : List ℤ) (claim : ℕ) (rows : List ℕ) where
-  not_zero : (n : ℕ) → checked kinds literals ≡ Refused n → eqb n 0 ≡ false
-  unfolding checked
-  not_zero n e = refused_not_zero (cause_1 kinds) (cause_2 literals) (cause_3 (length kinds) literals) (sizes kinds literals) n e
+  not_zero : (c : Cause) → eqb (number_of c) 0 ≡ false
+  not_zero c = ne_eqb (number_of c) 0 (λ z. omega (arith, from_1 c))
 
-  pub cause_refused : (n : ℕ) → checked kinds literals ≡ Refused n → n ≡ cause kinds literals claim rows
+  pub cause_refused : (c : Cause) → checked kinds literals ≡ Err c → number_of c ≡ cause kinds literals claim rows
   unfolding cause Judge.cause
-  cause_refused n e = rw (e, not_zero n e) refl
+  cause_refused c e = rw (e, not_zero c) refl
 
   -- The judge's causes behind the formula's, by what they test.
   abbrev by_tests : Bool → Bool → ℕ
   by_tests full no_claim =
       cond (not (table_fits rows)) 4 (cond (not full) 5 (cond no_claim 7 (cond (stray_rows (width kinds claim) (room rows) rows) 8 0)))
 
-  judge_accepted : (f : Formula) (work : List ℕ) → checked kinds literals ≡ Passed f → length work ≡ work_size
+  judge_accepted : (f : Formula) (work : List ℕ) → checked kinds literals ≡ Ok f → length work ≡ work_size
       → later_cause (width kinds claim) claim rows ≡ Judge.cause kinds literals claim rows (room rows) work
   unfolding Judge.cause
   judge_accepted f work e long =
@@ -100,9 +95,9 @@ module _ (kinds : List ℕ) (literals : List ℤ) (claim : ℕ) (rows : List ℕ
       let only : tested ≡ other_claim claim =
       ap (λ (b : Bool). other_claim claim || b) (le-ltb (room rows) (room rows) (omega arith)) ∙ or_none (other_claim claim) in
       sym (ap (λ (b : Bool). by_tests b tested) full ∙ ap (λ (b : Bool). by_tests true b) only)
-      ∙ sym (ap (λ (k : Check). cond (eqb (number k) 0) (by_tests (eqb (length work) work_size) tested) (number k)) e)
+      ∙ sym (ap (λ (k : (Result Formula Cause)). cond (eqb (number k) 0) (by_tests (eqb (length work) work_size) tested) (number k)) e)
 
-  pub cause_accepted : (f : Formula) → checked kinds literals ≡ Passed f → later_cause (width_of f.unknowns f.universals claim) claim rows ≡ cause kinds literals claim rows
+  pub cause_accepted : (f : Formula) → checked kinds literals ≡ Ok f → later_cause (width_of f.unknowns f.universals claim) claim rows ≡ cause kinds literals claim rows
   unfolding cause
   cause_accepted f e =
       ap (λ (g : Formula). later_cause (width_of g.unknowns g.universals claim) claim rows) (accepted_sizes kinds literals e)
@@ -110,11 +105,11 @@ module _ (kinds : List ℕ) (literals : List ℤ) (claim : ℕ) (rows : List ℕ
       ∙ judge_accepted f (replicate work_size 0) e (length-replicate {A = ℕ} work_size 0)
 
   module _ (i : ℕ) where
-    pub part_refused : (n : ℕ) → checked kinds literals ≡ Refused n → part_of kinds literals claim rows i ≡ []
+    pub part_refused : (c : Cause) → checked kinds literals ≡ Err c → part_of kinds literals claim rows i ≡ []
     unfolding part_of
-    part_refused n e = rw (← cause_refused n e, not_zero n e) refl
+    part_refused c e = rw (← cause_refused c e, not_zero c) refl
 
-    pub part_caused : {n : ℕ} (f : Formula) → checked kinds literals ≡ Passed f → n ≡ later_cause (width_of f.unknowns f.universals claim) claim rows → (n ≡ 0 → ⊥)
+    pub part_caused : {n : ℕ} (f : Formula) → checked kinds literals ≡ Ok f → n ≡ later_cause (width_of f.unknowns f.universals claim) claim rows → (n ≡ 0 → ⊥)
         → part_of kinds literals claim rows i ≡ []
     unfolding part_of
     part_caused {n} f e g other = rw (← cause_accepted f e, ← g, ne_eqb n 0 other) refl
@@ -123,7 +118,7 @@ module _ (kinds : List ℕ) (literals : List ℤ) (claim : ℕ) (rows : List ℕ
     unfolding part_of
     part_past past = rw (le-ltb i (room rows) past, and-false (eqb (cause kinds literals claim rows) 0)) refl
 
-    pub part_there : {n : ℕ} (f : Formula) → checked kinds literals ≡ Passed f → n ≡ later_cause (width_of f.unknowns f.universals claim) claim rows → n ≡ 0 → i < room rows
+    pub part_there : {n : ℕ} (f : Formula) → checked kinds literals ≡ Ok f → n ≡ later_cause (width_of f.unknowns f.universals claim) claim rows → n ≡ 0 → i < room rows
         → part_of kinds literals claim rows i ≡ part_bytes kinds literals claim rows i
     unfolding part_of
     part_there {n} f e g none inside = rw (← cause_accepted f e, ← g, eq-eqb n 0 none, lt-ltb i (room rows) inside) refl

@@ -2,14 +2,13 @@
 use Prim.Native.Nat.{ℕ, zero, suc, ◌+◌, ◌*◌, ◌≤◌, ◌<◌}
 use native.Mathlib.Nat.{mul-suc}
 use native.Mathlib.Omega.{arith}
-use mathlib.Core.Path.{◌≡◌, refl, sym, ap, ap₂, subst, ◌∙◌}
-use mathlib.Core.Bool.{Bool, true, false, cond, ◌&&◌}
-use mathlib.Core.List.{List, [], ◌∷◌, ◌++◌}
-use borrow.Author.Tests.{ne_eqb}
+use mathlib.Core.Path.{◌≡◌, refl, sym, ap, subst, ◌∙◌}
+use mathlib.Core.Bool.{Bool, true, false}
+use mathlib.Core.List.{List, [], ◌∷◌}
 use lib.Dec.{eqb}
-use lib.IntN.{ℤ, pos, negsuc}
-use lib.ListN.{length, get_or, length-append}
-use Rattle.formula.specs.Formula.{Clause, prefix, clauses, max_unknowns}
+use lib.IntN.{ℤ}
+use lib.ListN.{length, get_or}
+use Rattle.formula.specs.Formula.{prefix, clauses, max_unknowns}
 use Rattle.formula.specs.Causes.{zeros, is_zero}
 use Rattle.formula.specs.Meaning.{bit}
 use Rattle.formula.proofs.Accepted.{Accepted}
@@ -21,13 +20,11 @@ use Rattle.rows.specs.Row.{row_of}
 use Rattle.rows.specs.Table.{row_at, rows_of, room}
 use Rattle.rows.proofs.RowLaws.{get_or_row_of}
 use Rattle.rows.proofs.TableLaws.{length_rows_of, get_or_rows_of}
-use Rattle.judge.specs.Judge.{claims_true, width, lent_rows}
+use Rattle.judge.specs.Judge.{claims_true, width}
 use Rattle.search_cells.specs.Cells.{owned}
 use Rattle.search_cells.proofs.OwnedLaws.{owned_at, length_owned}
-use Rattle.trimming_rules.specs.Trimming.{entries}
 use Rattle.trimming_rules.proofs.RuleLaws.{Within}
 use Rattle.trimming_rules.proofs.Trimmed.{entries_clauses, within_clauses}
-use Rattle.lines.specs.Lines.{Bytes}
 use Rattle.writer.specs.Private.Steps.{Put}
 use Rattle.writer.proofs.PutLaws.{put_as}
 use Rattle.cnf_rules.specs.Clauses.{copy_number}

@@ -3,7 +3,7 @@ use Prim.Native.Nat.{ℕ, zero, suc, ◌+◌, ◌*◌, ◌≤◌, ◌<◌}
 use native.Mathlib.Omega.{arith}
 use mathlib.Core.Path.{◌≡◌, refl, sym, ap, ap₂, subst, ◌∙◌}
 use mathlib.Core.Bool.{Bool, true, false, cond, ◌&&◌, beq, true≢false, false≢true}
-use mathlib.Core.List.{List, [], ◌∷◌, map}
+use mathlib.Core.List.{List, [], ◌∷◌}
 use mathlib.Core.Logic.{⊎_elim, inl, inr, ◌⊎◌}
 use borrow.Author.Tests.{eq-eqb, ne_eqb}
 use lib.Dec.{eqb}
@@ -22,7 +22,7 @@ use Rattle.rows.specs.Row.{bit_of, row_of}
 use Rattle.rows.specs.Table.{row_at, rows_of, room}
 use Rattle.rows.proofs.RowLaws.{length_row_of, get_or_row_of}
 use Rattle.rows.proofs.TableLaws.{length_rows_of, get_or_rows_of}
-use Rattle.judge.specs.Judge.{claims_true, width}
+use Rattle.judge.specs.Judge.{claims_true}
 use Rattle.search_cells.specs.Cells.{owned}
 use Rattle.search_cells.proofs.OwnedLaws.{owned_at, length_owned, others_before_own, others_before_other}
 use Rattle.cnf_rules.specs.Clauses.{first_like, copy_number}

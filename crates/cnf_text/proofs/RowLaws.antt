@@ -1,12 +1,12 @@
 -- What the walk over the entries leaves is what the rules say of the row. Assumes nothing.
-use Prim.Native.Nat.{ℕ, zero, suc, ◌+◌, ◌-◌, ◌*◌, ◌≤◌, ◌<◌}
+use Prim.Native.Nat.{ℕ, zero, suc, ◌+◌, ◌-◌, ◌<◌}
 use native.Mathlib.Numerals.{add-one}
 use native.Mathlib.Omega.{arith}
 use mathlib.Core.Path.{◌≡◌, refl, sym, ap, ap₂, ◌∙◌}
-use mathlib.Core.Bool.{Bool, true, false, not, cond, ◌&&◌, ◌||◌, true≢false, false≢true}
+use mathlib.Core.Bool.{Bool, true, false, not, cond, ◌&&◌, ◌||◌}
 use mathlib.Core.List.{List, [], ◌∷◌, ◌++◌, append_assoc, append-nil}
 use mathlib.Core.Logic.{⊎_elim}
-use borrow.Author.Tests.{ne_eqb, lt-ltb, le-ltb}
+use borrow.Author.Tests.{ne_eqb, le-ltb}
 use lib.Dec.{eqb, ltb}
 use lib.IntN.{ℤ, pos, negsuc, nat_abs}
 use lib.ListN.{length, get_or}
@@ -20,7 +20,7 @@ use Rattle.expansion.specs.Cells.{others_before}
 use Rattle.expansion.proofs.Booleans.{true_or_false}
 use Rattle.expansion.proofs.LeadingPath.{play_at_other}
 use Rattle.judge.specs.Judge.{claims_true}
-use Rattle.report.specs.Report.{ascii, decimal}
+use Rattle.report.specs.Report.{ascii}
 use Rattle.lines.specs.Lines.{Bytes}
 use Rattle.trimming_rules.specs.Trimming.{entries}
 use Rattle.trimming_rules.proofs.ClauseLaws.{Named}
@@ -28,7 +28,7 @@ use Rattle.trimming_rules.proofs.RuleLaws.{Within}
 use Rattle.cnf_rules.specs.Clauses.{own_literal, row_literal, renamed, own_part, left_over, opposite, breaks_one, breaks, some_of, row_clauses}
 use Rattle.cnf_rules.specs.Text.{word, line, lines}
 use Rattle.cnf_rules.proofs.TextLaws.{lines_append}
-use Rattle.cnf_text.specs.Private.Walk.{place_of, true_so, kept_from, literal_bytes, end_bytes, copy_bytes, entry_bytes, kept_behind, number_behind, walk, row_bytes}
+use Rattle.cnf_text.specs.Private.Walk.{place_of, true_so, kept_from, literal_bytes, end_bytes, copy_bytes, entry_bytes, walk, row_bytes}
 
 -- The places are those of the row: of an own unknown its copy, of another its value.
 pub record Places (ts : List Bool) (row : Row) (name : ℕ → ℕ) (places : List ℕ) : Type 0 where

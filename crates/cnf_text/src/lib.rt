@@ -13,7 +13,7 @@ ghost use Rattle.writer.specs.Private.Steps.{Put};
 ghost use Rattle.cnf_text.specs.Output.{cause as cause_so, part_of};
 ghost use Rattle.cnf_text.specs.Private.Walk.{width_of, later_cause, part_bytes, same_front, FirstLike, PlaceBy, PlacesBelow, Low, true_so, kept_from, literal_bytes, end_bytes, copy_bytes, entry_bytes, kept_behind, walked, row_bytes, Known};
 
-use formula::{Check, Formula};
+use formula::Formula;
 
 // Room for the lines of every row: 18 bytes for an entry, and 2.
 pub const LONGEST: usize = 18 * Formula::ENTRIES + 2;
@@ -25,8 +25,8 @@ pub fn cause(kinds: &[u8], literals: &[i32], claim: u8, rows: &[u8]) -> u32
     ensures { result ≡ cause_so kinds.now literals.now claim rows.now }
 {
     match Formula::check(kinds, literals) {
-        Check::Refused(number) => number,
-        Check::Accepted(sizes) => rows_cause(sizes.unknowns, sizes.universals, claim, rows),
+        Err(cause) => cause.number(),
+        Ok(sizes) => rows_cause(sizes.unknowns, sizes.universals, claim, rows),
     }
 }
 
@@ -69,8 +69,8 @@ pub fn part(
     ensures written { out.new ≡ put (part_of kinds.now literals.now claim rows.now i) out.old }
 {
     match Formula::check(kinds, literals) {
-        Check::Refused(_) => 0,
-        Check::Accepted(sizes) => {
+        Err(_) => 0,
+        Ok(sizes) => {
             let number = rows_cause(sizes.unknowns, sizes.universals, claim, rows);
             if number != 0 {
                 return 0;
@@ -129,14 +129,11 @@ fn put_entries(
     let mut end = at;
     let mut kept = is_kept(literals, 0, places);
     let mut t = first;
-    let mut i = 0;
-    while i < literals.len() {
-        let name = formula::magnitude_at(literals, i) as usize;
-        let negative = formula::negative_at(literals, i);
-        end = put_entry(text, end, places, style, kept, t, negative, name);
+    for (i, literal) in literals.iter().enumerate() {
+        let name = literal.unsigned_abs() as usize;
+        end = put_entry(text, end, places, style, kept, t, *literal < 0, name);
         kept = is_kept_behind(literals, i, places, kept);
         t = number_behind(t, name);
-        i += 1;
     }
     end
 }
@@ -244,8 +241,7 @@ fn is_kept(literals: &[i32], start: usize, places: &[u16]) -> bool
     requires { Known (length places.now) literals.now }
     ensures { result ≡ kept_from places.now (drop start literals.now) }
 {
-    let mut i = start;
-    while i < literals.len() {
+    for i in start..literals.len() {
         let name = formula::magnitude_at(literals, i) as usize;
         if name == 0 {
             return true;
@@ -253,7 +249,6 @@ fn is_kept(literals: &[i32], start: usize, places: &[u16]) -> bool
         if is_true(places[name - 1], formula::negative_at(literals, i)) {
             return false;
         }
-        i += 1;
     }
     true
 }
@@ -282,12 +277,10 @@ fn place(kinds: &[u8], claim: u8, rows: &[u8], i: usize, places: &mut [u16; Form
     ensures { PlacesBelow kinds.now claim rows.now i (length kinds.now) places.new × (length places.new ≡ 128) × Low places.new }
 {
     let mut others = 0usize;
-    let mut k = 0;
-    while k < kinds.len() {
-        let own = kinds[k] == claim;
+    for (k, kind) in kinds.iter().enumerate() {
+        let own = *kind == claim;
         places[k] = place_at(rows, i, others, k, own);
         others = others_behind(others, own);
-        k += 1;
     }
 }
 
@@ -317,12 +310,10 @@ fn others_behind(others: usize, own: bool) -> usize
 fn first_like(rows: &[u8], i: usize, count: usize) -> usize
     ensures { FirstLike rows.now i count result }
 {
-    let mut j = 0;
-    while j < i {
+    for j in 0..i {
         if is_same_front(rows, j, i, count) {
             return j;
         }
-        j += 1;
     }
     i
 }
@@ -330,12 +321,10 @@ fn first_like(rows: &[u8], i: usize, count: usize) -> usize
 fn is_same_front(rows: &[u8], j: usize, i: usize, count: usize) -> bool
     ensures { result ≡ same_front rows.now j i count }
 {
-    let mut k = 0;
-    while k < count {
+    for k in 0..count {
         if rows::bit(rows, j, k) != rows::bit(rows, i, k) {
             return false;
         }
-        k += 1;
     }
     true
 }

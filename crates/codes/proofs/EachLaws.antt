@@ -6,8 +6,8 @@ use native.Mathlib.Numerals.{add-one}
 use mathlib.Core.Path.{◌≡◌, refl, sym, ◌∙◌, ap}
 use mathlib.Core.List.{List, [], ◌∷◌, ◌++◌, map}
 use lib.IntN.{ℤ, pos}
-use lib.ListN.{length, get_or, take, drop, set, length-map, length-append, length-drop}
-use lib.Seq.{take_all, take-suc, length-take-le, append_snoc, set_at}
+use lib.ListN.{length, get_or, take, drop, set, length-map}
+use lib.Seq.{take-suc, length-take-le, append_snoc, set_at}
 use Rattle.formula.proofs.Places.{drop_front}
 use Rattle.codes.specs.Codes.{code_of}
 
@@ -15,14 +15,6 @@ abbrev pub Each : List ℤ → List ℕ → ℕ → List ℕ → Type 0
 Each literals codes₀ i codes = codes ≡ map code_of (take i literals) ++ drop i codes₀
 
 module _ (literals : List ℤ) (codes₀ : List ℕ) (room : length literals ≤ length codes₀) where
-  pub length_each : (i : ℕ) (codes : List ℕ) → i ≤ length literals → Each literals codes₀ i codes → length codes ≡ length codes₀
-  length_each i codes inside e =
-      let a = length-append (map code_of (take i literals)) (drop i codes₀) in
-      let b = length-map (take i literals) code_of in
-      let d = length-take-le i literals inside in
-      let f = length-drop i codes₀ in
-      ap length e ∙ omega arith
-
   map_one : (zs : List ℤ) (z : ℤ) → map code_of (zs ++ (z ∷ [])) ≡ map code_of zs ++ (code_of z ∷ [])
   map_one [] z = refl
   map_one (y ∷ zs) z = ap (λ (l : List ℕ). code_of y ∷ l) (map_one zs z)
@@ -40,9 +32,3 @@ module _ (literals : List ℤ) (codes₀ : List ℕ) (room : length literals ≤
       (ap (λ (n : ℕ). map code_of (take n literals)) (add-one i)
       ∙ ap (map code_of) (take-suc literals i (pos 0) inside)
       ∙ map_one (take i literals) (get_or literals i (pos 0))))
-
-  pub each_all : (i : ℕ) (codes : List ℕ) → length literals ≤ i → i ≤ length literals → Each literals codes₀ i codes →
-      codes ≡ map code_of literals ++ drop (length literals) codes₀
-  each_all i codes past inside e =
-      let same : i ≡ length literals = omega arith in
-      e ∙ ap (λ (l : List ℤ). map code_of l ++ drop i codes₀) (take_all i literals past) ∙ ap (λ (n : ℕ). map code_of literals ++ drop n codes₀) same

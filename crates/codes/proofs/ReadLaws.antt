@@ -1,6 +1,6 @@
 -- A clause is read entry by entry, and its codes are written behind those of the clauses before it: the codes are the encoding's, and the
 -- marks tell which the clause has. Assumes nothing.
-use Prim.Native.Nat.{ℕ, zero, suc, ◌+◌, ◌-◌, ◌%◌, ◌≤◌, ◌<◌}
+use Prim.Native.Nat.{ℕ, zero, suc, ◌+◌, ◌%◌, ◌≤◌, ◌<◌}
 use native.Mathlib.Numerals.{add-one}
 use native.Mathlib.Omega.{arith}
 use native.Mathlib.Decide.{ℕ_discrete}
@@ -11,8 +11,8 @@ use mathlib.Core.List.{List, [], ◌∷◌, ◌++◌, append-nil, append_assoc}
 use borrow.Author.Tests.{eq-eqb, ne_eqb, ltb-true, ltb-false, le-ltb}
 use lib.Dec.{eqb}
 use lib.IntN.{ℤ, pos, negsuc, nat_abs}
-use lib.ListN.{length, get_or, take, drop, set, replicate, length-append, length-set, length-replicate, replicate-append-replicate, drop_of_length-le}
-use lib.Seq.{take_at, take-take, take_all, take-suc-set, take-set-lt, set_at, get_or_at, get_or-take, length-take-le, get_or-set_same, get_or-set_other}
+use lib.ListN.{length, get_or, take, drop, set, replicate, length-append, length-set, length-replicate, drop_of_length-le}
+use lib.Seq.{take_at, take-take, take-suc-set, take-set-lt, set_at, get_or_at, get_or-take, length-take-le, get_or-set_same, get_or-set_other}
 use Rattle.formula.specs.Formula.{max_unknowns}
 use Rattle.formula.specs.Causes.{any, beyond}
 use Rattle.formula.proofs.Any.{any_none}
@@ -54,24 +54,6 @@ encoding_more r (negsuc v) zs other = refl
 
 take_more : (w : List ℕ) (to code : ℕ) → to < length w → take (to + 1) (set w to code) ≡ take to w ++ (code ∷ [])
 take_more w to code below = rw add-one (take-suc-set w to code below)
-
--- Zeros behind the first entries, one more, and up to the end.
-pub zeros_none : (codes : List ℕ) (end : ℕ) → take end codes ≡ take end codes ++ replicate (end - end) 0
-zeros_none codes end =
-    let none : end - end ≡ 0 = omega arith in
-    sym (ap (λ (n : ℕ). take end codes ++ replicate n 0) none ∙ append-nil (take end codes))
-
-module _ (first codes : List ℕ) (end i : ℕ) (zeros : take i codes ≡ first ++ replicate (i - end) 0) where
-  pub zeros_more : end ≤ i → i < length codes → take (i + 1) (set codes i 0) ≡ first ++ replicate (i + 1 - end) 0
-  zeros_more low below =
-      let one : (i - end) + 1 ≡ i + 1 - end = omega arith in
-      take_more codes i 0 below
-      ∙ ap (λ (l : List ℕ). l ++ (0 ∷ [])) zeros
-      ∙ append_assoc first (replicate (i - end) 0) (0 ∷ [])
-      ∙ ap (λ (l : List ℕ). first ++ l) (replicate-append-replicate (i - end) 1 0 ∙ ap (λ (n : ℕ). replicate n 0) one)
-
-  pub zeros_all : (n : ℕ) → length codes ≡ n → i ≡ n → codes ≡ first ++ replicate (n - end) 0
-  zeros_all n sized last = sym (take_all i codes (omega arith)) ∙ zeros ∙ ap (λ (k : ℕ). first ++ replicate (k - end) 0) last
 
 -- ---- a code is added
 

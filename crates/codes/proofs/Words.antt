@@ -1,5 +1,5 @@
 -- A literal and its code as the machine computes them on bits. Assumes nothing.
-use Prim.Native.Nat.{zero, suc, ◌+◌, ◌*◌, ◌^◌, ◌≤◌, ◌<◌}
+use Prim.Native.Nat.{◌+◌, ◌*◌, ◌^◌, ◌≤◌, ◌<◌}
 use native.Mathlib.Omega.{arith}
 use mathlib.Core.Path.{◌≡◌, refl, sym, ◌∙◌, ap}
 use mathlib.Core.Bool.{true, false, true≢false}
@@ -18,17 +18,6 @@ use Rattle.codes.specs.Codes.{code_of}
 -- A callee reads its argument back from its bits.
 pub bits : {A : Type 0} (f : ℤ → A) (z : ℤ) → mag z < 2 ^ 31 → f (to_z w32 (of_z w32 z)) ≡ f z
 bits f z small = ap f (to_z-of_z {w = w32} {z = z} (record { sfits = small }))
-
--- An entry is 0 if its bits are.
-pub code_of_zero : (z : ℤ) → mag z < 2 ^ 31 → of_z w32 z ≡ 0 → code_of z ≡ 0
-code_of_zero (pos zero) small e = refl
-code_of_zero (pos (suc v)) small e = absurd (omega arith)
-code_of_zero (negsuc v) small e = absurd (omega arith)
-
-pub code_of_other : (z : ℤ) → (of_z w32 z ≡ 0 → ⊥) → code_of z ≡ 0 → ⊥
-code_of_other (pos zero) other e = other refl
-code_of_other (pos (suc v)) other e = omega arith
-code_of_other (negsuc v) other e = omega arith
 
 module _ (z : ℤ) (fits : SFits w32 z) (small : nat_abs z ≤ max_unknowns) where
   pub opposite_fits_word : SFits w32 (pos 0 -ℤ to_z w32 (of_z w32 z))

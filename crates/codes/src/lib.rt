@@ -61,10 +61,8 @@ fn encode_each(literals: &[i32], codes: &mut [u16])
     requires { (length literals.now ≤ length codes.old) × Names max_unknowns literals.now }
     ensures { codes.new ≡ map code_of literals.now ++ drop (length literals.now) codes.old }
 {
-    let mut i = 0;
-    while i < literals.len() {
-        codes[i] = code_of(literals[i]);
-        i += 1;
+    for (i, literal) in literals.iter().enumerate() {
+        codes[i] = code_of(*literal);
     }
 }
 
@@ -73,12 +71,10 @@ fn has_beyond(literals: &[i32]) -> bool
     ensures { result ≡ any (beyond max_unknowns) literals.now }
 {
     let mut found = false;
-    let mut i = 0;
-    while i < literals.len() {
-        if is_beyond(literals[i]) {
+    for literal in literals {
+        if is_beyond(*literal) {
             found = true;
         }
-        i += 1;
     }
     found
 }
@@ -117,10 +113,9 @@ fn encode_clause(literals: &[i32], from: usize, codes: &mut [u16], start: usize)
 {
     let mut seen = [0u8; LAST_CODE + 1];
     let mut to = start;
-    let mut i = from;
-    while i < literals.len() {
+    for i in from..literals.len() {
         let code = code_of(literals[i]);
-        let c = wide(code);
+        let c = usize::from(code);
         if c == 0 {
             codes[to] = 0;
             return Ends {
@@ -134,7 +129,6 @@ fn encode_clause(literals: &[i32], from: usize, codes: &mut [u16], start: usize)
                 written: start,
             };
         }
-        i += 1;
         if seen[c] != 1 {
             seen[c] = 1;
             add(codes, start, to, code);
@@ -142,7 +136,7 @@ fn encode_clause(literals: &[i32], from: usize, codes: &mut [u16], start: usize)
         }
     }
     Ends {
-        read: i,
+        read: literals.len(),
         written: start, // no zero ends the clause
     }
 }
@@ -152,14 +146,12 @@ fn past_clause(literals: &[i32], from: usize) -> usize
     requires { from < length literals.now }
     ensures { PastClause literals.now from result }
 {
-    let mut i = from;
-    while i < literals.len() {
+    for i in from..literals.len() {
         if literals[i] == 0 {
             return i + 1;
         }
-        i += 1;
     }
-    i
+    literals.len()
 }
 
 // Adds a code to the clause between `start` and `to`. The largest stands first.
@@ -197,17 +189,9 @@ fn opposite(c: usize) -> usize
     if c % 2 == 0 { c + 1 } else { c - 1 }
 }
 
-fn wide(code: u16) -> usize
-    ensures { result ≡ code }
-{
-    code as usize
-}
-
 fn clear_behind(codes: &mut [u16], end: usize)
     requires { end ≤ length codes.old }
     ensures { codes.new ≡ take end codes.old ++ replicate (length codes.old - end) 0 }
 {
-    for i in end..codes.len() {
-        codes[i] = 0;
-    }
+    codes[end..].fill(0);
 }

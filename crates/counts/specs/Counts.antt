@@ -1,13 +1,11 @@
 -- What a search with a model makes of a table of return counts. No contract of the run cites this file.
 -- Assumes nothing.
-use Rattle.std.specs.Prelude.{ℕ, zero, suc, ◌+◌, ◌%◌, ◌^◌, Bool, true, false, List, [], ◌∷◌}
+use Rattle.std.specs.Prelude.{ℕ, zero, suc, ◌+◌, ◌%◌, ◌^◌, Bool, true, false, List, [], ◌∷◌, None, Option, Some}
 use Rattle.rows.specs.Access.{first_place}
-use Rattle.rows.specs.declared.Found.{Found}
-use Rattle.rows.specs.declared.Found.TheVariants.{At, Absent}
 
-abbrev pub is_place : Found → Bool
-is_place (At i) = true
-is_place Absent = false
+abbrev pub is_place : Option ℕ → Bool
+is_place (Some i) = true
+is_place None = false
 
 -- The row at place i of a table is among the first yielded ones, once or more often.
 unfoldable pub was_yielded : List ℕ → List ℕ → ℕ → ℕ → Bool

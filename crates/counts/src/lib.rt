@@ -4,11 +4,9 @@
 // A row costs a look through the yielded rows.
 #![tactic(auto)]
 
-ghost use Rattle.std.specs.Prelude.{◌≡◌, min, length};
+ghost use Rattle.std.specs.Prelude.{◌≡◌};
 ghost use Rattle.rows.specs.Table.{one_a_row};
 ghost use Rattle.counts.specs.Counts.{was_yielded, one_more, counted_up, filled, updated};
-
-use rows::Found;
 
 const ROW: usize = rows::BITS / 8;
 
@@ -40,7 +38,7 @@ pub fn update(
 fn count_up(rows: &[u8], stand: usize, yielded: &[u8], number: usize, counts: &mut [u32])
     ensures { counts.new ≡ counted_up (was_yielded rows.now yielded.now number) stand counts.old }
 {
-    let end = at_most(stand, counts.len());
+    let end = stand.min(counts.len());
     for i in 0..end {
         let came = is_yielded(rows, i, yielded, number);
         counts[i] = one_more(counts[i], came);
@@ -51,26 +49,17 @@ fn count_up(rows: &[u8], stand: usize, yielded: &[u8], number: usize, counts: &m
 pub fn fill(counts: &mut [u32], from: usize, to: usize, value: u32)
     ensures { counts.new ≡ filled from to value counts.old }
 {
-    let end = at_most(to, counts.len());
+    let end = to.min(counts.len());
     for i in from..end {
         counts[i] = value;
     }
-}
-
-fn at_most(n: usize, most: usize) -> usize
-    ensures { result ≡ min n most }
-{
-    if n < most { n } else { most }
 }
 
 // The row at place i is among the first `number` yielded ones.
 fn is_yielded(rows: &[u8], i: usize, yielded: &[u8], number: usize) -> bool
     ensures { result ≡ was_yielded rows.now yielded.now number i }
 {
-    match rows::find(yielded, number, rows, i) {
-        Found::At(_) => true,
-        Found::Absent => false,
-    }
+    rows::find(yielded, number, rows, i).is_some()
 }
 
 // At 2^32 - 1 it starts again at 0.

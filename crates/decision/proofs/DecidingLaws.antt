@@ -1,5 +1,5 @@
 -- From what `read_form` and `study_read` promise to what `decide` does. Assumes nothing.
-use Prim.Native.Nat.{ℕ, zero, suc, ◌+◌, ◌≤◌, ◌<◌}
+use Prim.Native.Nat.{ℕ, zero, suc, ◌≤◌}
 use native.Mathlib.Omega.{arith}
 use mathlib.Core.Path.{◌≡◌, refl, sym, ap, subst, ◌∙◌}
 use mathlib.Core.Bool.{Bool, true, false, cond}
@@ -9,24 +9,24 @@ use lib.IntN.{ℤ}
 use lib.ListN.{length, take, drop, length-take}
 use lib.Seq.{length-take-le, take_all, take_at}
 use borrow.Author.Tests.{ltb-true, ltb-false}
-use Rattle.formula.specs.Formula.{max_clauses, work_size}
+use Rattle.formula.specs.Formula.{work_size}
 use Rattle.lines.specs.Lines.{Bytes}
-use Rattle.named.specs.Named.{max_variables}
 use Rattle.text.specs.declared.Form.{Form}
-use Rattle.text.specs.declared.Reading.{Reading}
-use Rattle.text.specs.declared.Reading.TheVariants.{Taken, Refused}
-use Rattle.text.specs.Reading.{max_bytes, Read, Result, taken, refused, ReadSo}
+use Rattle.std.specs.Prelude.{Ok, Err}
+use Rattle.cause.specs.Cause.{number}
+use Rattle.text.specs.declared.Taken.{Taken}
+use Rattle.text.specs.declared.Refusal.{Refusal}
+use Rattle.text.specs.Reading.{Reading, Read, Result, taken, ReadSo}
 use Rattle.text.specs.Form.{has_gates}
-use Rattle.text.proofs.TextLaws.{Passes}
 use Rattle.text.proofs.FrontLaws.{Front, read_refused, read_taken}
-use Rattle.engine.specs.Outcome.{Areas, areas}
+use Rattle.engine.specs.Outcome.{Areas}
 use Rattle.study.specs.declared.Studied.{Studied}
 use Rattle.study.specs.Study.{Ending as StudyEnding, cause, studied}
-use Rattle.study.specs.StudyRight.{LastRun, Studies}
+use Rattle.study.specs.StudyRight.{LastRun}
 use Rattle.decision.specs.declared.Decision.{Decision}
 use Rattle.decision.specs.Deciding.{of_study, Ending, ending, reading, decided, front, area_after}
 use Rattle.decision.specs.DecisionRight.{outcome_of, Last, Decides}
-use Rattle.decision.specs.Private.Steps.{ReadUsable, Usable, Refusing, Studying, ReadDecides}
+use Rattle.decision.specs.Private.Steps.{ReadUsable, Refusing, Studying, ReadDecides}
 use Rattle.decision.proofs.DecisionRight.{passes, few_lines, decision_right}
 
 -- ---- what is read is usable, and studied
@@ -70,12 +70,12 @@ module _ {result : Result} {u e v c : ℕ} {K : List ℕ} {L : List ℤ} (f : Fr
 pub usable_at : {x y : Reading} (K : List ℕ) (L : List ℤ) → x ≡ y → ReadUsable x K L → ReadUsable y K L
 usable_at K L is = subst (λ (r : Reading). ReadUsable r K L) is
 
-pub refused_at : {x : Reading} {n line : ℕ} (K : List ℕ) (L : List ℤ) (settings : List ℕ) {found : Areas} {d : Decision} {exit : Areas} → x ≡ Refused n line
-    → Refusing n line found d exit → ReadDecides x K L settings found d exit
+pub refused_at : {x : Reading} {r : Refusal} (K : List ℕ) (L : List ℤ) (settings : List ℕ) {found : Areas} {d : Decision} {exit : Areas} → x ≡ Err r
+    → Refusing (number r.cause) r.line found d exit → ReadDecides x K L settings found d exit
 refused_at K L settings {found} {d} {exit} is = subst (λ (r : Reading). ReadDecides r K L settings found d exit) (sym is)
 
-pub taken_at : {x : Reading} {u e v c : ℕ} (K : List ℕ) (L : List ℤ) {settings : List ℕ} {found : Areas} {d : Decision} {exit : Areas} → x ≡ Taken u e v c
-    → Studying u e v c (take u K) (take e L) settings found d exit → ReadDecides x K L settings found d exit
+pub taken_at : {x : Reading} {t : Taken} (K : List ℕ) (L : List ℤ) {settings : List ℕ} {found : Areas} {d : Decision} {exit : Areas} → x ≡ Ok t
+    → Studying t.unknowns t.entries t.variables t.clauses (take t.unknowns K) (take t.entries L) settings found d exit → ReadDecides x K L settings found d exit
 taken_at K L {settings} {found} {d} {exit} is = subst (λ (r : Reading). ReadDecides r K L settings found d exit) (sym is)
 
 -- ---- the two functions
@@ -86,9 +86,9 @@ module _ (form : Form) (text : Bytes) (settings : List ℕ) {K : List ℕ} {L : 
   result = reading form text (length K) (length L) (length N)
 
   usable_case : (x : Reading) → outcome ≡ x → ReadUsable x K' L'
-  usable_case (Refused n line) is =
-      omega (arith, few_lines (has_gates form text) text (length K) (length L) (length N) n line (read_refused so is))
-  usable_case (Taken u e v c) is =
+  usable_case (Err r) is =
+      omega (arith, few_lines (has_gates form text) text (length K) (length L) (length N) (number r.cause) r.line (read_refused so is))
+  usable_case (Ok t) is =
       let f = read_taken so is in
       let p = passes (has_gates form text) text (length K) (length L) (length N) f.formula f.whole in
       record {
@@ -103,7 +103,7 @@ module _ (form : Form) (text : Bytes) (settings : List ℕ) {K : List ℕ} {L : 
 
   module _ (found : Areas) {d : Decision} {exit : Areas} where
     decides_case : (x : Reading) → outcome ≡ x → ReadDecides x K' L' settings found d exit → Decides form text settings K L N found d K' L' N' exit
-    decides_case (Refused n line) is s =
+    decides_case (Err r) is s =
         let refusing = read_refused so is in
         record {
           decided_so = (λ i. ending (s.decision_so i) (s.unmoved i)) ∙ ap (λ (x : Result). decided x settings found) (sym refusing);
@@ -111,9 +111,9 @@ module _ (form : Form) (text : Bytes) (settings : List ℕ) {K : List ℕ} {L : 
           writes_literals = so.writes_literals;
           writes_names = so.writes_names;
           right = decision_right form text (length K) (length L) (length N) settings found;
-          last = λ r taking. let z : ◌≡◌ {A = ℕ} 0 1 = cc (sym refusing ∙ taking) in absurd (omega arith);
+          last = λ formula taking. let z : ◌≡◌ {A = ℕ} 0 1 = cc (sym refusing ∙ taking) in absurd (omega arith);
         }
-    decides_case (Taken u e v c) is s =
+    decides_case (Ok t) is s =
         let f = read_taken so is in
         record {
           decided_so = decided_front f settings found s;

@@ -1,6 +1,6 @@
 -- The run over 256 rows a side: which causes are left, and what is returned where none applies. Assumes nothing.
 use Prim.Native.Nat.{ℕ}
-use native.Mathlib.Omega.{arith}
+use Rattle.std.specs.Prelude.{Ok}
 use mathlib.Core.Path.{◌≡◌, refl, ap, ◌∙◌}
 use mathlib.Core.Bool.{true, false, not, cond}
 use mathlib.Core.List.{List}
@@ -8,7 +8,6 @@ use lib.Dec.{eqb}
 use lib.IntN.{ℤ}
 use lib.ListN.{length}
 use Rattle.formula.specs.Causes.{checked, sizes}
-use Rattle.formula.specs.declared.Check.TheVariants.{Accepted}
 use Rattle.rows.specs.Table.{table_fits}
 use Rattle.formula.specs.Formula.{work_size, prefix}
 use Rattle.rounds.specs.Run.{run}
@@ -26,7 +25,7 @@ unfolding tables_counted
 own_rows_counted = refl
 
 module _ (kinds : List ℕ) (literals : List ℤ) (work : List ℕ) (limit : ℕ) where
-  module _ (passes : checked kinds literals ≡ Accepted (sizes kinds literals)) where
+  module _ (passes : checked kinds literals ≡ Ok (sizes kinds literals)) where
     -- Of a formula that passes, causes 5 and 6 are left.
     pub cause_so : cause (handed_on kinds literals work limit) ≡ cond (not (eqb (length work) work_size)) 5 (cond (eqb limit 0) 6 0)
     unfolding cause

@@ -1,5 +1,5 @@
 -- The theorem on decisions, for every text, form, list of settings and area. Assumes nothing.
-use Prim.Native.Nat.{ℕ, zero, suc, ◌+◌, ◌≤◌}
+use Prim.Native.Nat.{ℕ, ◌+◌, ◌≤◌}
 use native.Mathlib.Omega.{arith}
 use mathlib.Core.Path.{◌≡◌, refl, sym, ap, subst, ◌∙◌}
 use mathlib.Core.Logic.{◌≢◌}
@@ -7,14 +7,14 @@ use mathlib.Core.Bool.{Bool, true, false, cond, ◌&&◌, true≢false, and-eq-t
 use mathlib.Core.List.{List}
 use lib.Dec.{eqb, leb}
 use lib.ListN.{length}
-use borrow.Author.Tests.{eqb-true, ne_eqb}
+use borrow.Author.Tests.{ne_eqb}
 use Rattle.formula.specs.Formula.{max_unknowns, max_entries}
 use Rattle.formula.specs.Meaning.{verdict}
 use Rattle.lines.specs.Lines.{Bytes, lines}
 use Rattle.named.specs.Names.{In}
 use Rattle.text.specs.declared.Form.{Form}
-use Rattle.text.specs.Reading.{max_bytes, lent_well, after_comments, Scan, stopped, scan, Read, Result, taken, refused, result_of, read, read_gates, read_as}
-use Rattle.text.specs.Form.{has_gates, form_read}
+use Rattle.text.specs.Reading.{max_bytes, lent_well, after_comments, stopped, scan, Read, Result, taken, refused, result_of, read, read_gates, read_as}
+use Rattle.text.specs.Form.{has_gates}
 use Rattle.text.specs.GatesRight.{CircuitIs}
 use Rattle.text.proofs.TextLaws.{Results, Passes, read_passes, refused_line, gates_refused_line}
 use Rattle.text.proofs.GatesPass.{GatesResults, gates_pass}
@@ -25,7 +25,7 @@ use Rattle.engine.specs.declared.run.Answer.TheVariants.{False, True, Spent, Ref
 use Rattle.engine.specs.Outcome.{Areas, refusal}
 use Rattle.study.specs.Study.{settings_of, ending, cause, in_turn, studied}
 use Rattle.study.proofs.StudyRight.{study_right}
-use Rattle.decision.specs.Deciding.{of_refusal, reading, decided}
+use Rattle.decision.specs.Deciding.{reading, decided}
 use Rattle.decision.specs.DecisionRight.{Value, causes_of, DecisionRight}
 use Rattle.decision.proofs.StudyLaws.{study_unspent}
 

@@ -1,5 +1,5 @@
 -- 01's run is a study of one setting, whatever is lent. Assumes nothing.
-use Prim.Native.Nat.{ℕ, zero, suc}
+use Prim.Native.Nat.{ℕ}
 use mathlib.Core.Path.{◌≡◌, refl, sym, ap, ◌∙◌}
 use mathlib.Core.Bool.{Bool, true, false, ◌||◌, cond}
 use mathlib.Core.List.{List, []}
@@ -8,7 +8,7 @@ use lib.IntN.{ℤ}
 use borrow.Author.Tests.{eqb-true}
 use Rattle.formula.specs.Formula.{prefix}
 use Rattle.engine.specs.Outcome.{Areas, Given, given, cause as run_cause, reached, reported, refusal, returned, after, left}
-use Rattle.study.specs.Study.{settings_of, preferences_of, unknown, cause_26, list_cause, cause, Ending, ending, is_verdict, in_turn, studied}
+use Rattle.study.specs.Study.{settings_of, preferences_of, unknown, cause_26, list_cause, cause, ending, is_verdict, in_turn, studied}
 use Rattle.study.proofs.CauseLaws.{cause_of_run, cause_tested}
 use Rattle.decision.specs.Settings.{one_run}
 

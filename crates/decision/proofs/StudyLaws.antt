@@ -1,5 +1,5 @@
 -- What the run that gave a study's outcome says of its counts, its setting and its limit. Assumes nothing.
-use Prim.Native.Nat.{ℕ, zero, suc, ◌*◌, ◌/◌, ◌%◌, ◌≤◌, ◌<◌}
+use Prim.Native.Nat.{ℕ, zero, suc, ◌*◌, ◌%◌, ◌≤◌, ◌<◌}
 use native.Mathlib.Omega.{arith}
 use mathlib.Core.Path.{◌≡◌, refl, sym, ap, subst, ◌∙◌}
 use mathlib.Core.Logic.{◌≢◌}
@@ -16,14 +16,13 @@ use Rattle.rows.specs.Table.{room, table_fits}
 use Rattle.rounds.specs.Run.{is_false, is_true, spent, no_room_universal, no_room_existential, Answer as RunAnswer}
 use Rattle.rounds.proofs.Bounds.{count_in_room, next_round_in_room}
 use Rattle.trimming_rules.specs.Proved.{Proved}
-use Rattle.engine.specs.declared.run.Answer.{Answer}
-use Rattle.engine.specs.declared.run.Answer.TheVariants.{False, True, Spent, NoRoomUniversal, NoRoomExistential, Refused}
+use Rattle.engine.specs.declared.run.Answer.TheVariants.{Spent}
 use Rattle.engine.specs.declared.run.Outcome.{Outcome}
-use Rattle.engine.specs.Outcome.{Areas, Given, lent, side_fits, tables_fit, accepted, cause as run_cause, reached, named, reported, refusal, returned, left}
+use Rattle.engine.specs.Outcome.{Areas, Given, lent, side_fits, tables_fit, cause as run_cause, reached, named, reported, refusal, returned, left}
 use Rattle.study.specs.declared.Setting.{Setting}
 use Rattle.study.specs.declared.Studied.{Studied}
 use Rattle.study.specs.Study.{Ending, ending, settings_of, given_of, unknown, no_round, cause_26, list_cause, cause, is_verdict, in_turn, studied}
-use Rattle.study.specs.StudyRight.{LastRun, Studies}
+use Rattle.study.specs.StudyRight.{Studies}
 use Rattle.study.proofs.SettingLaws.{length_settings}
 use Rattle.study.proofs.CauseLaws.{passes_if_none, list_passes, each_accepted, trimming_proved}
 use Rattle.study.proofs.StudyRight.{answered, Accepts, later_accepts}

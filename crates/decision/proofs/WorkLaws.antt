@@ -1,5 +1,5 @@
 -- What is decided depends on the length of the work area, and not on what it holds. Assumes nothing.
-use Prim.Native.Nat.{ℕ, suc}
+use Prim.Native.Nat.{ℕ}
 use mathlib.Core.Path.{◌≡◌, refl, sym, ap, ◌∙◌}
 use mathlib.Core.Bool.{Bool, true, false, ◌||◌, cond}
 use mathlib.Core.List.{List, [], ◌∷◌}
@@ -9,8 +9,8 @@ use lib.IntN.{ℤ}
 use lib.ListN.{length, get_elem?}
 use borrow.Author.Tests.{eq-eqb, eqb-true}
 use Rattle.formula.specs.Formula.{prefix}
-use Rattle.text.specs.Reading.{Read, Result, taken, refused}
-use Rattle.engine.specs.Outcome.{Areas, areas, Given, given, cause as run_cause, accepted, reached, reported, refusal, returned, after, left}
+use Rattle.text.specs.Reading.{Result, taken, refused}
+use Rattle.engine.specs.Outcome.{Given, cause as run_cause, accepted, reached, reported, refusal, returned, after, left}
 use Rattle.study.specs.declared.Setting.{Setting}
 use Rattle.study.specs.Study.{formula_of, preferences_of, given_of, settings_of, Ending, ending, is_verdict, list_cause, cause, in_turn, studied}
 use Rattle.study.specs.Private.Turns.{SameSizes}

@@ -7,7 +7,7 @@ use Rattle.formula.specs.Meaning.{verdict}
 use Rattle.lines.specs.Lines.{Bytes}
 use Rattle.named.specs.Names.{In}
 use Rattle.text.specs.declared.Form.{Form}
-use Rattle.text.specs.Reading.{Read, Result, taken, refused, text_causes, gates_causes, kinds_after, literals_after, names_after}
+use Rattle.text.specs.Reading.{Read, taken, refused, text_causes, gates_causes, kinds_after, literals_after, names_after}
 use Rattle.text.specs.Form.{has_gates, form_read}
 use Rattle.text.specs.GatesRight.{CircuitIs}
 use Rattle.rounds.specs.Run.{Answer as RunAnswer}

@@ -16,7 +16,7 @@ ghost use Rattle.decision.specs.Private.Steps.{ReadUsable, Small, ReadDecides};
 use engine::run::{Answer, Outcome};
 use formula::Formula;
 use study::Studied;
-use text::{Form, Reading};
+use text::{Form, Refusal, Taken};
 
 pub mod settings;
 
@@ -139,7 +139,7 @@ fn front_end(bytes: usize) -> usize
 
 // Studies the formula that was read, which stands at the front of the tables.
 fn study_read(
-    reading: Reading,
+    reading: Result<Taken, Refusal>,
     kinds: &[u8],
     literals: &[i32],
     settings: &[u32],
@@ -159,13 +159,15 @@ fn study_read(
         (areas universal_rows.new universal_marks.new universal_counts.new existential_rows.new existential_marks.new existential_counts.new work.new) }
 {
     match reading {
-        Reading::Refused { number, line } => refused(number, line),
-        Reading::Taken {
-            unknowns,
-            entries,
-            variables,
-            clauses,
-        } => {
+        Err(refusal) => refused(refusal.cause.number(), refusal.line),
+        Ok(
+            Taken {
+                unknowns,
+                entries,
+                variables,
+                clauses,
+            },
+        ) => {
             let end = study::study(
                 &kinds[..unknowns],
                 &literals[..entries],

@@ -1,10 +1,11 @@
 -- What printed lines say, for every text. Assumes nothing.
-use Prim.Native.Nat.{ℕ, zero, suc, ◌+◌, ◌≤◌, ◌<◌}
+use Prim.Native.Nat.{ℕ, zero, suc, ◌≤◌, ◌<◌}
+use Rattle.std.specs.Prelude.{Ok}
 use native.Mathlib.Omega.{arith}
 use mathlib.Core.Path.{◌≡◌, refl, sym, ap, subst, ◌∙◌}
-use mathlib.Core.Logic.{◌⊎◌, inl, inr, ◌≢◌}
+use mathlib.Core.Logic.{◌⊎◌, inl, inr}
 use mathlib.Core.Bool.{Bool, true, false, not, cond}
-use mathlib.Core.List.{List, [], ◌∷◌, ◌++◌, append_assoc}
+use mathlib.Core.List.{List, ◌++◌, append_assoc}
 use mathlib.Core.Option.{some, none-ne-some}
 use Prim.Native.String.{String}
 use lib.Dec.{eqb}
@@ -13,38 +14,36 @@ use lib.ListN.{length, get_elem?, replicate, length-replicate}
 use lib.Seq.{length-take-le}
 use Rattle.formula.specs.Formula.{max_unknowns, max_entries, max_rows, work_size, universal, existential, prefix, clauses}
 use Rattle.formula.specs.Causes.{checked, sizes}
-use Rattle.formula.specs.declared.Check.TheVariants.{Accepted}
 use Rattle.rounds.specs.Run.{Answer, is_false, is_true, spent, no_room_universal, no_room_existential, number, Outcome as RunOutcome}
 use Rattle.rounds.proofs.RunLaws.{run_reached}
 use Rattle.rounds.proofs.Bounds.{count_in_room}
 use Rattle.lines.specs.Lines.{Bytes}
 use Rattle.text.specs.declared.Form.{Form}
-use Rattle.text.specs.Reading.{max_bytes, Read, Result, taken, refused, read, read_gates, read_as}
+use Rattle.text.specs.Reading.{Read, Result, taken, refused, read_gates, read_as}
 use Rattle.text.specs.Form.{has_gates, form_read}
-use Rattle.text.proofs.TextLaws.{Passes}
 use Rattle.text.proofs.ReadAsLaws.{reading_passes, reading_line, reading_number}
 use Rattle.text.proofs.GatesPass.{GatesResults, gates_pass}
 use Rattle.engine.specs.declared.run.Answer.{Answer as Named}
-use Rattle.engine.specs.declared.run.Answer.TheVariants.{False, True, Spent, NoRoomUniversal, NoRoomExistential, Refused}
+use Rattle.engine.specs.declared.run.Answer.TheVariants.{NoRoomUniversal, NoRoomExistential}
 use Rattle.engine.specs.declared.run.Outcome.{Outcome}
-use Rattle.engine.specs.Outcome.{Areas, named, number_of, reported, returned}
+use Rattle.engine.specs.Outcome.{named, number_of, reported}
 use Rattle.engine.proofs.run.OutcomeLaws.{number_named}
 use Rattle.report.specs.Report.{line_one, line_two, result_lines, refusal_line}
 use Rattle.report.specs.Studied.{setting_line, study_lines}
 use Rattle.study.specs.declared.Setting.{Setting}
-use Rattle.study.specs.Study.{Ending as StudyEnding, settings_of, unknown, cause_26, list_cause, cause, studied}
+use Rattle.study.specs.Study.{Ending as StudyEnding, settings_of, unknown, cause_26, list_cause, cause}
 use Rattle.decision.specs.declared.Decision.{Decision}
 use Rattle.decision.specs.Decision.{own_lent}
 use Rattle.decision.specs.Settings.{round_limit, one_run, default_settings, own_areas}
-use Rattle.decision.specs.Deciding.{of_refusal, of_study, decided, front}
+use Rattle.decision.specs.Deciding.{of_study, decided, front}
 use Rattle.decision.specs.DecisionRight.{DecisionRight}
 use Rattle.decision.proofs.DecisionLaws.{cause_so, returned_so}
 use Rattle.decision.proofs.DecisionRight.{decision_right}
 use Rattle.decision.proofs.OneRun.{one_study}
 use Rattle.decision.proofs.WorkLaws.{same_decision}
 use Rattle.decision_lines.specs.Lines.{is_refusal, result_of, study_of, decision_in, decision_of, printed, study_printed}
-use Rattle.decision_lines.specs.LinesRight.{Begins, Refusal, Undecided, LinesRight, settled, AnswerRight, StudyAnswerRight}
-use Rattle.decision_lines.proofs.PrintedLaws.{result_short, refusal_short, study_short, refusal_short_study, refusal_begins, refusal_not_true, refusal_not_false, refusal_not_undecided, Lines, true_begins, false_begins, spent_begins, no_room_universal_begins, no_room_existential_begins, result_no_refusal, true_if_1, false_if_0, not_settled_if_minus}
+use Rattle.decision_lines.specs.LinesRight.{Begins, LinesRight, settled, AnswerRight, StudyAnswerRight}
+use Rattle.decision_lines.proofs.PrintedLaws.{result_short, refusal_short, study_short, refusal_short_study, refusal_begins, refusal_not_true, refusal_not_false, refusal_not_undecided, Lines, true_begins, false_begins, no_room_universal_begins, no_room_existential_begins, result_no_refusal, true_if_1, false_if_0, not_settled_if_minus}
 
 -- ---- the causes that are left
 
@@ -54,7 +53,7 @@ zeros = replicate work_size 0
 whole : eqb (length zeros) work_size ≡ true
 whole = ap (λ (n : ℕ). eqb n work_size) (length-replicate {A = ℕ} work_size 0)
 
-no_cause : (list : List ℕ) → list_cause list ≡ 0 → (kinds : List ℕ) (literals : List ℤ) → checked kinds literals ≡ Accepted (sizes kinds literals)
+no_cause : (list : List ℕ) → list_cause list ≡ 0 → (kinds : List ℕ) (literals : List ℤ) → checked kinds literals ≡ Ok (sizes kinds literals)
     → cause kinds literals list (own_areas zeros) ≡ 0
 unfolding cause
 no_cause list fine kinds literals passes =

@@ -1,5 +1,5 @@
 -- What printed lines say of the text. Assumes nothing.
-use Rattle.std.specs.Prelude.{ℕ, ◌≤◌, ◌≡◌, Bool, true, false, List, ◌⊎◌, ℤ, length, take}
+use Rattle.std.specs.Prelude.{ℕ, ◌≤◌, ◌≡◌, true, false, List, ◌⊎◌, ℤ, length, take}
 use Prim.Native.String.{String}
 use Rattle.formula.specs.Formula.{work_size, clauses}
 use Rattle.lines.specs.Lines.{Bytes}

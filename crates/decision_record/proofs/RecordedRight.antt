@@ -1,5 +1,6 @@
 -- The record of a decision is its study's, and the sheet takes it. Assumes nothing.
-use Prim.Native.Nat.{ℕ, ◌≤◌, ◌<◌}
+use Prim.Native.Nat.{ℕ, ◌≤◌}
+use Rattle.std.specs.Prelude.{Ok}
 use native.Mathlib.Omega.{arith}
 use mathlib.Core.Path.{◌≡◌, refl, ap, ◌∙◌}
 use mathlib.Core.Bool.{false}
@@ -9,11 +10,9 @@ use Rattle.rounds.specs.Run.{Answer as RunAnswer, is_false, is_true, spent, no_r
 use Rattle.engine.specs.declared.run.Answer.{Answer}
 use Rattle.engine.specs.Outcome.{named, number_of}
 use Rattle.fee.specs.Fee.{charged, fee}
-use Rattle.fee.specs.declared.Charge.{Charge}
-use Rattle.fee.specs.declared.Charge.TheVariants.{Cents}
 use Rattle.report.specs.Record.{record_line}
 use Rattle.decision.specs.declared.Decision.{Decision}
-use Rattle.decision_record.specs.Recorded.{charge_line, line_for, recorded, study_of}
+use Rattle.decision_record.specs.Recorded.{charge_line, line_for, recorded}
 use Rattle.decision_record.specs.RecordedRight.{Recorded, RecordedRight}
 use Rattle.decision_record.proofs.FeeLaws.{fee_small}
 
@@ -32,7 +31,7 @@ line_named spent line rounds kinds = refl
 line_named no_room_universal line rounds kinds = refl
 line_named no_room_existential line rounds kinds = refl
 
-is_charged : (kinds : List ℕ) (rounds : ℕ) → cause_1 kinds ≡ false → charged kinds rounds ≡ Cents (fee kinds rounds)
+is_charged : (kinds : List ℕ) (rounds : ℕ) → cause_1 kinds ≡ false → charged kinds rounds ≡ Ok (fee kinds rounds)
 unfolding charged
 is_charged kinds rounds known = rw known refl
 

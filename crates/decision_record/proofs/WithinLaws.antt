@@ -1,15 +1,15 @@
 -- The kinds of the formula that was read stand at the front of their table. Assumes nothing.
 use Prim.Native.Nat.{ℕ, ◌≤◌}
 use native.Mathlib.Omega.{arith}
-use mathlib.Core.Path.{◌≡◌, refl, sym, ap, ◌∙◌}
-use mathlib.Core.List.{List, ◌++◌}
+use mathlib.Core.Path.{◌≡◌, refl, ap, ◌∙◌}
+use mathlib.Core.List.{List}
 use lib.ListN.{length, take, drop}
 use lib.Seq.{take_at}
 use Rattle.formula.specs.Formula.{max_unknowns}
 use Rattle.formula.proofs.Accepted.{accepted}
 use Rattle.lines.specs.Lines.{Bytes}
 use Rattle.text.specs.declared.Form.{Form}
-use Rattle.text.specs.Reading.{Read, Result, taken, refused, kinds_after}
+use Rattle.text.specs.Reading.{Result, taken, refused, kinds_after}
 use Rattle.text.specs.Form.{has_gates, form_read}
 use Rattle.engine.specs.Outcome.{Areas}
 use Rattle.decision.specs.declared.Decision.{Decision}

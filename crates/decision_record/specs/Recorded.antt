@@ -1,5 +1,7 @@
 -- The record of a decision. Assumes nothing.
-use Rattle.std.specs.Prelude.{ℕ, List, []}
+use Rattle.std.specs.Prelude.{ℕ, List, [], Result as Charge, Err, Ok}
+use Rattle.cause.specs.declared.Cause.{Cause}
+use Rattle.cause.specs.Cause.{number}
 use Rattle.lines.specs.Lines.{Bytes}
 use Rattle.text.specs.declared.Form.{Form}
 use Rattle.text.specs.Reading.{Result, taken, refused}
@@ -9,8 +11,6 @@ use Rattle.report.specs.Record.{record_line}
 use Rattle.engine.specs.declared.run.Answer.{Answer}
 use Rattle.engine.specs.declared.run.Answer.TheVariants.{False, True, Spent, NoRoomUniversal, NoRoomExistential, Refused}
 use Rattle.engine.specs.Outcome.{number_of}
-use Rattle.fee.specs.declared.Charge.{Charge}
-use Rattle.fee.specs.declared.Charge.TheVariants.{Cents, Refused as NotCharged}
 use Rattle.fee.specs.Fee.{charged, fee}
 use Rattle.season.specs.declared.Study.{Study}
 use Rattle.decision.specs.declared.Decision.{Decision}
@@ -18,9 +18,9 @@ use Rattle.decision.specs.Settings.{own_areas}
 use Rattle.decision.specs.Deciding.{decided, front}
 
 -- The line of an answer, the rounds and what is charged for them. Kinds that no formula has are refused by the fee.
-abbrev pub charge_line : ℕ → ℕ → Charge → Bytes
-charge_line answer rounds (Cents cents) = record_line answer rounds cents
-charge_line answer rounds (NotCharged cause) = refusal_line cause 0
+abbrev pub charge_line : ℕ → ℕ → Charge ℕ Cause → Bytes
+charge_line answer rounds (Ok cents) = record_line answer rounds cents
+charge_line answer rounds (Err cause) = refusal_line (number cause) 0
 
 -- 'Spent and no-room studies pay for the rounds reached; a refused one pays nothing.'
 abbrev pub line_for : Answer → ℕ → ℕ → List ℕ → Bytes

@@ -13,9 +13,9 @@ ghost use Rattle.decision.specs.Deciding.{front, area_after};
 ghost use Rattle.decision_record.specs.Recorded.{charge_line, recorded, kinds_of, decision_in, record_in};
 ghost use Rattle.decision_record.specs.RecordedRight.{RecordedRight};
 
+use cause::Cause;
 use decision::Decision;
 use engine::run::Answer;
-use fee::Charge;
 use formula::Formula;
 use text::Form;
 
@@ -90,12 +90,12 @@ pub fn put(decision: Decision, kinds: &[u8], out: &mut [u8]) -> usize
 }
 
 // The line of an answer and what is charged for it.
-fn put_charge(answer: u32, rounds: u32, charge: Charge, out: &mut [u8]) -> usize
+fn put_charge(answer: u32, rounds: u32, charge: Result<u64, Cause>, out: &mut [u8]) -> usize
     ensures value { result ≡ put_count (charge_line answer rounds «charge») out.old }
     ensures out_after { out.new ≡ put_into (charge_line answer rounds «charge») out.old }
 {
     match charge {
-        Charge::Cents(cents) => report::study_record(out, answer, rounds, cents),
-        Charge::Refused(cause) => report::refusal(out, cause, 0),
+        Ok(cents) => report::study_record(out, answer, rounds, cents),
+        Err(cause) => report::refusal(out, cause.number(), 0),
     }
 }

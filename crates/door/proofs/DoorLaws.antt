@@ -1,6 +1,5 @@
 -- From what the reader and the run promise to what the door returns and leaves. Assumes nothing.
 use Prim.Native.Nat.{ℕ, ◌+◌, ◌≤◌}
-use native.Mathlib.Omega.{arith}
 use mathlib.Core.Path.{◌≡◌, sym, ap, subst, ◌∙◌}
 use mathlib.Core.List.{List}
 use lib.IntN.{ℤ}
@@ -9,7 +8,7 @@ use Rattle.formula.specs.Formula.{max_unknowns, max_entries}
 use Rattle.engine.specs.declared.run.Outcome.{Outcome}
 use Rattle.engine.specs.Outcome.{Given, returned, left}
 use Rattle.engine.specs.Numbers.{one_number}
-use Rattle.text.specs.Reading.{Result, taken, refused, text_read}
+use Rattle.text.specs.Reading.{Result, refused, text_read}
 use Rattle.text.proofs.TextLaws.{OfText, Results, Passes, read_passes}
 use Rattle.text.proofs.FrontLaws.{Front}
 use Rattle.decision.specs.Decision.{handed_on}

@@ -1,14 +1,16 @@
 -- The numbers that a run returns: 0 to 4, or 100 plus a cause from 1 to 6. Assumes nothing.
 use Prim.Native.Nat.{ℕ, ◌+◌, ◌≤◌}
+use Rattle.std.specs.Prelude.{Ok}
 use native.Mathlib.Omega.{arith}
 use mathlib.Core.Path.{◌≡◌, refl}
 use mathlib.Core.Bool.{Bool, true, false, cond, not}
 use lib.Dec.{eqb}
 use lib.ListN.{length}
 use Rattle.formula.specs.Formula.{work_size}
-use Rattle.formula.specs.Causes.{cause_1, cause_2, cause_3, refused_if, checked, sizes, number as cause_number}
+use Rattle.cause.specs.declared.Cause.TheVariants.{Kinds, Literals, Beyond}
+use Rattle.cause.specs.Cause.{refused_if}
+use Rattle.formula.specs.Causes.{cause_1, cause_2, cause_3, checked, sizes, number as cause_number}
 use Rattle.formula.specs.declared.Formula.{Formula}
-use Rattle.formula.specs.declared.Check.TheVariants.{Accepted}
 use Rattle.rounds.specs.Run.{Answer, is_false, is_true, spent, no_room_universal, no_room_existential, number}
 use Rattle.engine.specs.Outcome.{Given, tables_fit, tables_counted, cause, accepted, reached, named, returned}
 use Rattle.engine.specs.Numbers.{one_number}
@@ -49,7 +51,7 @@ number_2 spent e = refl
 number_2 no_room_universal e = absurd (omega arith)
 number_2 no_room_existential e = absurd (omega arith)
 
-formula_cause_small : (a b c : Bool) (f : Formula) → cause_number (refused_if a 1 (refused_if b 2 (refused_if c 3 (Accepted f)))) ≤ 3
+formula_cause_small : (a b c : Bool) (f : Formula) → cause_number (refused_if a Kinds (refused_if b Literals (refused_if c Beyond (Ok f)))) ≤ 3
 formula_cause_small true b c f = omega arith
 formula_cause_small false true c f = omega arith
 formula_cause_small false false true f = omega arith

@@ -1,5 +1,7 @@
 -- The judge's number, from what is found. Assumes nothing.
 use Prim.Native.Nat.{ℕ, ◌+◌, ◌≤◌}
+use Rattle.std.specs.Prelude.{Ok, Err}
+use Rattle.cause.specs.Cause.{caused}
 use native.Mathlib.Omega.{arith}
 use mathlib.Core.Path.{◌≡◌, refl, sym, ap, subst, ◌∙◌}
 use mathlib.Core.Bool.{Bool, true, false, not, ◌||◌, cond}
@@ -10,11 +12,9 @@ use lib.IntN.{ℤ}
 use lib.ListN.{length, get_or, replicate}
 use Rattle.formula.specs.Formula.{max_unknowns, max_entries, work_size}
 use Rattle.formula.specs.Causes.{checked, sizes, number as cause_number}
-use Rattle.formula.specs.declared.Check.TheVariants.{Accepted as AcceptedFormula}
 use Rattle.rows.specs.Table.{room, table_fits}
 use Rattle.rows.specs.Stray.{stray_rows}
 use Rattle.named.specs.Names.{In}
-use Rattle.judge.specs.declared.Judgement.TheVariants as Judgement
 use Rattle.judge.specs.Judge.{other_claim, width, borne_out, answer as judge_answer, cause as judge_cause, outcome as judge_outcome, work_after as judge_work}
 use Rattle.text.specs.Reading.{Read, Result, taken, refused, text_read}
 use Rattle.text.proofs.TextLaws.{Results, Passes, read_passes}
@@ -55,7 +55,7 @@ module _ (work : List ℕ) where
 
   -- The judge's number and area, by its tests in order and what is borne out.
   by_tests : (claim : ℕ) (a b c d e : Bool) → let k : ℕ = cond a 4 (cond b 5 (cond c 7 (cond d 8 0))) in
-      Said work (number_of (judged_so claim (cond (eqb k 0) (judge_answer e) (Judgement.Refused k)))) (cond (eqb k 0) (replicate work_size 0) work)
+      Said work (number_of (judged_so claim (cond (eqb k 0) (Ok (judge_answer e)) (Err (caused k))))) (cond (eqb k 0) (replicate work_size 0) work)
   by_tests claim true b c d e = said_left (inr (inl refl)) (omega arith)
   by_tests claim false true c d e = said_left (inr (inr (inl refl))) (omega arith)
   by_tests claim false false true d e = said_left (inr (inr (inr (inl refl)))) (omega arith)
@@ -63,7 +63,7 @@ module _ (work : List ℕ) where
   by_tests claim false false false false true = said_zero (omega arith)
   by_tests claim false false false false false = said_zero (omega arith)
 
-  module _ (kinds : List ℕ) (literals : List ℤ) (passes : checked kinds literals ≡ AcceptedFormula (sizes kinds literals)) (f : List ℕ) where
+  module _ (kinds : List ℕ) (literals : List ℤ) (passes : checked kinds literals ≡ Ok (sizes kinds literals)) (f : List ℕ) where
     said_claim : (claim : ℕ) → SaidOf work (on_claim kinds literals f claim work)
     unfolding on_claim judge_outcome judge_work judge_cause
     said_claim claim =
@@ -75,7 +75,7 @@ module _ (work : List ℕ) where
         let later_so : cond (eqb (cause_number (checked kinds literals)) 0) later (cause_number (checked kinds literals)) ≡ later = ap (λ (n : ℕ). cond (eqb n 0) later n) none in
         subst
         (λ (k : ℕ).
-        Said work (number_of (judged_so claim (cond (eqb k 0) (judge_answer (borne_out kinds literals claim rows (room rows))) (Judgement.Refused k))))
+        Said work (number_of (judged_so claim (cond (eqb k 0) (Ok (judge_answer (borne_out kinds literals claim rows (room rows)))) (Err (caused k)))))
         (cond (eqb k 0) (replicate work_size 0) work))
         (sym later_so)
         (by_tests claim (not (table_fits rows)) (not (eqb (length work) work_size)) (other_claim claim || ltb (room rows) (room rows))

@@ -19,7 +19,7 @@ ghost use Rattle.door.specs.Study.{study_number, study_left, study_answer, study
 
 use formula::Formula;
 use judgement::Finding;
-use text::Reading;
+use text::Taken;
 
 // The number of this interface: it grows when a function comes or changes.
 const VERSION: u32 = 3;
@@ -66,12 +66,14 @@ pub fn vulzhenn_decide(text: &[u8], work: &mut [u8], limit: u32) -> u32
     let mut literals = [0i32; Formula::ENTRIES];
     let mut names = [0u16; Formula::UNKNOWNS];
     match text::read(text, &mut kinds, &mut literals, &mut names) {
-        Reading::Refused { number, .. } => 100 + number,
-        Reading::Taken {
-            unknowns,
-            entries,
-            ..
-        } => { decide(&kinds[..unknowns], &literals[..entries], work, limit) }
+        Err(refusal) => 100 + refusal.cause.number(),
+        Ok(
+            Taken {
+                unknowns,
+                entries,
+                ..
+            },
+        ) => { decide(&kinds[..unknowns], &literals[..entries], work, limit) }
     }
 }
 
@@ -95,12 +97,14 @@ pub fn vulzhenn_study(text: &[u8], work: &mut [u8]) -> u32
     let mut literals = [0i32; Formula::ENTRIES];
     let mut names = [0u16; Formula::UNKNOWNS];
     match text::read(text, &mut kinds, &mut literals, &mut names) {
-        Reading::Refused { number, .. } => 100 + number,
-        Reading::Taken {
-            unknowns,
-            entries,
-            ..
-        } => { study_formula(&kinds[..unknowns], &literals[..entries], work) }
+        Err(refusal) => 100 + refusal.cause.number(),
+        Ok(
+            Taken {
+                unknowns,
+                entries,
+                ..
+            },
+        ) => { study_formula(&kinds[..unknowns], &literals[..entries], work) }
     }
 }
 

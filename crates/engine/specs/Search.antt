@@ -1,7 +1,9 @@
 -- What a search returns and leaves, for everything that is lent: 01's causes 1 to 5, 7 and 8 in order, then the first model.
 -- Assumes nothing.
-use Rattle.std.specs.Prelude.{ℕ, ◌-◌, ◌≡◌, Bool, not, cond, List, ◌++◌, eqb, ltb, ℤ, length, replicate}
+use Rattle.std.specs.Prelude.{ℕ, ◌-◌, ◌≡◌, Bool, not, cond, List, ◌++◌, eqb, ltb, ℤ, length, replicate, Result, Ok, Err}
 use Rattle.std.proofs.Math.Option.{Option, none, some}
+use Rattle.cause.specs.declared.Cause.{Cause}
+use Rattle.cause.specs.Cause.{number as number_of, unless_cause}
 use Rattle.formula.specs.Formula.{work_size, prefix, clauses}
 use Rattle.formula.specs.Meaning.{matrix}
 use Rattle.formula.specs.Causes.{checked, count, number as cause_number}
@@ -13,7 +15,7 @@ use Rattle.expansion.specs.Play.{Row}
 use Rattle.expansion.specs.Model.{search}
 use Rattle.expansion.specs.Right.{SearchRight}
 use Rattle.engine.specs.declared.search.Search.{Search}
-use Rattle.engine.specs.declared.search.Search.TheVariants.{Found, NoModel, Refused}
+use Rattle.engine.specs.declared.search.Search.TheVariants.{Found, NoModel}
 
 -- The lent rows below the count, as values of the other side's unknowns. The universal side looks for the model if the flag is true.
 unfoldable pub lent_rows : List ℕ → List ℕ → ℕ → Bool → List Row
@@ -44,10 +46,9 @@ left none = replicate work_size 0
 left (some yielded) = table_of yielded ++ replicate (work_size - length (table_of yielded)) 0
 
 -- The answer, or the cause.
-unfoldable pub outcome : List ℕ → List ℤ → List ℕ → List ℕ → ℕ → Bool → List ℕ → Search
+unfoldable pub outcome : List ℕ → List ℤ → List ℕ → List ℕ → ℕ → Bool → List ℕ → Result Search Cause
 outcome kinds literals preferences rows lent universal? work =
-    let answered = answer (found kinds literals preferences rows lent universal?) in
-    cond (eqb (cause kinds literals rows lent universal? work) 0) answered (Refused (cause kinds literals rows lent universal? work))
+    unless_cause (cause kinds literals rows lent universal? work) (answer (found kinds literals preferences rows lent universal?))
 
 -- The work area at exit: as found after a refusal.
 unfoldable pub work_after : List ℕ → List ℤ → List ℕ → List ℕ → ℕ → Bool → List ℕ → List ℕ
@@ -56,19 +57,19 @@ work_after kinds literals preferences rows lent universal? work =
     cond (eqb (cause kinds literals rows lent universal? work) 0) answered work
 
 -- The number of each case: 0 for no model, 1 for found; a refusal has its cause's.
-abbrev pub number : Search → ℕ
-number NoModel = 0
-number Found = 1
-number (Refused cause) = cause
+abbrev pub number : Result Search Cause → ℕ
+number (Ok NoModel) = 0
+number (Ok Found) = 1
+number (Err cause) = number_of cause
 
 -- The number of the outcome.
 unfoldable pub outcome_number : List ℕ → List ℤ → List ℕ → List ℕ → ℕ → Bool → List ℕ → ℕ
 outcome_number kinds literals preferences rows lent universal? work =
-    let answered = number (answer (found kinds literals preferences rows lent universal?)) in
+    let answered = number (Ok (answer (found kinds literals preferences rows lent universal?))) in
     cond (eqb (cause kinds literals rows lent universal? work) 0) answered (cause kinds literals rows lent universal? work)
 
 -- All that `first_model` promises: what it returns and its number, the work area at exit, and that the search over the lent rows is 01's.
-pub record Searched (kinds : List ℕ) (literals : List ℤ) (preferences rows : List ℕ) (lent : ℕ) (universal? : Bool) (work : List ℕ) (result : Search) (work_then : List ℕ) : Type 0 where
+pub record Searched (kinds : List ℕ) (literals : List ℤ) (preferences rows : List ℕ) (lent : ℕ) (universal? : Bool) (work : List ℕ) (result : Result Search Cause) (work_then : List ℕ) : Type 0 where
   pub returned : result ≡ outcome kinds literals preferences rows lent universal? work
   pub numbered : number result ≡ outcome_number kinds literals preferences rows lent universal? work
   pub area : work_then ≡ work_after kinds literals preferences rows lent universal? work

@@ -3,6 +3,5 @@
 // specs/Ended.antt). All else is private: what the search's parts promise each other stands in specs/Private and is for reading the proofs alone.
 #![tactic(auto)]
 
-mod causes;
 pub mod run;
 pub mod search;

@@ -7,17 +7,15 @@
 ghost use Rattle.std.specs.Prelude.{◌-◌, ◌≡◌, true, false, cond, []};
 ghost use Rattle.engine.specs.Search.{outcome as search_outcome, work_after};
 ghost use Rattle.rounds.specs.Run.{clears};
-ghost use Rattle.engine.specs.declared.run.Answer.TheVariants.{Spent};
 ghost use Rattle.engine.specs.Outcome.{areas, given, number_of, side_fits, tables_fit, tables_counted};
 ghost use Rattle.engine.specs.Ended.{Ended};
 ghost use Rattle.engine.specs.Numbers.{one_number};
-ghost use Rattle.engine.specs.Private.Growing.{is_found, step_of, said, existential_stop, universal_stop, opened_from, not_opened, with_opening, Over, Extends, ExtendsUniversal, ShowsRun, Ready, FirstCause};
-ghost use Rattle.engine.specs.Private.Counting.{Packs, stood, Tallies, TalliesUniversal, CountsShow};
+ghost use Rattle.engine.specs.Private.Growing.{is_found, step_of, said, opened_from, not_opened, with_opening, Over, Extends, ExtendsUniversal, ShowsRun, Ready, FirstCause};
+ghost use Rattle.engine.specs.Private.Counting.{Packs, Tallies, TalliesUniversal, CountsShow};
 
-use super::search::Search;
-use super::{causes, search};
-use formula::{Check, Formula};
-use growth::Growth;
+use super::search::{self, Search};
+use cause::Cause;
+use formula::Formula;
 use rows::Row;
 
 #[derive(Clone, Copy)]
@@ -27,6 +25,7 @@ pub enum Answer {
     Spent,
     NoRoomUniversal,
     NoRoomExistential,
+    // Kept: the public `number` and `one_number` take an answer with any number, and a narrower type would ask more of callers.
     Refused(u32),
 }
 
@@ -50,29 +49,17 @@ struct End {
     existential: usize,
 }
 
-// The kinds of unknowns.
+// Kept: the kinds of unknowns are bytes, as C lends them in `kinds`, with which `opening::block` compares them.
 const EXISTENTIAL: u8 = 0;
 
 const UNIVERSAL: u8 = 1;
 
-// How a side's step of a round ends.
-const NO_MODEL: u8 = 0;
-
-const NO_ROOM: u8 = 1;
-
-const GROWN: u8 = 2;
-
+// How a side's step of a round ends: without a model, without room, or with so many rows in its table.
 #[derive(Clone, Copy)]
-struct Step {
-    end: u8,
-    count: usize,
-}
-
-// The first cause that applies, or 0; of an accepted formula the number of its universal unknowns.
-#[derive(Clone, Copy)]
-struct Checked {
-    cause: u32,
-    universals: usize,
+enum Step {
+    NoModel,
+    NoRoom,
+    Grown(usize),
 }
 
 // Decides the formula within the limit of rounds, over the tables that are lent. The universal table is cleared in each round that
@@ -97,7 +84,7 @@ pub fn run(
         result
         (areas universal_rows.new universal_marks.new universal_counts.new existential_rows.new existential_marks.new existential_counts.new work.new) }
 {
-    let checked = check(
+    let universals = match check(
         kinds,
         literals,
         universal_rows,
@@ -108,17 +95,10 @@ pub fn run(
         existential_counts,
         work,
         limit,
-    );
-    let cause = checked.cause;
-    if cause != 0 {
-        return unopened(End {
-            answer: Answer::Refused(cause),
-            round: 0,
-            universal: 0,
-            existential: 0,
-        });
-    }
-    let universals = checked.universals;
+    ) {
+        Err(cause) => return unopened(ended(Answer::Refused(cause.number()), 0, 0, 0)),
+        Ok(universals) => universals,
+    };
     let end = rounds(
         kinds,
         literals,
@@ -226,7 +206,7 @@ fn unopened(end: End) -> Outcome
     }
 }
 
-// The first of the causes 1 to 4, 16, 5 and 6 that applies.
+// The first of the causes 1 to 4, 16, 5 and 6 that applies, or of an accepted formula the number of its universal unknowns.
 fn check(
     kinds: &[u8],
     literals: &[i32],
@@ -238,59 +218,36 @@ fn check(
     existential_counts: &[u32],
     work: &[u8],
     limit: u32,
-) -> Checked
+) -> Result<usize, Cause>
     ensures { FirstCause (given kinds.now literals.now [] (areas universal_rows.now universal_marks.now universal_counts.now existential_rows.now existential_marks.now existential_counts.now work.now) limit 0) result }
 {
-    match Formula::check(kinds, literals) {
-        Check::Refused(cause) => Checked {
-            cause,
-            universals: 0,
-        },
-        Check::Accepted(formula) => {
-            let universals = formula.universals;
-            if fits(
-                universal_rows,
-                universal_marks,
-                existential_rows,
-                existential_marks,
-            ) {} else {
-                return Checked {
-                    cause: causes::ROWS,
-                    universals,
-                };
-            }
-            if counted(
-                universal_rows,
-                universal_counts,
-                existential_rows,
-                existential_counts,
-            ) {} else {
-                return Checked {
-                    cause: causes::COUNTS,
-                    universals,
-                };
-            }
-            if work.len() != Formula::WORK {
-                return Checked {
-                    cause: causes::WORK,
-                    universals,
-                };
-            }
-            if limit == 0 {
-                return Checked {
-                    cause: causes::LIMIT,
-                    universals,
-                };
-            }
-            Checked {
-                cause: 0,
-                universals,
-            }
-        }
+    let formula = Formula::check(kinds, literals)?;
+    if !fits(
+        universal_rows,
+        universal_marks,
+        existential_rows,
+        existential_marks,
+    ) {
+        return Err(Cause::Rows);
     }
+    if !counted(
+        universal_rows,
+        universal_counts,
+        existential_rows,
+        existential_counts,
+    ) {
+        return Err(Cause::Counts);
+    }
+    if work.len() != Formula::WORK {
+        return Err(Cause::Work);
+    }
+    if limit == 0 {
+        return Err(Cause::Limit);
+    }
+    Ok(formula.universals)
 }
 
-// Whether cause ROWS does not apply.
+// Whether the cause `Rows` does not apply.
 fn fits(
     universal_rows: &[u8],
     universal_marks: &[u16],
@@ -316,7 +273,7 @@ fn side_fits(rows: &[u8], marks: &[u16]) -> bool
     }
 }
 
-// Whether cause COUNTS does not apply.
+// Whether the cause `Counts` does not apply.
 fn counted(
     universal_rows: &[u8],
     universal_counts: &[u32],
@@ -366,16 +323,15 @@ fn rounds(
     growth::write_start(preferences, universals, universal_rows, universal_marks);
     counts::fill(universal_counts, 0, 1, 0);
     let start = Formula::start();
-    let mut made = start.round;
     let mut universal = start.universal;
     let mut existential = start.existential;
-    while made < limit {
+    for made in start.round..limit {
         let number = made + 1;
         let mark = number as u16;
         // What led the existential side's models leads them over more universal rows; where the round before dropped these, it tells nothing.
         let known = kept_rows(clear_every, made, existential);
         // steps 1 and 2
-        let step = existential_half(
+        let grown = match existential_half(
             kinds,
             &codes[..used], // the entries in use
             &index, // through which this side finds a literal's clauses
@@ -390,14 +346,13 @@ fn rounds(
             known, // none after a clearing
             mark,
             work,
-        );
-        let end = step.end;
-        let grown = step.count;
-        if end != GROWN {
-            return existential_stop(end, number, universal, existential);
-        }
+        ) {
+            Step::NoModel => return ended(Answer::False, number, universal, existential),
+            Step::NoRoom => return ended(Answer::NoRoomExistential, number, universal, existential),
+            Step::Grown(rows) => rows,
+        };
         // steps 3 and 4
-        let back = universal_half(
+        universal = match universal_half(
             kinds,
             &codes[..used],
             &index,
@@ -413,64 +368,23 @@ fn rounds(
             number,
             mark,
             work,
-        );
-        let back_end = back.end;
-        if back_end != GROWN {
-            return universal_stop(back_end, number, universal, grown);
-        }
+        ) {
+            Step::NoModel => return ended(Answer::True, number, universal, grown),
+            Step::NoRoom => return ended(Answer::NoRoomUniversal, number, universal, grown),
+            Step::Grown(rows) => rows,
+        };
         // step 5
-        made = number;
-        universal = back.count;
         existential = grown;
     }
-    spent(made, universal, existential)
+    ended(Answer::Spent, limit, universal, existential)
 }
 
-// Step 1 has no model, or step 2 no room.
-fn existential_stop(end: u8, round: u32, universal: usize, existential: usize) -> End
-    ensures { result ≡ said (existential_stop end) round universal existential }
-{
-    if end == NO_MODEL {
-        return End {
-            answer: Answer::False,
-            round,
-            universal,
-            existential,
-        };
-    }
-    End {
-        answer: Answer::NoRoomExistential,
-        round,
-        universal,
-        existential,
-    }
-}
-
-// Step 3 has no model, or step 4 no room.
-fn universal_stop(back: u8, round: u32, universal: usize, existential: usize) -> End
-    ensures { result ≡ said (universal_stop back) round universal existential }
-{
-    if back == NO_MODEL {
-        return End {
-            answer: Answer::True,
-            round,
-            universal,
-            existential,
-        };
-    }
-    End {
-        answer: Answer::NoRoomUniversal,
-        round,
-        universal,
-        existential,
-    }
-}
-
-fn spent(round: u32, universal: usize, existential: usize) -> End
-    ensures { result ≡ said Spent round universal existential }
+// How the run ends: the answer, its round, and the counts of the two tables.
+fn ended(answer: Answer, round: u32, universal: usize, existential: usize) -> End
+    ensures { result ≡ said answer round universal existential }
 {
     End {
-        answer: Answer::Spent,
+        answer,
         round,
         universal,
         existential,
@@ -513,12 +427,11 @@ fn existential_half(
         mark,
         work,
     );
-    let end = step.end;
-    if end == NO_MODEL { // no existential row came
-        return step;
+    match step {
+        Step::NoModel => {} // no existential row came
+        Step::NoRoom => counts::update(rows, count, count, count, work, other_count, counts), // no existential row is added
+        Step::Grown(grown) => counts::update(rows, count, grown, count, work, other_count, counts),
     }
-    let grown = step.count;
-    counts::update(rows, count, grown, count, work, other_count, counts);
     step
 }
 
@@ -559,24 +472,15 @@ fn universal_half(
         mark,
         work,
     );
-    let end = step.end;
-    if end == NO_MODEL { // no universal row came
-        return step;
+    match step {
+        Step::NoModel => {} // no universal row came
+        Step::NoRoom => counts::update(rows, count, count, count, work, other_count, counts), // no universal row is added
+        Step::Grown(grown) => {
+            let stand = kept_rows(clear_every, round, count); // the rows that stood before the new ones
+            counts::update(rows, stand, grown, count, work, other_count, counts);
+        }
     }
-    let grown = step.count;
-    let stand = stood(end, clear_every, round, count);
-    counts::update(rows, stand, grown, count, work, other_count, counts);
     step
-}
-
-// How many rows stood when a search of the universal side was counted: those that a round keeps, and all where there was no room.
-fn stood(end: u8, clear_every: u32, round: u32, count: usize) -> usize
-    ensures { result ≡ stood end (cond (clears clear_every round) 0 count) count }
-{
-    if end == GROWN {
-        return kept_rows(clear_every, round, count);
-    }
-    count
 }
 
 // The universal side's step in a round that may clear its table: the rows are then added to none, and the places that they leave free below the
@@ -617,13 +521,10 @@ fn extend_universal(
         mark,
         work,
     );
-    let end = step.end;
-    if end != GROWN {
-        return Step { end, count };
+    if let Step::Grown(grown) = step {
+        rows::give_up(rows, marks, grown, count);
     }
-    let grown = step.count;
-    rows::give_up(rows, marks, grown, count);
-    Step { end, count: grown }
+    step
 }
 
 // How many rows a round keeps, of the universal table or of those that tell the existential side where to begin: none if it clears.
@@ -667,7 +568,7 @@ fn extend(
     ensures over { Over kinds.now codes.now index.now terms.now preferences.now rows.old known others.now other_count universal (λ literals. Extends kinds.now literals preferences.now others.now other_count universal rows.old marks.old count mark work.old result rows.new marks.new work.new) }
     ensures over_2 { Over kinds.now codes.now index.now terms.now preferences.now rows.old known others.now other_count universal (λ literals. Packs kinds.now literals preferences.now others.now other_count universal work.old work.new) }
 {
-    if finds(
+    if !finds(
         kinds,
         codes,
         index,
@@ -679,29 +580,20 @@ fn extend(
         other_count,
         universal,
         work,
-    ) {} else {
-        return Step {
-            end: NO_MODEL,
-            count,
-        };
+    ) {
+        return Step::NoModel;
     }
     let growth = growth::grow(rows, marks, count, work, other_count, mark);
-    after_growth(growth, count)
+    after_growth(growth)
 }
 
 // How the step of a side with a model ends.
-fn after_growth(growth: Growth, count: usize) -> Step
-    ensures { result ≡ step_of growth count }
+fn after_growth(growth: Option<usize>) -> Step
+    ensures { result ≡ step_of growth }
 {
     match growth {
-        Growth::Grown(end) => Step {
-            end: GROWN,
-            count: end,
-        },
-        Growth::NoRoom => Step {
-            end: NO_ROOM,
-            count,
-        },
+        Some(end) => Step::Grown(end),
+        None => Step::NoRoom,
     }
 }
 
@@ -735,8 +627,8 @@ fn finds(
         universal,
         work,
     ) {
-        Search::Found => true,
-        Search::NoModel => false,
-        Search::Refused(_) => false, // does not come: the run has checked what it lends
+        Ok(Search::Found) => true,
+        Ok(Search::NoModel) => false,
+        Err(_) => false, // does not come: the run has checked what it lends
     }
 }

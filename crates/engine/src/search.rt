@@ -1,5 +1,5 @@
 // The first model of one side over lent rows of the other (01, 'Copies and models'). Promised, for all that is lent: found, none or
-// the number of the first cause that applies; found leaves in the work area the rows that the model yields, none leaves zeros, and a
+// the first cause that applies; found leaves in the work area the rows that the model yields, none leaves zeros, and a
 // refusal leaves it as it was. Who searches one formula often makes its tables once (`prepare`) and lends them to each search
 // (`first_model_over`).
 // The crates below sort the rows (order), keep a table of cells in the work area (cells), number the copies (numbering), write the clauses
@@ -10,8 +10,8 @@ ghost use Rattle.engine.specs.Search.{Searched};
 ghost use Rattle.engine.specs.Private.Prepared.{Prepares, SearchedOver};
 ghost use Rattle.engine.specs.Private.Whole.{Ready, Accepting, Arranged, OverCells, OverPlaces, Finds, Answered};
 
-use super::causes;
-use formula::{Check, Formula};
+use cause::Cause;
+use formula::Formula;
 
 mod cell;
 mod clauses;
@@ -30,7 +30,6 @@ mod term_table;
 pub enum Search {
     Found,
     NoModel,
-    Refused(u32),
 }
 
 // The sizes of the tables that `prepare` fills: the index, and the table of terms.
@@ -47,31 +46,27 @@ pub fn first_model(
     count: usize,
     universal: bool,
     work: &mut [u8],
-) -> Search
+) -> Result<Search, Cause>
     ensures { Searched kinds.now literals.now preferences.now rows.now count universal work.old result work.new }
 {
-    match Formula::check(kinds, literals) {
-        Check::Refused(cause) => Search::Refused(cause),
-        Check::Accepted(_) => {
-            let mut codes = [0u16; Formula::ENTRIES];
-            let mut index = [0u16; INDEX];
-            let mut terms = [0u16; TERMS];
-            let used = prepare(kinds, literals, &mut codes, &mut index, &mut terms);
-            first_model_over(
-                kinds,
-                &codes[..used],
-                &index,
-                &terms,
-                preferences,
-                rows,
-                0, // no row of the side's is known
-                rows,
-                count,
-                universal,
-                work,
-            )
-        }
-    }
+    Formula::check(kinds, literals)?;
+    let mut codes = [0u16; Formula::ENTRIES];
+    let mut index = [0u16; INDEX];
+    let mut terms = [0u16; TERMS];
+    let used = prepare(kinds, literals, &mut codes, &mut index, &mut terms);
+    first_model_over(
+        kinds,
+        &codes[..used],
+        &index,
+        &terms,
+        preferences,
+        rows,
+        0, // no row of the side's is known
+        rows,
+        count,
+        universal,
+        work,
+    )
 }
 
 // Makes a formula's tables: its clauses as codes, of which the number is returned, their index, and for the universal side their terms.
@@ -105,54 +100,50 @@ pub(crate) fn first_model_over(
     count: usize,
     universal: bool,
     work: &mut [u8],
-) -> Search
+) -> Result<Search, Cause>
     ensures { SearchedOver kinds.now codes.now index.now terms.now preferences.now own.now known rows.now count universal work.old result work.new }
 {
     let clause = [0i32; 1]; // an empty one: the prefix alone is checked
-    match Formula::check(kinds, &clause) {
-        Check::Refused(cause) => Search::Refused(cause),
-        Check::Accepted(formula) => {
-            let universals = formula.universals;
-            if tables::fit(codes, index.len()) {} else {
-                return Search::Refused(causes::CODES);
-            }
-            if universal {
-                let others = kinds.len() - universals;
-                over_rows(
-                    kinds,
-                    codes,
-                    index,
-                    terms,
-                    preferences,
-                    own,
-                    known,
-                    rows,
-                    count,
-                    others,
-                    1,
-                    work,
-                )
-            } else {
-                over_rows(
-                    kinds,
-                    codes,
-                    index,
-                    terms,
-                    preferences,
-                    own,
-                    known,
-                    rows,
-                    count,
-                    universals,
-                    0,
-                    work,
-                )
-            }
-        }
+    let formula = Formula::check(kinds, &clause)?;
+    if !tables::fit(codes, index.len()) {
+        return Err(Cause::Literals); // what is lent for the clauses is none of a formula
+    }
+    if universal {
+        let others = kinds.len() - formula.universals;
+        over_rows(
+            kinds,
+            codes,
+            index,
+            terms,
+            preferences,
+            own,
+            known,
+            rows,
+            count,
+            others,
+            1,
+            work,
+        )
+    } else {
+        over_rows(
+            kinds,
+            codes,
+            index,
+            terms,
+            preferences,
+            own,
+            known,
+            rows,
+            count,
+            formula.universals,
+            0,
+            work,
+        )
     }
 }
 
 // The search over tables that fit. The side is 1 if universal, 0 if existential; the other side has `others` unknowns.
+// Kept: the side is a byte, as in `kinds`, which C lends and with which it is compared.
 fn over_rows(
     kinds: &[u8],
     codes: &[u16],
@@ -166,21 +157,21 @@ fn over_rows(
     others: usize,
     side: u8,
     work: &mut [u8],
-) -> Search
+) -> Result<Search, Cause>
     requires { Accepting kinds.now codes.now index.now others side }
     ensures { Answered kinds.now codes.now index.now terms.now preferences.now own.now known rows.now count others side work.old work.new result }
 {
-    if rows::table_fits(rows) {} else {
-        return Search::Refused(causes::ROWS);
+    if !rows::table_fits(rows) {
+        return Err(Cause::Rows);
     }
     if work.len() != Formula::WORK {
-        return Search::Refused(causes::WORK);
+        return Err(Cause::Work);
     }
     if rows.len() / 16 < count {
-        return Search::Refused(causes::COUNT);
+        return Err(Cause::Count);
     }
     if rows::stray_bit(rows, count, others) {
-        return Search::Refused(causes::STRAY_BIT);
+        return Err(Cause::StrayBit);
     }
     if find(
         kinds,
@@ -196,9 +187,9 @@ fn over_rows(
         side,
         work,
     ) {
-        Search::Found
+        Ok(Search::Found)
     } else {
-        Search::NoModel
+        Ok(Search::NoModel)
     }
 }
 

@@ -1,85 +1,84 @@
 -- Cause 1 without literals, and what is answered. Assumes nothing.
-use Prim.Native.Nat.{ℕ, zero, suc, ◌≤◌}
-use native.Mathlib.Omega.{arith}
-use native.Mathlib.Nat.{suc-ne-zero}
+use Prim.Native.Nat.{ℕ, ◌≤◌}
+use Rattle.std.specs.Prelude.{Err, Ok, Result}
+use Rattle.std.specs.Result.{is_err}
+use Rattle.cause.specs.declared.Cause.{Cause}
+use Rattle.cause.specs.declared.Cause.TheVariants.{Kinds, Bands, Prices}
+use Rattle.cause.specs.Cause.{refused_if, caused}
+use Rattle.cause.proofs.Numbers.{Known, known_cond, told_unless}
 use mathlib.Core.Path.{◌≡◌, refl, sym, ap, ◌∙◌}
 use mathlib.Core.Bool.{Bool, true, false, cond}
 use mathlib.Core.List.{List, []}
-use borrow.Author.Tests.{ltb-false, ne_eqb}
+use borrow.Author.Tests.{ltb-false}
 use lib.Dec.{eqb, ltb}
 use lib.ListN.{length}
-use Rattle.formula.specs.declared.Check.TheVariants.{Accepted, Refused as RefusedFormula}
 use Rattle.formula.specs.declared.Formula.{Formula}
 use Rattle.formula.specs.Formula.{max_unknowns}
-use Rattle.formula.specs.Causes.{any, other_kind, cause_1, cause_2, cause_3, sizes, refused_if, checked}
+use Rattle.formula.specs.Causes.{any, other_kind, cause_1, cause_2, cause_3, sizes, checked}
 use Rattle.formula.proofs.Any.{or_none}
-use Rattle.fee.specs.declared.Charge.{Charge}
-use Rattle.fee.specs.declared.Charge.TheVariants.{Refused}
 use Rattle.fee.specs.Fee.{price, total, fee, fee_on, cause, answer, charged, number, cents, Charged}
 use Rattle.fee.specs.Bands.{price_with, cause_21, cause_22, cause_with, Loads, fee_with, charged_with, ChargedWith}
 
-if_accepted : (b : Bool) (s f : Formula) → refused_if b 1 (Accepted s) ≡ Accepted f → false ≡ b
-if_accepted false s f e = refl
-if_accepted true s f e = let z : ◌≡◌ {A = ℕ} 0 1 = cc in absurd (omega arith)
-
-if_refused : (b : Bool) (s : Formula) (n : ℕ) → refused_if b 1 (Accepted s) ≡ RefusedFormula n → true ≡ b
-if_refused true s n e = refl
-if_refused false s n e = let z : ◌≡◌ {A = ℕ} 0 1 = cc in absurd (omega arith)
+refused_by : (b : Bool) (s : Formula) → is_err (refused_if b Kinds (Ok s)) ≡ b
+refused_by true s = refl
+refused_by false s = refl
 
 module _ (kinds : List ℕ) where
-  pub without_1 : {f : Formula} → checked kinds [] ≡ Accepted f → false ≡ cause_1 kinds
+  -- Without literals cause 1 alone can refuse.
+  pub kinds_alone : is_err (checked kinds []) ≡ cause_1 kinds
   unfolding checked cause_2 cause_3
-  without_1 {f} e = if_accepted (cause_1 kinds) (sizes kinds []) f e
-
-  pub with_1 : {n : ℕ} → checked kinds [] ≡ RefusedFormula n → true ≡ cause_1 kinds
-  unfolding checked cause_2 cause_3
-  with_1 {n} e = if_refused (cause_1 kinds) (sizes kinds []) n e
+  kinds_alone = refused_by (cause_1 kinds) (sizes kinds [])
 
   pub few_kinds : cause_1 kinds ≡ false → length kinds ≤ max_unknowns
   unfolding cause_1
   few_kinds e = ltb-false max_unknowns (length kinds) (or_none (ltb max_unknowns (length kinds)) (any other_kind kinds) e).0
 
-number_of_answer : (n amount : ℕ) → number (answer n amount) ≡ n
-number_of_answer zero amount = refl
-number_of_answer (suc n) amount = refl
+known_cause : (kinds : List ℕ) → Known (cause kinds)
+known_cause kinds = known_cond (cause_1 kinds) {n = 1} {m = 0} refl refl
 
 cents_of_answer : (b : Bool) (amount : ℕ) → cents (answer (cond b 1 0) amount) ≡ cond b 0 amount
 cents_of_answer true amount = refl
 cents_of_answer false amount = refl
 
 cents_of_number : (n amount : ℕ) → cents (answer n amount) ≡ cond (eqb n 0) amount 0
-cents_of_number zero amount = refl
-cents_of_number (suc n) amount = rw (ne_eqb (suc n) 0 (suc-ne-zero n))
+cents_of_number n amount = by (eqb n 0)
+  where
+    by : (b : Bool) → cents (cond b (Ok amount) (Err (caused n))) ≡ cond b amount 0
+    by true = refl
+    by false = refl
 
-module _ (firsts prices kinds : List ℕ) (rounds : ℕ) {r : Charge} where
-  answered_so : r ≡ answer (cause_with firsts prices kinds) (fee_with firsts prices kinds rounds) → ChargedWith firsts prices kinds rounds r
+module _ (firsts prices kinds : List ℕ) (rounds : ℕ) {r : Result ℕ Cause} where
+  -- Where the cause is known by its number, or 0.
+  answered_so : (n : ℕ) → cause_with firsts prices kinds ≡ n → Known n → r ≡ answer n (fee_with firsts prices kinds rounds) →
+      ChargedWith firsts prices kinds rounds r
   unfolding charged_with
-  answered_so same =
+  answered_so n cause_is known e =
+      let same : r ≡ answer (cause_with firsts prices kinds) (fee_with firsts prices kinds rounds) = rw cause_is e in
       record {
         value = same;
-        numbered = ap number same ∙ number_of_answer (cause_with firsts prices kinds) (fee_with firsts prices kinds rounds);
+        numbered = ap number e ∙ told_unless n (fee_with firsts prices kinds rounds) known ∙ sym cause_is;
         amount = ap cents same ∙ cents_of_number (cause_with firsts prices kinds) (fee_with firsts prices kinds rounds);
       }
 
-  pub refused_21 : cause_21 firsts prices ≡ true → r ≡ Refused 21 → ChargedWith firsts prices kinds rounds r
-  refused_21 one e = answered_so (e ∙ sym (rw one))
+  pub refused_21 : cause_21 firsts prices ≡ true → r ≡ Err Bands → ChargedWith firsts prices kinds rounds r
+  refused_21 one e = answered_so 21 (rw one) refl e
 
-  pub refused_22 : cause_21 firsts prices ≡ false → cause_22 firsts prices ≡ true → r ≡ Refused 22 → ChargedWith firsts prices kinds rounds r
-  refused_22 no_one two e = answered_so (e ∙ sym (rw (no_one, two)))
+  pub refused_22 : cause_21 firsts prices ≡ false → cause_22 firsts prices ≡ true → r ≡ Err Prices → ChargedWith firsts prices kinds rounds r
+  refused_22 no_one two e = answered_so 22 (rw (no_one, two)) refl e
 
   pub charged_with_so : (sum : ℕ) → Loads firsts prices → sum ≡ total (price_with firsts prices) rounds → r ≡ answer (cause kinds) (fee_on sum kinds)
       → ChargedWith firsts prices kinds rounds r
-  charged_with_so sum l sums e = answered_so (e ∙ ap (λ (s : ℕ). answer (cause kinds) (fee_on s kinds)) sums ∙ sym (rw (l.no_21, l.no_22)))
+  charged_with_so sum l sums e =
+      answered_so (cause kinds) (rw (l.no_21, l.no_22)) (known_cause kinds) (e ∙ ap (λ (s : ℕ). answer (cause kinds) (fee_on s kinds)) sums)
 
-pub charged_so : (kinds : List ℕ) (rounds sum : ℕ) {r : Charge} → sum ≡ total price rounds → r ≡ answer (cause kinds) (fee_on sum kinds) →
+pub charged_so : (kinds : List ℕ) (rounds sum : ℕ) {r : Result ℕ Cause} → sum ≡ total price rounds → r ≡ answer (cause kinds) (fee_on sum kinds) →
     Charged kinds rounds r
 unfolding charged
 charged_so kinds rounds sum {r} sums e =
     record {
       value = same;
-      numbered = ap number same ∙ number_of_answer (cause kinds) (fee kinds rounds);
-      amount = ap cents same ∙ cents_of_answer
-          (cause_1 kinds) (fee kinds rounds);
+      numbered = ap number same ∙ told_unless (cause kinds) (fee kinds rounds) (known_cause kinds);
+      amount = ap cents same ∙ cents_of_answer (cause_1 kinds) (fee kinds rounds);
     }
   where
     same : r ≡ answer (cause kinds) (fee kinds rounds)

@@ -1,5 +1,10 @@
 -- What a study pays, for everything that a run can be lent. Assumes nothing.
 use Prim.Native.Nat.{ℕ, zero, suc}
+use Rattle.std.specs.Prelude.{Ok, Result}
+use Rattle.formula.specs.declared.Formula.{Formula}
+use Rattle.cause.specs.declared.Cause.{Cause}
+use Rattle.cause.specs.declared.Cause.TheVariants.{Kinds}
+use Rattle.cause.specs.Cause.{refused_if}
 use native.Mathlib.Omega.{arith}
 use mathlib.Core.Path.{◌≡◌, refl, sym, ap, ◌∙◌}
 use mathlib.Core.Bool.{Bool, true, false, cond}
@@ -7,15 +12,13 @@ use mathlib.Core.List.{List}
 use native.Mathlib.Nat.{suc-ne-zero}
 use borrow.Author.Tests.{eqb-true, ne_eqb}
 use lib.Dec.{eqb}
-use Rattle.formula.specs.declared.Check.{Check}
-use Rattle.formula.specs.Causes.{cause_1, refused_if, checked, number as formula_number}
+use Rattle.formula.specs.Causes.{cause_1, checked, number as formula_number}
 use Rattle.rounds.specs.Run.{is_false, is_true, spent, no_room_universal, no_room_existential, run, Answer as RunAnswer}
 use Rattle.engine.specs.declared.run.Outcome.{Outcome}
 use Rattle.formula.specs.Formula.{prefix}
 use Rattle.engine.specs.Outcome.{Given, lent, cause, accepted, named, reported, refusal, returned}
-use Rattle.fee.specs.declared.Charge.TheVariants.{Cents}
 use Rattle.fee.specs.Fee.{fee, answer, charged, cause as fee_cause}
-use Rattle.fee.specs.Bands.{cause_22, Loads, fee_with, charged_with}
+use Rattle.fee.specs.Bands.{cause_22, fee_with, charged_with}
 use Rattle.fee.specs.Study.{pays, study_fee, StudyPays}
 
 -- An answer of the run's definition is none of the refusals.
@@ -31,7 +34,7 @@ first_cause : (n later : ℕ) → cond (eqb n 0) later n ≡ 0 → n ≡ 0
 first_cause zero later e = refl
 first_cause (suc n) later e = ap (λ (b : Bool). cond b later (suc n)) (sym (ne_eqb (suc n) 0 (suc-ne-zero n))) ∙ e
 
-first_is_1 : (b : Bool) (rest : Check) → formula_number (refused_if b 1 rest) ≡ 0 → b ≡ false
+first_is_1 : (b : Bool) (rest : Result Formula Cause) → formula_number (refused_if b Kinds rest) ≡ 0 → b ≡ false
 first_is_1 true rest e = absurd (omega arith)
 first_is_1 false rest e = refl
 
@@ -53,13 +56,13 @@ module _ (g : Given) where
   unfolding returned study_fee charged charged_with
   study_pays =
       record {
-        accepted_pays = λ e. ap (λ (b : Bool). answer (cond b 1 0) (fee g.kinds round)) (kinds_pass e) ∙ ap Cents (pays_fee fee e);
+        accepted_pays = λ e. ap (λ (b : Bool). answer (cond b 1 0) (fee g.kinds round)) (kinds_pass e) ∙ ap Ok (pays_fee fee e);
         accepted_pays_with = λ firsts prices loaded e.
             let amount = fee_with firsts prices g.kinds round in
             ap (λ (b : Bool). answer (cond b 21 (cond (cause_22 firsts prices) 22 (fee_cause g.kinds))) amount) loaded.no_21
             ∙ ap (λ (b : Bool). answer (cond b 22 (fee_cause g.kinds)) amount) loaded.no_22
             ∙ ap (λ (b : Bool). answer (cond b 1 0) amount) (kinds_pass e)
-            ∙ ap Cents (pays_fee (fee_with firsts prices) e);
+            ∙ ap Ok (pays_fee (fee_with firsts prices) e);
         refused_round = λ e. ap (λ (b : Bool). (outcome_if b).round) e;
         refused_pays = λ fee_for e. ap (λ (b : Bool). pays (outcome_if b).answer (fee_for g.kinds round)) e;
       }

@@ -5,19 +5,13 @@ use native.Mathlib.Nat.{mul-le-mul}
 use native.Mathlib.Numerals.{add-one}
 use mathlib.Core.Path.{◌≡◌}
 use mathlib.Core.List.{List}
-use lib.ListN.{length, get_or, drop, drop_of_length-le}
+use lib.ListN.{length, get_or, drop}
 use lib.Seq.{drop-cons}
 use Rattle.formula.specs.Formula.{max_unknowns}
 use Rattle.fee.specs.Bands.{max_price}
-use Rattle.fee.specs.ByBands.{from_on, next_on, by_bands}
+use Rattle.fee.specs.ByBands.{next_on, by_bands}
 
 module _ (rounds : ℕ) (firsts : List ℕ) (i : ℕ) where
-  pub next_at : i < length firsts → next_on rounds (drop i firsts) ≡ from_on rounds (get_or firsts i 0)
-  next_at below = rw (drop-cons firsts i 0 below)
-
-  pub next_past : length firsts ≤ i → next_on rounds (drop i firsts) ≡ 0
-  next_past past = rw (drop_of_length-le firsts past)
-
   module _ (prices : List ℕ) where
     -- What band i adds, by the numbers that the loop has in hand.
     pub band_at : {here next own price : ℕ} → i < length firsts → i < length prices
@@ -25,9 +19,6 @@ module _ (rounds : ℕ) (firsts : List ℕ) (i : ℕ) where
         → by_bands rounds (drop i firsts) (drop i prices) ≡ own * price + by_bands rounds (drop (i + 1) firsts) (drop (i + 1) prices)
     band_at below enough is_here is_next is_own is_price =
         rw (is_own, is_here, is_next, is_price, add-one, drop-cons firsts i 0 below, drop-cons prices i 0 enough)
-
-    pub all_added : length firsts ≤ i → by_bands rounds (drop i firsts) (drop i prices) ≡ 0
-    all_added past = rw (drop_of_length-le firsts past)
 
 -- A band's cents: at most 2^32 rounds at the highest price.
 pub band_small : {here own price lent : ℕ} (next : ℕ) → own ≡ here - next → here ≤ 4294967296 → price ≡ lent → lent ≤ max_price →

@@ -1,9 +1,9 @@
 -- A chain's own bands (02, C-22): what a round costs by them, what is refused of them, and the fee. The sum, the rise and the rounding are
 -- those of the built-in prices.
 -- Assumes nothing.
-use Rattle.std.specs.Prelude.{ℕ, ◌≡◌, Bool, true, false, cond, not, ◌&&◌, ◌||◌, List, [], ◌∷◌, eqb, leb, ltb, length, get_or}
+use Rattle.std.specs.Prelude.{ℕ, ◌≡◌, Bool, true, false, cond, not, ◌&&◌, ◌||◌, List, [], ◌∷◌, eqb, leb, ltb, length, get_or, Result}
+use Rattle.cause.specs.declared.Cause.{Cause}
 use Rattle.formula.specs.Causes.{any}
-use Rattle.fee.specs.declared.Charge.{Charge}
 use Rattle.fee.specs.Fee.{total, fee_on, cause, answer, number, cents}
 
 -- The limits of lent bands, 'up to 16' and 'over 100,000 cents'. In code they are constants; the contracts tie the two.
@@ -52,11 +52,11 @@ pub record Loads (firsts prices : List ℕ) : Type 0 where
 abbrev pub fee_with : List ℕ → List ℕ → List ℕ → ℕ → ℕ
 fee_with firsts prices kinds rounds = fee_on (total (price_with firsts prices) rounds) kinds
 
-unfoldable pub charged_with : List ℕ → List ℕ → List ℕ → ℕ → Charge
+unfoldable pub charged_with : List ℕ → List ℕ → List ℕ → ℕ → Result ℕ Cause
 charged_with firsts prices kinds rounds = answer (cause_with firsts prices kinds) (fee_with firsts prices kinds rounds)
 
 -- What is answered for bands, rounds and kinds, with its number and its cents.
-pub record ChargedWith (firsts prices kinds : List ℕ) (rounds : ℕ) (r : Charge) : Type 0 where
+pub record ChargedWith (firsts prices kinds : List ℕ) (rounds : ℕ) (r : Result ℕ Cause) : Type 0 where
   pub value : r ≡ charged_with firsts prices kinds rounds
   pub numbered : number r ≡ cause_with firsts prices kinds
   pub amount : cents r ≡ cond (eqb (cause_with firsts prices kinds) 0) (fee_with firsts prices kinds rounds) 0

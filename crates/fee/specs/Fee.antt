@@ -1,9 +1,9 @@
 -- The study fee (02, C-21, its rounding C-23): what the rounds cost, what the changes of kind add to it, and what is answered.
 -- Assumes nothing.
-use Rattle.std.specs.Prelude.{ℕ, zero, suc, ◌+◌, ◌*◌, ◌≡◌, cond, List, [], ◌∷◌, eqb, leb}
+use Rattle.std.specs.Prelude.{ℕ, zero, suc, ◌+◌, ◌*◌, ◌≡◌, cond, List, [], ◌∷◌, eqb, leb, Err, Ok, Result}
+use Rattle.cause.specs.declared.Cause.{Cause}
+use Rattle.cause.specs.Cause.{told, unless_cause}
 use Rattle.formula.specs.Causes.{cause_1}
-use Rattle.fee.specs.declared.Charge.{Charge}
-use Rattle.fee.specs.declared.Charge.TheVariants.{Cents, Refused}
 use Rattle.fee.specs.Rounding.{nearest_even}
 
 -- 'Rounds 1 to 8 at 400 cents, 9 to 64 at 250, later ones at 120.'
@@ -38,24 +38,22 @@ abbrev pub cause : List ℕ → ℕ
 cause kinds = cond (cause_1 kinds) 1 0
 
 -- What is answered: a refusal with its cause carries no fee.
-abbrev pub answer : ℕ → ℕ → Charge
-answer zero fee = Cents fee
-answer (suc n) fee = Refused (suc n)
+abbrev pub answer : ℕ → ℕ → Result ℕ Cause
+answer n fee = unless_cause n fee
 
-unfoldable pub charged : List ℕ → ℕ → Charge
+unfoldable pub charged : List ℕ → ℕ → Result ℕ Cause
 charged kinds rounds = answer (cause kinds) (fee kinds rounds)
 
 -- The number of each case, 0 for a fee, else the cause's; and the cents that it charges.
-abbrev pub number : Charge → ℕ
-number (Cents amount) = 0
-number (Refused cause) = cause
+abbrev pub number : Result ℕ Cause → ℕ
+number charge = told charge
 
-abbrev pub cents : Charge → ℕ
-cents (Cents amount) = amount
-cents (Refused cause) = 0
+abbrev pub cents : Result ℕ Cause → ℕ
+cents (Ok amount) = amount
+cents (Err cause) = 0
 
 -- What is answered for rounds and kinds, with its number and its cents.
-pub record Charged (kinds : List ℕ) (rounds : ℕ) (r : Charge) : Type 0 where
+pub record Charged (kinds : List ℕ) (rounds : ℕ) (r : Result ℕ Cause) : Type 0 where
   pub value : r ≡ charged kinds rounds
   pub numbered : number r ≡ cause kinds
   pub amount : cents r ≡ cond (cause_1 kinds) 0 (fee kinds rounds)

@@ -13,14 +13,8 @@ ghost use Rattle.fee.specs.Bands.{max_price, cause_21, rises as rises_of, Charge
 ghost use Rattle.fee.specs.FeesRight.{FeesRight};
 ghost use Rattle.fee.specs.ByBands.{next_on, by_bands, Summable};
 
-use formula::{Check, Formula};
-
-// A fee, or the number of the cause that refuses it.
-#[derive(Clone, Copy)]
-pub enum Charge {
-    Cents(u64),
-    Refused(u32),
-}
+use cause::Cause;
+use formula::Formula;
 
 // The built-in bands: the first round of each, and the price of its rounds.
 const FIRSTS: [u32; 3] = [1, 9, 65];
@@ -32,8 +26,8 @@ const BANDS: usize = 16;
 
 const DEAREST: u32 = 100_000;
 
-// The fee for so many rounds of a study with these kinds.
-pub fn fee(rounds: u32, kinds: &[u8]) -> Charge
+// The fee in cents for so many rounds of a study with these kinds.
+pub fn fee(rounds: u32, kinds: &[u8]) -> Result<u64, Cause>
     ensures charged { Charged kinds.now rounds result }
     ensures proved { FeesRight }
 {
@@ -41,18 +35,18 @@ pub fn fee(rounds: u32, kinds: &[u8]) -> Charge
 }
 
 // The same by the bands of two columns, the first round of each and the price of its rounds.
-pub fn fee_with(firsts: &[u32], prices: &[u32], rounds: u32, kinds: &[u8]) -> Charge
+pub fn fee_with(firsts: &[u32], prices: &[u32], rounds: u32, kinds: &[u8]) -> Result<u64, Cause>
     ensures charged_with { ChargedWith firsts.now prices.now kinds.now rounds result }
     ensures proved { FeesRight }
 {
     if is_no_table(firsts, prices) {
-        return Charge::Refused(21);
+        return Err(Cause::Bands);
     }
-    if rises(firsts) {} else {
-        return Charge::Refused(22);
+    if !rises(firsts) {
+        return Err(Cause::Prices);
     }
     if has_dearer(prices) {
-        return Charge::Refused(22);
+        return Err(Cause::Prices);
     }
     fee_on(sum(firsts, prices, rounds), kinds)
 }
@@ -81,12 +75,10 @@ fn rises(firsts: &[u32]) -> bool
     ensures { result ≡ rises_of firsts.now }
 {
     let mut rising = true;
-    let mut i = 1;
-    while i < firsts.len() {
+    for i in 1..firsts.len() {
         if firsts[i] <= firsts[i - 1] {
             rising = false;
         }
-        i += 1;
     }
     rising
 }
@@ -96,48 +88,40 @@ fn has_dearer(prices: &[u32]) -> bool
     ensures { result ≡ any (ltb max_price) prices.now }
 {
     let mut found = false;
-    let mut i = 0;
-    while i < prices.len() {
-        if prices[i] > DEAREST {
+    for price in prices {
+        if *price > DEAREST {
             found = true;
         }
-        i += 1;
     }
     found
 }
 
 // The fee on what the rounds cost together. Below 2^50 cents, the risen sum fits 64 bits.
-fn fee_on(sum: u64, kinds: &[u8]) -> Charge
+fn fee_on(sum: u64, kinds: &[u8]) -> Result<u64, Cause>
     requires { sum < 2 ^ 50 }
     ensures { result ≡ answer (cause kinds.now) (fee_on sum kinds.now) }
 {
     if is_refused(kinds) {
-        return Charge::Refused(1);
+        return Err(Cause::Kinds);
     }
-    Charge::Cents(rounded(risen(sum, changes(kinds))))
+    Ok(rounded(risen(sum, changes(kinds))))
 }
 
 // Whether cause 1 applies, the only one that can without literals.
 fn is_refused(kinds: &[u8]) -> bool
     ensures { result ≡ cause_1 kinds.now }
 {
-    let literals = [0i32; 0];
-    match Formula::check(kinds, &literals) {
-        Check::Accepted(_) => false,
-        Check::Refused(_) => true,
-    }
+    Formula::check(kinds, &[]).is_err()
 }
 
 fn changes(kinds: &[u8]) -> u64
     ensures { result ≡ changes_of kinds.now }
 {
     let mut count: u64 = 0;
-    let mut i = 1;
-    while i < kinds.len() {
+    for i in 1..kinds.len() {
         if kinds[i - 1] != kinds[i] {
             count += 1;
         }
-        i += 1;
     }
     count
 }
@@ -171,12 +155,10 @@ fn sum(firsts: &[u32], prices: &[u32], rounds: u32) -> u64
     ensures { result ≡ by_bands rounds firsts.now prices.now }
 {
     let mut total: u64 = 0;
-    let mut i = 0;
-    while i < firsts.len() {
+    for i in 0..firsts.len() {
         let here = rounds_from(firsts, i, rounds);
         let next = rounds_from(firsts, i + 1, rounds);
-        total += less(here, next) * wide(prices[i]);
-        i += 1;
+        total += here.saturating_sub(next) * prices[i] as u64;
     }
     total
 }
@@ -186,21 +168,8 @@ fn rounds_from(firsts: &[u32], i: usize, rounds: u32) -> u64
     ensures { (result ≡ next_on rounds (drop i firsts.now)) × (result ≤ 4294967296) }
 {
     if i < firsts.len() {
-        less(wide(rounds) + 1, wide(firsts[i]))
+        (rounds as u64 + 1).saturating_sub(firsts[i] as u64)
     } else {
         0
     }
-}
-
-// The difference, 0 where it would be below.
-fn less(a: u64, b: u64) -> u64
-    ensures { result ≡ a - b }
-{
-    if b < a { a - b } else { 0 }
-}
-
-fn wide(x: u32) -> u64
-    ensures { (result ≡ x) × (result < 4294967296) }
-{
-    x as u64
 }

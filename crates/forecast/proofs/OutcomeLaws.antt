@@ -1,5 +1,9 @@
 -- What is returned where a cause applies and where none does. Assumes nothing.
 use Prim.Native.Nat.{ℕ, ◌+◌, ◌-◌, ◌*◌, ◌%◌, ◌≤◌}
+use Rattle.std.specs.Prelude.{Result, Ok, Err}
+use Rattle.cause.specs.declared.Cause.{Cause}
+use Rattle.cause.specs.Cause.{number, told, unless_cause}
+use Rattle.cause.proofs.Numbers.{from_1, unless_number, Known, known_cond, told_unless}
 use native.Mathlib.Omega.{arith}
 use mathlib.Core.Path.{◌≡◌, refl, sym, ap, ap₂, ◌∙◌}
 use mathlib.Core.Bool.{Bool, true, false, not, ◌&&◌, ◌||◌, cond, and-eq-true_iff}
@@ -10,15 +14,11 @@ use lib.ListN.{length, length-map}
 use borrow.Author.Tests.{ltb-false, leb-true, eqb-false, ne_eqb}
 use Rattle.formula.specs.Formula.{max_rows, Kind, existential, universal, kind_of, prefix}
 use Rattle.formula.specs.Causes as Causes
-use Rattle.formula.specs.declared.Check.{Check}
-use Rattle.formula.specs.declared.Check.TheVariants as Check
 use Rattle.formula.specs.declared.Formula.{Formula}
 use Rattle.formula.proofs.Accepted.{accepted_sizes}
-use Rattle.formula.proofs.Order.{refused_from_1}
 use Rattle.rows.specs.Table.{room, table_fits}
 use Rattle.rows.specs.Stray.{stray_rows}
 use Rattle.forecast.specs.declared.Outlook.{Outlook}
-use Rattle.forecast.specs.declared.Outlook.TheVariants.{Needs, Refused}
 use Rattle.forecast.specs.Outcome.{Given, width, copies_over, fits, table_cause, cause, outcome}
 use Rattle.forecast.specs.Forecast.{ForecastRight, Foretold}
 use Rattle.forecast.proofs.FewCopies.{bounded}
@@ -65,6 +65,13 @@ fitting A a m S s n none =
       few_existential = omega (arith, few_rows S fit.1);
     }
 
+-- What is told of the tables' causes is their number.
+known_tables : (A : List ℕ) (a m : ℕ) (S : List ℕ) (s n : ℕ) → Known (table_cause A a m S s n)
+unfolding table_cause
+known_tables A a m S s n =
+    known_cond (not (table_fits A && table_fits S)) {n = 4} refl
+    (known_cond (ltb (room A) a || ltb (room S) s) {n = 7} refl (known_cond (stray_rows m a A || stray_rows n s S) {n = 8} {m = 0} refl refl))
+
 -- ---- the numbers of unknowns
 
 count_both : (ks : List Kind) → Causes.count universal ks + Causes.count existential ks ≡ length ks
@@ -72,7 +79,7 @@ count_both [] = refl
 count_both (existential ∷ ks) = let r : Causes.count universal ks + Causes.count existential ks ≡ length ks = count_both ks in omega arith
 count_both (universal ∷ ks) = let r : Causes.count universal ks + Causes.count existential ks ≡ length ks = count_both ks in omega arith
 
-module _ (kinds : List ℕ) (literals : List ℤ) (f : Formula) (passed : Causes.checked kinds literals ≡ Check.Accepted f) where
+module _ (kinds : List ℕ) (literals : List ℤ) (f : Formula) (passed : Causes.checked kinds literals ≡ Ok f) where
   universals_known : f.universals ≡ width universal kinds
   universals_known = ap (λ (x : Formula). x.universals) (accepted_sizes kinds literals passed)
 
@@ -95,7 +102,7 @@ none_later formula later true e none = none
 none_later formula later false e none = absurd (eqb-false formula 0 e none)
 
 module _ (g : Given) where
-  abbrev checked : Check
+  abbrev checked : Result Formula Cause
   checked = Causes.checked g.kinds g.literals
 
   abbrev by_tables : ℕ → ℕ → ℕ
@@ -113,48 +120,49 @@ module _ (g : Given) where
 
   abbrev answer : Outlook
   answer =
-      Needs (copies_over universal g.kinds g.universal_rows g.universals) (copies_over existential g.kinds g.existential_rows g.existentials)
-      (fits g.universals g.existential_rows g.existentials)
+      record {
+        over_universal = copies_over universal g.kinds g.universal_rows g.universals;
+        over_existential = copies_over existential g.kinds g.existential_rows g.existentials;
+        fits = fits g.universals g.existential_rows g.existentials;
+      }
 
-  by_cause : (n : ℕ) → cause g ≡ n → (n ≡ 0 → ⊥) → Foretold g (Refused n)
+  by_cause : (c : Cause) → cause g ≡ number c → Foretold g (Err c)
   unfolding outcome
-  by_cause n e some_cause = record {
-    returned = sym (ap (λ (k : ℕ). cond (eqb k 0) answer (Refused k)) e ∙ ap (λ (b : Bool). cond b answer (Refused n)) (ne_eqb n 0 some_cause));
-    numbered = sym e;
-    right = right;
-  }
+  by_cause c e =
+      record { returned = sym (ap (λ (k : ℕ). unless_cause k answer) e ∙ unless_number c answer); numbered = sym e; right = right }
 
   -- Causes 1 to 3 come first ..
-  pub formula_refused : (n : ℕ) → checked ≡ Check.Refused n → Foretold g (Refused n)
+  pub formula_refused : (c : Cause) → checked ≡ Err c → Foretold g (Err c)
   unfolding cause
-  formula_refused n e =
-      let some_cause = refused_from_1 g.kinds g.literals n e in
-      by_cause n
-      (ap (λ (k : Check). cond (eqb (Causes.number k) 0) later (Causes.number k)) e ∙ ap (λ (b : Bool). cond b later n) (ne_eqb n 0 (λ z. omega arith)))
-      (λ z. omega arith)
+  formula_refused c e = by_cause c (rw (e, ne_eqb (number c) 0 (λ z. omega (arith, from_1 c))))
 
-  module _ (f : Formula) (passed : checked ≡ Check.Accepted f) (n : ℕ) (found : n ≡ by_tables f.universals (length g.kinds - f.universals)) where
-    tables_cause : cause g ≡ n
+  module _ (f : Formula) (passed : checked ≡ Ok f) (tables : Result Unit Cause)
+      (found : tables ≡ unless_cause (by_tables f.universals (length g.kinds - f.universals)) tt) where
+    tables_told : told tables ≡ by_tables f.universals (length g.kinds - f.universals)
+    tables_told =
+        ap told found ∙ told_unless _ tt (known_tables g.universal_rows g.universals f.universals g.existential_rows g.existentials _)
+
+    tables_cause : cause g ≡ told tables
     unfolding cause
     tables_cause =
-        ap (λ (k : Check). cond (eqb (Causes.number k) 0) later (Causes.number k)) passed
-        ∙ sym (found ∙ ap₂ by_tables (universals_known g.kinds g.literals f passed) (existentials_known g.kinds g.literals f passed))
+        ap (λ (k : (Result Formula Cause)). cond (eqb (Causes.number k) 0) later (Causes.number k)) passed
+        ∙ sym (tables_told ∙ ap₂ by_tables (universals_known g.kinds g.literals f passed) (existentials_known g.kinds g.literals f passed))
 
     -- .. then those of the tables ..
-    pub tables_refused : (n ≡ 0 → ⊥) → Foretold g (Refused n)
-    tables_refused some_cause = by_cause n tables_cause some_cause
+    pub tables_refused : (c : Cause) → tables ≡ Err c → Foretold g (Err c)
+    tables_refused c e = by_cause c (tables_cause ∙ ap told e)
 
-    module _ (none : n ≡ 0) where
+    module _ (u : Unit) (none : tables ≡ Ok u) where
       pub tables_fit : Fitting g.universal_rows g.universals g.existential_rows g.existentials
       tables_fit = fitting g.universal_rows g.universals f.universals g.existential_rows g.existentials (length g.kinds - f.universals)
-          (sym found ∙ none)
+          (sym tables_told ∙ ap told none)
 
       -- .. and without a cause the numbers.
       pub answered : (over_a over_s : ℕ) (fit : Bool) → over_a ≡ copies_over universal g.kinds g.universal_rows g.universals
           → over_s ≡ copies_over existential g.kinds g.existential_rows g.existentials
-          → fit ≡ fits g.universals g.existential_rows g.existentials → Foretold g (Needs over_a over_s fit)
+          → fit ≡ fits g.universals g.existential_rows g.existentials
+          → Foretold g (Ok (record { over_universal = over_a; over_existential = over_s; fits = fit }))
       unfolding outcome
       answered over_a over_s fit a s e =
-          let clear : cause g ≡ 0 = tables_cause ∙ none in
-          let same : Needs over_a over_s fit ≡ answer = rw (a, s, e) in
-          record { returned = same ∙ sym (ap (λ (k : ℕ). cond (eqb k 0) answer (Refused k)) clear); numbered = sym clear; right = right }
+          let clear : cause g ≡ 0 = tables_cause ∙ ap told none in
+          record { returned = rw (a, s, e, clear); numbered = sym clear; right = right }

@@ -89,9 +89,6 @@ module _ (t : List ℕ) (i j : ℕ) (hi : i < room t) (hj : j < room t) where
 pub alike_fewer : (row other : List ℕ) (m n : ℕ) → m ≤ n → Alike row other n → Alike row other m
 alike_fewer row other m n h alike k below = alike k (omega arith)
 
-pub tells_none : (t : List ℕ) (i : ℕ) → Tells t i 0 0
-tells_none t i = record { most = omega arith; enough = λ h q below alike. omega arith; fewest = λ m h. absurd (omega arith) }
-
 module _ (t : List ℕ) (i j n s : ℕ) (told : Tells t i j n) (shares : Shared (row_at t i) (row_at t j) s) where
   tells_longer : n ≤ s → Tells t i (j + 1) (s + 1)
   tells_longer h = record {

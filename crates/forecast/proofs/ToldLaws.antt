@@ -1,7 +1,7 @@
 -- The copies at an own unknown are the rows that its restriction tells from each earlier row, so the numbers of a table count them all.
 -- Assumes nothing.
 use Prim.Native.Nat.{ℕ, zero, suc, ◌+◌, ◌*◌, ◌≤◌, ◌<◌}
-use native.Mathlib.Nat.{add-zero, zero-add}
+use native.Mathlib.Nat.{add-zero}
 use native.Mathlib.Numerals.{add-one}
 use native.Mathlib.Omega.{arith}
 use mathlib.Core.Path.{◌≡◌, refl, sym, ap, ap₂, subst, ◌∙◌}
@@ -11,7 +11,7 @@ use mathlib.Core.Logic.{inr}
 use lib.Dec.{eqb, leb, eqb-suc-zero}
 use lib.ListN.{length, get_or, take, drop, length-map, length-append}
 use lib.Seq.{ext_get_or, get_or-take, length-take-le}
-use borrow.Author.Tests.{leb-true, leb-false, le-leb, lt-leb}
+use borrow.Author.Tests.{leb-true, leb-false}
 use Rattle.formula.specs.Formula.{max_unknowns, max_rows, Kind, existential, universal, kind_of, prefix}
 use Rattle.formula.specs.Causes.{count}
 use Rattle.rows.specs.Row.{weight, row_of}
@@ -109,7 +109,8 @@ module _ (t numbers : List ℕ) (ts : List Bool) (m k : ℕ) (few : others_befor
           let enough = leb-true (get_or numbers n 0) (others_before ts k) e in
           let unseen : In (next n) (seen n) → ⊥ = λ l.
           let (q, earlier, alike) = seen_alike n (omega arith) l in
-          (told n (omega arith)).enough (omega arith) q earlier (alike_fewer (row_at t n) (row_at t q) (get_or numbers n 0) (others_before ts k) enough alike) in
+          (told n (omega arith)).enough (omega arith) q earlier (alike_fewer (row_at t n) (row_at t q) (get_or numbers n 0) (others_before ts k) enough
+          alike) in
           ap length (fresh_new (next n) [] (seen n) (λ l. l) unseen)
           ∙ length-append (fresh [] (seen n)) (next n ∷ [])
           ∙ ap (λ (x : ℕ). x + 1) before
@@ -121,13 +122,6 @@ module _ (t numbers : List ℕ) (ts : List Bool) (m k : ℕ) (few : others_befor
 
   pub told_copies_at : (n : ℕ) → n ≤ room t → Told t numbers n → length (copies_at ts (rows_of m n t) k) ≡ within numbers (others_before ts k) n
   told_copies_at n h told = length-map (fresh [] (seen n)) (copy_at k) ∙ told_fresh n h told
-
--- One number more.
-pub within_more : (numbers : List ℕ) (b n : ℕ) → get_or numbers n 0 ≤ b → within numbers b (n + 1) ≡ within numbers b n + 1
-within_more numbers b n h = rw (add-one n, le-leb (get_or numbers n 0) b h)
-
-pub within_same : (numbers : List ℕ) (b n : ℕ) → b < get_or numbers n 0 → within numbers b (n + 1) ≡ within numbers b n
-within_same numbers b n h = rw (add-one n, lt-leb (get_or numbers n 0) b h) (add-zero (within numbers b n))
 
 -- ---- all own unknowns
 
@@ -205,12 +199,6 @@ drop_flags side [] k h = absurd (omega arith)
 drop_flags side (x ∷ kinds) zero h = refl
 drop_flags side (x ∷ kinds) (suc k) h = drop_flags side kinds k (omega arith)
 
-drop_past : (ts : List Bool) (k : ℕ) → length ts ≤ k → drop k ts ≡ []
-drop_past [] zero h = refl
-drop_past [] (suc k) h = refl
-drop_past (v ∷ ts) zero h = absurd (omega arith)
-drop_past (v ∷ ts) (suc k) h = drop_past ts k (omega arith)
-
 -- What stands to be added from position k on, and the total before it.
 pub record Adding (kinds : List ℕ) (universal? : Bool) (numbers : List ℕ) (n total before k : ℕ) : Type 0 where
   pub inside : k ≤ length kinds
@@ -225,9 +213,6 @@ module _ (kinds : List ℕ) (universal? : Bool) (numbers : List ℕ) (n : ℕ) w
 
   abbrev rest : ℕ → List Bool → ℕ
   rest = summed (λ b. within numbers b n)
-
-  pub adding_none : Adding kinds universal? numbers n 0 0 0
-  adding_none = record { inside = omega arith; fewer = omega arith; small = omega arith; left = zero-add (rest 0 ts) }
 
   flag_at : (k : ℕ) (v : Bool) → k < length kinds → beq (not (eqb (get_or kinds k 0) 0)) universal? ≡ v → drop k ts ≡ v ∷ drop (k + 1) ts
   flag_at k v h e =
@@ -245,9 +230,3 @@ module _ (kinds : List ℕ) (universal? : Bool) (numbers : List ℕ) (n : ℕ) w
     adding_other e =
         let here : rest before (drop k ts) ≡ rest (before + 1) (drop (k + 1) ts) = ap (rest before) (flag_at k false h e) in
         record { inside = omega arith; fewer = omega (arith, so_far.fewer); small = omega (arith, so_far.small); left = omega (arith, so_far.left) }
-
-  pub added_all : (total before k : ℕ) → Adding kinds universal? numbers n total before k → length kinds ≤ k → total ≡ rest 0 ts
-  added_all total before k so_far end =
-      let none : drop k ts ≡ [] = drop_past ts k (omega (arith, length-map (prefix kinds) (own (side_of universal?)), length-map kinds kind_of)) in
-      let nothing : rest before (drop k ts) ≡ 0 = ap (rest before) none in
-      omega (arith, so_far.left)

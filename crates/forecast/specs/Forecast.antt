@@ -1,6 +1,7 @@
 -- What holds of every forecast that is given (02, C-17).
 -- Assumes nothing.
-use Rattle.std.specs.Prelude.{ℕ, ◌*◌, ◌≤◌, ◌≡◌, true, ◌≢◌}
+use Rattle.std.specs.Prelude.{ℕ, ◌*◌, ◌≤◌, ◌≡◌, true, ◌≢◌, Result}
+use Rattle.cause.specs.declared.Cause.{Cause}
 use Rattle.formula.specs.Formula.{existential, universal, prefix, clauses}
 use Rattle.formula.specs.Meaning.{matrix}
 use Rattle.rows.specs.Table.{room}
@@ -35,7 +36,7 @@ pub record ForecastRight (g : Given) : Type 0 where
   pub bounded : Bounded g
 
 -- All that `forecast` promises: what it returns and its number, and the statements for every accepted input.
-pub record Foretold (g : Given) (result : Outlook) : Type 0 where
+pub record Foretold (g : Given) (result : Result Outlook Cause) : Type 0 where
   pub returned : result ≡ outcome g
   pub numbered : number result ≡ cause g
   pub right : cause g ≡ 0 → ForecastRight g

@@ -1,6 +1,8 @@
 -- What `forecast` returns, for everything that is lent (02, C-17): 01's causes 1 to 4, 7 and 8 in order, then the copies and whether they fit.
 -- Assumes nothing.
-use Rattle.std.specs.Prelude.{ℕ, ◌-◌, Bool, not, ◌&&◌, ◌||◌, cond, List, eqb, leb, ltb, ℤ, length}
+use Rattle.std.specs.Prelude.{ℕ, ◌-◌, Bool, not, ◌&&◌, ◌||◌, cond, List, eqb, leb, ltb, ℤ, length, Result, Ok, Err}
+use Rattle.cause.specs.declared.Cause.{Cause}
+use Rattle.cause.specs.Cause.{told, unless_cause}
 use Rattle.formula.specs.Formula.{Kind, existential, universal, prefix}
 use Rattle.formula.specs.Causes as Causes
 use Rattle.rows.specs.Table.{rows_of, room, table_fits}
@@ -10,7 +12,6 @@ use Rattle.expansion.specs.OtherSide.{other}
 use Rattle.expansion.specs.Play.{Row}
 use Rattle.expansion.specs.Copies.{copies}
 use Rattle.forecast.specs.declared.Outlook.{Outlook}
-use Rattle.forecast.specs.declared.Outlook.TheVariants.{Needs, Refused}
 
 -- How many unknowns of a kind there are: so many values a row of that kind has.
 abbrev pub width : Kind → List ℕ → ℕ
@@ -58,22 +59,23 @@ cause g =
     cond (eqb formula 0) later formula
 
 -- The copies over A and over S and whether step 2 is sure to fit, or the cause.
-unfoldable pub outcome : Given → Outlook
+unfoldable pub outcome : Given → Result Outlook Cause
 outcome g =
-    let answered =
-    Needs (copies_over universal g.kinds g.universal_rows g.universals) (copies_over existential g.kinds g.existential_rows g.existentials)
-    (fits g.universals g.existential_rows g.existentials) in
-    cond (eqb (cause g) 0) answered (Refused (cause g))
+    unless_cause (cause g)
+    record {
+      over_universal = copies_over universal g.kinds g.universal_rows g.universals;
+      over_existential = copies_over existential g.kinds g.existential_rows g.existentials;
+      fits = fits g.universals g.existential_rows g.existentials;
+    }
 
 -- The number of each case: 0 for an answer, a refusal has its cause's; and the copies of each case, none after a refusal.
-abbrev pub number : Outlook → ℕ
-number (Needs over_a over_s fit) = 0
-number (Refused cause) = cause
+abbrev pub number : Result Outlook Cause → ℕ
+number answer = told answer
 
-abbrev pub universal_copies : Outlook → ℕ
-universal_copies (Needs over_a over_s fit) = over_a
-universal_copies (Refused cause) = 0
+abbrev pub universal_copies : Result Outlook Cause → ℕ
+universal_copies (Ok o) = o.over_universal
+universal_copies (Err cause) = 0
 
-abbrev pub existential_copies : Outlook → ℕ
-existential_copies (Needs over_a over_s fit) = over_s
-existential_copies (Refused cause) = 0
+abbrev pub existential_copies : Result Outlook Cause → ℕ
+existential_copies (Ok o) = o.over_existential
+existential_copies (Err cause) = 0

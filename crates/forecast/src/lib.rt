@@ -5,6 +5,7 @@
 #![tactic(auto)]
 
 ghost use Rattle.std.specs.Prelude.{◌≡◌, ◌≤◌, ◌<◌, max, length};
+ghost use Rattle.cause.specs.Cause.{unless_cause};
 ghost use Rattle.formula.specs.Formula.{prefix, max_unknowns, max_rows};
 ghost use Rattle.rows.specs.Table.{row_at, room};
 ghost use Rattle.expansion.specs.Side.{flags};
@@ -13,18 +14,15 @@ ghost use Rattle.forecast.specs.Outcome.{given, table_cause, copies_over};
 ghost use Rattle.forecast.specs.Forecast.{Foretold};
 ghost use Rattle.forecast.specs.Private.Starts.{AlikeBits, Shared, Tells, Told, within, summed};
 
-use formula::{Check, Formula};
+use cause::Cause;
+use formula::Formula;
 
-// The copies over A and over S as they stand, and whether the free existential rows number at least the count of A. A refusal has the number
-// of its cause.
-#[derive(Clone, Copy)]
-pub enum Outlook {
-    Needs {
-        over_universal: usize,
-        over_existential: usize,
-        fits: bool,
-    },
-    Refused(u32),
+// The copies over A and over S as they stand, and whether the free existential rows number at least the count of A.
+#[derive(Clone, Copy, Debug, PartialEq, Eq)]
+pub struct Outlook {
+    pub over_universal: usize,
+    pub over_existential: usize,
+    pub fits: bool,
 }
 
 // A row's bytes.
@@ -37,65 +35,57 @@ pub fn forecast(
     universal: usize,
     existential_rows: &[u8],
     existential: usize,
-) -> Outlook
+) -> Result<Outlook, Cause>
     ensures proved { Foretold (given kinds.now literals.now universal_rows.now universal
         existential_rows.now existential) result }
 {
-    match Formula::check(kinds, literals) {
-        Check::Refused(cause) => Outlook::Refused(cause),
-        Check::Accepted(formula) => {
-            let universals = formula.universals;
-            let existentials = kinds.len() - universals;
-            let cause = table_cause(
-                universal_rows,
-                universal,
-                universals,
-                existential_rows,
-                existential,
-                existentials,
-            );
-            if cause != 0 {
-                return Outlook::Refused(cause);
-            }
-            Outlook::Needs {
-                over_universal: copies(kinds, false, universal_rows, universal),
-                over_existential: copies(kinds, true, existential_rows, existential),
-                fits: universal <= existential_rows.len() / BYTES - existential,
-            }
-        }
-    }
+    let universals = Formula::check(kinds, literals)?.universals;
+    let existentials = kinds.len() - universals;
+    check_tables(
+        universal_rows,
+        universal,
+        universals,
+        existential_rows,
+        existential,
+        existentials,
+    )?;
+    Ok(Outlook {
+        over_universal: copies(kinds, false, universal_rows, universal),
+        over_existential: copies(kinds, true, existential_rows, existential),
+        fits: universal <= existential_rows.len() / BYTES - existential,
+    })
 }
 
-// The first of the row tables' causes that applies, or 0.
-fn table_cause(
+// The first of the row tables' causes that applies.
+fn check_tables(
     universal_rows: &[u8],
     universal: usize,
     universals: usize,
     existential_rows: &[u8],
     existential: usize,
     existentials: usize,
-) -> u32
-    ensures { result ≡ table_cause universal_rows.now universal universals existential_rows.now existential existentials }
+) -> Result<(), Cause>
+    ensures { result ≡ unless_cause (table_cause universal_rows.now universal universals existential_rows.now existential existentials) tt }
 {
-    if rows::table_fits(universal_rows) {} else {
-        return 4;
+    if !rows::table_fits(universal_rows) {
+        return Err(Cause::Rows);
     }
-    if rows::table_fits(existential_rows) {} else {
-        return 4;
+    if !rows::table_fits(existential_rows) {
+        return Err(Cause::Rows);
     }
     if universal_rows.len() / BYTES < universal {
-        return 7;
+        return Err(Cause::Count);
     }
     if existential_rows.len() / BYTES < existential {
-        return 7;
+        return Err(Cause::Count);
     }
     if rows::stray_bit(universal_rows, universal, universals) {
-        return 8;
+        return Err(Cause::StrayBit);
     }
     if rows::stray_bit(existential_rows, existential, existentials) {
-        return 8;
+        return Err(Cause::StrayBit);
     }
-    0
+    Ok(())
 }
 
 // The copies of a side's unknowns over the first rows of the other side's table. At an own unknown with b of the others' before it they are as many
@@ -125,7 +115,7 @@ fn telling(rows: &[u8], i: usize) -> usize
 {
     let mut bits: usize = 0;
     for j in 0..i {
-        bits = larger(bits, shared(rows, i, j) + 1);
+        bits = bits.max(shared(rows, i, j) + 1);
     }
     bits
 }
@@ -149,20 +139,12 @@ fn shared(rows: &[u8], i: usize, j: usize) -> usize
 fn alike_bits(a: u8, b: u8) -> usize
     ensures { AlikeBits a b result }
 {
-    let mut t: u8 = 0;
-    while t < 8 {
+    for t in 0..8u8 {
         if (a >> t) % 2 != (b >> t) % 2 {
-            return wide(t);
+            return t as usize;
         }
-        t += 1;
     }
     8
-}
-
-fn larger(a: usize, b: usize) -> usize
-    ensures { result ≡ max a b }
-{
-    if a < b { b } else { a }
 }
 
 // At each own unknown the rows that are told apart by the others' unknowns before it, added up.
@@ -172,10 +154,8 @@ fn sum(kinds: &[u8], universal: bool, numbers: &[u8], count: usize) -> usize
 {
     let mut total: usize = 0;
     let mut before: usize = 0;
-    let mut k = 0;
-    while k < kinds.len() {
-        let own = (kinds[k] != 0) == universal;
-        k += 1;
+    for kind in kinds {
+        let own = (*kind != 0) == universal;
         if own {
             total += told_by(numbers, count, before);
         } else {
@@ -192,15 +172,9 @@ fn told_by(numbers: &[u8], count: usize, bits: usize) -> usize
 {
     let mut told: usize = 0;
     for i in 0..count {
-        if wide(numbers[i]) <= bits {
+        if numbers[i] as usize <= bits {
             told += 1;
         }
     }
     told
-}
-
-fn wide(x: u8) -> usize
-    ensures { result ≡ x }
-{
-    x as usize
 }

@@ -9,11 +9,13 @@ use borrow.Author.Tests.{ltb-false, le-ltb, not-false}
 use lib.Dec.{ltb, leb-suc-zero}
 use lib.IntN.{ℤ, pos, negsuc, nat_abs}
 use lib.ListN.{length, get_or}
-use Rattle.formula.specs.declared.Check.{Check}
-use Rattle.formula.specs.declared.Check.TheVariants.{Accepted as Passed}
+use Rattle.std.specs.Prelude.{Result, Ok}
+use Rattle.cause.specs.declared.Cause.{Cause}
+use Rattle.cause.specs.declared.Cause.TheVariants.{Kinds, Literals, Beyond}
+use Rattle.cause.specs.Cause.{refused_if}
 use Rattle.formula.specs.declared.Formula.{Formula}
 use Rattle.formula.specs.Formula.{max_unknowns, max_clauses, max_entries}
-use Rattle.formula.specs.Causes.{any, other_kind, cause_1, zeros, is_zero, ended, cause_2, beyond, cause_3, sizes, refused_if, checked}
+use Rattle.formula.specs.Causes.{any, other_kind, cause_1, zeros, is_zero, ended, cause_2, beyond, cause_3, sizes, checked}
 pub use Rattle.formula.specs.Private.Accepted.{Accepted}
 use Rattle.formula.proofs.Any.{or_none, any_none, none_any}
 use Rattle.formula.proofs.Quantifiers.{kind_below}
@@ -30,26 +32,27 @@ zero_known (pos zero) e = refl
 zero_known (pos (suc v)) e = absurd (false≢true e)
 zero_known (negsuc v) e = absurd (false≢true e)
 
-passed : (refused : Bool) (cause : ℕ) (otherwise : Check) (f : Formula) → refused_if refused cause otherwise ≡ Passed f → (refused ≡ false) ×
-    (otherwise ≡ Passed f)
+passed : (refused : Bool) (cause : Cause) (otherwise : Result Formula Cause) (f : Formula) → refused_if refused cause otherwise ≡ Ok f → (refused ≡ false) ×
+    (otherwise ≡ Ok f)
 passed false cause otherwise f e = (refl, e)
 passed true cause otherwise f e = absurd (let z : ◌≡◌ {A = ℕ} 0 1 = cc in omega arith)
 
 module _ (kinds : List ℕ) (literals : List ℤ) where
-  none_applies : (f : Formula) → checked kinds literals ≡ Passed f → (cause_1 kinds ≡ false) × (cause_2 literals ≡ false) ×
-      (cause_3 (length kinds) literals ≡ false) × (Passed (sizes kinds literals) ≡ Passed f)
+  none_applies : (f : Formula) → checked kinds literals ≡ Ok f → (cause_1 kinds ≡ false) × (cause_2 literals ≡ false) ×
+      (cause_3 (length kinds) literals ≡ false) × (◌≡◌ {A = Result Formula Cause} (Ok (sizes kinds literals)) (Ok f))
   unfolding checked
   none_applies f e =
-      let one = passed (cause_1 kinds) 1 (refused_if (cause_2 literals) 2 (refused_if (cause_3 (length kinds) literals) 3 (Passed (sizes kinds literals)))) f e
+      let one = passed (cause_1 kinds) Kinds
+      (refused_if (cause_2 literals) Literals (refused_if (cause_3 (length kinds) literals) Beyond (Ok (sizes kinds literals)))) f e
       in
-      let two = passed (cause_2 literals) 2 (refused_if (cause_3 (length kinds) literals) 3 (Passed (sizes kinds literals))) f one.1 in
-      let three = passed (cause_3 (length kinds) literals) 3 (Passed (sizes kinds literals)) f two.1 in
+      let two = passed (cause_2 literals) Literals (refused_if (cause_3 (length kinds) literals) Beyond (Ok (sizes kinds literals))) f one.1 in
+      let three = passed (cause_3 (length kinds) literals) Beyond (Ok (sizes kinds literals)) f two.1 in
       (one.0, two.0, three.0, three.1)
 
-  pub accepted_sizes : {f : Formula} → checked kinds literals ≡ Passed f → f ≡ sizes kinds literals
+  pub accepted_sizes : {f : Formula} → checked kinds literals ≡ Ok f → f ≡ sizes kinds literals
   accepted_sizes {f} e = let same = (none_applies f e).3 in cc
 
-  pub accepted : {f : Formula} → checked kinds literals ≡ Passed f → Accepted kinds literals
+  pub accepted : {f : Formula} → checked kinds literals ≡ Ok f → Accepted kinds literals
   unfolding cause_1 cause_2 cause_3
   accepted {f} e =
       let none = none_applies f e in
@@ -69,7 +72,7 @@ module _ (kinds : List ℕ) (literals : List ℤ) where
       }
 
   -- And nothing else is asked.
-  pub accepting : Accepted kinds literals → checked kinds literals ≡ Passed (sizes kinds literals)
+  pub accepting : Accepted kinds literals → checked kinds literals ≡ Ok (sizes kinds literals)
   unfolding cause_3
   accepting a =
       sym

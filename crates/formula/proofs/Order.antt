@@ -8,11 +8,13 @@ use mathlib.Core.Bool.{Bool, true, false, or-true, cond}
 use mathlib.Core.List.{List, [], ◌∷◌}
 use lib.IntN.{ℤ, pos, nat_abs}
 use lib.ListN.{length}
-use Rattle.formula.specs.declared.Check.{Check}
-use Rattle.formula.specs.declared.Check.TheVariants.{Accepted, Refused}
+use Rattle.std.specs.Prelude.{Result, Ok, Err}
+use Rattle.cause.specs.declared.Cause.{Cause}
+use Rattle.cause.specs.declared.Cause.TheVariants.{Kinds, Literals, Beyond}
+use Rattle.cause.specs.Cause.{refused_if}
 use Rattle.formula.specs.declared.Formula.{Formula}
 use Rattle.formula.specs.Formula.{max_unknowns, max_clauses, max_entries}
-use Rattle.formula.specs.Causes.{any, other_kind, cause_1, zeros, ended, cause_2, beyond, cause_3, sizes, refused_if, checked, number}
+use Rattle.formula.specs.Causes.{any, other_kind, cause_1, zeros, ended, cause_2, beyond, cause_3, sizes, checked, number}
 use Rattle.formula.specs.FirstCause.{first_cause}
 use Rattle.formula.proofs.Any.{any_implies}
 
@@ -59,42 +61,32 @@ cause_3_lowest n literals few =
     any_implies (beyond 2147483647) (beyond n) (λ z far. lt-ltb n (nat_abs z) (omega (arith, ltb-true 2147483647 (nat_abs z) far))) literals
 
 module _ (kinds : List ℕ) (literals : List ℤ) where
-  pub refused_1 : cause_1 kinds ≡ true → Refused 1 ≡ checked kinds literals
+  pub refused_1 : cause_1 kinds ≡ true → Err Kinds ≡ checked kinds literals
   unfolding checked
   refused_1 one = rw one
 
-  pub refused_2 : cause_1 kinds ≡ false → cause_2 literals ≡ true → Refused 2 ≡ checked kinds literals
+  pub refused_2 : cause_1 kinds ≡ false → cause_2 literals ≡ true → Err Literals ≡ checked kinds literals
   unfolding checked
   refused_2 no_one two = rw (no_one, two)
 
-  pub refused_3 : cause_1 kinds ≡ false → cause_2 literals ≡ false → cause_3 (length kinds) literals ≡ true → Refused 3 ≡ checked kinds literals
+  pub refused_3 : cause_1 kinds ≡ false → cause_2 literals ≡ false → cause_3 (length kinds) literals ≡ true → Err Beyond ≡ checked kinds literals
   unfolding checked
   refused_3 no_one no_two three = rw (no_one, no_two, three)
 
   pub none_refused : cause_1 kinds ≡ false → cause_2 literals ≡ false → cause_3 (length kinds) literals ≡ false →
-      Accepted (sizes kinds literals) ≡ checked kinds literals
+      Ok (sizes kinds literals) ≡ checked kinds literals
   unfolding checked
   none_refused no_one no_two no_three = rw (no_one, no_two, no_three)
 
-number_refused_if : (a b c : Bool) (f : Formula) → number (refused_if a 1 (refused_if b 2 (refused_if c 3 (Accepted f)))) ≡ cond a 1 (cond b 2 (cond c 3 0))
+number_refused_if : (a b c : Bool) (f : Formula) →
+    number (refused_if a Kinds (refused_if b Literals (refused_if c Beyond (Ok f)))) ≡ cond a 1 (cond b 2 (cond c 3 0))
 number_refused_if true b c f = refl
 number_refused_if false true c f = refl
 number_refused_if false false true f = refl
 number_refused_if false false false f = refl
 
--- A formula that is refused has a number from 1 on.
-pub refused_from_1 : (kinds : List ℕ) (literals : List ℤ) (n : ℕ) → checked kinds literals ≡ Refused n → 1 ≤ n
-unfolding checked
-refused_from_1 kinds literals n = by (cause_1 kinds) (cause_2 literals) (cause_3 (length kinds) literals)
-  where
-    by : (a b c : Bool) → refused_if a 1 (refused_if b 2 (refused_if c 3 (Accepted (sizes kinds literals)))) ≡ Refused n → 1 ≤ n
-    by true b c e = let same : 1 ≡ n = cc in omega arith
-    by false true c e = let same : 2 ≡ n = cc in omega arith
-    by false false true e = let same : 3 ≡ n = cc in omega arith
-    by false false false e = absurd (let z : ◌≡◌ {A = ℕ} 0 1 = cc in omega arith)
-
 -- What is answered has the number of the first cause.
-pub numbered : (kinds : List ℕ) (literals : List ℤ) {r : Check} → r ≡ checked kinds literals → (r ≡ checked kinds literals) ×
+pub numbered : (kinds : List ℕ) (literals : List ℤ) {r : Result Formula Cause} → r ≡ checked kinds literals → (r ≡ checked kinds literals) ×
     (number r ≡ first_cause kinds literals)
 unfolding checked first_cause
 numbered kinds literals e =

@@ -1,7 +1,8 @@
 -- What is refused of a formula: causes 1 to 3 of 01's table, in its order, and the sizes of what is accepted. Assumes nothing.
-use Rattle.std.specs.Prelude.{ℕ, zero, suc, ◌-◌, Bool, true, false, not, ◌||◌, List, [], ◌∷◌, ltb, ℤ, pos, negsuc, nat_abs, length, get_or}
-use Rattle.formula.specs.declared.Check.{Check}
-use Rattle.formula.specs.declared.Check.TheVariants.{Accepted, Refused}
+use Rattle.std.specs.Prelude.{ℕ, zero, suc, ◌-◌, Bool, true, false, not, ◌||◌, List, [], ◌∷◌, ltb, ℤ, pos, negsuc, nat_abs, length, get_or, Result, Ok}
+use Rattle.cause.specs.declared.Cause.{Cause}
+use Rattle.cause.specs.declared.Cause.TheVariants.{Kinds, Literals, Beyond}
+use Rattle.cause.specs.Cause.{refused_if, told}
 use Rattle.formula.specs.declared.Formula.{Formula}
 use Rattle.formula.specs.Formula.{max_unknowns, max_clauses, max_entries, Kind, existential, universal, prefix}
 
@@ -62,20 +63,14 @@ abbrev pub sizes : List ℕ → List ℤ → Formula
 sizes kinds literals =
     record { unknowns = length kinds; universals = count universal (prefix kinds); clauses = zeros literals; entries = length literals }
 
--- A cause's number where the cause applies.
-abbrev pub refused_if : Bool → ℕ → Check → Check
-refused_if true number otherwise = Refused number
-refused_if false number otherwise = otherwise
-
 -- 'A formula to which none of the causes 1 to 3 applies is accepted.' The first that applies is the one returned.
-unfoldable pub checked : List ℕ → List ℤ → Check
+unfoldable pub checked : List ℕ → List ℤ → Result Formula Cause
 checked kinds literals =
-    refused_if (cause_1 kinds) 1
-    (refused_if (cause_2 literals) 2
-    (refused_if (cause_3 (length kinds) literals) 3
-    (Accepted (sizes kinds literals))))
+    refused_if (cause_1 kinds) Kinds
+    (refused_if (cause_2 literals) Literals
+    (refused_if (cause_3 (length kinds) literals) Beyond
+    (Ok (sizes kinds literals))))
 
 -- 01's number of each answer: 0 for an accepted formula, else the cause's.
-abbrev pub number : Check → ℕ
-number (Accepted f) = 0
-number (Refused cause) = cause
+abbrev pub number : Result Formula Cause → ℕ
+number answer = told answer

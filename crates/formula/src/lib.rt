@@ -10,6 +10,8 @@ ghost use Rattle.formula.specs.FirstCause.{first_cause};
 ghost use Rattle.formula.specs.Literal.{magnitude_at, negative_at};
 ghost use Rattle.formula.specs.Progress.{fresh};
 
+use cause::Cause;
+
 // The sizes of an accepted formula.
 #[derive(Clone, Copy)]
 pub struct Formula {
@@ -25,13 +27,6 @@ pub struct Progress {
     pub round: u32,
     pub universal: usize,
     pub existential: usize,
-}
-
-// A refusal has the number of its cause.
-#[derive(Clone, Copy)]
-pub enum Check {
-    Accepted(Formula),
-    Refused(u32),
 }
 
 impl Formula {
@@ -58,35 +53,35 @@ impl Formula {
     }
 
     // The first of causes 1 to 3 that applies, or the sizes.
-    pub fn check(kinds: &[u8], literals: &[i32]) -> Check
+    pub fn check(kinds: &[u8], literals: &[i32]) -> Result<Formula, Cause>
         ensures value { result ≡ checked kinds.now literals.now }
         ensures numbered { number result ≡ first_cause kinds.now literals.now }
     {
         let unknowns = kinds.len();
         if unknowns > Formula::UNKNOWNS {
-            return Check::Refused(1);
+            return Err(Cause::Kinds);
         }
         if has_other_kind(kinds) {
-            return Check::Refused(1);
+            return Err(Cause::Kinds);
         }
         let entries = literals.len();
         if entries > Formula::ENTRIES {
-            return Check::Refused(2);
+            return Err(Cause::Literals);
         }
         let clauses = count_zeros(literals) as usize;
         if clauses > Formula::CLAUSES {
-            return Check::Refused(2);
+            return Err(Cause::Literals);
         }
-        if is_ended(literals) {} else {
-            return Check::Refused(2);
+        if !is_ended(literals) {
+            return Err(Cause::Literals);
         }
         if has_lowest(literals) {
-            return Check::Refused(3);
+            return Err(Cause::Beyond);
         }
         if has_beyond(literals, unknowns as u32) {
-            return Check::Refused(3);
+            return Err(Cause::Beyond);
         }
-        Check::Accepted(Formula {
+        Ok(Formula {
             unknowns,
             universals: count_universals(kinds),
             clauses,
@@ -146,29 +141,13 @@ fn absolute(literal: i32) -> u32
 fn has_other_kind(kinds: &[u8]) -> bool
     ensures { result ≡ any other_kind kinds.now }
 {
-    let mut found = false;
-    let mut i = 0;
-    while i < kinds.len() {
-        if kinds[i] > 1 {
-            found = true;
-        }
-        i += 1;
-    }
-    found
+    kinds.iter().any(|kind| *kind > 1)
 }
 
 fn count_universals(kinds: &[u8]) -> usize
     ensures { result ≡ count universal (prefix kinds.now) }
 {
-    let mut universals: usize = 0;
-    let mut i = 0;
-    while i < kinds.len() {
-        if kinds[i] != 0 {
-            universals += 1;
-        }
-        i += 1;
-    }
-    universals
+    kinds.iter().filter(|kind| **kind > 0).count()
 }
 
 // A count of 32 bits, so that the compiler looks at more entries at once than for one of 64.
@@ -177,12 +156,10 @@ fn count_zeros(literals: &[i32]) -> u32
     ensures { result ≡ zeros literals.now }
 {
     let mut count: u32 = 0;
-    let mut i = 0;
-    while i < literals.len() {
-        if literals[i] == 0 {
+    for literal in literals {
+        if *literal == 0 {
             count += 1;
         }
-        i += 1;
     }
     count
 }
@@ -197,17 +174,15 @@ fn is_ended(literals: &[i32]) -> bool
     literals[entries - 1] == 0
 }
 
-// The lowest number is the one beyond 2,147,483,647.
+// The lowest number is the one beyond 2,147,483,647. Here too the loop has one way out.
 pub fn has_lowest(literals: &[i32]) -> bool
     ensures { result ≡ any (beyond 2147483647) literals.now }
 {
     let mut found = false;
-    let mut i = 0;
-    while i < literals.len() {
-        if literals[i] == LOWEST {
+    for literal in literals {
+        if *literal == LOWEST {
             found = true;
         }
-        i += 1;
     }
     found
 }
@@ -218,12 +193,10 @@ fn has_beyond(literals: &[i32], unknowns: u32) -> bool
     ensures { result ≡ any (beyond unknowns) literals.now }
 {
     let mut found = false;
-    let mut i = 0;
-    while i < literals.len() {
-        if absolute(literals[i]) > unknowns {
+    for literal in literals {
+        if absolute(*literal) > unknowns {
             found = true;
         }
-        i += 1;
     }
     found
 }

@@ -30,9 +30,6 @@ turned_fits : (b : Bool) (z : ℤ) → nat_abs z < 2 ^ 31 → SFits w32 (turn b 
 turned_fits true z small = opposite_fits z small
 turned_fits false z small = small_fits z small
 
-pub small_bits : (z : ℤ) → nat_abs z < 2 ^ 31 → nat_abs (to_z w32 (of_z w32 z)) < 2 ^ 31
-small_bits z small = rw (to_z-of_z (small_fits z small)) small
-
 pub stored : (b : Bool) (z r : ℤ) → nat_abs z < 2 ^ 31 → r ≡ turn b (to_z w32 (of_z w32 z)) → to_z w32 (of_z w32 r) ≡ turn b z
 stored b z r small e =
     let same : r ≡ turn b z = e ∙ ap (turn b) (to_z-of_z (small_fits z small)) in

@@ -11,13 +11,6 @@ use lib.ListN.{length, take, drop, set}
 use lib.Seq.{sets, sets-eq, paste-zero}
 use Rattle.gates.specs.Put.{laid, place_behind}
 
-pub set_four : (E : List ℤ) (at : ℕ) (a b c d : ℤ) → set (set (set (set E at a) (at + 1) b) (at + 2) c) (at + 3) d ≡ sets E at (a ∷ b ∷ c ∷ d ∷ [])
-set_four E at a b c d =
-    let one : at + 1 ≡ suc at = omega arith in
-    let two : at + 2 ≡ suc (suc at) = omega arith in
-    let three : at + 3 ≡ suc (suc (suc at)) = omega arith in
-    rw (one, two, three) refl
-
 -- Entries behind entries.
 pub sets_append : (E xs ys : List ℤ) (at : ℕ) → sets E at (xs ++ ys) ≡ sets (sets E at xs) (at + length xs) ys
 sets_append E [] ys at = let e : at + 0 ≡ at = omega arith in rw e refl

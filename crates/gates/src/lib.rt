@@ -72,10 +72,8 @@ fn put_pairs(first: i32, inputs: &[i32], turned: bool, entries: &mut [i32], at: 
     ensures { entries.new ≡ sets entries.old at (pair_entries first turned inputs.now) }
 {
     let mut to = at;
-    let mut i = 0;
-    while i < inputs.len() {
-        let input = turn_if(inputs[i], turned);
-        i += 1;
+    for input in inputs {
+        let input = turn_if(*input, turned);
         entries[to] = first;
         entries[to + 1] = input;
         entries[to + 2] = 0;
@@ -90,11 +88,8 @@ fn put_long(first: i32, inputs: &[i32], turned: bool, entries: &mut [i32], at: u
 {
     entries[at] = first;
     let mut to = at + 1;
-    let mut i = 0;
-    while i < inputs.len() {
-        let input = turn_if(inputs[i], turned);
-        i += 1;
-        entries[to] = input;
+    for input in inputs {
+        entries[to] = turn_if(*input, turned);
         to += 1;
     }
     entries[to] = 0;

@@ -1,19 +1,14 @@
 -- A row table's bytes while rows are added to it: which of the yielded rows are new, the table with them, and the first universal row.
 -- Assumes nothing.
-use Rattle.std.specs.Prelude.{ℕ, zero, suc, ◌+◌, ◌≡◌, Bool, true, false, ◌&&◌, cond, List, leb, ltb}
-use Rattle.std.proofs.Math.Option.{Option, none, some}
+use Rattle.std.specs.Prelude.{ℕ, zero, suc, ◌+◌, ◌≡◌, Bool, true, false, ◌&&◌, cond, List, leb, ltb, Option, None, Some}
 use Rattle.formula.specs.Formula.{Kind, existential, universal}
 use Rattle.rows.specs.Row.{weight}
 use Rattle.rows.specs.Table.{room}
 use Rattle.rows.specs.Access.{first_place, rows_written, marks_written, bit_set}
-use Rattle.rows.specs.declared.Found.{Found}
-use Rattle.rows.specs.declared.Found.TheVariants.{At, Absent}
-use Rattle.growth.specs.declared.Growth.{Growth as Answer}
-use Rattle.growth.specs.declared.Growth.TheVariants.{Grown, NoRoom}
 
-abbrev pub is_absent : Found → Bool
-is_absent (At i) = false
-is_absent Absent = true
+abbrev pub is_absent : Option ℕ → Bool
+is_absent (Some i) = false
+is_absent None = true
 
 -- Row j of the yielded rows is neither in the table nor among those before it.
 unfoldable pub is_new : List ℕ → ℕ → List ℕ → ℕ → Bool
@@ -61,32 +56,32 @@ abbrev pub grown : List ℕ → List ℕ → ℕ → List ℕ → ℕ → ℕ �
 grown table marks n yielded number mark =
     cond (all_fit table n yielded number) (with_new_rows yielded mark number (bytes table marks n)) (bytes table marks n)
 
-abbrev pub growth : List ℕ → List ℕ → ℕ → List ℕ → ℕ → ℕ → Answer
+abbrev pub growth : List ℕ → List ℕ → ℕ → List ℕ → ℕ → ℕ → Option ℕ
 growth table marks n yielded number mark =
-    cond (all_fit table n yielded number) (Grown (with_new_rows yielded mark number (bytes table marks n)).number) NoRoom
+    cond (all_fit table n yielded number) (Some (with_new_rows yielded mark number (bytes table marks n)).number) None
 
 -- The values of each case: whether the new rows were added, and the table's count afterwards.
-abbrev pub added : Answer → Bool
-added (Grown end) = true
-added NoRoom = false
+abbrev pub added : Option ℕ → Bool
+added (Some end) = true
+added None = false
 
-abbrev pub count_after : ℕ → Answer → ℕ
-count_after n (Grown end) = end
-count_after n NoRoom = n
+abbrev pub count_after : ℕ → Option ℕ → ℕ
+count_after n (Some end) = end
+count_after n None = n
 
 -- 01's number of each case, by the kind of the table's rows: '3 no room universal, 4 no room existential'. A table that has grown ends no run.
-abbrev pub answer_number : Kind → Answer → Option ℕ
-answer_number universal (Grown end) = none
-answer_number existential (Grown end) = none
-answer_number universal NoRoom = some 3
-answer_number existential NoRoom = some 4
+abbrev pub answer_number : Kind → Option ℕ → Option ℕ
+answer_number universal (Some end) = None
+answer_number existential (Some end) = None
+answer_number universal None = Some 3
+answer_number existential None = Some 4
 
 -- 'If they don't all fit, none is added': then, and only then, it is no room, and the count stays.
-pub record Numbered (table marks : List ℕ) (n : ℕ) (yielded : List ℕ) (number mark : ℕ) (r : Answer) : Type 0 where
+pub record Numbered (table marks : List ℕ) (n : ℕ) (yielded : List ℕ) (number mark : ℕ) (r : Option ℕ) : Type 0 where
   pub all_or_none : added r ≡ all_fit table n yielded number
   pub counted : count_after n r ≡ (grown table marks n yielded number mark).number
-  pub universal_number : answer_number universal r ≡ cond (all_fit table n yielded number) none (some 3)
-  pub existential_number : answer_number existential r ≡ cond (all_fit table n yielded number) none (some 4)
+  pub universal_number : answer_number universal r ≡ cond (all_fit table n yielded number) None (Some 3)
+  pub existential_number : answer_number existential r ≡ cond (all_fit table n yielded number) None (Some 4)
 
 -- Sixteen bytes with the bits below k set that are preferred.
 abbrev pub with_preferred : (ℕ → Bool) → ℕ → List ℕ → List ℕ

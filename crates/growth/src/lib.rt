@@ -10,18 +10,11 @@ ghost use Rattle.growth.specs.Growth.{is_absent, is_new, is_added, count_below, 
 ghost use Rattle.growth.specs.Growth.{with_preferred};
 
 use preference::preference;
-use rows::Found;
 
 const ROW: usize = 16;
 
-// The table's count afterwards, or that the new rows don't all fit.
-#[derive(Clone, Copy)]
-pub enum Growth {
-    Grown(usize),
-    NoRoom,
-}
-
-// Adds the new ones of the first yielded rows at the table's end, in order, each once, with their mark; none if they don't all fit.
+// Adds the new ones of the first yielded rows at the table's end, in order, each once, with their mark: the table's count afterwards. None is added if they
+// don't all fit.
 pub fn grow(
     rows: &mut [u8],
     marks: &mut [u16],
@@ -29,17 +22,17 @@ pub fn grow(
     yielded: &[u8],
     number: usize,
     mark: u16,
-) -> Growth
+) -> Option<usize>
     ensures value { result ≡ growth rows.old marks.old count yielded.now number mark }
     ensures rows_after { rows.new ≡ (grown rows.old marks.old count yielded.now number mark).row_part }
     ensures marks_after { marks.new ≡ (grown rows.old marks.old count yielded.now number mark).mark_part }
     ensures numbered { Numbered rows.old marks.old count yielded.now number mark result }
 {
-    if all_fit(rows, count, yielded, number) {} else {
-        return Growth::NoRoom;
+    if !all_fit(rows, count, yielded, number) {
+        return None;
     }
     let end = append_new(rows, marks, count, yielded, number, mark);
-    Growth::Grown(end)
+    Some(end)
 }
 
 // The first universal row: bit k is preference k, mark 0.
@@ -146,8 +139,5 @@ fn is_new(rows: &[u8], count: usize, yielded: &[u8], j: usize) -> bool
 fn is_absent(rows: &[u8], count: usize, other: &[u8], j: usize) -> bool
     ensures { result ≡ is_absent (first_place rows.now count other.now j) }
 {
-    match rows::find(rows, count, other, j) {
-        Found::At(_) => false,
-        Found::Absent => true,
-    }
+    rows::find(rows, count, other, j).is_none()
 }

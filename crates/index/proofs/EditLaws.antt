@@ -3,18 +3,16 @@ use Prim.Native.Nat.{ℕ, zero, suc, ◌+◌, ◌-◌, ◌≤◌, ◌<◌}
 use native.Mathlib.Numerals.{add-one}
 use native.Mathlib.Nat.{add-zero}
 use native.Mathlib.Omega.{arith}
-use native.Mathlib.Decide.{ℕ_discrete}
 use mathlib.Core.Path.{◌≡◌, refl, sym, ap, ap₂, ◌∙◌}
-use mathlib.Core.Bool.{Bool, true, false, cond, ◌&&◌, ◌||◌, and-eq-true_iff}
+use mathlib.Core.Bool.{Bool, true, false, cond, ◌&&◌, and-eq-true_iff}
 use mathlib.Core.List.{List, [], ◌∷◌, ◌++◌, append_assoc}
 use lib.Dec.{eqb, leb, ltb}
-use lib.ListN.{length, get_or, set, take, drop, replicate, length-append, length-drop, length-replicate, take-append-drop, replicate-append-replicate}
+use lib.ListN.{length, get_or, set, take, drop, replicate, length-append, length-drop, take-append-drop}
 use lib.ListN.{drop_of_length-le}
 use lib.Seq.{slice, slice_empty, slice-cons, length-slice, length-take-le, take_all, take-take, take-add, take-suc, drop-cons, drop_at, drop-drop}
 use lib.Seq.{drop-append-le, set_at, set-get_or, get_or-append-add, append_snoc}
 use borrow.Rule.Slice.PartMut.{mid_of, put_mid, Post-is}
-use borrow.Author.Tests.{eqb-true, eqb-false, eq-eqb, ne_eqb, lt-ltb, le-ltb, ltb-true, leb-true, le-leb, lt-leb}
-use Rattle.formula.proofs.Any.{or_none}
+use borrow.Author.Tests.{eqb-true, eq-eqb, ne_eqb, lt-ltb, le-ltb, ltb-true, leb-true, le-leb, lt-leb}
 use Rattle.index.specs.Index.{code_count, first_room, index_size, begin_of, end_of, list_of, in_rooms, has_list, with_list, without, removed, cleared}
 use Rattle.index.specs.Private.Passes.{blanked, before, Absent, closed_up}
 use Rattle.index.proofs.LayoutLaws.{end_is}
@@ -24,11 +22,6 @@ use Rattle.index.proofs.LayoutLaws.{end_is}
 module _ (t : List ℕ) (s at to : ℕ) (h : at < to) (inside : to ≤ length t) where
   before_cons : before s (slice at to t) ≡ cond (eqb s (get_or t at 0)) 0 (suc (before s (slice (suc at) to t)))
   before_cons = ap (before s) (slice-cons at to t 0 h inside)
-
-  pub found_here : get_or t at 0 ≡ s → at + before s (slice at to t) ≡ at
-  found_here same =
-      ap (λ (n : ℕ). at + n) (before_cons ∙ ap (λ (b : Bool). cond b 0 (suc (before s (slice (suc at) to t)))) (eq-eqb s (get_or t at 0) (sym same))) ∙ add-zero
-      at
 
   pub found_later : (get_or t at 0 ≡ s → ⊥) → at + before s (slice at to t) ≡ (at + 1) + before s (slice (at + 1) to t)
   found_later other =
@@ -44,19 +37,6 @@ found_past t s to inside (suc k) at fits none =
     found_later t s at to (omega arith) inside (none at (omega arith) (omega arith))
     ∙ found_past t s to inside k (at + 1) (omega arith) (λ p low high. none p (omega arith) (omega arith))
     ∙ ap (λ (n : ℕ). n + before s (slice n to t)) (let on : at + 1 + k ≡ at + suc k = omega arith in on)
-
--- One place more is compared.
-pub one_compared : (t : List ℕ) (s from i : ℕ) (found more : Bool) → (found ≡ false → Absent t s from i) → more ≡ (found || eqb (get_or t i 0) s) → more ≡ false →
-    Absent t s from (i + 1)
-one_compared t s from i found more before_it is none p low high =
-    let neither = or_none found (eqb (get_or t i 0) s) (sym is ∙ none) in
-    elim (ℕ_discrete p i) [
-      | yes e ↦ (λ there. eqb-false (get_or t i 0) s neither.1 (sym (ap (λ (n : ℕ). get_or t n 0) e) ∙ there))
-      | no other ↦ before_it neither.0 p low (omega arith)
-    ]
-
-pub found_nowhere : (t : List ℕ) (s to : ℕ) → to + before s (slice to to t) ≡ to
-found_nowhere t s to = ap (λ (l : List ℕ). to + before s l) (slice_empty to t) ∙ add-zero to
 
 before_inside : (s : ℕ) (l : List ℕ) → before s l ≤ length l
 before_inside s [] = omega arith
@@ -130,36 +110,14 @@ part_slice t from to order inside =
 
 -- ---- places blanked
 
-pub none_blanked : (t : List ℕ) (from : ℕ) → t ≡ blanked t from from
+-- A part of a table that is lent and filled with zeros.
+pub part_blanked : (t : List ℕ) (from to : ℕ) (part : List ℕ) → from ≤ to → to ≤ length t → part ≡ replicate (length (mid_of from (to - from) t)) 0 →
+    put_mid from (to - from) t part ≡ blanked t from to
 unfolding blanked
-none_blanked t from =
-    sym (ap (λ (n : ℕ). take from t ++ (replicate n 0 ++ drop from t)) (let none : from - from ≡ 0 = omega arith in none) ∙ take-append-drop from t)
-
-module _ (t : List ℕ) (from i : ℕ) (order : from ≤ i) where
-  blank_front : List ℕ
-  blank_front = take from t ++ replicate (i - from) 0
-
-  blank_split : blanked t from i ≡ blank_front ++ drop i t
-  unfolding blanked blank_front
-  blank_split = sym (append_assoc (take from t) (replicate (i - from) 0) (drop i t))
-
-  blank_length : from ≤ length t → length blank_front ≡ i
-  unfolding blank_front
-  blank_length inside =
-      length-append (take from t) (replicate (i - from) 0)
-      ∙ omega (arith, length-take-le from t inside, length-replicate {A = ℕ} (i - from) 0)
-
-  pub one_blanked : i < length t → set (blanked t from i) i 0 ≡ blanked t from (i + 1)
-  unfolding blanked blank_front
-  one_blanked more =
-      ap (λ (l : List ℕ). set l i 0) (blank_split ∙ ap (λ (l : List ℕ). blank_front ++ l) (drop-cons t i 0 more))
-      ∙ set_at blank_front (get_or t i 0) (drop (suc i) t) 0 i (blank_length (omega arith))
-      ∙ append_assoc (take from t) (replicate (i - from) 0) (0 ∷ drop (suc i) t)
-      ∙ ap (λ (l : List ℕ). take from t ++ l)
-      (sym (append_assoc (replicate (i - from) 0) (replicate 1 0) (drop (suc i) t))
-      ∙ ap (λ (l : List ℕ). l ++ drop (suc i) t)
-      (replicate-append-replicate {A = ℕ} (i - from) 1 0 ∙ ap (λ (n : ℕ). replicate {A = ℕ} n 0) (let on : i - from + 1 ≡ i + 1 - from = omega arith in on))
-      ∙ ap (λ (n : ℕ). replicate (i + 1 - from) 0 ++ drop n t) (sym (add-one i)))
+part_blanked t from to part order inside zeros =
+    ap₂ (λ (l m : List ℕ). take from t ++ (l ++ m))
+    (zeros ∙ ap (λ (n : ℕ). replicate n 0) (ap length (part_slice t from to order (omega arith)) ∙ length-slice from to t inside))
+    (Post-is from to t order)
 
 -- ---- the list of a code
 
@@ -287,7 +245,8 @@ module _ (t : List ℕ) (c : ℕ) (has : has_list t c ≡ true) where
         sym (ap (λ (b : Bool). cond b (with_list t c (without s (list_of t c))) t) has
         ∙ ap (with_list t c) (without_none s (list_of t c) (omega (arith, list_long)))
         ∙ ap₂ (λ (n m : ℕ). set (take from t ++ (list_of t c ++ (replicate n 0 ++ drop to t))) (code_count + c) m)
-        (let a : to - from - length (list_of t c) ≡ 0 = omega (arith, list_long) in a) (let a : from + length (list_of t c) ≡ get_or t (code_count + c) 0 = omega
+        (let a : to - from - length (list_of t c) ≡ 0 = omega (arith, list_long) in a) (let a : from + length (list_of t c) ≡ get_or t (code_count + c)
+        0 = omega
         (arith, list_long, is.order, end_is t c is.small) in a)
         ∙ ap (λ (l : List ℕ). set l (code_count + c) (get_or t (code_count + c) 0)) list_back
         ∙ set-get_or t (code_count + c) 0)

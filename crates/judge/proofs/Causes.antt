@@ -9,6 +9,7 @@ use lib.Dec.{eqb, leb, ltb}
 use lib.IntN.{ℤ}
 use lib.ListN.{length}
 use borrow.Author.Tests.{leb-true, eqb-true, eqb-false, lt-ltb}
+use Rattle.cause.proofs.Numbers.{Known, known_cond, known_told}
 use Rattle.formula.specs.Formula.{work_size}
 use Rattle.formula.specs.Causes as Causes
 use Rattle.rows.specs.Table.{room, table_fits}
@@ -80,3 +81,15 @@ no_cause kinds literals claim rows count work none =
     let passed = tests_passed (Causes.number (Causes.checked kinds literals)) (table_fits rows) (eqb (length work) work_size)
     (other_claim claim || ltb (room rows) count) (stray_rows (width kinds claim) count rows) _ refl none in
     (eqb-true (length work) work_size passed.0, either_first (other_claim claim) _ passed.1)
+
+-- Each cause's number is one's own.
+pub known_cause : (kinds : List ℕ) (literals : List ℤ) (claim : ℕ) (rows : List ℕ) (count : ℕ) (work : List ℕ)
+    → Known (cause kinds literals claim rows count work)
+unfolding cause
+known_cause kinds literals claim rows count work =
+    known_cond (eqb (Causes.number (Causes.checked kinds literals)) 0)
+    (known_cond (not (table_fits rows)) {n = 4} refl
+    (known_cond (not (eqb (length work) work_size)) {n = 5} refl
+    (known_cond (other_claim claim || ltb (room rows) count) {n = 7} refl
+    (known_cond (stray_rows (width kinds claim) count rows) {n = 8} {m = 0} refl refl))))
+    (known_told (Causes.checked kinds literals))

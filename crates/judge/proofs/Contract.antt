@@ -1,12 +1,14 @@
 -- The contract of `judge`, from what the search returned and left.
 -- Assumes nothing.
 use Prim.Native.Nat.{ℕ}
+use Rattle.std.specs.Prelude.{Result}
 use mathlib.Core.Path.{◌≡◌, sym, ap, ◌∙◌}
 use mathlib.Core.Bool.{true, false}
 use mathlib.Core.List.{List, []}
 use lib.Dec.{eqb}
 use lib.IntN.{ℤ}
 use lib.ListN.{length, replicate}
+use Rattle.cause.specs.declared.Cause.{Cause}
 use Rattle.formula.specs.Formula.{prefix, clauses}
 use Rattle.formula.specs.Meaning.{matrix}
 use Rattle.expansion.proofs.Right.{judge_right}
@@ -19,11 +21,11 @@ use Rattle.judge.proofs.Outcome.{judgement_of, is_found, searched, same_outcome,
 use Rattle.judge.proofs.Verdict.{accepted_is_verdict}
 
 module _ (kinds : List ℕ) (literals : List ℤ) (claim : ℕ) (rows : List ℕ) (count : ℕ) (work : List ℕ) where
-  abbrev Promised : Judgement → List ℕ → Type 0
+  abbrev Promised : Result Judgement Cause → List ℕ → Type 0
   Promised = Judged kinds literals claim rows count work
 
   -- The other promises follow from the first.
-  promised : (judgement : Judgement) (left : List ℕ) → judgement ≡ outcome kinds literals claim rows count work
+  promised : (judgement : Result Judgement Cause) (left : List ℕ) → judgement ≡ outcome kinds literals claim rows count work
       → left ≡ work_after kinds literals claim rows count work → Promised judgement left
   promised judgement left same same_left =
       record {
@@ -35,7 +37,7 @@ module _ (kinds : List ℕ) (literals : List ℤ) (claim : ℕ) (rows : List ℕ
       }
 
   -- The search was handed the count `lent`; what it returned is the case in hand.
-  module _ (lent : ℕ) (counts : lent ≡ counted claim rows count) {result : Search} (case : Search) (told : result ≡ case)
+  module _ (lent : ℕ) (counts : lent ≡ counted claim rows count) {result : Result Search Cause} (case : Result Search Cause) (told : result ≡ case)
       (returned : result ≡ search.outcome kinds literals [] rows lent (eqb claim 1) work) where
     is_searched : case ≡ searched kinds literals claim rows count work
     is_searched = sym told ∙ returned ∙ ap (λ (n : ℕ). search.outcome kinds literals [] rows n (eqb claim 1) work) counts

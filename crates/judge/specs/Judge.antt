@@ -1,6 +1,8 @@
 -- What the judge (a checker) returns and leaves, for everything that is lent: 01's causes 1 to 5, 7 and 8 in order, then the judgement.
 -- Assumes nothing.
-use Rattle.std.specs.Prelude.{ℕ, zero, suc, ◌≡◌, Bool, true, false, not, ◌||◌, cond, List, eqb, ltb, ℤ, length, replicate}
+use Rattle.std.specs.Prelude.{ℕ, zero, suc, ◌≡◌, Bool, true, false, not, ◌||◌, cond, List, eqb, ltb, ℤ, length, replicate, Result, Ok, Err}
+use Rattle.cause.specs.declared.Cause.{Cause}
+use Rattle.cause.specs.Cause.{number as number_of, unless_cause}
 use Rattle.formula.specs.Formula.{work_size, prefix, clauses}
 use Rattle.formula.specs.Meaning.{matrix, verdict, bit}
 use Rattle.formula.specs.Causes as Causes
@@ -11,7 +13,7 @@ use Rattle.expansion.specs.Play.{Row}
 use Rattle.expansion.specs.Judge.{accepted}
 use Rattle.expansion.specs.Right.{JudgeRight}
 use Rattle.judge.specs.declared.Judgement.{Judgement}
-use Rattle.judge.specs.declared.Judgement.TheVariants.{NotBorneOut, Accepted, Refused}
+use Rattle.judge.specs.declared.Judgement.TheVariants.{NotBorneOut, Accepted}
 
 -- 'A claim (0 or 1)': that the formula is false, or that it is true.
 abbrev pub claims_true : ℕ → Bool
@@ -55,10 +57,8 @@ answer true = Accepted
 answer false = NotBorneOut
 
 -- The answer, or the cause ..
-unfoldable pub outcome : List ℕ → List ℤ → ℕ → List ℕ → ℕ → List ℕ → Judgement
-outcome kinds literals claim rows count work =
-    let answered = answer (borne_out kinds literals claim rows count) in
-    cond (eqb (cause kinds literals claim rows count work) 0) answered (Refused (cause kinds literals claim rows count work))
+unfoldable pub outcome : List ℕ → List ℤ → ℕ → List ℕ → ℕ → List ℕ → Result Judgement Cause
+outcome kinds literals claim rows count work = unless_cause (cause kinds literals claim rows count work) (answer (borne_out kinds literals claim rows count))
 
 -- .. and the work area at exit: 'zero after an answer', as found after a refusal.
 unfoldable pub work_after : List ℕ → List ℤ → ℕ → List ℕ → ℕ → List ℕ → List ℕ
@@ -67,10 +67,10 @@ work_after kinds literals claim rows count work =
     cond (eqb (cause kinds literals claim rows count work) 0) cleared work
 
 -- The number of each case: 0 for not borne out, 1 for accepted; a refusal has its cause's.
-abbrev pub number : Judgement → ℕ
-number NotBorneOut = 0
-number Accepted = 1
-number (Refused cause) = cause
+abbrev pub number : Result Judgement Cause → ℕ
+number (Ok NotBorneOut) = 0
+number (Ok Accepted) = 1
+number (Err cause) = number_of cause
 
 -- The number of the outcome.
 unfoldable pub outcome_number : List ℕ → List ℤ → ℕ → List ℕ → ℕ → List ℕ → ℕ
@@ -80,10 +80,11 @@ outcome_number kinds literals claim rows count work =
 
 -- All that the judge promises: what it returns and its number, the work area at exit, that an accepted claim is the verdict, and that the
 -- definition of 'accepted' is 01's, over the lent rows.
-pub record Judged (kinds : List ℕ) (literals : List ℤ) (claim : ℕ) (rows : List ℕ) (count : ℕ) (work : List ℕ) (result : Judgement) (work_then : List ℕ) : Type
+pub record Judged (kinds : List ℕ) (literals : List ℤ) (claim : ℕ) (rows : List ℕ) (count : ℕ) (work : List ℕ) (result : Result Judgement Cause)
+    (work_then : List ℕ) : Type
     0 where
   pub returned : result ≡ outcome kinds literals claim rows count work
   pub numbered : number result ≡ outcome_number kinds literals claim rows count work
   pub area : work_then ≡ work_after kinds literals claim rows count work
-  pub only_verdict : result ≡ Accepted → bit (verdict kinds literals) ≡ claim
+  pub only_verdict : result ≡ Ok Accepted → bit (verdict kinds literals) ≡ claim
   pub right : JudgeRight (claims_true claim) (prefix kinds) (matrix (clauses literals)) (lent_rows kinds claim rows count)

@@ -1,5 +1,8 @@
 -- From what the readers and the judge promise to what is found and printed. Assumes nothing.
 use Prim.Native.Nat.{ℕ, ◌+◌, ◌/◌, ◌%◌}
+use Rattle.std.specs.Prelude.{Result as Outcome, Err, Ok}
+use Rattle.cause.specs.declared.Cause.{Cause}
+use Rattle.cause.specs.Cause.{number, caused}
 use native.Mathlib.Omega.{arith}
 use mathlib.Core.Path.{◌≡◌, refl, sym, ap, subst, ◌∙◌}
 use mathlib.Core.Bool.{Bool, true, false, cond, not, ◌&&◌}
@@ -12,10 +15,9 @@ use Rattle.formula.specs.Formula.{work_size}
 use Rattle.rows.specs.Table.{room}
 use Rattle.judge.specs.declared.Judgement.{Judgement}
 use Rattle.judge.specs.Judge.{outcome, work_after, Judged}
-use Rattle.text.specs.Reading.{Result, taken, refused}
+use Rattle.text.specs.Reading.{Result, refused}
 use Rattle.text.proofs.FrontLaws.{Front}
 use Rattle.witness.specs.declared.Record.{Record}
-use Rattle.witness.specs.declared.Reading.TheVariants.{Taken, Refused as NotRead}
 use Rattle.witness.specs.File.{stands, file_cause, record_of, reading}
 use Rattle.buffer.specs.Buffer.{appended, place_behind}
 use Rattle.report.specs.Report.{ascii, put, put_count}
@@ -90,7 +92,8 @@ finds_as {one} {other} {work} e f =
 
 module _ (kinds : List ℕ) (literals : List ℤ) (f work : List ℕ) where
   -- The judge was called with the claim and the rows of its side.
-  pub claim_found : (claim : ℕ) {rows : List ℕ} {result : Judgement} {work_then : List ℕ} (case : Judgement) → rows ≡ claimed_rows f claim → result ≡ case
+  pub claim_found : (claim : ℕ) {rows : List ℕ} {result : Outcome Judgement Cause} {work_then : List ℕ} (case : Outcome Judgement Cause)
+      → rows ≡ claimed_rows f claim → result ≡ case
       → Judged kinds literals claim rows (room rows) work result work_then → Finds (on_claim kinds literals f claim) work (judged claim case) work_then
   unfolding on_claim
   claim_found claim case same told j =
@@ -128,26 +131,25 @@ module _ (kinds : List ℕ) (literals : List ℤ) (f work : List ℕ) where
     unfolding on_formula
     formula_so e = ap formula_by e
 
-    pub formula_read : (r : Record) → reading f ≡ Taken r → {result : Finding} {work_then : List ℕ}
+    pub formula_read : (r : Record) → reading f ≡ Ok r → {result : Finding} {work_then : List ℕ}
         → Finds (on_record kinds literals clauses f r) work result work_then → Finds (on_formula kinds literals clauses f) work result work_then
     formula_read r e {result} {work_then} found = go (eqb (file_cause f) 0) refl e
       where
-        go : (b : Bool) → eqb (file_cause f) 0 ≡ b → cond b (Taken (record_of f)) (NotRead (file_cause f)) ≡ Taken r
+        go : (b : Bool) → eqb (file_cause f) 0 ≡ b → cond b (Ok (record_of f)) (Err (caused (file_cause f))) ≡ Ok r
             → Finds (on_formula kinds literals clauses f) work result work_then
         go true e is =
             let same : record_of f ≡ r = cc in
             finds_as {one = on_record kinds literals clauses f r} (formula_so e ∙ ap (λ (x : Record). on_record kinds literals clauses f x work) same) found
         go false e is = let z : ◌≡◌ {A = ℕ} 0 1 = cc in absurd (omega arith)
 
-    pub formula_refused : (cause : ℕ) → reading f ≡ NotRead cause → Finds (on_formula kinds literals clauses f) work (Refused cause 0) work
-    formula_refused cause e = go (eqb (file_cause f) 0) refl e
+    pub formula_refused : (cause : Cause) → reading f ≡ Err cause → number cause ≡ file_cause f
+        → Finds (on_formula kinds literals clauses f) work (Refused (number cause) 0) work
+    formula_refused cause e told = go (eqb (file_cause f) 0) refl e
       where
-        go : (b : Bool) → eqb (file_cause f) 0 ≡ b → cond b (Taken (record_of f)) (NotRead (file_cause f)) ≡ NotRead cause
-            → Finds (on_formula kinds literals clauses f) work (Refused cause 0) work
+        go : (b : Bool) → eqb (file_cause f) 0 ≡ b → cond b (Ok (record_of f)) (Err (caused (file_cause f))) ≡ Err cause
+            → Finds (on_formula kinds literals clauses f) work (Refused (number cause) 0) work
         go true e is = let z : ◌≡◌ {A = ℕ} 0 1 = cc in absurd (omega arith)
-        go false e is =
-            let same : file_cause f ≡ cause = cc in
-            finds_at (on_formula kinds literals clauses f) work (formula_so e ∙ ap (λ (n : ℕ). unjudged (Refused n 0) work) same)
+        go false e is = finds_at (on_formula kinds literals clauses f) work (formula_so e ∙ ap (λ (n : ℕ). unjudged (Refused n 0) work) (sym told))
 
 -- From the text's reading.
 module _ (r : Result) (f work : List ℕ) where

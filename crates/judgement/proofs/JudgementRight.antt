@@ -1,7 +1,8 @@
 -- What the printed line says, for every text and file. Assumes nothing.
 use Prim.Native.Nat.{ℕ, zero, suc, ◌+◌, ◌≤◌}
+use Rattle.std.specs.Prelude.{Result as Outcome, Ok, Err}
 use native.Mathlib.Omega.{arith}
-use mathlib.Core.Path.{◌≡◌, refl, sym, ap₂, subst, ◌∙◌}
+use mathlib.Core.Path.{◌≡◌, refl, sym, ap, ap₂, subst, ◌∙◌}
 use mathlib.Core.Bool.{Bool, true, false, cond, not, ◌&&◌, ◌||◌, true≢false}
 use mathlib.Core.List.{List}
 use mathlib.Core.Logic.{◌⊎◌, inl, inr}
@@ -12,13 +13,16 @@ use borrow.Author.Tests.{eqb-true, eq-eqb}
 use Rattle.formula.specs.Formula.{max_unknowns, max_entries, work_size}
 use Rattle.formula.specs.Meaning.{verdict, bit}
 use Rattle.formula.specs.Causes as Causes
+use Rattle.cause.specs.declared.Cause.{Cause}
+use Rattle.cause.specs.declared.Cause.TheVariants.{Kinds, Literals, Beyond}
+use Rattle.cause.specs.Cause.{number, refused_if, told as told_of_answer}
+use Rattle.cause.proofs.Numbers.{told_unless}
 use Rattle.formula.specs.declared.Formula.{Formula}
-use Rattle.formula.specs.declared.Check.TheVariants as Check
 use Rattle.rows.specs.Table.{room, table_fits}
 use Rattle.rows.specs.Stray.{stray_rows}
 use Rattle.judge.specs.declared.Judgement.{Judgement}
-use Rattle.judge.specs.declared.Judgement.TheVariants as Judgement
 use Rattle.judge.specs.Judge.{other_claim, width, cause, borne_out, answer, outcome}
+use Rattle.judge.proofs.Causes.{known_cause}
 use Rattle.judge.proofs.Verdict.{accepted_is_verdict}
 use Rattle.text.specs.Reading.{max_bytes, Result, taken, refused, read_gates, text_read, read_as}
 use Rattle.text.specs.declared.Form.{Form}
@@ -27,7 +31,6 @@ use Rattle.text.specs.GatesRight.{CircuitIs}
 use Rattle.text.proofs.TextLaws.{Results, Passes, read_passes}
 use Rattle.text.proofs.GatesRight.{gates_right}
 use Rattle.text.proofs.ReadAsLaws.{reading_number, reading_line}
-use Rattle.witness.specs.declared.Record.{Record}
 use Rattle.witness.specs.File.{stands, end_of, record_of, bad_claim, bad_counts, file_cause}
 use Rattle.report.specs.Report.{ascii, pair_line, refusal_line}
 use Rattle.report.proofs.Lengths.{refusal_most}
@@ -38,7 +41,7 @@ use Rattle.judgement.proofs.NumberLaws.{numbers_so}
 use Rattle.judgement.specs.JudgementRight.{Has, IsVerdict, FoundRight, FindingRight, Prints, Differs, Other, Refusal, LineRight, JudgementRight}
 
 -- The numbers of causes.
-formula_cause_small : (a b c : Bool) (f : Formula) → Causes.number (Causes.refused_if a 1 (Causes.refused_if b 2 (Causes.refused_if c 3 (Check.Accepted f)))) ≤ 18
+formula_cause_small : (a b c : Bool) (f : Formula) → Causes.number (refused_if a Kinds (refused_if b Literals (refused_if c Beyond (Ok f)))) ≤ 18
 formula_cause_small true b c f = omega arith
 formula_cause_small false true c f = omega arith
 formula_cause_small false false true f = omega arith
@@ -98,22 +101,20 @@ Says kinds literals clauses f OtherFormula = OtherSays (length kinds) clauses f
 Says kinds literals clauses f (Refused n line) = (n ≤ 18) × (line ≡ 0)
 
 module _ (kinds : List ℕ) (literals : List ℤ) (clauses : ℕ) (f work : List ℕ) where
-  judged_says : (claim : ℕ) (j : Judgement) → claim ≡ (record_of f).claim → (j ≡ Judgement.Accepted → bit (verdict kinds literals) ≡ claim)
-      → ((n : ℕ) → j ≡ Judgement.Refused n → n ≤ 18) → Says kinds literals clauses f (judged claim j)
-  judged_says claim Judgement.NotBorneOut own right few = tt
-  judged_says claim Judgement.Accepted own right few = record { is_verdict = right refl; its_own = own }
-  judged_says claim (Judgement.Refused n) own right few = (few n refl, refl)
+  judged_says : (claim : ℕ) (j : Outcome Judgement Cause) → claim ≡ (record_of f).claim → (j ≡ Ok Judgement.Accepted → bit (verdict kinds literals) ≡ claim)
+      → ((c : Cause) → j ≡ Err c → number c ≤ 18) → Says kinds literals clauses f (judged claim j)
+  judged_says claim (Ok Judgement.NotBorneOut) own right few = tt
+  judged_says claim (Ok Judgement.Accepted) own right few = record { is_verdict = right refl; its_own = own }
+  judged_says claim (Err c) own right few = (few c refl, refl)
 
-  outcome_few : (claim : ℕ) (rows : List ℕ) (n : ℕ) → outcome kinds literals claim rows (room rows) work ≡ Judgement.Refused n → n ≤ 18
+  outcome_few : (claim : ℕ) (rows : List ℕ) (c : Cause) → outcome kinds literals claim rows (room rows) work ≡ Err c → number c ≤ 18
   unfolding outcome
-  outcome_few claim rows n e = go (eqb (cause kinds literals claim rows (room rows) work) 0) (borne_out kinds literals claim rows (room rows)) e
-    where
-      go : (none? borne : Bool) → cond none? (answer borne) (Judgement.Refused (cause kinds literals claim rows (room rows) work)) ≡ Judgement.Refused n → n ≤ 18
-      go true true e = let z : ◌≡◌ {A = ℕ} 0 1 = cc in absurd (omega arith)
-      go true false e = let z : ◌≡◌ {A = ℕ} 0 1 = cc in absurd (omega arith)
-      go false borne e =
-          let same : cause kinds literals claim rows (room rows) work ≡ n = cc in
-          subst (λ (m : ℕ). m ≤ 18) same (judge_cause_small kinds literals claim rows (room rows) work)
+  outcome_few claim rows c e =
+      let table_cause = cause kinds literals claim rows (room rows) work in
+      let told : table_cause ≡ number c =
+      sym (told_unless table_cause (answer (borne_out kinds literals claim rows (room rows))) (known_cause kinds literals claim rows (room rows) work))
+      ∙ ap told_of_answer e in
+      subst (λ (m : ℕ). m ≤ 18) told (judge_cause_small kinds literals claim rows (room rows) work)
 
   claim_says : (claim : ℕ) → claim ≡ (record_of f).claim → Says kinds literals clauses f (on_claim kinds literals f claim work).finding
   unfolding on_claim

@@ -1,24 +1,26 @@
 -- The numbers of what is found. Assumes nothing.
 use Prim.Native.Nat.{ℕ}
-use mathlib.Core.Path.{◌≡◌, refl}
+use Rattle.std.specs.Prelude.{Ok, Err}
+use Rattle.cause.specs.Cause.{caused, told}
+use mathlib.Core.Path.{◌≡◌, refl, ap}
 use mathlib.Core.Bool.{Bool, true, false, cond}
 use mathlib.Core.List.{List}
 use lib.Dec.{eqb}
 use lib.IntN.{ℤ}
 use lib.ListN.{length}
 use Rattle.rows.specs.Table.{room}
-use Rattle.judge.specs.declared.Judgement.TheVariants as Judgement
 use Rattle.judge.specs.Judge.{cause, borne_out, answer, outcome}
+use Rattle.judge.proofs.Causes.{known_cause}
 use Rattle.text.specs.Reading.{Result, taken, refused}
 use Rattle.witness.specs.File.{stands, file_cause, record_of}
 use Rattle.judgement.specs.declared.Finding.TheVariants.{OtherFormula, Refused}
-use Rattle.judgement.specs.Finding.{Found, unjudged, judged, claimed_rows, on_claim, of_another, on_record, on_formula, on_text, finding_of}
+use Rattle.judgement.specs.Finding.{Found, unjudged, judged, claimed_rows, on_claim, of_another, on_record, on_formula, finding_of}
 use Rattle.judgement.specs.Numbers.{Numbers, numbered, numbers, claim_numbers, formula_numbers, found_numbers}
 
 module _ (kinds : List ℕ) (literals : List ℤ) (clauses : ℕ) (f work : List ℕ) where
   claim_so : (claim : ℕ) → numbers (on_claim kinds literals f claim work).finding ≡ claim_numbers kinds literals f claim work
   unfolding on_claim outcome claim_numbers
-  claim_so claim = go (eqb refused_by 0) (borne_out kinds literals claim rows (room rows))
+  claim_so claim = go (eqb refused_by 0) (borne_out kinds literals claim rows (room rows)) (known_cause kinds literals claim rows (room rows) work)
     where
       rows : List ℕ
       rows = claimed_rows f claim
@@ -26,11 +28,12 @@ module _ (kinds : List ℕ) (literals : List ℤ) (clauses : ℕ) (f work : List
       refused_by : ℕ
       refused_by = cause kinds literals claim rows (room rows) work
 
-      go : (none borne : Bool) → numbers (judged claim (cond none (answer borne) (Judgement.Refused refused_by)))
+      go : (none borne : Bool) → told {A = ℕ} (cond none (Ok 0) (Err (caused refused_by))) ≡ refused_by
+          → numbers (judged claim (cond none (Ok (answer borne)) (Err (caused refused_by))))
           ≡ cond none (cond borne (numbered 1 claim 0) (numbered 0 0 0)) (numbered refused_by 0 0)
-      go true true = refl
-      go true false = refl
-      go false borne = refl
+      go true true known = refl
+      go true false known = refl
+      go false borne known = ap (λ (n : ℕ). numbered n 0 0) known
 
   module _ (claim : ℕ) where
     abbrev found_by : Bool → Bool → Bool → Found

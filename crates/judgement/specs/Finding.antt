@@ -1,11 +1,12 @@
 -- The judge over a text, or a gate list, and a witness file (02's C-18): the causes of the text, those of the file, whether the file is about this
 -- formula, then the judgement of 01; and the line that is printed of it.
 -- Assumes nothing.
-use Rattle.std.specs.Prelude.{ℕ, ◌≡◌, Bool, cond, not, ◌&&◌, List, eqb, ℤ, length, replicate}
+use Rattle.std.specs.Prelude.{ℕ, ◌≡◌, Bool, cond, not, ◌&&◌, List, eqb, ℤ, length, replicate, Result as Outcome, Ok, Err}
+use Rattle.cause.specs.declared.Cause.{Cause}
+use Rattle.cause.specs.Cause.{number}
 use Rattle.formula.specs.Formula.{work_size}
 use Rattle.rows.specs.Table.{room}
 use Rattle.judge.specs.declared.Judgement.{Judgement}
-use Rattle.judge.specs.declared.Judgement.TheVariants as Judgement
 use Rattle.judge.specs.Judge.{outcome, work_after}
 use Rattle.text.specs.Reading.{Result, taken, refused, text_read}
 use Rattle.text.specs.declared.Form.{Form}
@@ -26,10 +27,10 @@ abbrev pub unjudged : Finding → List ℕ → Found
 unjudged finding work = record { finding = finding; work = work }
 
 -- The judgement of a claim; a cause of the judge is one of the file's, and has line 0.
-abbrev pub judged : ℕ → Judgement → Finding
-judged claim Judgement.NotBorneOut = NotBorneOut
-judged claim Judgement.Accepted = Accepted claim
-judged claim (Judgement.Refused cause) = Refused cause 0
+abbrev pub judged : ℕ → Outcome Judgement Cause → Finding
+judged claim (Ok Judgement.NotBorneOut) = NotBorneOut
+judged claim (Ok Judgement.Accepted) = Accepted claim
+judged claim (Err cause) = Refused (number cause) 0
 
 -- 'Claim 0 takes universal rows, claim 1 existential rows': all rows of that side in the file.
 abbrev pub claimed_rows : List ℕ → ℕ → List ℕ

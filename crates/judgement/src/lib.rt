@@ -14,7 +14,7 @@ ghost use Rattle.judgement.specs.JudgementRight.{FindingRight, JudgementRight};
 
 use formula::Formula;
 use judge::Judgement;
-use text::{Form, Reading};
+use text::{Form, Taken};
 use witness::Record;
 
 // An accepted claim is 0 or 1. A refusal has its number and the text's line, 0 for the file's causes.
@@ -84,16 +84,18 @@ fn find_as(input: &[u8], length: usize, form: Form, file: &[u8], work: &mut [u8]
     let mut literals = [0i32; Formula::ENTRIES];
     let mut names = [0u16; Formula::UNKNOWNS];
     match text::read_form(input, length, form, &mut kinds, &mut literals, &mut names) {
-        Reading::Refused { number, line } => Finding::Refused {
-            number,
-            line: line as u32,
+        Err(refusal) => Finding::Refused {
+            number: refusal.cause.number(),
+            line: refusal.line as u32,
         },
-        Reading::Taken {
-            unknowns,
-            entries,
-            clauses,
-            ..
-        } => {
+        Ok(
+            Taken {
+                unknowns,
+                entries,
+                clauses,
+                ..
+            },
+        ) => {
             on_formula(
                 &kinds[..unknowns],
                 &literals[..entries],
@@ -116,9 +118,9 @@ fn on_formula(
     ensures { Finds (on_formula kinds.now literals.now clauses file.now) work.old result work.new }
 {
     match witness::read(file) {
-        witness::Reading::Taken(record) => on_record(kinds, literals, clauses, file, record, work),
-        witness::Reading::Refused(cause) => Finding::Refused {
-            number: cause,
+        Ok(record) => on_record(kinds, literals, clauses, file, record, work),
+        Err(cause) => Finding::Refused {
+            number: cause.number(),
             line: 0,
         },
     }
@@ -167,10 +169,10 @@ fn on_claim(kinds: &[u8], literals: &[i32], file: &[u8], claim: u8, work: &mut [
 {
     let rows = witness::rows(file, claim == 0);
     match judge::judge(kinds, literals, claim, rows, rows.len() / 16, work) {
-        Judgement::NotBorneOut => Finding::NotBorneOut,
-        Judgement::Accepted => Finding::Accepted(claim),
-        Judgement::Refused(cause) => Finding::Refused {
-            number: cause,
+        Ok(Judgement::NotBorneOut) => Finding::NotBorneOut,
+        Ok(Judgement::Accepted) => Finding::Accepted(claim),
+        Err(cause) => Finding::Refused {
+            number: cause.number(),
             line: 0,
         },
     }

@@ -1,61 +1,19 @@
--- Words compared, and their decimal value, at a place in the word. Assumes nothing.
-use Prim.Native.Nat.{ℕ, suc, ◌+◌, ◌-◌, ◌*◌, ◌^◌, ◌≤◌, ◌<◌, min}
-use mathlib.Core.Path.{◌≡◌, refl, ap, sym, ◌∙◌}
-use mathlib.Core.Bool.{Bool, true, false, cond, ◌&&◌, false≢true}
+-- Words by their decimal value, and without their sign. Assumes nothing.
+use Prim.Native.Nat.{ℕ, ◌+◌, ◌-◌, ◌*◌, ◌≤◌, ◌<◌, min}
+use mathlib.Core.Path.{◌≡◌, refl, sym, ◌∙◌}
+use mathlib.Core.Bool.{Bool, true, false, cond, ◌&&◌}
 use mathlib.Core.List.{[], ◌∷◌}
-use native.Mathlib.Nat.{pow-suc, pow-le-pow_right}
-use native.Mathlib.Numerals.{add-one}
 use native.Mathlib.Omega.{arith}
 use borrow.Author.Tests.{eq-eqb, ne_eqb, eqb-true, eqb-false, leb-true, leb-false, le-leb, lt-leb}
 use lib.Dec.{leb, eqb}
-use lib.ListN.{length, get_or, take, drop, length-drop, drop_of_length-le}
-use lib.Seq.{drop-cons, take_all}
-use Rattle.lines.specs.Lines.{Bytes, same}
+use lib.ListN.{length, get_or, take, drop, length-drop}
+use lib.Seq.{take_all}
+use Rattle.lines.specs.Lines.{Bytes}
 use Rattle.lines.specs.Numbers.{is_digit, all_digits, is_zero, value, no_number, number_shape, number_within, max_digits, number, negative, unsigned}
-
-and_false : (a : Bool) → (a && false) ≡ false
-and_false true = refl
-and_false false = refl
-
-pub same_long : (a b : Bytes) → (length a ≡ length b → ⊥) → same a b ≡ false
-same_long [] [] h = absurd (h refl)
-same_long [] (y ∷ ys) h = refl
-same_long (x ∷ xs) [] h = refl
-same_long (x ∷ xs) (y ∷ ys) h = rw (same_long xs ys (λ e. h (ap suc e))) (and_false (eqb x y))
-
-module _ (a b : Bytes) (i : ℕ) (in_a : i < length a) (in_b : i < length b) where
-  pub same_differ : (get_or a i 0 ≡ get_or b i 0 → ⊥) → same (drop i a) (drop i b) ≡ false
-  same_differ h = rw (drop-cons a i 0 in_a, drop-cons b i 0 in_b, ne_eqb (get_or a i 0) (get_or b i 0) h) refl
-
-  pub same_past : get_or a i 0 ≡ get_or b i 0 → same (drop i a) (drop i b) ≡ same (drop (i + 1) a) (drop (i + 1) b)
-  same_past h = rw (add-one, drop-cons a i 0 in_a, drop-cons b i 0 in_b, eq-eqb (get_or a i 0) (get_or b i 0) h) refl
-
-pub same_end : (a b : Bytes) (i : ℕ) → length a ≤ i → length b ≤ i → same (drop i a) (drop i b) ≡ true
-same_end a b i h k = rw (drop_of_length-le a h, drop_of_length-le b k) refl
 
 -- The value of digits, or no number.
 abbrev pub decimal_from : ℕ → Bytes → ℕ
 decimal_from v w = cond (all_digits w) (value v w) no_number
-
-module _ (w : Bytes) (i v : ℕ) (inside : i < length w) where
-  pub decimal_low : get_or w i 0 < 48 → decimal_from v (drop i w) ≡ no_number
-  decimal_low h = rw (drop-cons w i 0 inside, lt-leb 48 (get_or w i 0) h) refl
-
-  pub decimal_high : 57 < get_or w i 0 → decimal_from v (drop i w) ≡ no_number
-  decimal_high h = rw (drop-cons w i 0 inside, le-leb 48 (get_or w i 0) (omega arith), lt-leb (get_or w i 0) 57 h) refl
-
-  pub decimal_past : 48 ≤ get_or w i 0 → get_or w i 0 ≤ 57 → decimal_from v (drop i w) ≡ decimal_from (v * 10 + (get_or w i 0 - 48)) (drop (i + 1) w)
-  decimal_past h k = rw (add-one, drop-cons w i 0 inside, le-leb 48 (get_or w i 0) h, le-leb (get_or w i 0) 57 k) refl
-
-pub decimal_end : (w : Bytes) (i v : ℕ) → length w ≤ i → decimal_from v (drop i w) ≡ v
-decimal_end w i v h = rw (drop_of_length-le w h) refl
-
--- As many digits as i make less than 10 ^ i.
-pub one_digit_more : (i v d : ℕ) → v < 10 ^ i → d < 10 → v * 10 + d < 10 ^ (i + 1)
-one_digit_more i v d h k = let e : 10 ^ (i + 1) ≡ 10 ^ i * 10 = rw (add-one, pow-suc) refl in omega arith
-
-pub few_digits : (i v : ℕ) → v < 10 ^ i → i ≤ 9 → v < no_number
-few_digits i v h k = let p : 10 ^ i ≤ 10 ^ 9 = pow-le-pow_right (omega arith) k in omega arith
 
 module _ (most : ℕ) (w : Bytes) where
   pub number_short : length w < 1 → number_within most w ≡ no_number
@@ -121,10 +79,6 @@ zero_single (d ∷ []) h = go (eqb d 48) refl
     go : (t : Bool) → eqb d 48 ≡ t → is_zero (d ∷ []) ≡ t
     go true q = eq-eqb (number (d ∷ [])) 0 (one ∙ rw (eqb-true d 48 q) refl)
     go false q = ne_eqb (number (d ∷ [])) 0 (λ e. first_some d [] (eqb-false d 48 q) (sym one ∙ e))
-
-pub minus_inside : (w : Bytes) → negative w ≡ true → 1 ≤ length w
-minus_inside [] h = absurd (false≢true h)
-minus_inside (x ∷ xs) h = omega arith
 
 pub unsigned_minus : (w : Bytes) → negative w ≡ true → take (length w - 1) (drop 1 w) ≡ unsigned w
 unfolding unsigned

@@ -1,5 +1,5 @@
 -- Words as numbers, names and literals. Assumes nothing.
-use Rattle.std.specs.Prelude.{ℕ, ◌+◌, ◌-◌, ◌*◌, min, Bool, true, false, cond, not, ◌&&◌, ◌||◌, List, [], ◌∷◌, leb, ltb, eqb, length, get_or, drop}
+use Rattle.std.specs.Prelude.{ℕ, ◌+◌, ◌-◌, ◌*◌, min, Bool, true, cond, not, ◌&&◌, ◌||◌, [], ◌∷◌, leb, ltb, eqb, length, get_or, drop}
 use Rattle.lines.specs.Lines.{Bytes}
 
 -- Bytes 48 to 57 are the digits.

@@ -28,26 +28,22 @@ pub fn next(line: &[u8], i: usize) -> Word
 pub fn find(bytes: &[u8], i: usize, b: u8) -> usize
     ensures { result ≡ i + before b (drop i bytes.now) }
 {
-    let mut at = i;
-    while at < bytes.len() {
+    for at in i..bytes.len() {
         if bytes[at] == b {
             return at;
         }
-        at += 1;
     }
-    at
+    i.max(bytes.len())
 }
 
 // The place of the first byte at or after i that is no space, or the length.
 fn skip(bytes: &[u8], i: usize) -> usize
     ensures { result ≡ min i (length bytes.now) + spaces (drop i bytes.now) }
 {
-    let mut at = i;
-    while at < bytes.len() {
+    for at in i..bytes.len() {
         if bytes[at] != b' ' {
             return at;
         }
-        at += 1;
     }
     bytes.len()
 }

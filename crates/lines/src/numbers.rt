@@ -14,17 +14,7 @@ pub const DIGITS: usize = 5;
 pub fn same(a: &[u8], b: &[u8]) -> bool
     ensures { result ≡ same_bytes a.now b.now }
 {
-    if a.len() != b.len() {
-        return false;
-    }
-    let mut i = 0;
-    while i < a.len() {
-        if a[i] != b[i] {
-            return false;
-        }
-        i += 1;
-    }
-    true
+    a == b
 }
 
 // The value of a word as a number of at most so many digits, and never over nine; NO_NUMBER if it is none.
@@ -55,18 +45,12 @@ fn decimal(word: &[u8]) -> usize
     requires { length word.now ≤ 9 }
     ensures { result ≡ cond (all_digits word.now) (value 0 word.now) no_number }
 {
-    let mut v: usize = 0;
-    let mut i = 0;
-    while i < word.len() {
-        let d = word[i];
-        if d < b'0' {
+    let mut v = 0;
+    for d in word {
+        if !d.is_ascii_digit() {
             return NO_NUMBER;
         }
-        if b'9' < d {
-            return NO_NUMBER;
-        }
-        v = v * 10 + (d - b'0') as usize;
-        i += 1;
+        v = v * 10 + usize::from(*d - b'0');
     }
     v
 }

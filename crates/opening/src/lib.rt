@@ -11,14 +11,12 @@ use rows::Row;
 pub fn block(kinds: &[u8], kind: u8) -> usize
     ensures { result ≡ equal_from_start kind kinds.now }
 {
-    let mut length: usize = 0;
-    while length < kinds.len() {
-        if kinds[length] != kind {
+    for (length, k) in kinds.iter().enumerate() {
+        if *k != kind {
             return length;
         }
-        length += 1;
     }
-    length
+    kinds.len()
 }
 
 // The first bits of the row at a place, as a row whose other bits are zero. A place outside the table has no bit set.

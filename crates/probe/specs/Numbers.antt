@@ -1,41 +1,37 @@
 -- The number that stands for each case of an answer, and what a run reports.
 -- Assumes nothing.
-use Rattle.std.specs.Prelude.{ℕ, ◌+◌, ◌≡◌, Bool, true, false, cond, List, eqb}
+use Rattle.std.specs.Prelude.{ℕ, ◌+◌, ◌≡◌, Bool, true, false, cond, List, eqb, Err, Ok, Result}
+use Rattle.cause.specs.declared.Cause.{Cause}
+use Rattle.cause.specs.Cause.{number}
 use Rattle.engine.specs.declared.search.Search.{Search}
-use Rattle.engine.specs.declared.search.Search.TheVariants.{Found, NoModel, Refused}
+use Rattle.engine.specs.declared.search.Search.TheVariants.{Found, NoModel}
 use Rattle.judge.specs.declared.Judgement.{Judgement}
-use Rattle.judge.specs.declared.Judgement.TheVariants.{NotBorneOut, Accepted, Refused as JudgeRefused}
+use Rattle.judge.specs.declared.Judgement.TheVariants.{NotBorneOut, Accepted}
 use Rattle.engine.specs.declared.run.Outcome.{Outcome}
 use Rattle.engine.specs.Numbers.{one_number}
-use Rattle.fee.specs.declared.Charge.{Charge}
-use Rattle.fee.specs.declared.Charge.TheVariants.{Cents, Refused as ChargeRefused}
 use Rattle.season.specs.declared.Sheet.{Sheet}
-use Rattle.season.specs.declared.Summary.{Summary}
-use Rattle.season.specs.declared.Summary.TheVariants.{Page, Refused as SeasonRefused}
-use Rattle.trimming.specs.declared.Trimmed.{Trimmed}
-use Rattle.trimming.specs.declared.Trimmed.TheVariants.{Entries, Refused as TrimRefused}
 
 -- A search: 0 for no model, 1 for found, 100 plus the number of a refusal.
-abbrev pub search_number : Search → ℕ
-search_number NoModel = 0
-search_number Found = 1
-search_number (Refused cause) = 100 + cause
+abbrev pub search_number : Result Search Cause → ℕ
+search_number (Ok NoModel) = 0
+search_number (Ok Found) = 1
+search_number (Err cause) = 100 + number cause
 
 -- A judgement: 0 for not borne out, 1 for accepted, 100 plus the number of a refusal.
-abbrev pub judge_number : Judgement → ℕ
-judge_number NotBorneOut = 0
-judge_number Accepted = 1
-judge_number (JudgeRefused cause) = 100 + cause
+abbrev pub judge_number : Result Judgement Cause → ℕ
+judge_number (Ok NotBorneOut) = 0
+judge_number (Ok Accepted) = 1
+judge_number (Err cause) = 100 + number cause
 
 -- A charge: 0 for cents, 100 plus the number of a refusal.
-abbrev pub charge_number : Charge → ℕ
-charge_number (Cents amount) = 0
-charge_number (ChargeRefused cause) = 100 + cause
+abbrev pub charge_number : Result ℕ Cause → ℕ
+charge_number (Ok amount) = 0
+charge_number (Err cause) = 100 + number cause
 
 -- A trimming: 0 for trimmed, 100 plus the number of a refusal.
-abbrev pub trim_number : Trimmed → ℕ
-trim_number (Entries used) = 0
-trim_number (TrimRefused cause) = 100 + cause
+abbrev pub trim_number : Result ℕ Cause → ℕ
+trim_number (Ok used) = 0
+trim_number (Err cause) = 100 + number cause
 
 -- A value: 1 for true.
 abbrev pub value_number : Bool → ℕ
@@ -58,6 +54,6 @@ page_number s which =
     cond (eqb which 1) s.studies (cond (eqb which 2) s.answer_0 (cond (eqb which 3) s.answer_1 (cond (eqb which 4) s.answer_2 (cond (eqb which 5) s.answer_3
     (cond (eqb which 6) s.answer_4 (cond (eqb which 7) s.rounds (cond (eqb which 8) s.fees (cond (eqb which 9) s.most (cond (eqb which 10) s.first 0)))))))))
 
-unfoldable pub season_number : Summary → ℕ → ℕ
-season_number (Page s) which = page_number s which
-season_number (SeasonRefused cause) which = cond (eqb which 0) (100 + cause) 0
+unfoldable pub season_number : Result Sheet Cause → ℕ → ℕ
+season_number (Ok s) which = page_number s which
+season_number (Err cause) which = cond (eqb which 0) (100 + number cause) 0

@@ -10,6 +10,7 @@ pub mod text_reader;
 pub mod witness_file;
 
 ghost use Rattle.std.specs.Prelude.{◌≡◌, ◌+◌, length, get_or};
+ghost use Rattle.cause.specs.Cause.{number};
 ghost use Rattle.preference.specs.Preference.{prefer};
 ghost use Rattle.rows.specs.Access.{handed_back};
 ghost use Rattle.engine.specs.Search.{outcome, work_after};
@@ -23,12 +24,11 @@ ghost use Rattle.season.specs.Season.{summary};
 ghost use Rattle.season.specs.Text.{printed};
 ghost use Rattle.trimming.specs.Outcome.{outcome as trim_outcome, output_after, used as entries_used};
 
+use cause::Cause;
 use engine::search::Search;
-use fee::Charge;
 use judge::Judgement;
 use rows::Row;
-use season::{Study, Summary};
-use trimming::Trimmed;
+use season::{Sheet, Study};
 
 // The first model of one side over rows of the other.
 pub fn probe_first_model(
@@ -54,20 +54,20 @@ pub fn probe_first_model(
     ))
 }
 
-fn search_number(answer: Search) -> u64
+fn search_number(answer: Result<Search, Cause>) -> u64
     ensures { result ≡ search_number answer }
 {
     match answer {
-        Search::NoModel => 0,
-        Search::Found => 1,
-        Search::Refused(cause) => refusal_number(cause),
+        Ok(Search::NoModel) => 0,
+        Ok(Search::Found) => 1,
+        Err(cause) => refusal_number(cause),
     }
 }
 
-fn refusal_number(cause: u32) -> u64
-    ensures { result ≡ 100 + cause }
+fn refusal_number(cause: Cause) -> u64
+    ensures { result ≡ 100 + number cause }
 {
-    100 + cause as u64
+    100 + u64::from(cause.number())
 }
 
 // Whether rows bear out a claim.
@@ -85,13 +85,13 @@ pub fn probe_judge(
     judge_number(judge::judge(kinds, literals, claim, rows, count, work))
 }
 
-fn judge_number(answer: Judgement) -> u64
+fn judge_number(answer: Result<Judgement, Cause>) -> u64
     ensures { result ≡ judge_number answer }
 {
     match answer {
-        Judgement::NotBorneOut => 0,
-        Judgement::Accepted => 1,
-        Judgement::Refused(cause) => refusal_number(cause),
+        Ok(Judgement::NotBorneOut) => 0,
+        Ok(Judgement::Accepted) => 1,
+        Err(cause) => refusal_number(cause),
     }
 }
 
@@ -168,21 +168,21 @@ pub fn probe_fee_with(
     charge_number(charge)
 }
 
-fn charge_number(charge: Charge) -> u64
+fn charge_number(charge: Result<u64, Cause>) -> u64
     ensures { result ≡ charge_number charge }
 {
     match charge {
-        Charge::Cents(_) => 0,
-        Charge::Refused(cause) => refusal_number(cause),
+        Ok(_) => 0,
+        Err(cause) => refusal_number(cause),
     }
 }
 
-fn charge_cents(charge: Charge) -> u64
+fn charge_cents(charge: Result<u64, Cause>) -> u64
     ensures { result ≡ cents_of charge }
 {
     match charge {
-        Charge::Cents(amount) => amount,
-        Charge::Refused(_) => 0,
+        Ok(amount) => amount,
+        Err(_) => 0,
     }
 }
 
@@ -197,21 +197,21 @@ pub fn probe_trim(kinds: &[u8], literals: &[i32], output: &mut [i32], used: &mut
     trim_number(end)
 }
 
-fn trim_number(answer: Trimmed) -> u64
+fn trim_number(answer: Result<usize, Cause>) -> u64
     ensures { result ≡ trim_number answer }
 {
     match answer {
-        Trimmed::Entries(_) => 0,
-        Trimmed::Refused(cause) => refusal_number(cause),
+        Ok(_) => 0,
+        Err(cause) => refusal_number(cause),
     }
 }
 
-fn used_entries(answer: Trimmed) -> usize
+fn used_entries(answer: Result<usize, Cause>) -> usize
     ensures { result ≡ entries_used answer }
 {
     match answer {
-        Trimmed::Entries(used) => used,
-        Trimmed::Refused(_) => 0,
+        Ok(used) => used,
+        Err(_) => 0,
     }
 }
 
@@ -249,12 +249,12 @@ pub fn probe_season(studies: &[Study], which: u32) -> u64
     page_number(season::summarize(studies), which)
 }
 
-fn page_number(page: Summary, which: u32) -> u64
+fn page_number(page: Result<Sheet, Cause>, which: u32) -> u64
     ensures { result ≡ season_number page which }
 {
     match page {
-        Summary::Refused(cause) => cause_number(cause, which),
-        Summary::Page(sheet) => match which {
+        Err(cause) => cause_number(cause, which),
+        Ok(sheet) => match which {
             1 => sheet.studies as u64,
             2 => sheet.answer_0 as u64,
             3 => sheet.answer_1 as u64,
@@ -270,8 +270,8 @@ fn page_number(page: Summary, which: u32) -> u64
     }
 }
 
-fn cause_number(cause: u32, which: u32) -> u64
-    ensures { result ≡ season_number (Summary.Refused cause) which }
+fn cause_number(cause: Cause, which: u32) -> u64
+    ensures { result ≡ season_number (Err cause) which }
 {
     if which == 0 { refusal_number(cause) } else { 0 }
 }

@@ -5,6 +5,7 @@ ghost use Rattle.forecast.specs.Outcome.{given, outcome, universal_copies, exist
 ghost use Rattle.probe.specs.Numbers.{value_number};
 ghost use Rattle.probe.specs.Outlook.{outlook_number};
 
+use cause::Cause;
 use forecast::Outlook;
 
 pub fn probe_forecast(
@@ -34,42 +35,30 @@ pub fn probe_forecast(
     told_number(answer)
 }
 
-fn copies_over_universal(answer: Outlook) -> usize
+fn copies_over_universal(answer: Result<Outlook, Cause>) -> usize
     ensures { result ≡ universal_copies answer }
 {
     match answer {
-        Outlook::Needs {
-            over_universal,
-            over_existential: _,
-            fits: _,
-        } => over_universal,
-        Outlook::Refused(_) => 0,
+        Ok(outlook) => outlook.over_universal,
+        Err(_) => 0,
     }
 }
 
-fn copies_over_existential(answer: Outlook) -> usize
+fn copies_over_existential(answer: Result<Outlook, Cause>) -> usize
     ensures { result ≡ existential_copies answer }
 {
     match answer {
-        Outlook::Needs {
-            over_universal: _,
-            over_existential,
-            fits: _,
-        } => over_existential,
-        Outlook::Refused(_) => 0,
+        Ok(outlook) => outlook.over_existential,
+        Err(_) => 0,
     }
 }
 
-fn told_number(answer: Outlook) -> u64
+fn told_number(answer: Result<Outlook, Cause>) -> u64
     ensures { result ≡ outlook_number answer }
 {
     match answer {
-        Outlook::Needs {
-            over_universal: _,
-            over_existential: _,
-            fits,
-        } => fit_number(fits),
-        Outlook::Refused(cause) => crate::refusal_number(cause),
+        Ok(outlook) => fit_number(outlook.fits),
+        Err(cause) => crate::refusal_number(cause),
     }
 }
 

@@ -4,7 +4,7 @@ ghost use Rattle.std.specs.Prelude.{◌≡◌};
 ghost use Rattle.restriction.specs.Outcome.{outcome, output_after, used as entries_used};
 ghost use Rattle.probe.specs.Restrictions.{set_number};
 
-use restriction::Set;
+use cause::Cause;
 
 pub fn probe_set_first(
     kinds: &[u8],
@@ -22,20 +22,20 @@ pub fn probe_set_first(
     number_of(end)
 }
 
-fn number_of(answer: Set) -> u64
+fn number_of(answer: Result<usize, Cause>) -> u64
     ensures { result ≡ set_number answer }
 {
     match answer {
-        Set::Entries(_) => 0,
-        Set::Refused(cause) => crate::refusal_number(cause),
+        Ok(_) => 0,
+        Err(cause) => crate::refusal_number(cause),
     }
 }
 
-fn set_entries(answer: Set) -> usize
+fn set_entries(answer: Result<usize, Cause>) -> usize
     ensures { result ≡ entries_used answer }
 {
     match answer {
-        Set::Entries(used) => used,
-        Set::Refused(_) => 0,
+        Ok(used) => used,
+        Err(_) => 0,
     }
 }

@@ -4,7 +4,7 @@ ghost use Rattle.std.specs.Prelude.{◌≡◌, length};
 ghost use Rattle.text.specs.Reading.{read as definition, read_gates as gates_definition};
 ghost use Rattle.probe.specs.TextReader.{text_number as number_of, text_told, TextRead};
 
-use text::Reading;
+use text::{Refusal, Taken};
 
 pub fn probe_read_text(
     text: &[u8],
@@ -62,42 +62,32 @@ struct Told {
     line: usize,
 }
 
-fn told_text(answer: Reading) -> Told
+fn told_text(answer: Result<Taken, Refusal>) -> Told
     ensures { result ≡ text_told answer }
 {
     match answer {
-        Reading::Taken {
-            unknowns,
-            entries,
-            variables,
-            clauses,
-        } => Told {
-            unknowns,
-            entries,
-            variables,
-            clauses,
+        Ok(text) => Told {
+            unknowns: text.unknowns,
+            entries: text.entries,
+            variables: text.variables,
+            clauses: text.clauses,
             line: 0,
         },
-        Reading::Refused { number: _, line } => Told {
+        Err(refusal) => Told {
             unknowns: 0,
             entries: 0,
             variables: 0,
             clauses: 0,
-            line,
+            line: refusal.line,
         },
     }
 }
 
-fn text_number(answer: Reading) -> u64
+fn text_number(answer: Result<Taken, Refusal>) -> u64
     ensures { result ≡ number_of answer }
 {
     match answer {
-        Reading::Taken {
-            unknowns: _,
-            entries: _,
-            variables: _,
-            clauses: _,
-        } => 0,
-        Reading::Refused { number, line: _ } => crate::refusal_number(number),
+        Ok(_) => 0,
+        Err(refusal) => crate::refusal_number(refusal.cause),
     }
 }

@@ -4,7 +4,8 @@ ghost use Rattle.std.specs.Prelude.{◌≡◌, length, get_or};
 ghost use Rattle.witness.specs.File.{made, reading, rows_back, writing, out_after};
 ghost use Rattle.probe.specs.WitnessFile.{reading_number, record_told, RecordTold, writing_number, length_told};
 
-use witness::{Reading, Record, Written};
+use cause::Cause;
+use witness::Record;
 
 // The record of a file, zeros on a refusal.
 pub fn probe_witness_read(
@@ -32,12 +33,12 @@ pub fn probe_witness_read(
     told_number(answer)
 }
 
-fn told_record(answer: Reading) -> Record
+fn told_record(answer: Result<Record, Cause>) -> Record
     ensures { result ≡ record_told answer }
 {
     match answer {
-        Reading::Taken(taken) => taken,
-        Reading::Refused(_) => Record {
+        Ok(taken) => taken,
+        Err(_) => Record {
             map: 0,
             claim: 0,
             unknowns: 0,
@@ -49,12 +50,12 @@ fn told_record(answer: Reading) -> Record
     }
 }
 
-fn told_number(answer: Reading) -> u64
+fn told_number(answer: Result<Record, Cause>) -> u64
     ensures { result ≡ reading_number answer }
 {
     match answer {
-        Reading::Taken(_) => 0,
-        Reading::Refused(cause) => crate::refusal_number(cause),
+        Ok(_) => 0,
+        Err(cause) => crate::refusal_number(cause),
     }
 }
 
@@ -90,21 +91,21 @@ pub fn probe_witness_write(
     written_number(answer)
 }
 
-fn written_length(answer: Written) -> usize
+fn written_length(answer: Result<usize, Cause>) -> usize
     ensures { result ≡ length_told answer }
 {
     match answer {
-        Written::Length(length) => length,
-        Written::Refused(_) => 0,
+        Ok(length) => length,
+        Err(_) => 0,
     }
 }
 
-fn written_number(answer: Written) -> u64
+fn written_number(answer: Result<usize, Cause>) -> u64
     ensures { result ≡ writing_number answer }
 {
     match answer {
-        Written::Length(_) => 0,
-        Written::Refused(cause) => crate::refusal_number(cause),
+        Ok(_) => 0,
+        Err(cause) => crate::refusal_number(cause),
     }
 }
 

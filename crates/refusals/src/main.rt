@@ -2,8 +2,8 @@
 // studies that are to be charged (1 for the kinds, 21 and 22 for lent bands, 0 if charged).
 #![tactic(auto)]
 
-use fee::Charge;
-use formula::{Check, Formula};
+use cause::Cause;
+use formula::Formula;
 use std::io;
 
 fn main(rt: HostRuntime) -> io::Result<()> {
@@ -19,8 +19,8 @@ fn print(rt: &HostRuntime, number: u32) -> io::Result<()> {
 
 fn number(kinds: &[u8], literals: &[i32]) -> u32 {
     match Formula::check(kinds, literals) {
-        Check::Refused(cause) => cause,
-        Check::Accepted(_) => 0,
+        Err(cause) => cause.number(),
+        Ok(_) => 0,
     }
 }
 
@@ -61,10 +61,10 @@ fn tables(rt: &HostRuntime) -> io::Result<()> {
     print(rt, table(&bytes))
 }
 
-fn charge_number(charge: Charge) -> u32 {
+fn charge_number(charge: Result<u64, Cause>) -> u32 {
     match charge {
-        Charge::Refused(cause) => cause,
-        Charge::Cents(_) => 0,
+        Err(cause) => cause.number(),
+        Ok(_) => 0,
     }
 }
 

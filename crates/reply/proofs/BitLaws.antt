@@ -1,15 +1,14 @@
 -- Rows that were not touched, and values by their places. Assumes nothing.
 use Prim.Native.Nat.{ℕ, zero, suc, ◌+◌, ◌*◌, ◌/◌, ◌%◌, ◌^◌, ◌≤◌, ◌<◌}
-use native.Mathlib.Nat.{zero-lt-suc}
 use native.Mathlib.Decide.{dec_lt}
 use native.Mathlib.Omega.{arith}
 use mathlib.Core.Path.{◌≡◌, refl, sym, ap, ap₂, ◌∙◌}
-use mathlib.Core.Bool.{Bool, false}
+use mathlib.Core.Bool.{Bool}
 use mathlib.Core.List.{List, [], ◌∷◌, ◌++◌}
 use lib.Bits.{bit_or}
-use lib.ListN.{length, get_or, replicate}
+use lib.ListN.{length, get_or}
 use lib.Seq.{ext_get_or, get_or-set_other}
-use Rattle.rows.specs.Row.{bit_of, values, row_of}
+use Rattle.rows.specs.Row.{values, row_of}
 use Rattle.rows.specs.Stray.{row_bits}
 use Rattle.rows.specs.Table.{row_at, rows_of, room}
 use Rattle.rows.specs.Access.{bit_set}

@@ -1,11 +1,11 @@
 -- Bits copied to an empty row, one after the other. Assumes nothing.
-use Prim.Native.Nat.{ℕ, ◌+◌, ◌≤◌, ◌<◌}
+use Prim.Native.Nat.{ℕ, ◌+◌, ◌<◌}
 use native.Mathlib.Decide.{dec_lt, ℕ_discrete}
 use native.Mathlib.Omega.{arith}
 use mathlib.Core.Path.{◌≡◌, refl, sym, ap, ◌∙◌}
 use mathlib.Core.Bool.{Bool, true, false, cond, ◌&&◌, ◌||◌, or-false}
 use mathlib.Core.List.{List}
-use lib.Dec.{eqb, ltb}
+use lib.Dec.{ltb}
 use lib.ListN.{length}
 use borrow.Author.Tests.{lt-ltb, le-ltb, eq-eqb, ne_eqb}
 use Rattle.rows.specs.Row.{bit_of}
@@ -13,7 +13,7 @@ use Rattle.rows.specs.Stray.{row_bits}
 use Rattle.rows.specs.Table.{row_at, room}
 use Rattle.rows.specs.Access.{bit_set}
 use Rattle.rows.proofs.WriteLaws.{length_bit_set, bit_of_bit_set}
-use Rattle.reply.specs.Private.Fitting.{Blank, Copied}
+use Rattle.reply.specs.Private.Fitting.{Copied}
 use Rattle.reply.proofs.BitLaws.{other_rows}
 
 or_true : (b : Bool) → b || true ≡ true
@@ -29,14 +29,6 @@ same_below p k other = go (dec_lt p k)
     go (no h) = le-ltb p k (omega arith) ∙ sym (le-ltb p (k + 1) (omega arith))
 
 module _ (bits : ℕ → Bool) (from : ℕ) (before : List ℕ) (to : ℕ) where
-  pub none_copied : Blank to before → Copied bits from 0 before to before
-  none_copied blank =
-      record {
-        size = refl;
-        others = λ j other. refl;
-        copied = λ p below. blank to (omega arith) p below ∙ ap (λ (b : Bool). b && bits (from + p)) (sym (le-ltb p 0 (omega arith)));
-      }
-
   module _ (k : ℕ) (now : List ℕ) (done : Copied bits from k before to now) (into : to < room before) (own : k < row_bits) where
     abbrev one_more : Bool → List ℕ
     one_more v = cond v (bit_set now to k) now

@@ -2,7 +2,7 @@
 use Prim.Native.Nat.{ℕ, zero, suc, ◌+◌, ◌-◌, ◌≤◌, ◌<◌}
 use native.Mathlib.Omega.{arith}
 use mathlib.Core.Path.{◌≡◌, refl, sym, ap, ◌∙◌}
-use mathlib.Core.Bool.{Bool, true, false, cond, ◌&&◌, beq, false≢true}
+use mathlib.Core.Bool.{Bool, true, false, cond, ◌&&◌, beq}
 use mathlib.Core.List.{List, [], ◌∷◌, ◌++◌}
 use lib.ListN.{length, get_or, take, drop, length-map, length-drop, get_or-map}
 use lib.Seq.{take_all}
@@ -16,42 +16,15 @@ use Rattle.restriction.specs.Outcome.{value_of, values_of}
 use Rattle.case_rules.specs.Restricted.{kinds_behind}
 use Rattle.case_rules.specs.Casebook.{offered}
 use Rattle.reply_rules.specs.Position.{beginning, rows_behind, fitting}
+use Rattle.std.specs.Int.{from_bool}
+use Rattle.std.specs.List.{count_by}
+use Rattle.std.proofs.lemmas.List.Recursion.{is_count_by}
 use Rattle.reply.specs.Private.Fitting.{one_if, more_if, owned, agrees, fits}
 use Rattle.reply.proofs.BitLaws.{values_same}
 
 -- The part of a list from a place on, as it is lent.
 pub part_is : (l : List ℕ) (d : ℕ) → take (length l - d) (drop d l) ≡ drop d l
 part_is l d = take_all (length l - d) (drop d l) (omega (arith, length-drop d l))
-
--- ---- whose an unknown is
-
-pub false_existential : (claim kind : ℕ) → claim ≡ 0 → kind ≡ 0 → false ≡ offered (claims_true claim) (kind_of kind)
-false_existential zero zero e f = refl
-false_existential zero (suc k) e f = absurd (omega arith)
-false_existential (suc c) k e f = absurd (omega arith)
-
-pub false_universal : (claim kind : ℕ) → claim ≡ 0 → (kind ≡ 0 → ⊥) → true ≡ offered (claims_true claim) (kind_of kind)
-false_universal zero zero e f = absurd (f refl)
-false_universal zero (suc k) e f = refl
-false_universal (suc c) k e f = absurd (omega arith)
-
-pub true_existential : (claim kind : ℕ) → (claim ≡ 0 → ⊥) → kind ≡ 0 → true ≡ offered (claims_true claim) (kind_of kind)
-true_existential zero k e f = absurd (e refl)
-true_existential (suc c) zero e f = refl
-true_existential (suc c) (suc k) e f = absurd (omega arith)
-
-pub true_universal : (claim kind : ℕ) → (claim ≡ 0 → ⊥) → (kind ≡ 0 → ⊥) → false ≡ offered (claims_true claim) (kind_of kind)
-true_universal zero k e f = absurd (e refl)
-true_universal (suc c) zero e f = absurd (f refl)
-true_universal (suc c) (suc k) e f = refl
-
--- ---- a move and a bit
-
-pub agrees_bit : (own : Bool) (value : ℕ) (bit : Bool) → own ≡ true → (value ≡ 0 → ⊥) → bit ≡ agrees own (value_of value) bit
-agrees_bit true zero bit o v = absurd (v refl)
-agrees_bit true (suc n) true o v = refl
-agrees_bit true (suc n) false o v = refl
-agrees_bit false n bit o v = absurd (false≢true o)
 
 -- ---- how many unknowns are own
 
@@ -67,9 +40,13 @@ pub width_owned : (kinds : List ℕ) (claim : ℕ) → width kinds claim ≡ own
 unfolding width
 width_owned kinds claim = owned_count (claims_true claim) (prefix kinds)
 
-pub more_is : (own : Bool) (n : ℕ) → more_if own n ≡ n + one_if own
-more_is true n = omega arith
-more_is false n = omega arith
+pub one_if_is : (own : Bool) → from_bool own ≡ one_if own
+one_if_is true = refl
+one_if_is false = refl
+
+pub one_if_most : (own : Bool) → one_if own ≤ 1
+one_if_most true = omega arith
+one_if_most false = omega arith
 
 pub owned_few : (claim : Bool) (kinds : List ℕ) → owned claim (prefix kinds) ≤ length kinds
 owned_few claim [] = omega arith
@@ -79,22 +56,16 @@ owned_few claim (k ∷ kinds) = let h = owned_few claim kinds in go (offered cla
     go true h = omega arith
     go false h = omega arith
 
--- Place by place.
-pub owned_next : (claim : Bool) (kinds : List ℕ) (i : ℕ) → i < length kinds
-    → owned claim (prefix (take (i + 1) kinds)) ≡ owned claim (prefix (take i kinds)) + one_if (offered claim (kind_of (get_or kinds i 0)))
-owned_next claim kinds i below = let one : i + 1 ≡ suc i = omega arith in ap (λ (n : ℕ). owned claim (prefix (take n kinds))) one ∙ go kinds i below
+pub owned_counted : (claim : Bool) (kinds : List ℕ) → count_by (λ k. offered claim (kind_of k)) kinds ≡ owned claim (prefix kinds)
+owned_counted claim kinds = sym (is_count_by (λ ks. owned claim (prefix ks)) (λ k. offered claim (kind_of k)) refl
+    (λ k ks. step (offered claim (kind_of k)) (owned claim (prefix ks))) kinds)
   where
-    more : (o : Bool) (a b c : ℕ) → a ≡ b + c → more_if o a ≡ more_if o b + c
-    more true a b c e = omega arith
-    more false a b c e = e
+    step : (o : Bool) (n : ℕ) → more_if o n ≡ cond o (1 + n) n
+    step true n = omega arith
+    step false n = refl
 
-    go : (kinds : List ℕ) (i : ℕ) → i < length kinds
-        → owned claim (prefix (take (suc i) kinds)) ≡ owned claim (prefix (take i kinds)) + one_if (offered claim (kind_of (get_or kinds i 0)))
-    go [] i h = absurd (omega arith)
-    go (k ∷ kinds) zero h = more_is (offered claim (kind_of k)) 0
-    go (k ∷ kinds) (suc i) h = more (offered claim (kind_of k)) _ _ _ (go kinds i (omega arith))
-
-pub owned_both : (claim : Bool) (kinds : List ℕ) (d : ℕ) → owned claim (prefix (take d kinds)) + owned claim (prefix (drop d kinds)) ≡ owned claim (prefix kinds)
+pub owned_both : (claim : Bool) (kinds : List ℕ) (d : ℕ) →
+    owned claim (prefix (take d kinds)) + owned claim (prefix (drop d kinds)) ≡ owned claim (prefix kinds)
 owned_both claim kinds zero = omega arith
 owned_both claim [] (suc d) = omega arith
 owned_both claim (k ∷ kinds) (suc d) = let h = owned_both claim kinds d in go (offered claim (kind_of k)) h
@@ -121,7 +92,8 @@ beginning_append v (r ∷ xs) ys =
     ap (λ (l : List Row). cond (beq v (first_value r)) (later_values r ∷ l) l) (beginning_append v xs ys) ∙ go (beq v (first_value r))
   where
     go : (b : Bool)
-        → cond b (later_values r ∷ (beginning v xs ++ beginning v ys)) (beginning v xs ++ beginning v ys) ≡ cond b (later_values r ∷ beginning v xs) (beginning v xs) ++ beginning v ys
+        → cond b (later_values r ∷ (beginning v xs ++ beginning v ys)) (beginning v xs ++ beginning v ys) ≡ cond b (later_values r ∷ beginning v xs)
+        (beginning v xs) ++ beginning v ys
     go true = refl
     go false = refl
 
@@ -184,21 +156,18 @@ module _ (claim : Bool) (bits : ℕ → Bool) where
   abbrev pub Left : List ℕ → List Bool → ℕ → ℕ → Bool
   Left kinds vs d bit = fits claim (prefix (drop d kinds)) (drop d vs) (λ j. bits (bit + j))
 
-  pub fits_start : (kinds : List ℕ) (vs : List Bool) → fits claim (prefix kinds) vs bits ≡ Left kinds vs 0 0
-  fits_start kinds vs = ap (fits claim (prefix kinds) vs) (λ i j. bits (zero_plus j i))
-    where
-      zero_plus : (j : ℕ) → j ≡ 0 + j
-      zero_plus j = omega arith
-
   pub fits_next : (kinds : List ℕ) (vs : List Bool) (d bit : ℕ) → d < length vs → length vs ≤ length kinds
       → Left kinds vs d bit
-      ≡ (agrees (offered claim (kind_of (get_or kinds d 0))) (get_or vs d false) (bits bit) && Left kinds vs (d + 1) (bit + one_if (offered claim (kind_of (get_or kinds d 0)))))
+      ≡ (agrees (offered claim (kind_of (get_or kinds d 0))) (get_or vs d false) (bits bit) && Left kinds vs (d + 1)
+      (bit + one_if (offered claim (kind_of (get_or kinds d 0)))))
   fits_next kinds vs d bit below few =
       let one : d + 1 ≡ suc d = omega arith in
       go kinds vs d below few
-      ∙ ap (λ (n : ℕ). agrees (offered claim (kind_of (get_or kinds d 0))) (get_or vs d false) (bits bit) && Left kinds vs n (bit + one_if (offered claim (kind_of (get_or kinds d 0))))) (sym one)
+      ∙ ap (λ (n : ℕ). agrees (offered claim (kind_of (get_or kinds d 0))) (get_or vs d false) (bits bit) && Left kinds vs n
+      (bit + one_if (offered claim (kind_of (get_or kinds d 0))))) (sym one)
     where
-      moved : (o : Bool) (ks : List Kind) (ws : List Bool) → fits claim ks ws (λ i. bits (bit + more_if o i)) ≡ fits claim ks ws (λ j. bits (bit + one_if o + j))
+      moved : (o : Bool) (ks : List Kind) (ws : List Bool) →
+          fits claim ks ws (λ i. bits (bit + more_if o i)) ≡ fits claim ks ws (λ j. bits (bit + one_if o + j))
       moved o ks ws = ap (fits claim ks ws) (λ i j. bits (same o j i))
         where
           same : (o : Bool) (j : ℕ) → bit + more_if o j ≡ bit + one_if o + j
@@ -210,12 +179,14 @@ module _ (claim : Bool) (bits : ℕ → Bool) where
           ≡ (agrees (offered claim (kind_of k)) v (bits bit) && fits claim (prefix kinds) vs (λ j. bits (bit + one_if (offered claim (kind_of k)) + j)))
       here k kinds v vs =
           let first : bit + 0 ≡ bit = omega arith in
-          ap (λ (n : ℕ). agrees (offered claim (kind_of k)) v (bits n) && fits claim (prefix kinds) vs (λ i. bits (bit + more_if (offered claim (kind_of k)) i))) first
+          ap (λ (n : ℕ). agrees (offered claim (kind_of k)) v (bits n) && fits claim (prefix kinds) vs
+          (λ i. bits (bit + more_if (offered claim (kind_of k)) i))) first
           ∙ ap (λ (b : Bool). agrees (offered claim (kind_of k)) v (bits bit) && b) (moved (offered claim (kind_of k)) (prefix kinds) vs)
 
       go : (kinds : List ℕ) (vs : List Bool) (d : ℕ) → d < length vs → length vs ≤ length kinds
           → Left kinds vs d bit
-          ≡ (agrees (offered claim (kind_of (get_or kinds d 0))) (get_or vs d false) (bits bit) && Left kinds vs (suc d) (bit + one_if (offered claim (kind_of (get_or kinds d 0)))))
+          ≡ (agrees (offered claim (kind_of (get_or kinds d 0))) (get_or vs d false) (bits bit) && Left kinds vs (suc d)
+          (bit + one_if (offered claim (kind_of (get_or kinds d 0)))))
       go kinds [] d below few = absurd (omega arith)
       go [] (v ∷ vs) d below few = absurd (omega arith)
       go (k ∷ kinds) (v ∷ vs) zero below few = here k kinds v vs
@@ -238,7 +209,8 @@ module _ (claim : Bool) (bits : ℕ → Bool) where
       → Left kinds (values_of moves) d bit ≡ (same && Left kinds (values_of moves) (d + 1) (bit + one_if own))
   fits_one_more kinds moves d bit below few {own} {there} {same} o t s =
       fits_next kinds (values_of moves) d bit (omega (arith, length-map moves value_of)) (omega (arith, length-map moves value_of))
-      ∙ ap (λ (v : Bool). agrees (offered claim (kind_of (get_or kinds d 0))) v (bits bit) && Left kinds (values_of moves) (d + 1) (bit + one_if (offered claim (kind_of (get_or kinds d 0)))))
+      ∙ ap (λ (v : Bool). agrees (offered claim (kind_of (get_or kinds d 0))) v (bits bit) && Left kinds (values_of moves) (d + 1)
+      (bit + one_if (offered claim (kind_of (get_or kinds d 0)))))
       (get_or-map value_of moves d 0)
       ∙ ap (λ (b : Bool). agrees b (value_of (get_or moves d 0)) (bits bit) && Left kinds (values_of moves) (d + 1) (bit + one_if b)) (sym o)
       ∙ ap (λ (b : Bool). b && Left kinds (values_of moves) (d + 1) (bit + one_if own)) (ap (agrees own (value_of (get_or moves d 0))) (sym t) ∙ sym s)

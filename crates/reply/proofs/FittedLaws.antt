@@ -5,7 +5,6 @@ use native.Mathlib.Omega.{arith}
 use mathlib.Core.Path.{◌≡◌, refl, sym, ap, ap₂, ◌∙◌, subst}
 use mathlib.Core.Bool.{Bool, true, false, cond, ◌&&◌}
 use mathlib.Core.List.{List, [], ◌∷◌, ◌++◌, append-nil}
-use lib.Dec.{ltb}
 use lib.ListN.{length, take, drop, get_or, replicate, length-map}
 use borrow.Author.Tests.{lt-ltb, le-ltb}
 use Rattle.formula.specs.Formula.{prefix, max_unknowns}
@@ -121,11 +120,13 @@ module _ (claim : Bool) (kinds : List ℕ) (vs : List Bool) (rows : List ℕ) wh
           clean_at j h (no e) = ap (stray wide) (copy.others j e) ∙ done.clean j (omega arith)
 
     -- Either way.
-    pub one_fitted : (fit : Bool) (now : List ℕ) (next from width : ℕ) → fit ≡ fits claim (prefix kinds) vs bits → from ≡ skipped → width ≡ wide → to < room kept
+    pub one_fitted : (fit : Bool) (now : List ℕ) (next from width : ℕ) → fit ≡ fits claim (prefix kinds) vs bits → from ≡ skipped → width ≡ wide →
+        to < room kept
         → wide ≤ row_bits → next ≡ to + one_if fit → Kept fit bits from width kept to now → Fitted claim kinds vs rows (i + 1) now next
     one_fitted true now next from width fit start size room_there narrow count copy =
         subst (Fitted claim kinds vs rows (i + 1) now) (sym count)
-        (copied now (subst (λ (n : ℕ). Copied bits skipped n kept to now) size (subst (λ (n : ℕ). Copied bits n width kept to now) start copy)) room_there narrow (sym fit))
+        (copied now (subst (λ (n : ℕ). Copied bits skipped n kept to now) size (subst (λ (n : ℕ). Copied bits n width kept to now) start copy)) room_there
+        narrow (sym fit))
     one_fitted false now next from width fit start size room_there narrow count same =
         subst (λ (t : List ℕ). Fitted claim kinds vs rows (i + 1) t next) (sym same)
         (subst (Fitted claim kinds vs rows (i + 1) kept) (sym (count ∙ plus_none)) (passed (sym fit)))
@@ -140,11 +141,6 @@ module _ (claim : Bool) (kinds : List ℕ) (vs : List Bool) (rows : List ℕ) wh
 -- ---- a row that fits, or not, as it is handed back
 
 module _ (fit : Bool) (bits : ℕ → Bool) (from width : ℕ) (before : List ℕ) (to : ℕ) where
-  pub kept_none : fit ≡ false → (to ≡ to + one_if fit) × Kept fit bits from width before to before
-  kept_none e =
-      let none : to ≡ to + 0 = omega arith in
-      (none ∙ ap (λ (b : Bool). to + one_if b) (sym e), subst (λ (b : Bool). Kept b bits from width before to before) (sym e) refl)
-
   pub kept_copied : (now : List ℕ) → fit ≡ true → Copied bits from width before to now → (to + 1 ≡ to + one_if fit) × Kept fit bits from width before to now
   kept_copied now e copy = (ap (λ (b : Bool). to + one_if b) (sym e), subst (λ (b : Bool). Kept b bits from width before to now) (sym e) copy)
 
@@ -157,7 +153,8 @@ module _ (claim : Bool) (kinds moves : List ℕ) where
   same_depth : length moves ≡ length vs
   same_depth = sym (length-map moves value_of)
 
-  module _ {from width : ℕ} (few : length kinds ≤ max_unknowns) (short : length moves ≤ length kinds) (from_is : from ≡ owned claim (prefix (take (length moves) kinds)))
+  module _ {from width : ℕ} (few : length kinds ≤ max_unknowns) (short : length moves ≤ length kinds)
+      (from_is : from ≡ owned claim (prefix (take (length moves) kinds)))
       (width_is : width ≡ owned claim (prefix (take (length kinds - length moves) (drop (length moves) kinds)))) where
     pub widths_few : from + width ≤ max_unknowns
     widths_few =
@@ -186,6 +183,7 @@ module _ (claim : Bool) (kinds moves rows : List ℕ) (i : ℕ) (table : List �
       let narrow = widths_few claim kinds moves few short from_is width_is in
       let wide_so = width_so claim kinds moves few short from_is width_is in (
         kept_size claim kinds (values_of moves) rows i table to done shorter into fit now from width copy,
-        one_fitted claim kinds (values_of moves) rows i table to done shorter into fit now next from width fit_is (from_so claim kinds moves few short from_is width_is) wide_so room_there
+        one_fitted claim kinds (values_of moves) rows i table to done shorter into fit now next from width fit_is
+            (from_so claim kinds moves few short from_is width_is) wide_so room_there
             (omega (arith, narrow, wide_so)) count copy,
       )

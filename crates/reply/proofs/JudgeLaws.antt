@@ -1,9 +1,14 @@
 -- The judge over the rows that fit, on the formula with the moves set, says whether the position is borne out. Assumes nothing.
-use Prim.Native.Nat.{ℕ, ◌+◌, ◌-◌, ◌*◌, ◌/◌, ◌%◌, ◌≤◌, ◌<◌}
+use Prim.Native.Nat.{ℕ, ◌-◌, ◌*◌, ◌%◌, ◌≤◌}
+use Rattle.std.specs.Prelude.{Ok, Result}
+use Rattle.std.specs.Result.{result_unwrap_or}
+use Rattle.formula.specs.declared.Formula.{Formula}
+use Rattle.cause.specs.declared.Cause.{Cause}
+use Rattle.cause.specs.Cause.{unless_cause}
 use native.Mathlib.Omega.{arith}
 use mathlib.Core.Path.{◌≡◌, refl, sym, ap, subst, ◌∙◌}
 use mathlib.Core.Bool.{Bool, true, false, cond, not, ◌&&◌, ◌||◌}
-use mathlib.Core.List.{List, map, ◌++◌}
+use mathlib.Core.List.{List, ◌++◌}
 use lib.Dec.{eqb, leb, ltb}
 use lib.IntN.{ℤ}
 use lib.ListN.{length, take, drop, replicate, length-replicate, length-map, length-append}
@@ -12,7 +17,6 @@ use borrow.Author.Tests.{eq-eqb, le-ltb}
 use Rattle.formula.specs.Formula.{prefix, clauses, max_rows, work_size}
 use Rattle.formula.specs.Meaning.{matrix}
 use Rattle.formula.specs.Causes as Causes
-use Rattle.expansion.specs.Play.{Row}
 use Rattle.expansion.specs.Judge.{accepted}
 use Rattle.rows.specs.Table.{rows_of, room, table_fits}
 use Rattle.rows.specs.Stray.{stray, stray_rows}
@@ -20,25 +24,21 @@ use Rattle.rows.specs.Table.{row_at}
 use Rattle.rows.proofs.TableLaws.{none_stray_rows}
 use Rattle.judge.specs.Judge as Judge
 use Rattle.judge.specs.Judge.{claims_true, other_claim, width, lent_rows}
-use Rattle.judge.specs.declared.Judgement.TheVariants as Judgement
 use Rattle.judge.proofs.Causes.{none_other_to_1}
-use Rattle.formula.specs.declared.Check.{Check}
-use Rattle.restriction.specs.declared.Set.{Set}
-use Rattle.restriction.specs.declared.Set.TheVariants.{Entries, Refused}
 use Rattle.restriction.specs.Outcome as Setting
 use Rattle.restriction.specs.Outcome.{value_of, values_of, wrong_values}
 use Rattle.restriction.proofs.OutcomeLaws.{few_values}
 use Rattle.case_rules.specs.Restricted.{IsAccepted, restricted, kinds_behind}
 use Rattle.case_rules.proofs.Proved.{restricted_right}
 use Rattle.reply_rules.specs.Position.{fitting, borne_out}
-use Rattle.reply.specs.Private.Fitting.{Lent, owned, Fitted, says_accepted}
+use Rattle.reply.specs.Private.Fitting.{Lent, Fitted, says_accepted}
 use Rattle.reply.proofs.FitLaws.{part_is, width_owned}
 
 fits_4096 : (table : List ℕ) → length table ≡ 4096 → table_fits table ≡ true
 unfolding table_fits
 fits_4096 table size = ap (λ (n : ℕ). leb 16 n && leb n (max_rows * 16) && eqb (n % 16) 0) size
 
-says_answer : (b : Bool) → says_accepted (Judge.answer b) ≡ b
+says_answer : (b : Bool) → says_accepted (Ok (Judge.answer b)) ≡ b
 says_answer true = refl
 says_answer false = refl
 
@@ -73,9 +73,15 @@ module _ (kinds : List ℕ) (literals : List ℤ) (claim : ℕ) (rows : List ℕ
   no_cause : Judge.cause behind left claim table fit area ≡ 0
   unfolding Judge.cause
   no_cause =
-      ap (λ (n : ℕ). cond (eqb n 0) (cond (not (table_fits table)) 4 (cond (not (eqb (length area) work_size)) 5 (cond (other_claim claim || ltb (room table) fit) 7 (cond (stray_rows (width behind claim) fit table) 8 0)))) n) formula_fine
-      ∙ ap (λ (b : Bool). cond (not b) 4 (cond (not (eqb (length area) work_size)) 5 (cond (other_claim claim || ltb (room table) fit) 7 (cond (stray_rows (width behind claim) fit table) 8 0)))) (fits_4096 table size)
-      ∙ ap (λ (b : Bool). cond (not b) 5 (cond (other_claim claim || ltb (room table) fit) 7 (cond (stray_rows (width behind claim) fit table) 8 0))) (eq-eqb (length area) work_size (length-replicate {A = ℕ} work_size 0))
+      ap (λ (n : ℕ). cond (eqb n 0)
+      (cond (not (table_fits table)) 4
+      (cond (not (eqb (length area) work_size)) 5
+      (cond (other_claim claim || ltb (room table) fit) 7 (cond (stray_rows (width behind claim) fit table) 8 0)))) n) formula_fine
+      ∙ ap (λ (b : Bool). cond (not b) 4
+      (cond (not (eqb (length area) work_size)) 5
+      (cond (other_claim claim || ltb (room table) fit) 7 (cond (stray_rows (width behind claim) fit table) 8 0)))) (fits_4096 table size)
+      ∙ ap (λ (b : Bool). cond (not b) 5 (cond (other_claim claim || ltb (room table) fit) 7 (cond (stray_rows (width behind claim) fit table) 8 0)))
+      (eq-eqb (length area) work_size (length-replicate {A = ℕ} work_size 0))
       ∙ ap (λ (b : Bool). cond (b || ltb (room table) fit) 7 (cond (stray_rows (width behind claim) fit table) 8 0)) (none_other_to_1 claim lent.known)
       ∙ ap (λ (b : Bool). cond b 7 (cond (stray_rows (width behind claim) fit table) 8 0)) few
       ∙ ap (λ (b : Bool). cond b 8 0) none_stray
@@ -89,7 +95,7 @@ module _ (kinds : List ℕ) (literals : List ℤ) (claim : ℕ) (rows : List ℕ
   said : says_accepted (Judge.outcome behind left claim table fit area) ≡ Judge.borne_out behind left claim table fit
   unfolding Judge.outcome
   said =
-      ap (λ (n : ℕ). says_accepted (cond (eqb n 0) (Judge.answer (Judge.borne_out behind left claim table fit)) (Judgement.Refused n))) no_cause
+      ap (λ (n : ℕ). says_accepted (unless_cause n (Judge.answer (Judge.borne_out behind left claim table fit)))) no_cause
       ∙ says_answer (Judge.borne_out behind left claim table fit)
 
   borne_said : says_accepted (Judge.outcome behind left claim table fit area)
@@ -110,37 +116,34 @@ borne_said_of kinds literals claim rows count moves lent good {table} {fit} {lef
 
 -- ---- the formula with the moves set, as it is written
 
-module _ (kinds : List ℕ) (literals : List ℤ) (moves : List ℕ) (output : List ℤ) (fine : IsAccepted kinds literals) (room_there : length literals ≤ length output)
+module _ (kinds : List ℕ) (literals : List ℤ) (moves : List ℕ) (output : List ℤ) (fine : IsAccepted kinds literals)
+    (room_there : length literals ≤ length output)
     (good : wrong_values (length kinds) moves ≡ false) where
   set_cause : Setting.cause kinds literals moves output ≡ 0
   unfolding Setting.cause
   set_cause =
-      ap (λ (k : Check). cond (eqb (Causes.number k) 0) (cond (ltb (length output) (length literals)) 15 (cond (wrong_values (length kinds) moves) 27 0)) (Causes.number k)) fine
+      ap (λ (k : Result Formula Cause). cond (eqb (Causes.number k) 0)
+      (cond (ltb (length output) (length literals)) 15 (cond (wrong_values (length kinds) moves) 27 0)) (Causes.number k)) fine
       ∙ ap (λ (b : Bool). cond b 15 (cond (wrong_values (length kinds) moves) 27 0)) (le-ltb (length output) (length literals) room_there)
       ∙ ap (λ (b : Bool). cond b 27 0) good
 
   abbrev rest : List ℤ
   rest = restricted (values_of moves) literals
 
-  set_outcome : Setting.outcome kinds literals moves output ≡ Entries (length rest)
+  set_outcome : Setting.outcome kinds literals moves output ≡ Ok (length rest)
   unfolding Setting.outcome
-  set_outcome = ap (λ (n : ℕ). cond (eqb n 0) (Entries (length rest)) (Refused n)) set_cause
+  set_outcome = ap (λ (n : ℕ). unless_cause n (length rest)) set_cause
 
   set_output : Setting.output_after kinds literals moves output ≡ rest ++ drop (length rest) output
   unfolding Setting.output_after
   set_output = ap (λ (n : ℕ). cond (eqb n 0) (rest ++ drop (length rest) output) output) set_cause
 
-  entries_same : (a b : ℕ) → Entries a ≡ Entries b → a ≡ b
-  entries_same a b e = cc
-
-  pub set_entries : {r : Set} (exit : List ℤ) (used : ℕ) → r ≡ Setting.outcome kinds literals moves output → exit ≡ Setting.output_after kinds literals moves output
-      → r ≡ Entries used → (used ≤ length exit) × (take used exit ≡ rest)
-  set_entries exit used returned written told =
-      let many = entries_same used (length rest) (sym told ∙ returned ∙ set_outcome) in
+  pub set_entries : {r : Result ℕ Cause} {used : ℕ} (exit : List ℤ) → r ≡ Setting.outcome kinds literals moves output →
+      exit ≡ Setting.output_after kinds literals moves output
+      → used ≡ result_unwrap_or r 0 → (used ≤ length exit) × (take used exit ≡ rest)
+  set_entries {used = used} exit returned written is =
+      let many : used ≡ length rest = is ∙ ap (λ (r : Result ℕ Cause). result_unwrap_or r 0) (returned ∙ set_outcome) in
       let stands = written ∙ set_output in (
         subst (λ (l : List ℤ). used ≤ length l) (sym stands) (omega (arith, many, length-append rest (drop (length rest) output))),
         ap (take used) stands ∙ take_at rest (drop (length rest) output) used (sym many),
       )
-
-  pub set_not_refused : {r : Set} (cause : ℕ) → r ≡ Setting.outcome kinds literals moves output → r ≡ Refused cause → ⊥
-  set_not_refused cause returned told = let same = sym told ∙ returned ∙ set_outcome in let z : ◌≡◌ {A = ℕ} 0 1 = cc in omega arith

@@ -1,14 +1,16 @@
 -- The reply to moves, for everything that is lent: the judge's causes of the formula and the rows (the work area is not lent, so there is no 5), then 27
 -- for wrong moves, then whose turn it is, then the value. Assumes nothing.
-use Rattle.std.specs.Prelude.{ℕ, Bool, not, ◌||◌, cond, List, eqb, ltb, ℤ, length}
+use Rattle.std.specs.Prelude.{ℕ, Bool, not, ◌||◌, cond, List, eqb, ltb, ℤ, length, Result}
 use Rattle.std.proofs.Math.Option.{Option, none, some}
+use Rattle.cause.specs.declared.Cause.{Cause}
+use Rattle.cause.specs.Cause.{unless_cause}
 use Rattle.rows.specs.Table.{room, table_fits}
 use Rattle.rows.specs.Stray.{stray_rows}
 use Rattle.judge.specs.Judge.{claims_true, other_claim, width, lent_rows}
 use Rattle.restriction.specs.Outcome.{values_of, formula_cause, wrong_values}
 use Rattle.reply_rules.specs.Position.{Turn, winners, others, none_left, turn, reply_value}
 use Rattle.reply.specs.declared.Next.{Next}
-use Rattle.reply.specs.declared.Next.TheVariants.{Value, OthersTurn, Done, NotBorneOut, Refused}
+use Rattle.reply.specs.declared.Next.TheVariants.{Value, OthersTurn, Done, NotBorneOut}
 
 -- 4 of the row table, 7 for 'claim not 0 or 1, or count over the rows lent', 8 for 'in a row below the count, a bit set beyond its unknowns'; or 0.
 unfoldable pub rows_cause : List ℕ → ℕ → List ℕ → ℕ → ℕ
@@ -40,7 +42,6 @@ answered kinds literals claim rows count moves =
     (reply_value (claims_true claim) kinds literals (lent_rows kinds claim rows count) (values_of moves))
 
 -- The answer, or the cause.
-unfoldable pub next : List ℕ → List ℤ → ℕ → List ℕ → ℕ → List ℕ → Next
+unfoldable pub next : List ℕ → List ℤ → ℕ → List ℕ → ℕ → List ℕ → Result Next Cause
 next kinds literals claim rows count moves =
-    cond (eqb (cause kinds literals claim rows count moves) 0) (answered kinds literals claim rows count moves)
-    (Refused (cause kinds literals claim rows count moves))
+    unless_cause (cause kinds literals claim rows count moves) (answered kinds literals claim rows count moves)

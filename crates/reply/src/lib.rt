@@ -5,6 +5,7 @@
 #![tactic(auto)]
 
 ghost use Rattle.std.specs.Prelude.{◌≡◌, false, cond, [], ◌∷◌, ◌++◌, ◌+◌, ◌≤◌, ◌<◌, length, take, replicate};
+ghost use Rattle.cause.specs.Cause.{told, unless_cause};
 ghost use Rattle.formula.specs.Formula.{kind_of, prefix, max_unknowns, work_size};
 ghost use Rattle.rows.specs.Table.{row_at, room};
 ghost use Rattle.rows.specs.Row.{bit_of};
@@ -14,23 +15,23 @@ ghost use Rattle.restriction.specs.Outcome.{value_of, values_of, wrong_values};
 ghost use Rattle.case_rules.specs.Restricted.{IsAccepted, restricted};
 ghost use Rattle.case_rules.specs.Casebook.{offered};
 ghost use Rattle.reply_rules.specs.Position.{borne_out};
-ghost use Rattle.reply.specs.Next.{rows_cause as rows_cause_of, cause as cause_of, next as next_of};
+ghost use Rattle.reply.specs.Next.{rows_cause, cause as cause_of, next as next_of};
 ghost use Rattle.reply.specs.NextRight.{NextRight};
-ghost use Rattle.reply.specs.Private.Fitting.{agrees as agreeing, one_if as one_or_none, fits as fits_so, owned as owned_of, Lent, Blank, Copied, Kept, Fitted, says_accepted};
+ghost use Rattle.reply.specs.Private.Fitting.{agrees as agreeing, one_if as one_or_none, fits as fits_so, owned as owned_of};
+ghost use Rattle.reply.specs.Private.Fitting.{Lent, Blank, Copied, Kept, Fitted, says_accepted};
 
-use formula::{Check, Formula};
+use cause::Cause;
+use formula::Formula;
 use judge::Judgement;
-use restriction::Set;
 
 // The value of the next unknown, if it is the claim's side that sets it. There is none where neither value is borne out, which in a game played by these
-// replies from the start never happens. A refusal has the number of its cause.
+// replies from the start never happens.
 #[derive(Clone, Copy)]
 pub enum Next {
     Value(bool),
     OthersTurn,
     Done,
     NotBorneOut,
-    Refused(u32),
 }
 
 const TABLE: usize = 16 * Formula::ROWS;
@@ -43,66 +44,64 @@ pub fn next_move(
     rows: &[u8],
     count: usize,
     moves: &[u8],
-) -> Next
+) -> Result<Next, Cause>
     ensures value { result ≡ next_of kinds.now literals.now claim rows.now count moves.now }
+    ensures cause_told { told result ≡ cause_of kinds.now literals.now claim rows.now count moves.now }
     ensures proved { NextRight kinds.now literals.now claim rows.now count }
 {
-    let cause = cause(kinds, literals, claim, rows, count, moves);
-    if cause != 0 {
-        return Next::Refused(cause);
-    }
+    check(kinds, literals, claim, rows, count, moves)?;
     let depth = moves.len();
     if depth == kinds.len() {
-        return Next::Done;
+        return Ok(Next::Done);
     }
-    if is_winners(kinds[depth], claim) {} else {
-        return Next::OthersTurn;
+    if !is_winners(kinds[depth], claim) {
+        return Ok(Next::OthersTurn);
     }
     if is_borne_out_with(kinds, literals, claim, rows, count, moves, 1) {
-        return Next::Value(true);
+        return Ok(Next::Value(true));
     }
     if is_borne_out_with(kinds, literals, claim, rows, count, moves, 0) {
-        return Next::Value(false);
+        return Ok(Next::Value(false));
     }
-    Next::NotBorneOut
+    Ok(Next::NotBorneOut)
 }
 
-// The number of the first cause that applies, or 0.
-fn cause(kinds: &[u8], literals: &[i32], claim: u8, rows: &[u8], count: usize, moves: &[u8]) -> u32
-    ensures { result ≡ cause_of kinds.now literals.now claim rows.now count moves.now }
+// The first cause that applies.
+fn check(
+    kinds: &[u8],
+    literals: &[i32],
+    claim: u8,
+    rows: &[u8],
+    count: usize,
+    moves: &[u8],
+) -> Result<(), Cause>
+    ensures { result ≡ unless_cause (cause_of kinds.now literals.now claim rows.now count moves.now) tt }
 {
-    match Formula::check(kinds, literals) {
-        Check::Refused(cause) => cause,
-        Check::Accepted(_) => {
-            let cause = rows_cause(kinds, claim, rows, count);
-            if cause != 0 {
-                return cause;
-            }
-            if restriction::are_wrong(kinds.len(), moves) {
-                return 27;
-            }
-            0
-        }
+    Formula::check(kinds, literals)?;
+    check_rows(kinds, claim, rows, count)?;
+    if restriction::are_wrong(kinds.len(), moves) {
+        return Err(Cause::Values);
     }
+    Ok(())
 }
 
 // The judge's causes of the rows.
-fn rows_cause(kinds: &[u8], claim: u8, rows: &[u8], count: usize) -> u32
-    ensures { result ≡ rows_cause_of kinds.now claim rows.now count }
+fn check_rows(kinds: &[u8], claim: u8, rows: &[u8], count: usize) -> Result<(), Cause>
+    ensures { result ≡ unless_cause (rows_cause kinds.now claim rows.now count) tt }
 {
-    if rows::table_fits(rows) {} else {
-        return 4;
+    if !rows::table_fits(rows) {
+        return Err(Cause::Rows);
     }
     if claim > 1 {
-        return 7;
+        return Err(Cause::Count);
     }
     if rows.len() / 16 < count {
-        return 7;
+        return Err(Cause::Count);
     }
     if rows::stray_bit(rows, count, owned(kinds, claim)) {
-        return 8;
+        return Err(Cause::StrayBit);
     }
-    0
+    Ok(())
 }
 
 // Whether an unknown of this kind belongs to the claim's side.
@@ -126,20 +125,10 @@ fn owned(kinds: &[u8], claim: u8) -> usize
     ensures value { result ≡ owned_of (claims_true claim) (prefix kinds.now) }
     ensures few { result ≤ length kinds.now }
 {
-    let mut found = 0;
-    let mut i = 0;
-    while i < kinds.len() {
-        found += one_if(is_winners(kinds[i], claim));
-        i += 1;
-    }
-    found
-}
-
-fn one_if(own: bool) -> usize
-    ensures value { result ≡ one_or_none own }
-    ensures upper_bound { result ≤ 1 }
-{
-    if own { 1 } else { 0 }
+    kinds
+        .iter()
+        .filter(|kind| is_winners(**kind, claim))
+        .count()
 }
 
 // Whether the position behind one move more is borne out.
@@ -152,8 +141,10 @@ fn is_borne_out_with(
     moves: &[u8],
     value: u8,
 ) -> bool
-    requires { Lent kinds.now literals.now claim rows.now count × (wrong_values (length kinds.now) moves.now ≡ false) × (length moves.now < length kinds.now) × (value ≤ 1) }
-    ensures { result ≡ borne_out (claims_true claim) kinds.now literals.now (lent_rows kinds.now claim rows.now count) (values_of moves.now ++ (value_of value ∷ [])) }
+    requires { Lent kinds.now literals.now claim rows.now count × (wrong_values (length kinds.now) moves.now ≡ false)
+        × (length moves.now < length kinds.now) × (value ≤ 1) }
+    ensures { result ≡ borne_out (claims_true claim) kinds.now literals.now (lent_rows kinds.now claim rows.now count)
+        (values_of moves.now ++ (value_of value ∷ [])) }
 {
     let mut longer = [0u8; Formula::UNKNOWNS];
     let size = append(moves, value, &mut longer);
@@ -166,13 +157,10 @@ fn append(moves: &[u8], value: u8, longer: &mut [u8]) -> usize
     ensures value { result ≡ length moves.now + 1 }
     ensures longer_after { take result longer.new ≡ moves.now ++ (value ∷ []) }
 {
-    let mut i = 0;
-    while i < moves.len() {
-        longer[i] = moves[i];
-        i += 1;
-    }
-    longer[i] = value;
-    i + 1
+    let end = moves.len();
+    longer[..end].copy_from_slice(moves);
+    longer[end] = value;
+    end + 1
 }
 
 // Whether the judge accepts the rows that still fit for the formula with the moves set.
@@ -200,10 +188,7 @@ fn set(kinds: &[u8], literals: &[i32], moves: &[u8], left: &mut [i32]) -> usize
     ensures upper_bound { result ≤ length left.new }
     ensures left_after { take result left.new ≡ restricted (values_of moves.now) literals.now }
 {
-    match restriction::set_first(kinds, literals, moves, left) {
-        Set::Entries(used) => used,
-        Set::Refused(_) => 0,
-    }
+    restriction::set_first(kinds, literals, moves, left).unwrap_or(0)
 }
 
 // Whether the judge accepts the rows.
@@ -211,11 +196,10 @@ fn is_accepted(kinds: &[u8], literals: &[i32], claim: u8, rows: &[u8], count: us
     ensures { result ≡ says_accepted (judged kinds.now literals.now claim rows.now count (replicate work_size 0)) }
 {
     let mut work = [0u8; Formula::WORK];
-    match judge::judge(kinds, literals, claim, rows, count, &mut work) {
-        Judgement::NotBorneOut => false,
-        Judgement::Accepted => true,
-        Judgement::Refused(_) => false,
-    }
+    matches!(
+        judge::judge(kinds, literals, claim, rows, count, &mut work),
+        Ok(Judgement::Accepted)
+    )
 }
 
 // Copies the rows that fit the moves, what they say of the unknowns behind these, into an empty table: how many there are.
@@ -227,7 +211,8 @@ fn keep_fitting(
     moves: &[u8],
     table: &mut [u8],
 ) -> usize
-    requires { (length kinds.now ≤ max_unknowns) × (length moves.now ≤ length kinds.now) × (count ≤ room rows.now) × (count ≤ room table.old) × Blank 0 table.old }
+    requires { (length kinds.now ≤ max_unknowns) × (length moves.now ≤ length kinds.now) × (count ≤ room rows.now) × (count ≤ room table.old)
+        × Blank 0 table.old }
     ensures fitted { Fitted (claims_true claim) kinds.now (values_of moves.now) rows.now count table.new result }
     ensures table_len_unchanged { length table.new ≡ length table.old }
 {
@@ -235,11 +220,9 @@ fn keep_fitting(
     let from = owned(&kinds[..depth], claim);
     let width = owned(&kinds[depth..], claim);
     let mut to = 0;
-    let mut i = 0;
-    while i < count {
+    for i in 0..count {
         let fit = row_fits(kinds, claim, rows, i, moves);
         to = keep(fit, rows, i, from, width, table, to);
-        i += 1;
     }
     to
 }
@@ -250,14 +233,12 @@ fn row_fits(kinds: &[u8], claim: u8, rows: &[u8], i: usize, moves: &[u8]) -> boo
     ensures { result ≡ fits_so (claims_true claim) (prefix kinds.now) (values_of moves.now) (bit_of (row_at rows.now i)) }
 {
     let mut bit = 0;
-    let mut d = 0;
-    while d < moves.len() {
-        let own = is_winners(kinds[d], claim);
-        if agrees(own, moves[d], rows::bit(rows, i, bit)) {} else {
+    for (kind, value) in kinds.iter().zip(moves) {
+        let own = is_winners(*kind, claim);
+        if !agrees(own, *value, rows::bit(rows, i, bit)) {
             return false;
         }
-        bit += one_if(own);
-        d += 1;
+        bit += usize::from(own);
     }
     true
 }
@@ -266,7 +247,7 @@ fn row_fits(kinds: &[u8], claim: u8, rows: &[u8], i: usize, moves: &[u8]) -> boo
 fn agrees(own: bool, value: u8, bit: bool) -> bool
     ensures { result ≡ agreeing own (value_of value) bit }
 {
-    if own {} else {
+    if !own {
         return true;
     }
     if value == 0 {
@@ -289,7 +270,7 @@ fn keep(
     ensures value { result ≡ to + one_or_none fit }
     ensures kept { Kept fit (bit_of (row_at rows.now i)) from width table.old to table.new }
 {
-    if fit {} else {
+    if !fit {
         return to;
     }
     copy_behind(rows, i, from, width, table, to);
@@ -301,10 +282,8 @@ fn copy_behind(rows: &[u8], i: usize, from: usize, width: usize, table: &mut [u8
     requires { (from + width ≤ max_unknowns) × (to < room table.old) × Blank to table.old }
     ensures { Copied (bit_of (row_at rows.now i)) from width table.old to table.new }
 {
-    let mut k = 0;
-    while k < width {
+    for k in 0..width {
         set_if(table, to, k, rows::bit(rows, i, from + k));
-        k += 1;
     }
 }
 

@@ -1,5 +1,8 @@
 -- From what the readers and the reply promise to the answer and its line. Assumes nothing.
 use Prim.Native.Nat.{ℕ, ◌/◌, ◌%◌}
+use Rattle.std.specs.Prelude.{Result as Outcome, Err, Ok}
+use Rattle.cause.specs.declared.Cause.{Cause}
+use Rattle.cause.specs.Cause.{number, caused}
 use native.Mathlib.Omega.{arith}
 use mathlib.Core.Path.{◌≡◌, refl, sym, ap, subst, ◌∙◌}
 use mathlib.Core.Bool.{Bool, true, false, cond}
@@ -9,12 +12,10 @@ use lib.IntN.{ℤ}
 use lib.ListN.{take}
 use borrow.Author.Tests.{eq-eqb, ne_eqb}
 use Rattle.rows.specs.Table.{room}
-use Rattle.text.specs.Reading.{Result, taken, refused}
+use Rattle.text.specs.Reading.{Result, refused}
 use Rattle.text.proofs.FrontLaws.{Front}
 use Rattle.witness.specs.declared.Record.{Record}
-use Rattle.witness.specs.declared.Reading.TheVariants.{Taken, Refused as NotRead}
-use Rattle.witness.specs.File.{stands, file_cause, record_of, reading}
-use Rattle.report.specs.Report.{put, put_count}
+use Rattle.witness.specs.File.{file_cause, record_of, reading}
 use Rattle.judgement.specs.Finding.{claimed_rows}
 use Rattle.judgement.proofs.FindingLaws.{Put}
 use Rattle.reply.specs.declared.Next.{Next}
@@ -25,7 +26,7 @@ use Rattle.reply_answer.specs.Answer.{of_next, on_claim, on_record, on_formula, 
 
 module _ (kinds : List ℕ) (literals : List ℤ) (f moves : List ℕ) where
   -- The reply was asked for with the claim and the rows of its side.
-  pub claim_answered : (claim : ℕ) {rows : List ℕ} {result : Next} (case : Next) → rows ≡ claimed_rows f claim → result ≡ case
+  pub claim_answered : (claim : ℕ) {rows : List ℕ} {result : Outcome Next Cause} (case : Outcome Next Cause) → rows ≡ claimed_rows f claim → result ≡ case
       → result ≡ next kinds literals claim rows (room rows) moves → of_next case ≡ on_claim kinds literals f moves claim
   unfolding on_claim
   claim_answered claim case same told e =
@@ -50,21 +51,21 @@ module _ (kinds : List ℕ) (literals : List ℤ) (f moves : List ℕ) where
   unfolding on_formula
   formula_so e = ap formula_by e
 
-  pub formula_read : (r : Record) → reading f ≡ Taken r → on_record kinds literals f moves r ≡ on_formula kinds literals f moves
+  pub formula_read : (r : Record) → reading f ≡ Ok r → on_record kinds literals f moves r ≡ on_formula kinds literals f moves
   formula_read r e = go (eqb (file_cause f) 0) refl e
     where
-      go : (b : Bool) → eqb (file_cause f) 0 ≡ b → cond b (Taken (record_of f)) (NotRead (file_cause f)) ≡ Taken r
+      go : (b : Bool) → eqb (file_cause f) 0 ≡ b → cond b (Ok (record_of f)) (Err (caused (file_cause f))) ≡ Ok r
           → on_record kinds literals f moves r ≡ on_formula kinds literals f moves
       go true e is = let same : record_of f ≡ r = cc in sym (formula_so e ∙ ap (on_record kinds literals f moves) same)
       go false e is = let z : ◌≡◌ {A = ℕ} 0 1 = cc in absurd (omega arith)
 
-  pub formula_refused : (cause : ℕ) → reading f ≡ NotRead cause → Refused cause 0 ≡ on_formula kinds literals f moves
-  formula_refused cause e = go (eqb (file_cause f) 0) refl e
+  pub formula_refused : (cause : Cause) → reading f ≡ Err cause → number cause ≡ file_cause f → Refused (number cause) 0 ≡ on_formula kinds literals f moves
+  formula_refused cause e told = go (eqb (file_cause f) 0) refl e
     where
-      go : (b : Bool) → eqb (file_cause f) 0 ≡ b → cond b (Taken (record_of f)) (NotRead (file_cause f)) ≡ NotRead cause
-          → Refused cause 0 ≡ on_formula kinds literals f moves
+      go : (b : Bool) → eqb (file_cause f) 0 ≡ b → cond b (Ok (record_of f)) (Err (caused (file_cause f))) ≡ Err cause
+          → Refused (number cause) 0 ≡ on_formula kinds literals f moves
       go true e is = let z : ◌≡◌ {A = ℕ} 0 1 = cc in absurd (omega arith)
-      go false e is = let same : file_cause f ≡ cause = cc in sym (formula_so e ∙ ap (λ (n : ℕ). Refused n 0) same)
+      go false e is = sym (formula_so e ∙ ap (λ (n : ℕ). Refused n 0) (sym told))
 
 -- From the text's reading.
 module _ (r : Result) (f moves : List ℕ) where

@@ -1,6 +1,8 @@
 -- The reply over a text, a witness file and moves: the causes of the text, those of the file, then the reply; and the line that is printed of it.
 -- Assumes nothing.
-use Rattle.std.specs.Prelude.{ℕ, Bool, true, false, cond, List, eqb, ℤ}
+use Rattle.std.specs.Prelude.{ℕ, Bool, true, false, cond, List, eqb, ℤ, Result as Outcome, Ok, Err}
+use Rattle.cause.specs.declared.Cause.{Cause}
+use Rattle.cause.specs.Cause.{number}
 use Rattle.rows.specs.Table.{room}
 use Rattle.text.specs.Reading.{Result, taken, refused, read_as}
 use Rattle.witness.specs.declared.Record.{Record}
@@ -8,18 +10,17 @@ use Rattle.witness.specs.File.{stands, file_cause, record_of}
 use Rattle.report.specs.Report.{ascii, refusal_line}
 use Rattle.judgement.specs.Finding.{claimed_rows}
 use Rattle.reply.specs.declared.Next.{Next}
-use Rattle.reply.specs.declared.Next.TheVariants as Next
 use Rattle.reply.specs.Next.{next}
 use Rattle.reply_answer.specs.declared.Answer.{Answer}
 use Rattle.reply_answer.specs.declared.Answer.TheVariants.{Replied, OthersTurn, Done, NotBorneOut, Refused}
 
 -- A cause of the rows or the moves has line 0.
-abbrev pub of_next : Next → Answer
-of_next (Next.Value v) = Replied v
-of_next Next.OthersTurn = OthersTurn
-of_next Next.Done = Done
-of_next Next.NotBorneOut = NotBorneOut
-of_next (Next.Refused cause) = Refused cause 0
+abbrev pub of_next : Outcome Next Cause → Answer
+of_next (Ok (Next.Value v)) = Replied v
+of_next (Ok Next.OthersTurn) = OthersTurn
+of_next (Ok Next.Done) = Done
+of_next (Ok Next.NotBorneOut) = NotBorneOut
+of_next (Err cause) = Refused (number cause) 0
 
 -- The reply from all rows of the claim's side in the file.
 unfoldable pub on_claim : List ℕ → List ℤ → List ℕ → List ℕ → ℕ → Answer

@@ -11,7 +11,7 @@ ghost use Rattle.reply_answer.specs.Answer.{on_claim, on_record, on_formula, on_
 
 use formula::Formula;
 use reply::Next;
-use text::Reading;
+use text::Taken;
 use witness::Record;
 
 // A refusal has its number and the text's line, 0 for the causes of the file, the rows and the moves.
@@ -70,15 +70,17 @@ fn find(input: &[u8], length: usize, file: &[u8], moves: &[u8]) -> Answer
     let mut literals = [0i32; Formula::ENTRIES];
     let mut names = [0u16; Formula::UNKNOWNS];
     match text::read_offered(input, length, false, &mut kinds, &mut literals, &mut names) {
-        Reading::Refused { number, line } => Answer::Refused {
-            number,
-            line: line as u32,
+        Err(refusal) => Answer::Refused {
+            number: refusal.cause.number(),
+            line: refusal.line as u32,
         },
-        Reading::Taken {
-            unknowns,
-            entries,
-            ..
-        } => on_formula(&kinds[..unknowns], &literals[..entries], file, moves),
+        Ok(
+            Taken {
+                unknowns,
+                entries,
+                ..
+            },
+        ) => on_formula(&kinds[..unknowns], &literals[..entries], file, moves),
     }
 }
 
@@ -87,9 +89,9 @@ fn on_formula(kinds: &[u8], literals: &[i32], file: &[u8], moves: &[u8]) -> Answ
     ensures { result ≡ on_formula kinds.now literals.now file.now moves.now }
 {
     match witness::read(file) {
-        witness::Reading::Taken(record) => on_record(kinds, literals, file, record, moves),
-        witness::Reading::Refused(cause) => Answer::Refused {
-            number: cause,
+        Ok(record) => on_record(kinds, literals, file, record, moves),
+        Err(cause) => Answer::Refused {
+            number: cause.number(),
             line: 0,
         },
     }
@@ -112,12 +114,12 @@ fn on_claim(kinds: &[u8], literals: &[i32], file: &[u8], claim: u8, moves: &[u8]
 {
     let rows = witness::rows(file, claim == 0);
     match reply::next_move(kinds, literals, claim, rows, rows.len() / 16, moves) {
-        Next::Value(value) => Answer::Replied(value),
-        Next::OthersTurn => Answer::OthersTurn,
-        Next::Done => Answer::Done,
-        Next::NotBorneOut => Answer::NotBorneOut,
-        Next::Refused(cause) => Answer::Refused {
-            number: cause,
+        Ok(Next::Value(value)) => Answer::Replied(value),
+        Ok(Next::OthersTurn) => Answer::OthersTurn,
+        Ok(Next::Done) => Answer::Done,
+        Ok(Next::NotBorneOut) => Answer::NotBorneOut,
+        Err(cause) => Answer::Refused {
+            number: cause.number(),
             line: 0,
         },
     }

@@ -3,14 +3,14 @@ use Prim.Native.Nat.{ℕ, zero, suc, ◌-◌, ◌≤◌, ◌<◌}
 use native.Mathlib.Omega.{arith}
 use mathlib.Core.Path.{◌≡◌, refl, sym, ap, ◌∙◌}
 use mathlib.Core.Bool.{Bool, true, false, not, true≢false}
-use mathlib.Core.List.{List, [], ◌∷◌, map}
+use mathlib.Core.List.{List, [], ◌∷◌}
 use borrow.Author.Tests.{leb-true, leb-false, ne_eqb}
 use lib.Dec.{eqb, leb}
 use lib.IntN.{ℤ, pos, negsuc, nat_abs}
 use lib.ListN.{length, get_or, length-map, get_or-map}
 use Rattle.formula.specs.Literal.{negative}
 use Rattle.named.specs.Named.{signed}
-use Rattle.case_rules.specs.Restricted.{Standing, known, behind, standing, Remains, is_true, is_false, stays, plain, negated, of_literal}
+use Rattle.case_rules.specs.Restricted.{Standing, known, behind, standing, plain, negated, of_literal}
 use Rattle.case_rules.proofs.RestrictedLaws.{NotZero}
 use Rattle.restriction.specs.Outcome.{value_of, values_of}
 use Rattle.restriction.specs.Private.Walk.{meets, is_set, literal_left, entry_left}
@@ -83,10 +83,6 @@ literal_known (negsuc v) h = tt
 left_known : (b : Bool) → (literal_left (plain (known b)) ≡ []) × (literal_left (negated (known b)) ≡ [])
 left_known true = (refl, refl)
 left_known false = (refl, refl)
-
-pub is_set_above : (name depth : ℕ) → (name ≡ 0 → ⊥) → is_set name depth ≡ leb name depth
-is_set_above zero depth h = absurd (h refl)
-is_set_above (suc v) depth h = refl
 
 -- Nothing of a literal whose unknown is set ..
 pub entry_set : (vs : List Bool) (z : ℤ) → is_set (nat_abs z) (length vs) ≡ true → entry_left vs true z ≡ []

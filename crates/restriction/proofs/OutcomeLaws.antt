@@ -1,26 +1,26 @@
 -- Wrong values; what `set_first` returns and leaves, by the cause that comes first. Assumes nothing.
 use Prim.Native.Nat.{ℕ, ◌≤◌, ◌<◌}
+use Rattle.std.specs.Prelude.{Err, Ok, Result}
+use Rattle.cause.specs.declared.Cause.{Cause}
+use Rattle.cause.specs.declared.Cause.TheVariants.{Output, Values}
+use Rattle.cause.specs.Cause.{number as number_of, caused, unless_cause}
+use Rattle.cause.proofs.Numbers.{from_1, caused_number}
 use native.Mathlib.Omega.{arith}
-use mathlib.Core.Path.{◌≡◌, refl, sym, ◌∙◌, ap}
+use mathlib.Core.Path.{◌≡◌, sym, ◌∙◌, ap}
 use mathlib.Core.Bool.{Bool, true, false, cond, ◌||◌}
 use mathlib.Core.List.{List, ◌++◌}
 use borrow.Author.Tests.{ltb-false, ne_eqb, lt-ltb, le-ltb}
 use lib.Dec.{eqb, ltb}
 use lib.IntN.{ℤ}
 use lib.ListN.{length, drop}
-use Rattle.formula.specs.declared.Check.{Check}
-use Rattle.formula.specs.declared.Check.TheVariants.{Accepted, Refused as CheckRefused}
 use Rattle.formula.specs.declared.Formula.{Formula}
 use Rattle.formula.specs.Causes as Causes
 use Rattle.formula.specs.Causes.{any, other_kind, is_zero, checked}
 use Rattle.formula.proofs.Any.{or_none}
-use Rattle.formula.proofs.Order.{refused_from_1}
 use Rattle.formula.proofs.Accepted.{accepted}
 use Rattle.case_rules.specs.Restricted.{restricted}
 use Rattle.case_rules.specs.RestrictedRight.{RestrictedRight}
 use Rattle.case_rules.proofs.Proved.{restricted_right}
-use Rattle.restriction.specs.declared.Set.{Set}
-use Rattle.restriction.specs.declared.Set.TheVariants.{Entries, Refused}
 use Rattle.restriction.specs.Outcome.{values_of, wrong_values, cause, outcome, output_after, number}
 use Rattle.restriction.specs.Private.Walk.{walked}
 use Rattle.restriction.proofs.WalkLaws.{walked_restricted}
@@ -44,7 +44,7 @@ few_values unknowns values good = ltb-false unknowns (length values) (or_none (l
 
 module _ (kinds : List ℕ) (literals : List ℤ) (values : List ℕ) (output : List ℤ) where
   -- All that `set_first` ensures.
-  abbrev pub End : Set → List ℤ → Type 0
+  abbrev pub End : Result ℕ Cause → List ℤ → Type 0
   End r exit =
       (r ≡ outcome kinds literals values output)
       × ((exit ≡ output_after kinds literals values output)
@@ -60,37 +60,42 @@ module _ (kinds : List ℕ) (literals : List ℤ) (values : List ℕ) (output : 
   abbrev later : ℕ
   later = cond (ltb (length output) (length literals)) 15 (cond (wrong_values (length kinds) values) 27 0)
 
-  by_cause : (n : ℕ) → cause kinds literals values output ≡ n → eqb n 0 ≡ false → End (Refused n) output
+  by_cause : (c : Cause) → cause kinds literals values output ≡ number_of c → End (Err c) output
   unfolding outcome output_after
-  by_cause n e other =
-      let refused : (b : Bool) → b ≡ false → cond b (Entries (length left)) (Refused n) ≡ Refused n =
-      λ b h. ap (λ (b : Bool). cond b (Entries (length left)) (Refused n)) h in
-      let stays : (b : Bool) → b ≡ false → cond b (left ++ drop (length left) output) output ≡ output =
-      λ b h. ap (λ (b : Bool). cond b (left ++ drop (length left) output) output) h in (
-        sym (ap (λ (k : ℕ). cond (eqb k 0) (Entries (length left)) (Refused k)) e ∙ refused (eqb n 0) other),
-        (sym (ap (λ (k : ℕ). cond (eqb k 0) (left ++ drop (length left) output) output) e ∙ stays (eqb n 0) other), (sym e, right)),
+  by_cause c e =
+      let some = from_1 c in
+      let applies = ne_eqb (number_of c) 0 (λ z. omega arith) in (
+        sym
+            (ap (λ (k : ℕ). unless_cause k (length left)) e
+            ∙ ap (λ (b : Bool). cond b (Ok (length left)) (Err (caused (number_of c)))) applies
+            ∙ ap Err (caused_number c)),
+        (
+          sym
+              (ap (λ (k : ℕ). cond (eqb k 0) (left ++ drop (length left) output) output) e
+              ∙ ap (λ (b : Bool). cond b (left ++ drop (length left) output) output) applies),
+          (sym e, right),
+        ),
       )
 
   -- Causes 1 to 3 come first ..
-  pub formula_refused : (n : ℕ) → checked kinds literals ≡ CheckRefused n → End (Refused n) output
+  pub formula_refused : (c : Cause) → checked kinds literals ≡ Err c → End (Err c) output
   unfolding cause
-  formula_refused n e =
-      let some_cause = refused_from_1 kinds literals n e in
-      let other = ne_eqb n 0 (λ z. omega arith) in
-      by_cause n
-      (ap (λ (k : Check). cond (eqb (Causes.number k) 0) later (Causes.number k)) e ∙ ap (λ (b : Bool). cond b later n) other)
-      other
+  formula_refused c e =
+      let some = from_1 c in
+      by_cause c
+      (ap (λ (k : Result Formula Cause). cond (eqb (Causes.number k) 0) later (Causes.number k)) e
+      ∙ ap (λ (b : Bool). cond b later (number_of c)) (ne_eqb (number_of c) 0 (λ z. omega arith)))
 
-  module _ (f : Formula) (e : checked kinds literals ≡ Accepted f) where
+  module _ (f : Formula) (e : checked kinds literals ≡ Ok f) where
     cause_later : cause kinds literals values output ≡ later
     unfolding cause
-    cause_later = ap (λ (k : Check). cond (eqb (Causes.number k) 0) later (Causes.number k)) e
+    cause_later = ap (λ (k : Result Formula Cause). cond (eqb (Causes.number k) 0) later (Causes.number k)) e
 
     -- .. then 15 ..
-    pub output_refused : length output < length literals → End (Refused 15) output
+    pub output_refused : length output < length literals → End (Err Output) output
     output_refused short =
-        by_cause 15
-        (cause_later ∙ ap (λ (b : Bool). cond b 15 (cond (wrong_values (length kinds) values) 27 0)) (lt-ltb (length output) (length literals) short)) refl
+        by_cause Output
+        (cause_later ∙ ap (λ (b : Bool). cond b 15 (cond (wrong_values (length kinds) values) 27 0)) (lt-ltb (length output) (length literals) short))
 
     module _ (room : length literals ≤ length output) where
       cause_last : cause kinds literals values output ≡ cond (wrong_values (length kinds) values) 27 0
@@ -98,18 +103,18 @@ module _ (kinds : List ℕ) (literals : List ℤ) (values : List ℕ) (output : 
           cause_later ∙ ap (λ (b : Bool). cond b 15 (cond (wrong_values (length kinds) values) 27 0)) (le-ltb (length output) (length literals) room)
 
       -- .. then 27 ..
-      pub values_refused : wrong_values (length kinds) values ≡ true → End (Refused 27) output
-      values_refused wrong = by_cause 27 (cause_last ∙ ap (λ (b : Bool). cond b 27 0) wrong) refl
+      pub values_refused : wrong_values (length kinds) values ≡ true → End (Err Values) output
+      values_refused wrong = by_cause Values (cause_last ∙ ap (λ (b : Bool). cond b 27 0) wrong)
 
       -- .. and without a cause the unknowns are set.
       pub answered : wrong_values (length kinds) values ≡ false → (n : ℕ) (exit : List ℤ) → n ≡ length (walked (values_of values) literals)
-          → exit ≡ walked (values_of values) literals ++ drop n output → End (Entries n) exit
+          → exit ≡ walked (values_of values) literals ++ drop n output → End (Ok n) exit
       unfolding outcome output_after
       answered good n exit en ex =
           let none = cause_last ∙ ap (λ (b : Bool). cond b 27 0) good in
           let same = walked_restricted (values_of values) literals (ap is_zero (accepted kinds literals e).last_is_zero) in
           let as_many = en ∙ ap length same in (
-            ap Entries as_many ∙ sym (ap (λ (k : ℕ). cond (eqb k 0) (Entries (length left)) (Refused k)) none),
+            ap Ok as_many ∙ sym (ap (λ (k : ℕ). unless_cause k (length left)) none),
             (
               ex
                   ∙ ap (λ (l : List ℤ). l ++ drop n output) same

@@ -1,5 +1,5 @@
 -- The walk over the entries leaves the literals of the formula with its first unknowns set, if the last entry is 0. Assumes nothing.
-use Prim.Native.Nat.{zero, suc, ◌<◌}
+use Prim.Native.Nat.{zero, suc}
 use native.Mathlib.Omega.{arith}
 use mathlib.Core.Path.{◌≡◌, refl, sym, ap, ◌∙◌}
 use mathlib.Core.Bool.{Bool, true, false, not, ◌&&◌, true≢false, false≢true}
@@ -12,7 +12,7 @@ use Rattle.trimming_rules.specs.Trimming.{entries}
 use Rattle.trimming_rules.proofs.Trimmed.{Started, started, ended_behind}
 use Rattle.case_rules.specs.Restricted.{Remains, is_true, is_false, stays, of_literal, in_front, of_clause, if_left, of_clauses, restricted}
 use Rattle.case_rules.proofs.RestrictedLaws.{NotZero}
-use Rattle.restriction.specs.Private.Walk.{is_left, first_left, stands, literal_left, entry_left, kept_after, walked_from, walked}
+use Rattle.restriction.specs.Private.Walk.{is_left, first_left, stands, literal_left, walked_from, walked}
 
 -- ---- whether the first clause is kept
 

@@ -5,7 +5,7 @@ use mathlib.Core.Path.{◌≡◌, refl, sym, ap, ap₂, ◌∙◌}
 use mathlib.Core.Bool.{Bool, true, false}
 use mathlib.Core.List.{List, [], ◌∷◌, ◌++◌, append-nil, append_assoc}
 use lib.IntN.{ℤ, pos, negsuc, nat_abs}
-use lib.ListN.{length, get_or, drop, set, length-append, length-drop, drop_of_length-le}
+use lib.ListN.{length, get_or, drop, set, length-append}
 use lib.Seq.{append_snoc, set_at}
 use Rattle.formula.specs.Literal.{negative}
 use Rattle.formula.proofs.Places.{drop_front}
@@ -103,15 +103,6 @@ module _ (vs : List Bool) (literals output₀ : List ℤ) where
       }
 
   module _ (room : length literals ≤ length output₀) {kept : Bool} {output : List ℤ} {to i : ℕ} (w : Written kept output to i) where
-    pub written_length : length output ≡ length output₀
-    written_length =
-        let both = length-append w.done (drop to output₀) in
-        let rest = length-drop to output₀ in
-        let counted = w.counted in
-        let few = w.few in
-        let inside = w.inside in
-        ap length w.is ∙ omega arith
-
     module _ (below : i < length literals) where
       abbrev z : ℤ
       z = get_or literals i (pos 0)
@@ -138,10 +129,3 @@ module _ (vs : List Bool) (literals output₀ : List ℤ) where
                 ∙ put_behind w.done e output₀ to w.counted (one_entry vs kept z) (let f = w.few in omega arith)
                 ∙ ap (λ (n : ℕ). (w.done ++ e) ++ drop n output₀) (sym et);
           }
-
-    all_done : length literals ≤ i → w.done ≡ walked vs literals
-    all_done past =
-        sym (w.whole ∙ ap (λ (l : List ℤ). w.done ++ walked_from vs kept l) (drop_of_length-le literals past) ∙ append-nil w.done)
-
-    pub written_all : length literals ≤ i → (to ≡ length (walked vs literals)) × (output ≡ walked vs literals ++ drop to output₀)
-    written_all past = (w.counted ∙ ap length (all_done past), w.is ∙ ap (λ (l : List ℤ). l ++ drop to output₀) (all_done past))

@@ -1,11 +1,11 @@
 -- What `set_first` returns and leaves, for everything that is lent: 01's causes 1 to 3, then 02's 15, then 27, then the literals that are left.
 -- Assumes nothing.
-use Rattle.std.specs.Prelude.{ℕ, zero, suc, Bool, true, false, cond, ◌||◌, List, ◌++◌, map, eqb, ltb, ℤ, length, drop}
+use Rattle.std.specs.Prelude.{ℕ, zero, suc, Bool, true, false, cond, ◌||◌, List, ◌++◌, map, eqb, ltb, ℤ, length, drop, Result, Ok, Err}
+use Rattle.cause.specs.declared.Cause.{Cause}
+use Rattle.cause.specs.Cause.{told, unless_cause}
 use Rattle.formula.specs.Causes as Causes
 use Rattle.formula.specs.Causes.{any, other_kind}
 use Rattle.case_rules.specs.Restricted.{restricted}
-use Rattle.restriction.specs.declared.Set.{Set}
-use Rattle.restriction.specs.declared.Set.TheVariants.{Entries, Refused}
 
 -- One byte for each of the first unknowns in prefix order, 0 false, 1 true.
 abbrev pub value_of : ℕ → Bool
@@ -30,10 +30,8 @@ cause kinds literals values output =
     cond (eqb (formula_cause kinds literals) 0) later (formula_cause kinds literals)
 
 -- The entries used, or the cause ..
-unfoldable pub outcome : List ℕ → List ℤ → List ℕ → List ℤ → Set
-outcome kinds literals values output =
-    let answered = Entries (length (restricted (values_of values) literals)) in
-    cond (eqb (cause kinds literals values output) 0) answered (Refused (cause kinds literals values output))
+unfoldable pub outcome : List ℕ → List ℤ → List ℕ → List ℤ → Result ℕ Cause
+outcome kinds literals values output = unless_cause (cause kinds literals values output) (length (restricted (values_of values) literals))
 
 -- .. and the entries, with what lies past them as found; after a refusal 'everything lent left as found'.
 unfoldable pub output_after : List ℕ → List ℤ → List ℕ → List ℤ → List ℤ
@@ -42,10 +40,9 @@ output_after kinds literals values output =
     cond (eqb (cause kinds literals values output) 0) (left ++ drop (length left) output) output
 
 -- The number of each case: 0 for entries, a refusal has its cause's; and the entries used, 0 after a refusal.
-abbrev pub number : Set → ℕ
-number (Entries n) = 0
-number (Refused cause) = cause
+abbrev pub number : Result ℕ Cause → ℕ
+number answer = told answer
 
-abbrev pub used : Set → ℕ
-used (Entries n) = n
-used (Refused cause) = 0
+abbrev pub used : Result ℕ Cause → ℕ
+used (Ok n) = n
+used (Err cause) = 0

@@ -12,59 +12,43 @@ ghost use Rattle.case_rules.specs.RestrictedRight.{RestrictedRight};
 ghost use Rattle.restriction.specs.Outcome.{values_of, wrong_values, cause as cause_of, outcome, output_after, number};
 ghost use Rattle.restriction.specs.Private.Walk.{Names, meets, stands as stands_so, is_set as set_name, left_at, kept_after, put, walked};
 
-use formula::{Check, Formula};
-
-// The entries used, zeros included; a refusal has the number of its cause.
-#[derive(Clone, Copy)]
-pub enum Set {
-    Entries(usize),
-    Refused(u32),
-}
+use cause::Cause;
+use formula::Formula;
 
 // Sets the first unknowns to the values, one byte each in prefix order, 0 false and 1 true, and writes what is left of the literals into the output
-// table.
-pub fn set_first(kinds: &[u8], literals: &[i32], values: &[u8], output: &mut [i32]) -> Set
+// table: the entries used, zeros included.
+pub fn set_first(
+    kinds: &[u8],
+    literals: &[i32],
+    values: &[u8],
+    output: &mut [i32],
+) -> Result<usize, Cause>
     ensures value { result ≡ outcome kinds.now literals.now values.now output.old }
     ensures output_after { output.new ≡ output_after kinds.now literals.now values.now output.old }
     ensures result_value { number result ≡ cause_of kinds.now literals.now values.now output.old }
     ensures restricted_right { RestrictedRight (values_of values.now) kinds.now literals.now }
 {
-    match Formula::check(kinds, literals) {
-        Check::Refused(cause) => Set::Refused(cause),
-        Check::Accepted(_) => {
-            if output.len() < literals.len() {
-                return Set::Refused(15);
-            }
-            if are_wrong(kinds.len(), values) {
-                return Set::Refused(27);
-            }
-            Set::Entries(write_left(literals, values, output))
-        }
+    Formula::check(kinds, literals)?;
+    if output.len() < literals.len() {
+        return Err(Cause::Output);
     }
+    if are_wrong(kinds.len(), values) {
+        return Err(Cause::Values);
+    }
+    Ok(write_left(literals, values, output))
 }
 
 // Whether there are more values than unknowns, or a value other than 0 and 1.
 pub fn are_wrong(unknowns: usize, values: &[u8]) -> bool
     ensures { result ≡ wrong_values unknowns values.now }
 {
-    if values.len() > unknowns {
-        return true; // too many
-    }
-    has_other(values)
+    values.len() > unknowns || has_other(values)
 }
 
 fn has_other(values: &[u8]) -> bool
     ensures { result ≡ any other_kind values.now }
 {
-    let mut found = false;
-    let mut i = 0;
-    while i < values.len() {
-        if values[i] > 1 {
-            found = true;
-        }
-        i += 1;
-    }
-    found
+    values.iter().any(|value| *value > 1)
 }
 
 // Whether a clause is kept is known before its first literal is written, since nothing past the entries used may be changed.
@@ -75,11 +59,9 @@ fn write_left(literals: &[i32], values: &[u8], output: &mut [i32]) -> usize
 {
     let mut kept = stands(literals, 0, values);
     let mut to = 0;
-    let mut i = 0;
-    while i < literals.len() {
+    for i in 0..literals.len() {
         to = write_entry(literals, i, kept, values, output, to);
         kept = is_kept_behind(literals, i, kept, values);
-        i += 1;
     }
     to // the entries used
 }
@@ -88,8 +70,7 @@ fn write_left(literals: &[i32], values: &[u8], output: &mut [i32]) -> usize
 fn stands(literals: &[i32], start: usize, values: &[u8]) -> bool
     ensures { result ≡ stands_so (values_of values.now) (drop start literals.now) }
 {
-    let mut i = start;
-    while i < literals.len() {
+    for i in start..literals.len() {
         let name = formula::magnitude_at(literals, i) as usize;
         if name == 0 {
             return true;
@@ -97,7 +78,6 @@ fn stands(literals: &[i32], start: usize, values: &[u8]) -> bool
         if is_true(name, formula::negative_at(literals, i), values) {
             return false; // a true literal
         }
-        i += 1;
     }
     true
 }
@@ -132,7 +112,7 @@ fn write_entry(
     ensures value { result ≡ to + length (left_at (values_of values.now) kept literals.now i) }
     ensures output_after { output.new ≡ put (left_at (values_of values.now) kept literals.now i) to output.old }
 {
-    if kept {} else {
+    if !kept {
         return to;
     }
     let depth = values.len();
@@ -148,10 +128,7 @@ fn write_entry(
 fn is_set(name: usize, depth: usize) -> bool
     ensures { result ≡ set_name name depth }
 {
-    if name == 0 {
-        return false;
-    }
-    name <= depth
+    name > 0 && name <= depth
 }
 
 // A name behind the first unknowns, counted from them; 0 stays 0.
@@ -159,10 +136,7 @@ fn moved(name: usize, depth: usize) -> u16
     requires { name ≤ max_unknowns }
     ensures { result ≡ name - depth }
 {
-    if name < depth {
-        return 0;
-    }
-    (name - depth) as u16
+    name.saturating_sub(depth) as u16
 }
 
 // Whether what follows the entry at `i` is kept: behind a clause's end that is for the next clause to say.

@@ -1,6 +1,7 @@
 -- Equal rows and the first place of a row.
 -- Assumes nothing.
 use mathlib.Core.Path.{◌≡◌, refl, sym, ap, ap₂, ◌∙◌}
+use Rattle.std.specs.Prelude.{None, Some}
 use mathlib.Core.Bool.{Bool, true, false, ◌&&◌, false≢true, and-true, and_assoc, and-eq-true_iff}
 use mathlib.Core.List.{List, [], ◌∷◌, ◌++◌}
 use Prim.Native.Nat.{ℕ, zero, suc, ◌+◌, ◌*◌, ◌≤◌, ◌<◌, zero-le, suc-le-suc}
@@ -14,7 +15,6 @@ use borrow.Author.Tests.{eqb-true, eq-eqb}
 use Rattle.rows.specs.Row.{values, row_of}
 use Rattle.rows.specs.Table.{inside, row_at, room}
 use Rattle.rows.specs.Access.{same_bytes, equal_rows, first_true, first_place}
-use Rattle.rows.specs.declared.Found.TheVariants.{At, Absent}
 use Rattle.rows.proofs.ValueLaws.{length_values, get_or_values, values_false}
 use Rattle.rows.proofs.RowLaws.{IsRow, equal_values_equal_bytes}
 use Rattle.rows.proofs.TableLaws.{inside_true, inside_false, row_at_inside}
@@ -90,36 +90,36 @@ equal_values_equal_rows m t i u j hi hj oki okj e =
 -- ---- the first place
 
 first_true_found : (vs : List Bool) (s p : ℕ) → get_or vs p false ≡ true → ((q : ℕ) → q < p → get_or vs q false ≡ false)
-    → first_true s vs ≡ At (s + p)
+    → first_true s vs ≡ Some (s + p)
 first_true_found [] s p e none = absurd (false≢true e)
-first_true_found (v ∷ vs) s zero e none = ap (λ (u : Bool). first_true s (u ∷ vs)) e ∙ ap At (sym (add-zero s))
+first_true_found (v ∷ vs) s zero e none = ap (λ (u : Bool). first_true s (u ∷ vs)) e ∙ ap Some (sym (add-zero s))
 first_true_found (v ∷ vs) s (suc p) e none =
     ap (λ (u : Bool). first_true s (u ∷ vs)) (none zero (suc-le-suc zero-le))
     ∙ first_true_found vs (suc s) p e (λ q h. none (suc q) (suc-le-suc h))
-    ∙ ap At (suc-add s p ∙ sym (add-suc s p))
+    ∙ ap Some (suc-add s p ∙ sym (add-suc s p))
 
-first_true_none : (vs : List Bool) (s : ℕ) → ((q : ℕ) → get_or vs q false ≡ false) → first_true s vs ≡ Absent
+first_true_none : (vs : List Bool) (s : ℕ) → ((q : ℕ) → get_or vs q false ≡ false) → first_true s vs ≡ None
 first_true_none [] s none = refl
 first_true_none (v ∷ vs) s none =
     ap (λ (u : Bool). first_true s (u ∷ vs)) (none zero) ∙ first_true_none vs (suc s) (λ q. none (suc q))
 
 -- Where the search stops, and that it does not.
 pub first_place_found : (t : List ℕ) (n : ℕ) (u : List ℕ) (j p : ℕ) → p < n → equal_rows t p u j ≡ true
-    → ((q : ℕ) → q < p → equal_rows t q u j ≡ false) → first_place t n u j ≡ At p
+    → ((q : ℕ) → q < p → equal_rows t q u j ≡ false) → first_place t n u j ≡ Some p
 unfolding first_place
 first_place_found t n u j p h found none =
     let equal : ℕ → Bool = λ i. equal_rows t i u j in
     first_true_found (values n equal) 0 p (get_or_values n equal p h ∙ found)
     (λ q below. get_or_values n equal q (omega arith) ∙ none q below)
-    ∙ ap At (zero-add p)
+    ∙ ap Some (zero-add p)
 
 pub first_place_none : (t : List ℕ) (n : ℕ) (u : List ℕ) (j : ℕ) → ((q : ℕ) → q < n → equal_rows t q u j ≡ false)
-    → first_place t n u j ≡ Absent
+    → first_place t n u j ≡ None
 unfolding first_place
 first_place_none t n u j none = first_true_none (values n (λ i. equal_rows t i u j)) 0 (values_false n (λ i. equal_rows t i u j) none)
 
 -- What an answer tells.
-first_true_at : (vs : List Bool) (s p : ℕ) → first_true s vs ≡ At p
+first_true_at : (vs : List Bool) (s p : ℕ) → first_true s vs ≡ Some p
     → (k : ℕ) × (p ≡ s + k) × (k < length vs) × (get_or vs k false ≡ true) × ((q : ℕ) → q < k → get_or vs q false ≡ false)
 first_true_at [] s p e = let z : ◌≡◌ {A = ℕ} 0 1 = cc in absurd (omega arith)
 first_true_at (true ∷ vs) s p e = let same : s ≡ p = cc in (zero, sym same ∙ sym (add-zero s), suc-le-suc zero-le, refl, λ q h. absurd (not-suc-le-zero h))
@@ -131,13 +131,13 @@ first_true_at (false ∷ vs) s p e =
     after_false vs k none zero h = refl
     after_false vs k none (suc q) h = none q (le_of_suc-le-suc h)
 
-first_true_absent : (vs : List Bool) (s : ℕ) → first_true s vs ≡ Absent → (q : ℕ) → get_or vs q false ≡ false
+first_true_absent : (vs : List Bool) (s : ℕ) → first_true s vs ≡ None → (q : ℕ) → get_or vs q false ≡ false
 first_true_absent [] s e q = refl
 first_true_absent (true ∷ vs) s e q = let z : ◌≡◌ {A = ℕ} 0 1 = cc in absurd (omega arith)
 first_true_absent (false ∷ vs) s e zero = refl
 first_true_absent (false ∷ vs) s e (suc q) = first_true_absent vs (suc s) e q
 
-pub first_place_at : (t : List ℕ) (n : ℕ) (u : List ℕ) (j p : ℕ) → first_place t n u j ≡ At p
+pub first_place_at : (t : List ℕ) (n : ℕ) (u : List ℕ) (j p : ℕ) → first_place t n u j ≡ Some p
     → (p < n) × (equal_rows t p u j ≡ true) × ((q : ℕ) → q < p → equal_rows t q u j ≡ false)
 unfolding first_place
 first_place_at t n u j p e =
@@ -150,7 +150,7 @@ first_place_at t n u j p e =
       λ q h. sym (get_or_values n equal q (omega arith)) ∙ none q (omega arith),
     )
 
-pub first_place_absent : (t : List ℕ) (n : ℕ) (u : List ℕ) (j : ℕ) → first_place t n u j ≡ Absent
+pub first_place_absent : (t : List ℕ) (n : ℕ) (u : List ℕ) (j : ℕ) → first_place t n u j ≡ None
     → (q : ℕ) → q < n → equal_rows t q u j ≡ false
 unfolding first_place
 first_place_absent t n u j e q h =

@@ -1,9 +1,10 @@
 -- Tables of which some entries have become zero. Assumes nothing.
-use Prim.Native.Nat.{ℕ, zero, suc, ◌≤◌}
+use Prim.Native.Nat.{ℕ, zero, suc, ◌≤◌, ◌+◌, ◌-◌}
 use native.Mathlib.Omega.{arith}
 use mathlib.Core.Path.{◌≡◌, refl, sym, ap, ◌∙◌}
 use mathlib.Core.List.{List, [], ◌∷◌, ◌++◌}
-use lib.ListN.{length, drop, set}
+use lib.ListN.{length, drop, set, replicate}
+use borrow.Rule.Slice.PartMut.{mid_of, put_mid, mid_len}
 use lib.Seq.{drop-nil}
 use Rattle.rows.specs.Table.{zeroed}
 use Rattle.rows.specs.Access.{zeroed_from}
@@ -51,6 +52,25 @@ set_zeroed_from zero b l h = set_zeroed b l
 set_zeroed_from (suc a) zero l h = absurd (omega arith)
 set_zeroed_from (suc a) (suc b) [] h = refl
 set_zeroed_from (suc a) (suc b) (x ∷ l) h = ap (λ (r : List ℕ). x ∷ r) (set_zeroed_from a b l (omega arith))
+
+-- A part that is filled with zeros is back in its place.
+filled : (a n b : ℕ) (l : List ℕ) → b ≡ a + n → b ≤ length l → put_mid a n l (replicate n 0) ≡ zeroed_from a b l
+filled zero n b l e h =
+    let same : n ≡ b = omega arith in
+    ap (λ (m : ℕ). replicate m 0 ++ drop m l) same ∙ behind b l h
+  where
+    behind : (n : ℕ) (l : List ℕ) → n ≤ length l → replicate n 0 ++ drop n l ≡ zeroed n l
+    behind zero l h = refl
+    behind (suc n) [] h = absurd (omega arith)
+    behind (suc n) (x ∷ l) h = ap (λ (r : List ℕ). 0 ∷ r) (behind n l (omega arith))
+filled (suc a) n zero l e h = absurd (omega arith)
+filled (suc a) n (suc b) [] e h = absurd (omega arith)
+filled (suc a) n (suc b) (x ∷ l) e h = ap (λ (r : List ℕ). x ∷ r) (filled a n b l (omega arith) (omega arith))
+
+pub part_zeroed : (a b : ℕ) (l part : List ℕ) → a ≤ b → b ≤ length l → part ≡ replicate (length (mid_of a (b - a) l)) 0 →
+    put_mid a (b - a) l part ≡ zeroed_from a b l
+part_zeroed a b l part h g e =
+    ap (put_mid a (b - a) l) (e ∙ ap (λ (n : ℕ). replicate n 0) (mid_len a b l g)) ∙ filled a (b - a) b l (omega arith) g
 
 -- What is written over the start of a list is not seen where it has become zero.
 pub zeroed_over : (old l : List ℕ) → length old ≤ length l → zeroed (length old) (old ++ drop (length old) l) ≡ zeroed (length old) l

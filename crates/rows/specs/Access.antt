@@ -1,11 +1,9 @@
 -- What the code reads from a table, finds in it and writes to it. No contract of the search, the judge or the run cites this file. Assumes nothing.
-use Rattle.std.specs.Prelude.{ℕ, zero, suc, ◌+◌, ◌*◌, ◌/◌, ◌%◌, ◌^◌, min, Bool, true, false, ◌&&◌, cond, List, [], ◌∷◌, ◌++◌, eqb, ltb, length, get_or, take, drop, set}
+use Rattle.std.specs.Prelude.{ℕ, zero, suc, ◌+◌, ◌*◌, ◌/◌, ◌%◌, ◌^◌, min, Bool, true, false, ◌&&◌, cond, List, [], ◌∷◌, ◌++◌, eqb, ltb, length, get_or, take, drop, set, None, Option, Some}
 use Rattle.std.specs.Int.Bits.{bit_or}
 use Rattle.rows.specs.Row.{values}
 use Rattle.rows.specs.Stray.{row_bits}
 use Rattle.rows.specs.Table.{inside, row_at, room, zeroed}
-use Rattle.rows.specs.declared.Found.{Found}
-use Rattle.rows.specs.declared.Found.TheVariants.{At, Absent}
 
 -- 'On request a row is handed back as the caller's own sixteen bytes; for a place at or past the count, or not wholly inside the table, as
 -- an empty part.'
@@ -34,13 +32,13 @@ unfoldable pub equal_rows : List ℕ → ℕ → List ℕ → ℕ → Bool
 equal_rows table i other j = inside table i && inside other j && same_bytes (row_at table i) (row_at other j)
 
 -- The first place, counted from i, at which a list has true.
-abbrev pub first_true : ℕ → List Bool → Found
-first_true i [] = Absent
-first_true i (true ∷ vs) = At i
+abbrev pub first_true : ℕ → List Bool → Option ℕ
+first_true i [] = None
+first_true i (true ∷ vs) = Some i
 first_true i (false ∷ vs) = first_true (suc i) vs
 
 -- The first place below the count whose row equals row j of another table.
-unfoldable pub first_place : List ℕ → ℕ → List ℕ → ℕ → Found
+unfoldable pub first_place : List ℕ → ℕ → List ℕ → ℕ → Option ℕ
 first_place table count other j = first_true 0 (values count (λ i. equal_rows table i other j))
 
 -- The table with a row in the place of row i.

@@ -21,13 +21,6 @@ pub type Row = [u8; BYTES];
 
 pub const BITS: usize = 8 * BYTES;
 
-// A place, or none.
-#[derive(Clone, Copy)]
-pub enum Found {
-    At(usize),
-    Absent,
-}
-
 // Cause 4, of the rows.
 pub fn table_fits(rows: &[u8]) -> bool
     ensures { result ≡ table_fits rows.now }
@@ -97,19 +90,19 @@ pub fn set_bit(rows: &mut [u8], i: usize, k: usize)
 }
 
 // The first place below the count whose row equals row j of the other table.
-pub fn find(rows: &[u8], count: usize, other: &[u8], j: usize) -> Found
+pub fn find(rows: &[u8], count: usize, other: &[u8], j: usize) -> Option<usize>
     ensures { result ≡ first_place rows.now count other.now j }
 {
     if other.len() / BYTES <= j {
-        return Found::Absent;
+        return None;
     }
     let places = rows_below(rows, count);
     for i in 0..places {
         if same_row(rows, BYTES * i, other, BYTES * j) {
-            return Found::At(i);
+            return Some(i);
         }
     }
-    Found::Absent
+    None
 }
 
 // Copies row j of the other table to place i, with its mark.
@@ -139,8 +132,8 @@ pub fn give_up(rows: &mut [u8], marks: &mut [u16], from: usize, to: usize)
     if end <= from {
         return;
     }
-    zero_bytes(rows, BYTES * from, BYTES * end);
-    zero_marks(marks, from, end);
+    rows[BYTES * from..BYTES * end].fill(0);
+    marks[from..end].fill(0);
 }
 
 // Cause 8: a row below the count has a bit set at or beyond m.
@@ -160,46 +153,21 @@ pub fn stray_bit(rows: &[u8], count: usize, m: usize) -> bool
 pub fn clear(area: &mut [u8])
     ensures { area.new ≡ replicate (length area.old) 0 }
 {
-    for i in 0..area.len() {
-        area[i] = 0;
-    }
+    area.fill(0);
 }
 
 // The rows below the count that are wholly inside the table.
 fn rows_below(rows: &[u8], count: usize) -> usize
     ensures { result ≡ min count (room rows.now) }
 {
-    let room = rows.len() / BYTES;
-    if count < room { count } else { room }
+    count.min(rows.len() / BYTES)
 }
 
 // The places below a number that are inside both tables.
 fn places_below(rows: &[u8], marks: &[u16], to: usize) -> usize
     ensures { result ≡ places_below rows.now marks.now to }
 {
-    let below = rows_below(rows, to);
-    let marked = marks.len();
-    if below < marked { below } else { marked }
-}
-
-// The bytes from one up to another become 0.
-fn zero_bytes(rows: &mut [u8], from: usize, to: usize)
-    requires { (from ≤ to) × (to ≤ length rows.old) }
-    ensures { rows.new ≡ zeroed_from from to rows.old }
-{
-    for i in from..to {
-        rows[i] = 0;
-    }
-}
-
-// The marks from one up to another become 0.
-fn zero_marks(marks: &mut [u16], from: usize, to: usize)
-    requires { (from ≤ to) × (to ≤ length marks.old) }
-    ensures { marks.new ≡ zeroed_from from to marks.old }
-{
-    for i in from..to {
-        marks[i] = 0;
-    }
+    rows_below(rows, to).min(marks.len())
 }
 
 // The row from x on equals the row from y on. All bytes are compared, so that the machine can compare them at once.
@@ -225,9 +193,7 @@ fn copy_row(rows: &mut [u8], x: usize, other: &[u8], y: usize)
     requires { (x + 16 ≤ length rows.old) × (y + 16 ≤ length other.now) }
     ensures { rows.new ≡ paste rows.old x (drop y other.now) 16 }
 {
-    for n in 0..BYTES {
-        rows[x + n] = other[y + n];
-    }
+    rows[x..x + BYTES].copy_from_slice(&other[y..y + BYTES]);
 }
 
 // The row from x on has a bit set at or beyond m: what is left of the byte with bit m, or one of the bytes behind it, is not zero.

@@ -105,10 +105,6 @@ pub wants_same : (w u : List ℕ) (h j : ℕ) → flags u h j ≡ flags w h j �
 unfolding wants
 wants_same w u h j e = ap (λ (x : ℕ). odd (x / 2)) e
 
-pub weight_small : (v : Bool) → weight v ≤ 1
-weight_small true = omega arith
-weight_small false = omega arith
-
 odd_of : (v : Bool) (n : ℕ) → odd (n / 2 * 2 + weight v) ≡ v
 odd_of true n = eq-eqb ((n / 2 * 2 + 1) % 2) 1 (omega arith)
 odd_of false n = ne_eqb ((n / 2 * 2 + 0) % 2) 1 (omega arith)

@@ -20,9 +20,6 @@ use Rattle.search_cells.proofs.StepLaws.{both, sizes_fit, steps_all, steps_reach
 -- ---- the first place, as a loop finds it
 
 module _ (f : ℕ → Bool) where
-  pub first_from_all : (n : ℕ) → first_from f 0 n ≡ first_from f 0 (n - 0)
-  first_from_all n = let all : n ≡ n - 0 = omega arith in ap (first_from f 0) all
-
   pub first_from_step : (at hi : ℕ) (b : Bool) → at < hi → f at ≡ b
       → first_from f at (hi - at) ≡ cond b at (first_from f (at + 1) (hi - (at + 1)))
   first_from_step at hi b below e =

@@ -275,11 +275,6 @@ module _ (kinds : List ℕ) (row i side : ℕ) (inside : row < max_rows) where
     abbrev so_far : List Bool
     so_far = own_values kinds side ((cells w).value i) k
 
-    pub row_packed_area : length u ≡ work_size
-    row_packed_area =
-        let area = p.area in
-        ap length p.packed ∙ length_placed w row (bytes_of so_far) (omega arith) (length_bytes_of so_far) ∙ area
-
     pub row_packed_bit : bit ≤ k
     row_packed_bit = let next = p.next in let most = length_part_most (owned kinds side) (tabulate (length kinds) ((cells w).value i)) k in omega arith
 

@@ -5,7 +5,7 @@
 
 ghost use Rattle.std.specs.Prelude.{◌≡◌, cond, ◌+◌, ◌≤◌, ◌<◌, length};
 ghost use Rattle.formula.specs.Formula.{max_unknowns, max_rows, work_size};
-ghost use Rattle.rows.specs.Row.{weight, bytes_of};
+ghost use Rattle.rows.specs.Row.{bytes_of};
 ghost use Rattle.rows.specs.Access.{placed, bit_set};
 ghost use Rattle.expansion.specs.Play.{part};
 ghost use Rattle.expansion.specs.Cells.{tabulate};
@@ -31,10 +31,8 @@ pub fn set_rows(work: &mut [u8], k: usize, lo: usize, hi: usize, level: u8, valu
     if Formula::UNKNOWNS <= k {
         return;
     }
-    let mut i = lo;
-    while i < hi {
+    for i in lo..hi {
         set(work, i, k, level, value);
-        i += 1;
     }
 }
 
@@ -48,10 +46,8 @@ pub fn undo(work: &mut [u8], lo: usize, hi: usize, bound: u8)
     if hi < lo {
         return;
     }
-    let mut at = Formula::UNKNOWNS * lo;
-    while at < Formula::UNKNOWNS * hi {
+    for at in Formula::UNKNOWNS * lo..Formula::UNKNOWNS * hi {
         work[at] = within(work[at], bound);
-        at += 1;
     }
 }
 
@@ -62,10 +58,8 @@ pub fn fill(kinds: &[u8], rows: &[u8], place: &[u8], side: u8, work: &mut [u8])
     if is_table(work.len(), kinds.len(), place.len()) {} else {
         return;
     }
-    let mut row = 0;
-    while row < place.len() {
-        fill_row(kinds, rows, row, wide(place[row]), side, work);
-        row += 1;
+    for (row, i) in place.iter().enumerate() {
+        fill_row(kinds, rows, row, usize::from(*i), side, work);
     }
 }
 
@@ -80,10 +74,8 @@ pub fn compare(kinds: &[u8], work: &[u8], count: usize, side: u8, differences: &
     if differences.len() != Formula::ROWS {
         return;
     }
-    let mut i = 0;
-    while i + 1 < count {
-        differences[i + 1] = first_difference(kinds, work, i, side) as u8;
-        i += 1;
+    for i in 1..count {
+        differences[i] = first_difference(kinds, work, i - 1, side) as u8;
     }
 }
 
@@ -95,10 +87,8 @@ pub fn pack(kinds: &[u8], place: &[u8], side: u8, work: &mut [u8])
     if is_table(work.len(), kinds.len(), place.len()) {} else {
         return;
     }
-    let mut row = 0;
-    while row < place.len() {
-        pack_row(kinds, row, wide(place[row]), side, work);
-        row += 1;
+    for (row, i) in place.iter().enumerate() {
+        pack_row(kinds, row, usize::from(*i), side, work);
     }
     let end = work.len();
     rows::clear(&mut work[BYTES * place.len()..end]);
@@ -123,13 +113,7 @@ fn set(work: &mut [u8], i: usize, k: usize, level: u8, value: bool)
 {
     let at = Formula::UNKNOWNS * i + k;
     work[at] = level;
-    work[FLAGS + at] = work[FLAGS + at] / 2 * 2 + bit(value);
-}
-
-fn bit(value: bool) -> u8
-    ensures { result ≡ weight value }
-{
-    if value { 1 } else { 0 }
+    work[FLAGS + at] = work[FLAGS + at] / 2 * 2 + u8::from(value);
 }
 
 fn within(level: u8, bound: u8) -> u8
@@ -143,20 +127,12 @@ fn fill_row(kinds: &[u8], rows: &[u8], row: usize, i: usize, side: u8, work: &mu
     ensures { work.new ≡ with_given_row kinds.now rows.now side row i work.old }
 {
     let mut bit: usize = 0;
-    let mut k = 0;
-    while k < kinds.len() {
-        if kinds[k] != side { // the row's next bit
+    for (k, kind) in kinds.iter().enumerate() {
+        if *kind != side { // the row's next bit
             set(work, i, k, 1, rows::bit(rows, row, bit));
             bit += 1;
         }
-        k += 1;
     }
-}
-
-fn wide(x: u8) -> usize
-    ensures { result ≡ x }
-{
-    x as usize
 }
 
 // The first position of the other side at which the rows i and i + 1 have different values; the number of kinds if there is none.
@@ -164,16 +140,14 @@ fn first_difference(kinds: &[u8], work: &[u8], i: usize, side: u8) -> usize
     requires { (length kinds.now ≤ max_unknowns) × (length work.now ≡ work_size) × (i + 1 < max_rows) }
     ensures { result ≡ first_difference kinds.now side work.now i }
 {
-    let mut k = 0;
-    while k < kinds.len() {
-        if kinds[k] != side { // a given value
+    for (k, kind) in kinds.iter().enumerate() {
+        if *kind != side { // a given value
             if value(work, i, k) != value(work, i + 1, k) {
                 return k;
             }
         }
-        k += 1;
     }
-    k
+    kinds.len()
 }
 
 fn value(work: &[u8], i: usize, k: usize) -> bool
@@ -191,14 +165,12 @@ fn pack_row(kinds: &[u8], row: usize, i: usize, side: u8, work: &mut [u8])
 {
     rows::clear(&mut work[BYTES * row..BYTES * row + BYTES]);
     let mut bit = 0;
-    let mut k = 0;
-    while k < kinds.len() {
-        if kinds[k] == side {
+    for (k, kind) in kinds.iter().enumerate() {
+        if *kind == side {
             let value = value(work, i, k);
             set_if(work, row, bit, value);
             bit += 1;
         }
-        k += 1;
     }
 }
 

@@ -94,10 +94,8 @@ fn look_on(codes: &[u16], work: &[u8], i: usize, start: usize) -> usize
     ensures { result ≡ look_on (is_set work.now i) (is_true work.now i) 0 (drop start codes.now) }
 {
     let mut unit = 0;
-    let mut e = start;
-    while e < codes.len() {
-        let c = wide(codes[e]);
-        e += 1;
+    for e in start..codes.len() {
+        let c = usize::from(codes[e]);
         if c == 0 {
             return unit;
         }
@@ -119,10 +117,8 @@ fn unsatisfied_on(codes: &[u16], work: &[u8], i: usize, start: usize) -> bool
     requires { (length work.now ≡ work_size) × (i < max_rows) }
     ensures { result ≡ unsatisfied_on (is_satisfied work.now i) (drop start codes.now) }
 {
-    let mut e = start;
-    while e < codes.len() {
-        let c = wide(codes[e]);
-        e += 1;
+    for e in start..codes.len() {
+        let c = usize::from(codes[e]);
         if c == 0 {
             return true;
         }
@@ -139,13 +135,11 @@ fn next_unsatisfied_on(codes: &[u16], work: &[u8], i: usize, from: usize) -> usi
 {
     let mut start = from;
     let mut hit = false;
-    let mut e = from;
-    while e < codes.len() {
-        let c = wide(codes[e]);
-        e += 1;
+    for e in from..codes.len() {
+        let c = usize::from(codes[e]);
         if c == 0 {
             if hit {
-                start = e;
+                start = e + 1;
                 hit = false;
             } else {
                 return start;
@@ -154,7 +148,7 @@ fn next_unsatisfied_on(codes: &[u16], work: &[u8], i: usize, from: usize) -> usi
             hit = true;
         }
     }
-    e
+    from.max(codes.len())
 }
 
 fn matrix_on(codes: &[u16], work: &[u8], i: usize) -> bool
@@ -162,10 +156,8 @@ fn matrix_on(codes: &[u16], work: &[u8], i: usize) -> bool
     ensures { result ≡ matrix_on (is_true work.now i) false codes.now }
 {
     let mut met = false;
-    let mut e = 0;
-    while e < codes.len() {
-        let c = wide(codes[e]);
-        e += 1;
+    for code in codes {
+        let c = usize::from(*code);
         if c == 0 {
             if met {} else {
                 return false;
@@ -213,10 +205,4 @@ fn position(c: usize) -> usize
     ensures { (result ≡ row_position c) × (result < max_unknowns) }
 {
     (c / 2 + LAST) % Formula::UNKNOWNS
-}
-
-fn wide(x: u16) -> usize
-    ensures { result ≡ x }
-{
-    x as usize
 }

@@ -14,7 +14,7 @@ use Rattle.expansion.proofs.Booleans.{never_both, false_if_not_true}
 use Rattle.search_cells.specs.Steps.{first_from}
 use Rattle.search_cells.proofs.CellLaws.{level_at}
 use Rattle.search_groups.specs.Groups.{differ_before, are_rows, last_behind, copy_start, copy_end, agreement_of, is_repeated, parts_at, split_position}
-use Rattle.search_groups.specs.Groups.{earlier, earliest, split_row, is_open, have_cells, open_position}
+use Rattle.search_groups.specs.Groups.{earliest, split_row, is_open, have_cells, open_position}
 
 -- ---- what is asked is in the tables, or not
 
@@ -159,40 +159,7 @@ module _ (differences : List ℕ) (lo : ℕ) where
       let small : min (get_or differences i 0) 255 ≡ get_or differences i 0 = omega arith in
       parts_there i 255 over ∙ small
 
-  earliest_next : (i : ℕ) → lo < i → earliest differences lo (i + 1 - (lo + 1)) ≡ earlier differences lo (earliest differences lo (i - (lo + 1))) i
-  earliest_next i over =
-      let left : i + 1 - (lo + 1) ≡ suc (i - (lo + 1)) = omega arith in
-      let here : lo + suc (i - (lo + 1)) ≡ i = omega arith in
-      ap (earliest differences lo) left ∙ ap (earlier differences lo (earliest differences lo (i - (lo + 1)))) here
-
   -- What is known of the rows before i: the earliest one, and where it parts.
   pub record EarliestTo (i mid least : ℕ) : Type 0 where
     pub is : mid ≡ earliest differences lo (i - (lo + 1))
     pub at : least ≡ parts_at differences lo mid 255
-
-  pub earliest_start : EarliestTo (lo + 1) lo 255
-  earliest_start = let none : lo + 1 - (lo + 1) ≡ 0 = omega arith in record {
-    is = sym (ap (earliest differences lo) none);
-    at = sym (parts_nowhere lo 255 (omega arith));
-  }
-
-  next_is : (i mid least : ℕ) (b : Bool) → lo < i → EarliestTo i mid least → ltb (get_or differences i 0) least ≡ b
-      → cond b i mid ≡ earliest differences lo (i + 1 - (lo + 1))
-  next_is i mid least b over x e =
-      ap (λ (t : Bool). cond t i mid) (sym e)
-      ∙ ap (λ (y : ℕ). cond (ltb (get_or differences i 0) y) i mid) x.at
-      ∙ ap (λ (y : ℕ). earlier differences lo y i) x.is
-      ∙ sym (earliest_next i over)
-
-  pub earliest_earlier : (i mid least : ℕ) → lo < i → get_or differences i 0 < least → EarliestTo i mid least → EarliestTo (i + 1) i (get_or differences i 0)
-  earliest_earlier i mid least over less x =
-      let at = x.at in record {
-        is = next_is i mid least true over x (lt-ltb (get_or differences i 0) least less);
-        at = sym (parts_earlier mid i over (omega arith));
-      }
-
-  pub earliest_later : (i mid least : ℕ) → lo < i → least ≤ get_or differences i 0 → EarliestTo i mid least → EarliestTo (i + 1) mid least
-  earliest_later i mid least over more x = record {
-    is = next_is i mid least false over x (le-ltb (get_or differences i 0) least more);
-    at = x.at;
-  }

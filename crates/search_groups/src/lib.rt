@@ -20,14 +20,12 @@ pub fn copy_start(differences: &[u8], k: usize, lo: usize, i: usize) -> usize
     if differences.len() <= i {
         return i;
     }
-    let mut from = i;
-    while from > lo {
-        if (differences[from] as usize) < k {
+    for from in (lo + 1..i + 1).rev() {
+        if usize::from(differences[from]) < k {
             return from;
         }
-        from -= 1;
     }
-    from
+    lo
 }
 
 // The row behind the last one before hi that has row i's copy at position k; i if these are not rows of the table.
@@ -40,14 +38,12 @@ pub fn copy_end(differences: &[u8], k: usize, i: usize, hi: usize) -> usize
     if differences.len() < hi {
         return i;
     }
-    let mut to = i + 1;
-    while to < hi {
-        if (differences[to] as usize) < k {
+    for to in i + 1..hi {
+        if usize::from(differences[to]) < k {
             return to;
         }
-        to += 1;
     }
-    to
+    hi
 }
 
 // How many positions row i surely shares with the row before it, plus 1: 0 for `from`, the first row looked at, and for what is no row.
@@ -60,7 +56,7 @@ pub fn agreement(differences: &[u8], from: usize, i: usize) -> usize
     if i == from {
         return 0;
     }
-    differences[i] as usize + 1
+    usize::from(differences[i]) + 1
 }
 
 // Whether a row with that agreement has the same values and copies of the unknowns of the clause at `start` as the row before it. The clause's
@@ -71,7 +67,7 @@ pub fn repeats(codes: &[u16], start: usize, agreement: usize) -> bool
     if codes.len() <= start {
         return true;
     }
-    codes[start] as usize / 2 < agreement
+    usize::from(codes[start]) / 2 < agreement
 }
 
 // The row behind lo at which the rows from lo to hi are split first; lo if none parts from the one before it, or if these are not rows of the
@@ -87,14 +83,11 @@ pub fn split_row(differences: &[u8], lo: usize, hi: usize) -> usize
     }
     let mut mid = lo;
     let mut least = 255;
-    let mut i = lo + 1;
-    while i < hi {
-        let h = i;
-        let at = differences[h];
-        i += 1;
+    for i in lo + 1..hi {
+        let at = differences[i];
         if at < least {
             least = at;
-            mid = h;
+            mid = i;
         }
     }
     mid
@@ -110,8 +103,7 @@ pub fn split_position(differences: &[u8], lo: usize, mid: usize, n: usize) -> us
     if mid <= lo {
         return n;
     }
-    let at = differences[mid] as usize;
-    if at < n { at } else { n }
+    usize::from(differences[mid]).min(n)
 }
 
 // The first position from k on, up to `until`, that is an own one and open in row lo; `until` if there is none, and k if there are no such
@@ -131,14 +123,12 @@ pub fn first_open(kinds: &[u8], work: &[u8], side: u8, k: usize, lo: usize, unti
     if lo >= Formula::ROWS {
         return k;
     }
-    let mut at = k;
-    while at < until {
+    for at in k..until {
         if is_open(kinds, work, side, lo, at) {
             return at;
         }
-        at += 1;
     }
-    at
+    k.max(until)
 }
 
 // Position j is an own one, and open in row i.

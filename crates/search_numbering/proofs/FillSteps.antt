@@ -1,22 +1,19 @@
 -- How the table is filled: first places found row by row, copies noted row by row, positions filled one by one.
 -- Assumes nothing.
-use Prim.Native.Nat.{ℕ, zero, suc, ◌+◌, ◌-◌, ◌*◌, ◌≤◌, ◌<◌}
+use Prim.Native.Nat.{ℕ, zero, suc, ◌+◌, ◌≤◌, ◌<◌}
 use mathlib.Core.Path.{◌≡◌, refl, sym, ap, ◌∙◌}
-use mathlib.Core.Bool.{Bool, true, false, ◌&&◌}
+use mathlib.Core.Bool.{Bool, true, false}
 use mathlib.Core.List.{List, [], ◌∷◌, ◌++◌, map, map-append}
 use mathlib.Core.Logic.{inr, ⊎_elim}
 use native.Mathlib.Omega.{arith}
 use native.Mathlib.Numerals.{add-one}
-use native.Mathlib.Decide.{ℕ_discrete, dec_lt}
-use lib.Dec.{eqb, leb}
+use native.Mathlib.Decide.{ℕ_discrete}
+use lib.Dec.{eqb}
 use lib.ListN.{length, get_or, take, drop, set, replicate, length-append, length-map}
 use lib.Seq.{take-suc, drop-cons, get_or-set_same, get_or-set_other}
-use borrow.Author.Tests.{lt-ltb, le-ltb, leb-true, eqb-true, eq-eqb, ne_eqb}
-use Rattle.search_cells.specs.Cells.{flags as flags_from}
-use Rattle.formula.specs.Formula.{work_size, max_rows, max_unknowns}
+use borrow.Author.Tests.{lt-ltb, eq-eqb, ne_eqb}
 use Rattle.preference.specs.Preference.{prefer}
-use Rattle.rows.specs.Row.{weight}
-use Rattle.expansion.proofs.Booleans.{true_or_false, never_both, false_if_not_true}
+use Rattle.expansion.proofs.Booleans.{true_or_false, false_if_not_true}
 use Rattle.search_numbering.specs.Numbering.{first_place, first_among, member, new_ones, copies_at, index_of, preferred, written, filled_at, filled_from}
 use Rattle.search_numbering.specs.Numbering.{sized, filled}
 use Rattle.search_numbering.specs.Private.Wants.{Grouped, firsts, note, note_at, Numbered}
@@ -30,34 +27,8 @@ zeros_at (suc n) (suc x) = zeros_at n x
 
 -- ---- the first places, place by place
 
--- The first place of the copy that place i has, from that of the place before it.
-pub first_place_here : (differences : List ℕ) (k i : ℕ) → get_or differences i 0 < k → first_place differences k i ≡ i
-first_place_here differences k zero less = refl
-first_place_here differences k (suc i) less = rw (lt-ltb (get_or differences (suc i) 0) k less)
-
-pub first_place_kept : (differences : List ℕ) (k i : ℕ) → k ≤ get_or differences i 0 → first_place differences k i ≡ first_place differences k (i - 1)
-first_place_kept differences k zero more = refl
-first_place_kept differences k (suc i) more =
-    let back : i ≡ suc i - 1 = omega arith in
-    rw (le-ltb (get_or differences (suc i) 0) k more) (ap (first_place differences k) back)
-
 pub first_among_in : (differences : List ℕ) (k n i : ℕ) → i < n → first_among differences k n i ≡ first_place differences k i
 first_among_in differences k n i less = rw (lt-ltb i n less)
-
-pub grouped_none : (differences : List ℕ) (k : ℕ) (first : List ℕ) → ((x : ℕ) → get_or first x 0 ≡ 0) → Grouped differences k 0 first
-grouped_none differences k first empty i = rw (le-ltb i 0 (omega arith)) (empty i)
-
-pub grouped_more : (differences : List ℕ) (k n : ℕ) (first : List ℕ) (s : ℕ) → n < length first → Grouped differences k n first → s ≡ first_place
-    differences k n
-    → Grouped differences k (n + 1) (set first n s)
-grouped_more differences k n first s inside grouped is i = at_place (ℕ_discrete i n) (dec_lt i n)
-  where
-    at_place : Dec (i ≡ n) → Dec (i < n) → get_or (set first n s) i 0 ≡ first_among differences k (n + 1) i
-    at_place (yes e) d = rw (e, lt-ltb n (n + 1) (omega arith)) (get_or-set_same first n s 0 inside ∙ is)
-    at_place (no d) (yes less) =
-        rw (lt-ltb i (n + 1) (omega arith)) (get_or-set_other first n i s 0 d ∙ grouped i ∙ first_among_in differences k n i less)
-    at_place (no d) (no more) =
-        rw (le-ltb i (n + 1) (omega arith)) (get_or-set_other first n i s 0 d ∙ rw (le-ltb i n (omega arith)) at (grouped i))
 
 -- ---- copies noted row by row
 
@@ -115,10 +86,6 @@ module _ (preferences : List ℕ) (number : ℕ) (met : List ℕ) (next : ℕ) (
     numbered_more : Numbered preferences number (met ++ (s ∷ [])) (next + 1) with_note
     numbered_more = record { count = omega (arith, length-append met (s ∷ []), n.count); noted = λ x. noted_more x (ℕ_discrete x s) }
 
-pub numbered_none : (preferences first place : List ℕ) (number : ℕ) (notes : List ℕ) → ((x : ℕ) → get_or notes x 0 ≡ 0)
-    → Numbered preferences number (firsts first (take 0 place)) number notes
-numbered_none preferences first place number notes empty = record { count = omega arith; noted = λ x. empty x }
-
 -- A turn at a lent row whose copy has the first place s.
 module _ (preferences first place : List ℕ) (number row next : ℕ) (notes : List ℕ) (inside : row < length place)
     (n : Numbered preferences number (firsts first (take row place)) next notes) (i s : ℕ) (at_place : i ≡ get_or place row 0) (at_start : s ≡ get_or first i 0)
@@ -147,11 +114,6 @@ map_same f g (x ∷ xs) same = rw (same x, map_same f g xs same)
 written_same : (f g : ℕ → Bool) (k n : ℕ) (w : List ℕ) → ((i : ℕ) → i < n → f i ≡ g i) → written f k n w ≡ written g k n w
 written_same f g k zero w same = refl
 written_same f g k (suc n) w same = rw (written_same f g k n w (λ i less. same i (omega arith)), same n (omega arith))
-
--- One more cell written.
-pub written_next : (f : ℕ → Bool) (k n : ℕ) (w u : List ℕ) → u ≡ written f k n w → (b : ℕ) → b ≡ 2 * weight (f n)
-    → set u (flags_from + (max_unknowns * n + k)) b ≡ written f k (n + 1) w
-written_next f k n w u so_far b is = rw (so_far, is, add-one n)
 
 note_is_two : (b : Bool) → eqb (note b) 2 ≡ b
 note_is_two false = refl
@@ -220,18 +182,6 @@ module _ (kinds preferences place differences : List ℕ) (side k number : ℕ) 
   filled_other differs = rw (add-one k, drop-cons kinds k 0 inside, ne_eqb (get_or kinds k 0) side differs)
 
 -- ---- the whole table
-
-both_true : (a b : Bool) → a && b ≡ true → (a ≡ true) × (b ≡ true)
-both_true true b h = (refl, h)
-both_true false b h = absurd (never_both h refl)
-
-pub sized_bounds : (kinds places differences bytes : ℕ) → sized kinds places differences bytes ≡ true
-    → (kinds ≤ max_unknowns) × (places ≤ max_rows) × (differences ≡ max_rows) × (bytes ≡ work_size)
-sized_bounds kinds places differences bytes h =
-    let a = both_true (leb kinds max_unknowns && leb places max_rows && eqb differences max_rows) (eqb bytes work_size) h in
-    let b = both_true (leb kinds max_unknowns && leb places max_rows) (eqb differences max_rows) a.0 in
-    let d = both_true (leb kinds max_unknowns) (leb places max_rows) b.0 in
-    (leb-true kinds max_unknowns d.0, leb-true places max_rows d.1, eqb-true differences max_rows b.1, eqb-true bytes work_size a.1)
 
 module _ (kinds preferences place differences : List ℕ) (side : ℕ) (w : List ℕ) where
   pub filled_sized : sized (length kinds) (length place) (length differences) (length w) ≡ true → (u : List ℕ)

@@ -63,12 +63,10 @@ fn fill_positions(
         work.old }
 {
     let mut number = 0;
-    let mut k = 0;
-    while k < kinds.len() {
-        if kinds[k] == side {
+    for (k, kind) in kinds.iter().enumerate() {
+        if *kind == side {
             number = fill_at(preferences, place, differences, k, number, work);
         }
-        k += 1;
     }
 }
 
@@ -101,13 +99,11 @@ fn group(differences: &[u8], k: usize, count: usize, first: &mut [u8])
     ensures { Grouped differences.now k count first.new }
 {
     let mut start = 0;
-    let mut i = 0;
-    while i < count {
-        if wide(differences[i]) < k {
+    for i in 0..count {
+        if usize::from(differences[i]) < k {
             start = i as u8;
         }
         first[i] = start;
-        i += 1;
     }
 }
 
@@ -125,15 +121,12 @@ fn number_copies(
     ensures { Numbered preferences.now number (firsts first.now place.now) result notes.new }
 {
     let mut next = number;
-    let mut row = 0;
-    while row < place.len() {
-        let i = wide(place[row]);
-        let start = wide(first[i]);
+    for i in place {
+        let start = usize::from(first[usize::from(*i)]);
         if notes[start] == 0 {
             notes[start] = note_of(preferences, next);
             next += 1;
         }
-        row += 1;
     }
     next
 }
@@ -153,11 +146,9 @@ fn write(first: &[u8], notes: &[u8], k: usize, count: usize, work: &mut [u8])
     requires { (length first.now ≡ max_rows) × (length notes.now ≡ max_rows) × (k < max_unknowns) × (count ≤ max_rows) × (length work.old ≡ work_size) }
     ensures { work.new ≡ written (λ i. eqb (get_or notes.now (get_or first.now i 0) 0) 2) k count work.old }
 {
-    let mut i = 0;
-    while i < count {
-        let start = wide(first[i]);
+    for i in 0..count {
+        let start = usize::from(first[i]);
         work[FLAGS + (Formula::UNKNOWNS * i + k)] = cell(notes[start]);
-        i += 1;
     }
 }
 
@@ -166,10 +157,4 @@ fn cell(note: u8) -> u8
     ensures { result ≡ 2 * weight (eqb note 2) }
 {
     if note == 2 { 2 } else { 0 }
-}
-
-fn wide(x: u8) -> usize
-    ensures { result ≡ x }
-{
-    x as usize
 }

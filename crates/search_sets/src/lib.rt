@@ -96,10 +96,8 @@ pub fn trim(sets: &mut [u64], k: usize, n: usize)
     }
     let low = ones(k);
     let high = ones_above(k);
-    let mut p = k;
-    while p < n {
+    for p in k..n {
         meet(sets, p, low, high);
-        p += 1;
     }
 }
 
@@ -110,12 +108,9 @@ pub fn resolve(sets: &mut [u64], of: usize, k: usize, at: usize)
     if numbers_fit(sets.len(), of, at, ENDS) {} else {
         return;
     }
-    let mut p = k;
-    while p < at {
-        let q = p;
-        p += 1;
-        if has_at(sets, of, q) {
-            unite_at(sets, of, q);
+    for p in k..at {
+        if has_at(sets, of, p) {
+            unite_at(sets, of, p);
         }
     }
 }
@@ -127,13 +122,11 @@ pub fn add_reasons(codes: &[u16], sets: &mut [u64], start: usize, to: usize)
     if has_place(sets.len(), to) {} else {
         return;
     }
-    let mut e = start;
-    while e < codes.len() {
-        let c = wide(codes[e]);
+    for e in start..codes.len() {
+        let c = usize::from(codes[e]);
         if c == 0 {
             return;
         }
-        e += 1;
         let k = (c / 2 + LAST) % Formula::UNKNOWNS;
         if k != to {
             unite_at(sets, to, k);
@@ -226,10 +219,4 @@ fn ones_above(k: usize) -> u64
         return 0;
     }
     ones(k - 64)
-}
-
-fn wide(x: u16) -> usize
-    ensures { result ≡ x }
-{
-    x as usize
 }

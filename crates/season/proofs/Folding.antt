@@ -214,19 +214,6 @@ fold_summary ss = cases (ltb max_studies (length ss)) refl
     cases true e = too_many ss (ltb-true _ _ e)
     cases false e = summed ss (ltb-false _ _ e)
 
--- ---- room for the next study
-pub room_fresh : Room fresh
-room_fresh = record {
-  answer_0 = omega arith;
-  answer_1 = omega arith;
-  answer_2 = omega arith;
-  answer_3 = omega arith;
-  answer_4 = omega arith;
-  rounds = omega
-      arith;
-  fees = omega arith;
-}
-
 room_more : (t : Tally) (a r f : ℕ) → Room t → r < 2 ^ 32 → f < 2 ^ 32 → Room (one_more t a r f)
 room_more t a r f m hr hf = record {
   answer_0 = omega (arith, m.answer_0, bit_small (eqb a 0));

@@ -1,25 +1,26 @@
 -- The lines and pieces of a text, as they are read from the left. Assumes nothing.
-use Prim.Native.Nat.{ℕ, suc, ◌+◌, ◌-◌, ◌≤◌, ◌<◌}
-use mathlib.Core.Path.{◌≡◌, refl, sym, ap, ◌∙◌}
-use mathlib.Core.Bool.{Bool, true, false, false≢true}
+use Prim.Native.Nat.{ℕ, zero, suc, ◌+◌, ◌-◌, ◌≤◌, ◌<◌}
+use mathlib.Core.Path.{◌≡◌, refl, sym, ap, subst, ◌∙◌}
+use Rattle.std.specs.Prelude.{Some, None, Result, Ok, Err}
+use mathlib.Core.Bool.{Bool, true, false, cond, ◌&&◌}
 use mathlib.Core.List.{List, [], ◌∷◌, ◌++◌, append_assoc, append-nil}
 use native.Mathlib.Numerals.{add-one}
 use native.Mathlib.Omega.{arith}
 use native.Mathlib.Decide.{dec_lt}
-use borrow.Author.Tests.{lt-ltb, le-ltb, eq-eqb, ne_eqb}
+use borrow.Author.Tests.{ne_eqb}
 use lib.Dec.{eqb}
 use lib.ListN.{length, take, drop, set, length-set, length-drop, drop_of_length-le}
 use lib.Seq.{drop-cons, take-suc-set}
+use Rattle.std.specs.Option.{is_some}
 use Rattle.lines.specs.Lines.{Bytes, Line, lines, pieces}
-use Rattle.lines.specs.Numbers.{no_number}
 use Rattle.lines.specs.Places.{before}
 use Rattle.lines.proofs.Spans.{before_le}
 use Rattle.lines.proofs.Pieces.{after, pieces_first, pieces_from}
 use Rattle.lines.proofs.LineLaws.{lines_line, lines_rest, lines_none}
 use Rattle.season.specs.declared.Study.{Study}
 use Rattle.season.specs.Season.{max_studies}
-use Rattle.season.specs.Text.{number, three_numbers, study, is_record, record_of, records, other_line}
-use Rattle.season.specs.Private.Steps.{Parted}
+use Rattle.season.specs.Text.{number, is_number, three_numbers, study, is_record, record_of, records, other_line}
+use Rattle.season.specs.Private.Steps.{Parted, PartedAt, field, line_read, checked}
 
 -- ---- the pieces of a line
 -- What is found from inside a list on is found within it.
@@ -32,71 +33,103 @@ after_end l i h = rw (drop_of_length-le l {i = i} (omega arith)) refl
 after_more : (l : Bytes) (i : ℕ) → i < length l → after 32 (drop i l) ≡ pieces 32 (drop (i + 1) l)
 after_more l i h = rw (add-one, drop-cons l i 0 h) refl
 
-none_two : {a b : ℕ} {line : Bytes} → eqb (length (pieces 32 line)) 3 ≡ false → Parted line false a b
-none_two e = record { count = sym e; ordered = λ h. absurd (false≢true h); within = λ h. absurd (false≢true h); parts = λ h. absurd (false≢true h) }
-
 module _ (line : Bytes) (a : ℕ) (ea : a ≡ 0 + before 32 (drop 0 line)) where
   first_piece : pieces 32 line ≡ take a line ∷ after 32 (drop a line)
   first_piece = let e : before 32 line ≡ a = omega arith in rw (← e) (pieces_first 32 line)
 
-  pub parted_none : (b : ℕ) → a ≡ length line → Parted line false a b
-  parted_none b h = none_two (rw (first_piece, after_end line a h) refl)
+  pub parted_none : a ≡ length line → Parted line None
+  parted_none h = rw (first_piece, after_end line a h) refl
 
   module _ (b : ℕ) (eb : b ≡ a + 1 + before 32 (drop (a + 1) line)) (ha : a < length line) where
     second_piece : pieces 32 line ≡ take a line ∷ take (b - (a + 1)) (drop (a + 1) line) ∷ after 32 (drop b line)
     second_piece = rw (first_piece, after_more line a ha, pieces_from 32 line (a + 1) b eb) refl
 
-    pub parted_once : b ≡ length line → Parted line false a b
-    parted_once h = none_two (rw (second_piece, after_end line b h) refl)
+    pub parted_once : b ≡ length line → Parted line None
+    parted_once h = rw (second_piece, after_end line b h) refl
 
     module _ (c : ℕ) (ec : c ≡ b + 1 + before 32 (drop (b + 1) line)) (hb : b < length line) where
       third_piece : pieces 32 line ≡ take a line ∷ take (b - (a + 1)) (drop (a + 1) line) ∷ take (c - (b + 1)) (drop (b + 1) line) ∷ after 32 (drop c line)
       third_piece = rw (second_piece, after_more line b hb, pieces_from 32 line (b + 1) c ec) refl
 
-      ends : c ≡ length line → Parted line (eqb c (length line)) a b
-      ends h =
-          let three : pieces 32 line ≡ take a line ∷ take (b - (a + 1)) (drop (a + 1) line) ∷ take (length line - (b + 1)) (drop (b + 1) line) ∷
-          [] = third_piece ∙ rw (after_end line c h, h) refl in
-          record { count = rw (three, eq-eqb c (length line) h) refl; ordered = λ _. omega arith; within = λ _. hb; parts = λ _. three }
+      pub parted : c ≡ length line → Parted line (Some (a, b))
+      parted h =
+          record {
+            ordered = omega arith;
+            within = hb;
+            parts = third_piece ∙ rw (after_end line c h, h) refl;
+          }
 
-      long : c < length line → eqb (length (pieces 32 line)) 3 ≡ false
-      long h =
+      pub parted_on : c < length line → Parted line None
+      parted_on h =
           let rest = drop (c + 1) line in
           let four : length (pieces 32 line) ≡ 4 + length (after 32 (drop (before 32 rest) rest)) = rw (third_piece, after_more line c h, pieces_first 32 rest)
           (omega arith) in
           ne_eqb (length (pieces 32 line)) 3 (λ e. omega arith)
 
-      goes_on : c < length line → Parted line (eqb c (length line)) a b
-      goes_on h = rw (ne_eqb c (length line) (λ e. omega arith)) (none_two (long h))
+-- ---- the study of a line
+some_none : {A : Type 0} {a : A} → Some a ≡ None → ⊥
+some_none {A} e = let z : ◌≡◌ {A = ℕ} 0 1 = cc in omega arith
 
-      pub parted : Parted line (eqb c (length line)) a b
-      parted = cases (dec_lt c (length line))
-        where
-          cases : Dec (c < length line) → Parted line (eqb c (length line)) a b
-          cases (yes h) = goes_on h
-          cases (no h) = ends (omega (arith, found_within 32 line (b + 1) (omega arith)))
+pub no_number : (w : Bytes) → field w ≡ None → is_number w ≡ false
+no_number w = cases (is_number w)
+  where
+    cases : (b : Bool) → cond b (Some (number w)) None ≡ None → b ≡ false
+    cases true e = absurd (some_none e)
+    cases false e = refl
 
--- ---- three pieces as numbers
-pub not_parted : (ps : List Bytes) → eqb (length ps) 3 ≡ false → three_numbers ps ≡ false
-not_parted ps e = rw e refl
+pub a_number : (w : Bytes) {n : ℕ} → field w ≡ Some n → (is_number w ≡ true) × (number w ≡ n)
+a_number w {n} = cases (is_number w)
+  where
+    cases : (b : Bool) → cond b (Some (number w)) None ≡ Some n → (b ≡ true) × (number w ≡ n)
+    cases true e = (refl, cc)
+    cases false e = absurd (some_none (sym e))
 
-module _ {ps : List Bytes} {x y z : Bytes} (e : ps ≡ x ∷ y ∷ z ∷ []) {a : ℕ} (ea : a ≡ number x) where
-  pub first_none : no_number ≤ a → three_numbers ps ≡ false
-  first_none h = rw (e, ← ea, le-ltb a no_number h) refl
+module _ (line : Bytes) where
+  unread : three_numbers (pieces 32 line) ≡ false → None ≡ line_read line
+  unfolding line_read
+  unread e = rw e
 
-  module _ (ha : a < no_number) {b : ℕ} (eb : b ≡ number y) where
-    pub second_none : no_number ≤ b → three_numbers ps ≡ false
-    second_none h = rw (e, ← ea, ← eb, lt-ltb a no_number ha, le-ltb b no_number h) refl
+  pub unparted : Parted line None → None ≡ line_read line
+  unparted e = unread (rw e)
 
-    module _ (hb : b < no_number) {c : ℕ} (ec : c ≡ number z) where
-      pub third_none : no_number ≤ c → three_numbers ps ≡ false
-      third_none h = rw (e, ← ea, ← eb, ← ec, lt-ltb a no_number ha, lt-ltb b no_number hb, le-ltb c no_number h) refl
+  pub line_good_read : three_numbers (pieces 32 line) ≡ true → line_read line ≡ Some (study (pieces 32 line))
+  unfolding line_read
+  line_good_read e = rw e
 
-      pub all_numbers : c < no_number → three_numbers ps ≡ true
-      all_numbers h = rw (e, ← ea, ← eb, ← ec, lt-ltb a no_number ha, lt-ltb b no_number hb, lt-ltb c no_number h) refl
+  pub is_read : is_some (line_read line) ≡ three_numbers (pieces 32 line)
+  unfolding line_read
+  is_read = cases (three_numbers (pieces 32 line))
+    where
+      cases : (b : Bool) → is_some (cond b (Some (study (pieces 32 line))) None) ≡ b
+      cases true = refl
+      cases false = refl
 
-      pub study_made : ◌≡◌ {A = Study} (record { answer = a; rounds = b; fee = c }) (study ps)
-      study_made = rw (e, ← ea, ← eb, ← ec) refl
+  -- Its pieces are read one by one.
+  module _ {a b : ℕ} (P : PartedAt line a b) where
+    abbrev first_part : Bytes
+    first_part = take a line
+
+    abbrev second_part : Bytes
+    second_part = take (b - (a + 1)) (drop (a + 1) line)
+
+    abbrev third_part : Bytes
+    third_part = take (length line - (b + 1)) (drop (b + 1) line)
+
+    by_parts : three_numbers (pieces 32 line) ≡ (is_number first_part && is_number second_part && is_number third_part)
+    by_parts = rw P.parts refl
+
+    pub no_first : is_number first_part ≡ false → None ≡ line_read line
+    no_first e = unread (by_parts ∙ rw e)
+
+    pub no_second : is_number first_part ≡ true → is_number second_part ≡ false → None ≡ line_read line
+    no_second e f = unread (by_parts ∙ rw (e, f))
+
+    pub no_third : is_number first_part ≡ true → is_number second_part ≡ true → is_number third_part ≡ false → None ≡ line_read line
+    no_third e f g = unread (by_parts ∙ rw (e, f, g))
+
+    pub all_read : is_number first_part ≡ true → is_number second_part ≡ true → is_number third_part ≡ true →
+        Some (study (first_part ∷ second_part ∷ third_part ∷ [])) ≡ line_read line
+    all_read e f g = ap (λ ps. Some (study ps)) (sym P.parts) ∙ sym (line_good_read (by_parts ∙ rw (e, f, g)))
 
 -- ---- the lines of a text
 abbrev line_from : Bytes → ℕ → ℕ → Bytes
@@ -149,9 +182,6 @@ pub record Filling (text : Bytes) (rows : List Study) (at i : ℕ) : Type 0 wher
   pub counted : length (lines text) ≡ i + length (lines (drop at text))
   pub filled : take i rows ++ records (lines (drop at text)) ≡ records (lines text)
 
-pub begun : (text : Bytes) (rows : List Study) → length rows ≡ max_studies → other_line 1 (lines text) ≡ 0 → Filling text rows 0 0
-begun text rows size none = record { size = size; within = omega arith; none = none; counted = omega arith; filled = refl }
-
 module _ {text : Bytes} {rows : List Study} {at i : ℕ} (F : Filling text rows at i) where
   module _ (inside : at < length text) (end : ℕ) (e : end ≡ at + before 10 (drop at text)) where
     pub line_ends : end < length text
@@ -185,3 +215,31 @@ module _ {text : Bytes} {rows : List Study} {at i : ℕ} (F : Filling text rows 
 pub records_length : (ls : List Line) → length (records ls) ≡ length ls
 records_length [] = refl
 records_length (l ∷ ls) = ap suc (records_length ls)
+
+-- ---- what the test of all lines says
+module _ (ls : List Line) where
+  abbrev Told : ℕ → Result ℕ ℕ → Type 0
+  Told other (Ok n) = (other ≡ 0) × (length ls ≡ n)
+  Told other (Err k) = (other ≡ k) × (k ≡ 0 → ⊥)
+
+  told : Told (other_line 1 ls) (checked ls)
+  unfolding checked
+  told = cases (other_line 1 ls)
+    where
+      cases : (other : ℕ) → Told other (cond (eqb other 0) (Ok (length ls)) (Err other))
+      cases zero = (refl, refl)
+      cases (suc k) = rw (ne_eqb (suc k) 0 (λ z. omega arith)) (refl, λ z. omega arith)
+
+  pub all_checked : {n : ℕ} → checked ls ≡ Ok n → (other_line 1 ls ≡ 0) × (length ls ≡ n)
+  all_checked e = subst (Told (other_line 1 ls)) e told
+
+  pub other_checked : {k : ℕ} → checked ls ≡ Err k → (other_line 1 ls ≡ k) × (k ≡ 0 → ⊥)
+  other_checked e = subst (Told (other_line 1 ls)) e told
+
+  pub no_other : other_line 1 ls ≡ 0 → Ok (length ls) ≡ checked ls
+  unfolding checked
+  no_other e = rw e
+
+  pub some_other : (k : ℕ) → other_line 1 ls ≡ k + 1 → Err (k + 1) ≡ checked ls
+  unfolding checked
+  some_other k e = rw (e, ne_eqb (k + 1) 0 (λ z. omega arith))

@@ -1,5 +1,9 @@
 -- What is printed fits: no number is printed with more than twenty digits. Assumes nothing.
 use Prim.Native.Nat.{ℕ, zero, suc, ◌+◌, ◌/◌, ◌%◌, ◌≤◌}
+use Rattle.std.specs.Prelude.{Err, Ok, Result}
+use Rattle.cause.specs.declared.Cause.{Cause}
+use Rattle.cause.specs.Cause.{number}
+use Rattle.season.specs.declared.Sheet.{Sheet}
 use native.Mathlib.Omega.{arith}
 use mathlib.Core.Bool.{Bool, true, false, cond}
 use mathlib.Core.List.{List, [], ◌∷◌, ◌++◌}
@@ -9,8 +13,6 @@ use Rattle.lines.specs.Lines.{Bytes, lines}
 use Rattle.report.specs.Report.{ascii, decimal, decimal_within, pair_line, refusal_line}
 use Rattle.report.specs.Page.{answers_line, most_line, fees_line, page_lines}
 use Rattle.report.proofs.Lengths.{AtMost, fixed, behind}
-use Rattle.season.specs.declared.Summary.{Summary}
-use Rattle.season.specs.declared.Summary.TheVariants.{Page, Refused}
 use Rattle.season.specs.Season.{summary}
 use Rattle.season.specs.Text.{records, other_line, summary_lines, unless_other, max_bytes, longest, printed}
 use Rattle.season.specs.SeasonRight.{SeasonRight}
@@ -54,10 +56,10 @@ fees_most : (n : ℕ) → AtMost 26 (fees_line n)
 unfolding fees_line
 fees_most n = behind (behind (fixed (ascii "fees ")) (digits n)) (fixed (ascii "\n"))
 
-summary_most : (s : Summary) → length (summary_lines s) ≤ longest
+summary_most : (s : Result Sheet Cause) → length (summary_lines s) ≤ longest
 unfolding summary_lines page_lines
-summary_most (Refused n) = refusal_most n 0
-summary_most (Page s) =
+summary_most (Err cause) = refusal_most (number cause) 0
+summary_most (Ok s) =
     let answers = answers_most s.answer_0 s.answer_1 s.answer_2 s.answer_3 s.answer_4 in
     let sums = behind answers (pair_most (ascii "rounds ") s.rounds s.studies) in
     let most : AtMost 47 (most_line s.studies s.most s.first) = record { most = most_most s.studies s.most s.first } in

@@ -1,5 +1,9 @@
 -- The number and the page of a summary. Assumes nothing.
 use Prim.Native.Nat.{ℕ}
+use Rattle.std.specs.Prelude.{Ok, Result}
+use Rattle.cause.specs.declared.Cause.{Cause}
+use Rattle.cause.specs.declared.Cause.TheVariants.{Studies, Answer, Fee}
+use Rattle.cause.specs.Cause.{refused_if}
 use mathlib.Core.Path.{◌≡◌, refl, ap, ◌∙◌}
 use mathlib.Core.Bool.{Bool, true, false, cond}
 use mathlib.Core.List.{List, []}
@@ -8,14 +12,12 @@ use lib.ListN.{length}
 use Rattle.formula.specs.Causes.{any}
 use Rattle.season.specs.declared.Study.{Study}
 use Rattle.season.specs.declared.Sheet.{Sheet}
-use Rattle.season.specs.declared.Summary.{Summary}
-use Rattle.season.specs.declared.Summary.TheVariants.{Page}
-use Rattle.season.specs.Season.{sheet, max_studies, max_answer, max_fee, refused_if, summary, summary_number, summary_sheet, cause, Summarized}
+use Rattle.season.specs.Season.{sheet, max_studies, max_answer, max_fee, summary, summary_number, summary_sheet, cause, Summarized}
 
 -- The three causes in turn.
 module _ (page : Sheet) where
-  abbrev by_causes : Bool → Bool → Bool → Summary
-  by_causes many answer fee = refused_if many 23 (refused_if answer 24 (refused_if fee 25 (Page page)))
+  abbrev by_causes : Bool → Bool → Bool → Result Sheet Cause
+  by_causes many answer fee = refused_if many Studies (refused_if answer Answer (refused_if fee Fee (Ok page)))
 
   abbrev first_of : Bool → Bool → Bool → ℕ
   first_of many answer fee = cond many 23 (cond answer 24 (cond fee 25 0))
@@ -32,7 +34,7 @@ module _ (page : Sheet) where
   sheet_so false false true = refl
   sheet_so false false false = refl
 
-pub summarized : (ss : List Study) (r : Summary) → r ≡ summary ss → Summarized ss r
+pub summarized : (ss : List Study) (r : Result Sheet Cause) → r ≡ summary ss → Summarized ss r
 unfolding summary cause
 summarized ss r same =
     let many = ltb max_studies (length ss) in

@@ -1,11 +1,12 @@
 -- The page over a table of studies, and what is refused. Assumes nothing.
-use Rattle.std.specs.Prelude.{ℕ, suc, ◌+◌, max, ◌≡◌, Bool, true, false, cond, List, [], ◌∷◌, eqb, ltb, length}
+use Rattle.std.specs.Prelude.{ℕ, suc, ◌+◌, max, ◌≡◌, cond, List, [], ◌∷◌, eqb, ltb, length, Err, Ok, Result}
+use Rattle.cause.specs.declared.Cause.{Cause}
+use Rattle.cause.specs.declared.Cause.TheVariants.{Studies, Answer, Fee}
+use Rattle.cause.specs.Cause.{number, refused_if}
 use Rattle.formula.specs.Causes.{any}
 use Rattle.formula.specs.Meaning.{bit}
 use Rattle.season.specs.declared.Study.{Study}
 use Rattle.season.specs.declared.Sheet.{Sheet}
-use Rattle.season.specs.declared.Summary.{Summary}
-use Rattle.season.specs.declared.Summary.TheVariants.{Page, Refused}
 
 -- 'Sums rounds and fees': a number that each study has, added up.
 abbrev pub sum : (Study → ℕ) → List Study → ℕ
@@ -50,27 +51,22 @@ max_answer = 4
 abbrev pub max_fee : ℕ
 max_fee = 100000000
 
--- Whether some study passes a test.
-abbrev pub refused_if : Bool → ℕ → Summary → Summary
-refused_if true number otherwise = Refused number
-refused_if false number otherwise = otherwise
-
 -- 'Each over the whole table before the next.'
-unfoldable pub summary : List Study → Summary
+unfoldable pub summary : List Study → Result Sheet Cause
 summary ss =
-    refused_if (ltb max_studies (length ss)) 23
-    (refused_if (any (λ s. ltb max_answer s.answer) ss) 24
-    (refused_if (any (λ s. ltb max_fee s.fee) ss) 25
-    (Page (sheet ss))))
+    refused_if (ltb max_studies (length ss)) Studies
+    (refused_if (any (λ s. ltb max_answer s.answer) ss) Answer
+    (refused_if (any (λ s. ltb max_fee s.fee) ss) Fee
+    (Ok (sheet ss))))
 
 -- The number of each case, 0 for a page, else the cause's; and the page, that of no study where there is none.
-abbrev pub summary_number : Summary → ℕ
-summary_number (Page s) = 0
-summary_number (Refused cause) = cause
+abbrev pub summary_number : Result Sheet Cause → ℕ
+summary_number (Ok s) = 0
+summary_number (Err cause) = number cause
 
-abbrev pub summary_sheet : Summary → Sheet
-summary_sheet (Page s) = s
-summary_sheet (Refused cause) = sheet []
+abbrev pub summary_sheet : Result Sheet Cause → Sheet
+summary_sheet (Ok s) = s
+summary_sheet (Err cause) = sheet []
 
 -- The first cause that applies, or 0.
 unfoldable pub cause : List Study → ℕ
@@ -80,7 +76,7 @@ cause ss =
     (cond (any (λ s. ltb max_fee s.fee) ss) 25 0))
 
 -- What comes back for a table, with its number and its page.
-pub record Summarized (ss : List Study) (r : Summary) : Type 0 where
+pub record Summarized (ss : List Study) (r : Result Sheet Cause) : Type 0 where
   pub value : r ≡ summary ss
   pub numbered : summary_number r ≡ cause ss
   pub valued : summary_sheet r ≡ cond (eqb (cause ss) 0) (sheet ss) (sheet [])

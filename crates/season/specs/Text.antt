@@ -1,12 +1,13 @@
 -- The records as text, and the bytes that are printed for a text. Assumes nothing.
-use Rattle.std.specs.Prelude.{ℕ, zero, suc, Bool, false, cond, ◌&&◌, List, [], ◌∷◌, eqb, ltb, length}
+use Rattle.std.specs.Prelude.{ℕ, zero, suc, Bool, false, cond, ◌&&◌, List, [], ◌∷◌, eqb, ltb, length, Err, Ok, Result}
+use Rattle.cause.specs.declared.Cause.{Cause}
+use Rattle.cause.specs.Cause.{number as number_of}
+use Rattle.season.specs.declared.Sheet.{Sheet}
 use Rattle.lines.specs.Lines.{Bytes, Line, ended, unended, lines, pieces, first, second, third}
 use Rattle.lines.specs.Numbers.{number_within, no_number}
 use Rattle.report.specs.Report.{refusal_line}
 use Rattle.report.specs.Page.{page_lines}
 use Rattle.season.specs.declared.Study.{Study}
-use Rattle.season.specs.declared.Summary.{Summary}
-use Rattle.season.specs.declared.Summary.TheVariants.{Page, Refused}
 use Rattle.season.specs.Season.{summary}
 
 -- 'Numbers of at most 9 digits, no leading zero.'
@@ -49,10 +50,10 @@ other_line k (l ∷ ls) =
     cond (is_record l) later k
 
 -- '23 to 25 print line 0, all in 01's refusal line.'
-unfoldable pub summary_lines : Summary → Bytes
-summary_lines (Page s) =
+unfoldable pub summary_lines : Result Sheet Cause → Bytes
+summary_lines (Ok s) =
     page_lines s.answer_0 s.answer_1 s.answer_2 s.answer_3 s.answer_4 s.rounds s.studies s.most s.first s.fees
-summary_lines (Refused number) = refusal_line number 0
+summary_lines (Err cause) = refusal_line (number_of cause) 0
 
 -- 'A text over 122,880 bytes gets 9 at line 0, then any other line 10 with its line number, before the rest.'
 abbrev pub max_bytes : ℕ

@@ -10,6 +10,8 @@ ghost use Rattle.season.specs.Season.{max_studies, summary, Summarized};
 ghost use Rattle.season.specs.Text.{printed, summary_lines};
 ghost use Rattle.season.specs.SeasonRight.{SeasonRight};
 
+use cause::Cause;
+
 mod records;
 mod tally;
 
@@ -46,22 +48,13 @@ pub struct Sheet {
     pub first: u32,
 }
 
-#[derive(Clone, Copy)]
-pub enum Summary {
-    Page(Sheet),
-    Refused(u32),
-}
-
-// The page over a table of studies, or the number of the first cause that applies.
-pub fn summarize(studies: &[Study]) -> Summary
+// The page over a table of studies, or the first cause that applies.
+pub fn summarize(studies: &[Study]) -> Result<Sheet, Cause>
     ensures { Summarized studies.now result }
 {
     let mut t = tally::start();
-    let mut i = 0; // the place of the next record
-    while i < studies.len() {
-        let s = &studies[i];
+    for s in studies {
         t = tally::add(t, s.answer, s.rounds, s.fee);
-        i += 1;
     }
     tally::close(t, studies.len())
 }
@@ -74,28 +67,27 @@ pub fn print(text: &[u8], out: &mut [u8]) -> usize
     ensures proved { SeasonRight text.now }
 {
     if BYTES < text.len() {
-        return report::refusal(out, 9, 0);
+        return report::refusal(out, Cause::TooLong.number(), 0);
     }
-    let checked = records::check(text);
-    if checked.other != 0 {
-        return report::refusal(out, 10, checked.other);
-    }
-    let count = checked.count;
+    let count = match records::check(text) {
+        Ok(count) => count,
+        Err(line) => return report::refusal(out, Cause::Shape.number(), line),
+    };
     if STUDIES < count {
-        return report::refusal(out, 23, 0);
+        return report::refusal(out, Cause::Studies.number(), 0);
     }
     let page = over_first(records::read(text), count);
     show(page, out)
 }
 
 // The lines of a page or of its refusal, as in `print`.
-fn show(page: Summary, out: &mut [u8]) -> usize
+fn show(page: Result<Sheet, Cause>, out: &mut [u8]) -> usize
     ensures value { result ≡ put_count (summary_lines page) out.old }
     ensures out_after { out.new ≡ put (summary_lines page) out.old }
 {
     match page {
-        Summary::Refused(cause) => report::refusal(out, cause, 0),
-        Summary::Page(s) => report::page(
+        Err(cause) => report::refusal(out, cause.number(), 0),
+        Ok(s) => report::page(
             out, s.answer_0, s.answer_1, s.answer_2, s.answer_3, s.answer_4, s.rounds, s.studies,
             s.most, s.first, s.fees,
         ),
@@ -103,7 +95,7 @@ fn show(page: Summary, out: &mut [u8]) -> usize
 }
 
 // The page over the first n records of a table of one's own. It alone lends one, so that its callers know no slice of records.
-fn over_first(rows: [Study; STUDIES], n: usize) -> Summary
+fn over_first(rows: [Study; STUDIES], n: usize) -> Result<Sheet, Cause>
     requires { n ≤ max_studies }
     ensures { result ≡ summary (take n rows) }
 {

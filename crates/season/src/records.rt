@@ -1,9 +1,9 @@
 // The records of a text.
-ghost use Rattle.std.specs.Prelude.{◌≡◌, false, ◌≤◌, length, take};
+ghost use Rattle.std.specs.Prelude.{◌≡◌, ◌≤◌, length, take};
 ghost use Rattle.lines.specs.Lines.{lines};
 ghost use Rattle.season.specs.Season.{max_studies};
 ghost use Rattle.season.specs.Text.{max_bytes, other_line, records};
-ghost use Rattle.season.specs.Private.Steps.{Parted, LineRead, CheckedSo};
+ghost use Rattle.season.specs.Private.Steps.{Parted, field, line_read, checked};
 
 use crate::Study;
 use lines::numbers;
@@ -11,17 +11,10 @@ use lines::numbers;
 // The most digits of a number.
 const DIGITS: usize = 9;
 
-// The number of the first line that is no record, 0 for none, and how many lines stand before it.
-#[derive(Clone, Copy)]
-pub(crate) struct Checked {
-    pub(crate) other: u32,
-    pub(crate) count: usize,
-}
-
-// Tests every line.
-pub(crate) fn check(text: &[u8]) -> Checked
+// How many lines a text of records has; or the number of the first line that is none.
+pub(crate) fn check(text: &[u8]) -> Result<usize, u32>
     requires { length text.now ≤ max_bytes }
-    ensures { CheckedSo text.now result.other result.count }
+    ensures { result ≡ checked (lines text.now) }
 {
     let mut at = 0;
     let mut count: usize = 0;
@@ -29,16 +22,15 @@ pub(crate) fn check(text: &[u8]) -> Checked
         let end = lines::find(text, at, b'\n');
         let other = (count + 1) as u32;
         if end == text.len() {
-            return Checked { other, count };
+            return Err(other);
         }
-        let line = read_line(&text[at..end]);
-        if line.good {} else {
-            return Checked { other, count };
+        if read_line(&text[at..end]).is_none() {
+            return Err(other);
         }
         count += 1;
         at = end + 1;
     }
-    Checked { other: 0, count }
+    Ok(count)
 }
 
 // The studies of a text that has no other line, at the start of a table.
@@ -55,98 +47,54 @@ pub(crate) fn read(text: &[u8]) -> [Study; crate::STUDIES]
     let mut i = 0;
     while at < text.len() {
         let end = lines::find(text, at, b'\n');
-        let line = read_line(&text[at..end]);
-        rows[i] = Study {
-            answer: line.answer,
-            rounds: line.rounds,
-            fee: line.fee,
-        };
+        rows[i] = read_line(&text[at..end]).unwrap();
         i += 1;
         at = end + 1;
     }
     rows
 }
 
-// Whether a line, without its LF, is three numbers parted by one space, and the numbers.
-#[derive(Clone, Copy)]
-struct Line {
-    good: bool,
-    answer: u32,
-    rounds: u32,
-    fee: u32,
-}
-
-fn read_line(line: &[u8]) -> Line
-    ensures { LineRead line.now result.good result.answer result.rounds result.fee }
+// The study of a line, without its LF, that is three numbers parted by one space.
+fn read_line(line: &[u8]) -> Option<Study>
+    ensures { result ≡ line_read line.now }
 {
-    let spaces = find_spaces(line);
-    if spaces.two {} else {
-        return no_line();
-    }
-    let a = spaces.first;
-    let b = spaces.second;
-    let answer = numbers::number(&line[..a], DIGITS);
-    if numbers::NO_NUMBER <= answer {
-        return no_line();
-    }
-    let rounds = numbers::number(&line[a + 1..b], DIGITS);
-    if numbers::NO_NUMBER <= rounds {
-        return no_line();
-    }
-    let fee = numbers::number(&line[b + 1..], DIGITS);
-    if numbers::NO_NUMBER <= fee {
-        return no_line();
-    }
-    Line {
-        good: true,
-        answer: answer as u32,
-        rounds: rounds as u32,
-        fee: fee as u32,
-    }
+    let (a, b) = find_spaces(line)?;
+    let answer = field(&line[..a])?;
+    let rounds = field(&line[a + 1..b])?;
+    let fee = field(&line[b + 1..])?;
+    Some(Study {
+        answer,
+        rounds,
+        fee,
+    })
 }
 
-fn no_line() -> Line
-    ensures { result.good ≡ false }
+// The number that a word is.
+fn field(word: &[u8]) -> Option<u32>
+    ensures { result ≡ field word.now }
 {
-    Line {
-        good: false,
-        answer: 0,
-        rounds: 0,
-        fee: 0,
+    let value = numbers::number(word, DIGITS);
+    if numbers::NO_NUMBER <= value {
+        return None;
     }
+    Some(value as u32)
 }
 
-// Whether a line has two spaces, and where they stand.
-#[derive(Clone, Copy)]
-struct Spaces {
-    two: bool,
-    first: usize,
-    second: usize,
-}
-
-fn find_spaces(line: &[u8]) -> Spaces
-    ensures { Parted line.now result.two result.first result.second }
+// Where the two spaces of a line stand, if it has two.
+fn find_spaces(line: &[u8]) -> Option<(usize, usize)>
+    ensures { Parted line.now result }
 {
     let first = lines::find(line, 0, b' ');
     if first == line.len() {
-        return Spaces {
-            two: false,
-            first,
-            second: 0,
-        };
+        return None;
     }
     let second = lines::find(line, first + 1, b' ');
     if second == line.len() {
-        return Spaces {
-            two: false,
-            first,
-            second,
-        };
+        return None;
     }
     let end = lines::find(line, second + 1, b' ');
-    Spaces {
-        two: end == line.len(),
-        first,
-        second,
+    if end == line.len() {
+        return Some((first, second));
     }
+    None
 }

@@ -1,9 +1,9 @@
 // What is added up over a table of studies, on plain numbers.
-ghost use Rattle.std.specs.Prelude.{◌≡◌, cond, ◌||◌, eqb, ltb};
-ghost use Rattle.formula.specs.Meaning.{bit};
+ghost use Rattle.std.specs.Prelude.{◌≡◌, cond, ◌||◌, ltb};
 ghost use Rattle.season.specs.Private.Tally.{fresh, added, closed, leads, Room};
 
-use crate::{Sheet, Summary};
+use crate::Sheet;
+use cause::Cause;
 
 // The highest answer's number, and the highest fee.
 const ANSWER: u32 = 4;
@@ -11,6 +11,7 @@ const ANSWER: u32 = 4;
 const FEE: u32 = 100_000_000;
 
 // What has been added up so far, and whether an answer or a fee too high was among it.
+// Kept: two flags and no `Result`, since 24 is looked for over the whole table before 25, so that neither ends the adding up (4).
 #[derive(Clone, Copy)]
 pub(crate) struct Tally {
     studies: u32,
@@ -58,13 +59,13 @@ pub(crate) fn add(t: Tally, answer: u32, rounds: u32, fee: u32) -> Tally
     let studies = t.studies + 1;
     Tally {
         studies,
-        answer_0: t.answer_0 + one_if(answer, 0),
-        answer_1: t.answer_1 + one_if(answer, 1),
-        answer_2: t.answer_2 + one_if(answer, 2),
-        answer_3: t.answer_3 + one_if(answer, 3),
-        answer_4: t.answer_4 + one_if(answer, 4),
-        rounds: t.rounds + rounds as u64,
-        fees: t.fees + fee as u64,
+        answer_0: t.answer_0 + u32::from(answer == 0),
+        answer_1: t.answer_1 + u32::from(answer == 1),
+        answer_2: t.answer_2 + u32::from(answer == 2),
+        answer_3: t.answer_3 + u32::from(answer == 3),
+        answer_4: t.answer_4 + u32::from(answer == 4),
+        rounds: t.rounds + u64::from(rounds),
+        fees: t.fees + u64::from(fee),
         most: choose(ahead, rounds, t.most),
         first: choose(ahead, studies, t.first),
         bad_answer: or_above(t.bad_answer, answer, ANSWER),
@@ -76,19 +77,7 @@ pub(crate) fn add(t: Tally, answer: u32, rounds: u32, fee: u32) -> Tally
 fn is_ahead(first: u32, most: u32, rounds: u32) -> bool
     ensures { result ≡ leads first most rounds }
 {
-    if first == 0 {
-        return true;
-    }
-    if most < rounds {
-        return true;
-    }
-    false
-}
-
-fn one_if(answer: u32, k: u32) -> u32
-    ensures { result ≡ bit (eqb answer k) }
-{
-    if answer == k { 1 } else { 0 }
+    first == 0 || most < rounds
 }
 
 fn choose(test: bool, a: u32, b: u32) -> u32
@@ -100,26 +89,23 @@ fn choose(test: bool, a: u32, b: u32) -> u32
 fn or_above(already: bool, x: u32, bound: u32) -> bool
     ensures { result ≡ (already || ltb bound x) }
 {
-    if already {
-        return true;
-    }
-    bound < x
+    already || bound < x
 }
 
-// The page that the tally over a table of this length gives, or the number of the first cause that applies.
-pub(crate) fn close(t: Tally, length: usize) -> Summary
+// The page that the tally over a table of this length gives, or the first cause that applies.
+pub(crate) fn close(t: Tally, length: usize) -> Result<Sheet, Cause>
     ensures { result ≡ closed t length }
 {
     if crate::STUDIES < length {
-        return Summary::Refused(23);
+        return Err(Cause::Studies);
     }
     if t.bad_answer {
-        return Summary::Refused(24);
+        return Err(Cause::Answer);
     }
     if t.bad_fee {
-        return Summary::Refused(25);
+        return Err(Cause::Fee);
     }
-    Summary::Page(Sheet {
+    Ok(Sheet {
         studies: t.studies,
         answer_0: t.answer_0,
         answer_1: t.answer_1,

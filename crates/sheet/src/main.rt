@@ -2,8 +2,6 @@
 // What is read, added up and printed is proved in `season`; here only buffers are made and handed on.
 #![tactic(auto)]
 
-ghost use Rattle.std.specs.Prelude.{◌≤◌};
-
 use std::io;
 use std::io::Write;
 
@@ -17,12 +15,5 @@ fn main(rt: HostRuntime) -> io::Result<()> {
 fn print(rt: &HostRuntime, text: &[u8]) -> io::Result<()> {
     let mut out = [0u8; season::LONGEST];
     let length = season::print(text, &mut out);
-    let n = lower(length, season::LONGEST);
-    rt.stdout().write_all(&out[..n])
-}
-
-fn lower(a: usize, b: usize) -> usize
-    ensures { result ≤ b }
-{
-    if a < b { a } else { b }
+    rt.stdout().write_all(&out[..length.min(season::LONGEST)])
 }

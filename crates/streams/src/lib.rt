@@ -3,24 +3,42 @@
 
 mod descriptor;
 
-ghost use Rattle.std.specs.Prelude.{◌≡◌, ◌+◌, ◌<◌, ◌≤◌, length, IfOk};
+ghost use Rattle.std.specs.Prelude.{◌≡◌, ◌+◌, ◌<◌, ◌≤◌, ℕ, List, length, take, IfOk, OnErr, IfSome};
+ghost use Rattle.std.specs.Io.KnownBytes.{Consumes, ReadConsumes, ConsumesCount, IsAtEnd};
+ghost use Rattle.streams.specs.Filled.{Filled, FilledOn, following, Stopped};
 
 pub use descriptor::read_descriptor;
 use std::io;
 use std::io::{ErrorKind, Read};
 
-// Fills the buffer from its start; how many bytes there were.
+// Fills the buffer from its start; how many bytes there were: fewer than there is room for only at the end of the input. What the reader may have
+// written behind them, no clause of `Read` says.
 pub fn read_full<R: Read>(from: &mut R, buf: &mut [u8]) -> io::Result<usize>
-    ensures { IfOk result (λ n. n ≤ length buf.new) }
+    ensures bound { IfOk result (λ n. n ≤ length buf.new) }
+    ensures known { IfOk result (λ n. IfSome (R.remaining from.old) (λ xs. Filled xs buf.new n)) }
+    ensures taken { IfOk result (λ n. Consumes (R.remaining from.old) (R.remaining from.new) (take n buf.new)) }
+    ensures end { IfOk result (λ n. n < length buf.new → IsAtEnd (R.remaining from.new)) }
+    ensures failed { OnErr result (Stopped (R.remaining from.old) (R.remaining from.new) buf.new) }
 {
     let mut done = 0;
-    for _ in 0..u64::MAX {
-        if done >= buf.len() {
-            break;
+    while done < buf.len() {
+        let n = read_once(from, &mut buf[done..])?;
+        if n == 0 {
+            return Ok(done);
         }
-        match from.read(&mut buf[done..]) {
-            Ok(0) => break,
-            Ok(n) => done += n,
+        done += n;
+    }
+    Ok(done)
+}
+
+// One read, made again where a signal interrupts it.
+fn read_once<R: Read>(from: &mut R, buf: &mut [u8]) -> io::Result<usize>
+    ensures bound { IfOk result (λ n. n ≤ length buf.new) }
+    ensures bytes { ReadConsumes (R.remaining from.old) (R.remaining from.new) result buf.new }
+{
+    for _ in 0..u64::MAX {
+        match from.read(buf) {
+            Ok(n) => return Ok(n),
             Err(e) => {
                 if e.kind() != ErrorKind::Interrupted {
                     return Err(e);
@@ -28,23 +46,27 @@ pub fn read_full<R: Read>(from: &mut R, buf: &mut [u8]) -> io::Result<usize>
             }
         }
     }
-    Ok(done)
+    Err(io::Error::from(ErrorKind::Interrupted))
 }
 
-// Whether a text that fills its buffer, of so many bytes, goes on: 1 if a byte follows.
+// Whether a text that fills its buffer, of so many bytes, goes on: 1 if a byte follows, which is then read.
 pub fn read_on<R: Read>(from: &mut R, length: usize, room: usize) -> io::Result<usize>
-    ensures { IfOk result (λ n. n ≤ 1) }
+    ensures bound { IfOk result (λ n. n ≤ 1) }
+    ensures known { IfOk result (λ n. IfSome (R.remaining from.old) (λ xs. n ≡ following length room xs)) }
+    ensures taken { ConsumesCount (R.remaining from.old) (R.remaining from.new) result }
 {
     if length < room {
         return Ok(0);
     }
     let mut byte = [0u8; 1];
-    read_full(from, &mut byte)
+    read_once(from, &mut byte)
 }
 
 // Fills the buffer from a text; how many bytes there were, and one more if the text goes on.
 pub fn read_text<R: Read>(from: &mut R, buf: &mut [u8]) -> io::Result<usize>
-    ensures { IfOk result (λ n. n ≤ length buf.new + 1) }
+    ensures bound { IfOk result (λ n. n ≤ length buf.new + 1) }
+    ensures known { IfOk result (λ n. IfSome (R.remaining from.old) (λ xs. FilledOn xs buf.new n)) }
+    ensures failed { OnErr result (Stopped (R.remaining from.old) (R.remaining from.new) buf.new) }
 {
     let length = read_full(from, buf)?;
     let more = read_on(from, length, buf.len())?;

@@ -1,5 +1,9 @@
 -- The causes: what a run with the limit 0 tells, what the list's tests tell, and what holds where no cause applies. Assumes nothing.
 use Prim.Native.Nat.{ℕ, zero, suc, ◌%◌, ◌/◌, ◌≤◌}
+use Rattle.std.specs.Prelude.{⊤, Ok}
+use Rattle.cause.specs.declared.Cause.TheVariants.{Kinds, Literals, Beyond}
+use Rattle.cause.specs.Cause.{refused_if, unless_cause}
+use Rattle.cause.proofs.Numbers.{Known, known_cond}
 use native.Mathlib.Omega.{arith}
 use mathlib.Core.Path.{◌≡◌, refl, sym, ap, ◌∙◌}
 use mathlib.Core.Bool.{Bool, true, false, not, ◌||◌, cond, true≢false}
@@ -10,9 +14,8 @@ use lib.IntN.{ℤ}
 use lib.ListN.{length, get_elem?}
 use borrow.Author.Tests.{eqb-true, eqb-false}
 use Rattle.formula.specs.Formula.{work_size}
-use Rattle.formula.specs.Causes.{any, cause_1, cause_2, cause_3, refused_if, checked, sizes, number as cause_number}
+use Rattle.formula.specs.Causes.{any, cause_1, cause_2, cause_3, checked, sizes, number as cause_number}
 use Rattle.formula.specs.declared.Formula.{Formula}
-use Rattle.formula.specs.declared.Check.TheVariants.{Accepted}
 use Rattle.formula.proofs.Accepted.{Accepted as AcceptedFormula, accepted}
 use Rattle.trimming_rules.specs.Proved.{Proved}
 use Rattle.trimming_rules.proofs.Carried.{proved}
@@ -89,10 +92,10 @@ none_if_passes g p some_limit = λ d. by_tests (p.formula d) (p.fits.tables d) (
 -- ---- the study's causes
 
 by_limits : (a b c fit counted long : Bool) (f : Formula) (later : ℕ)
-    → cond (eqb (by_tests (cause_number (refused_if a 1 (refused_if b 2 (refused_if c 3 (Accepted f))))) fit counted long false) 0) later
-    (by_tests (cause_number (refused_if a 1 (refused_if b 2 (refused_if c 3 (Accepted f))))) fit counted long false)
-    ≡ cond (eqb (by_tests (cause_number (refused_if a 1 (refused_if b 2 (refused_if c 3 (Accepted f))))) fit counted long true) 6) later
-    (by_tests (cause_number (refused_if a 1 (refused_if b 2 (refused_if c 3 (Accepted f))))) fit counted long true)
+    → cond (eqb (by_tests (cause_number (refused_if a Kinds (refused_if b Literals (refused_if c Beyond (Ok f))))) fit counted long false) 0) later
+    (by_tests (cause_number (refused_if a Kinds (refused_if b Literals (refused_if c Beyond (Ok f))))) fit counted long false)
+    ≡ cond (eqb (by_tests (cause_number (refused_if a Kinds (refused_if b Literals (refused_if c Beyond (Ok f))))) fit counted long true) 6) later
+    (by_tests (cause_number (refused_if a Kinds (refused_if b Literals (refused_if c Beyond (Ok f))))) fit counted long true)
 by_limits true b c fit counted long f later = refl
 by_limits false true c fit counted long f later = refl
 by_limits false false true fit counted long f later = refl
@@ -138,9 +141,22 @@ module _ (kinds : List ℕ) (literals : List ℤ) (settings : List ℕ) (found :
 -- By the list's tests.
 pub by_list_tests : (l : List ℕ) {empty long fours strange unlimited : Bool} → eqb (length l) 0 ≡ empty → ltb 32 (length l) ≡ long
     → eqb (length l % 4) 0 ≡ fours → any unknown (settings_of l) ≡ strange → any no_round (settings_of l) ≡ unlimited
-    → list_cause l ≡ cond (empty || (long || (not fours || strange))) 26 (cond unlimited 6 0)
+    → unless_cause {A = ⊤} (list_cause l) tt ≡ unless_cause (cond (empty || (long || (not fours || strange))) 26 (cond unlimited 6 0)) tt
 unfolding list_cause cause_26
-by_list_tests l e1 e2 e3 e4 e5 = λ d. cond (e1 d || (e2 d || (not (e3 d) || e4 d))) 26 (cond (e5 d) 6 0)
+by_list_tests l e1 e2 e3 e4 e5 = λ d. unless_cause {A = ⊤} (cond (e1 d || (e2 d || (not (e3 d) || e4 d))) 26 (cond (e5 d) 6 0)) tt
+
+pub list_known : (l : List ℕ) → Known (list_cause l)
+unfolding list_cause
+list_known l = known_cond (cause_26 l) of_26 (known_cond (any no_round (settings_of l)) of_6 of_none)
+  where
+    of_26 : Known 26
+    of_26 = refl
+
+    of_6 : Known 6
+    of_6 = refl
+
+    of_none : Known 0
+    of_none = refl
 
 none_of_list : (empty long fours strange unlimited : Bool) → ◌≡◌ {A = ℕ} (cond (empty || (long || (not fours || strange))) 26 (cond unlimited 6 0)) 0
     → (empty ≡ false) × (fours ≡ true) × (unlimited ≡ false)
@@ -214,6 +230,18 @@ module _ (settings : List ℕ) (none : list_cause settings ≡ 0) where
           by_test true t = sym (eqb-true n 0 t)
           by_test false t = refl
 
+-- A formula whose number is 0 is accepted.
+pub accepted_by_number : (kinds : List ℕ) (literals : List ℤ) → cause_number (checked kinds literals) ≡ 0 → checked kinds literals ≡ Ok (sizes kinds literals)
+unfolding checked
+accepted_by_number kinds literals = by_causes (cause_1 kinds) (cause_2 literals) (cause_3 (length kinds) literals)
+  where
+    by_causes : (a b c : Bool) → cause_number (refused_if a Kinds (refused_if b Literals (refused_if c Beyond (Ok (sizes kinds literals))))) ≡ 0
+        → refused_if a Kinds (refused_if b Literals (refused_if c Beyond (Ok (sizes kinds literals)))) ≡ Ok (sizes kinds literals)
+    by_causes true b c e = let z : ◌≡◌ {A = ℕ} 1 0 = e in absurd (omega arith)
+    by_causes false true c e = let z : ◌≡◌ {A = ℕ} 2 0 = e in absurd (omega arith)
+    by_causes false false true e = let z : ◌≡◌ {A = ℕ} 3 0 = e in absurd (omega arith)
+    by_causes false false false e = refl
+
 -- Where no cause applies, what is lent passes, and every setting's run is accepted.
 module _ (kinds : List ℕ) (literals : List ℤ) (settings : List ℕ) (found : Areas) (none : cause kinds literals settings found ≡ 0) where
   both : (run_cause (given kinds literals [] found 1 0) ≡ 0) × (list_cause settings ≡ 0)
@@ -227,15 +255,7 @@ module _ (kinds : List ℕ) (literals : List ℤ) (settings : List ℕ) (found :
   passes = passes_if_none (given kinds literals [] found 1 0) both.0
 
   pub formula_accepted : AcceptedFormula kinds literals
-  unfolding checked
-  formula_accepted = accepted kinds literals (by_causes (cause_1 kinds) (cause_2 literals) (cause_3 (length kinds) literals) passes.formula)
-    where
-      by_causes : (a b c : Bool) → cause_number (refused_if a 1 (refused_if b 2 (refused_if c 3 (Accepted (sizes kinds literals))))) ≡ 0
-          → refused_if a 1 (refused_if b 2 (refused_if c 3 (Accepted (sizes kinds literals)))) ≡ Accepted (sizes kinds literals)
-      by_causes true b c e = let z : ◌≡◌ {A = ℕ} 1 0 = e in absurd (omega arith)
-      by_causes false true c e = let z : ◌≡◌ {A = ℕ} 2 0 = e in absurd (omega arith)
-      by_causes false false true e = let z : ◌≡◌ {A = ℕ} 3 0 = e in absurd (omega arith)
-      by_causes false false false e = refl
+  formula_accepted = accepted kinds literals (accepted_by_number kinds literals passes.formula)
 
   pub trimming_proved : Proved kinds literals
   trimming_proved = proved kinds literals formula_accepted

@@ -1,16 +1,17 @@
 -- A table of settings and the list that it stands for, place by place. Assumes nothing.
 use Prim.Native.Nat.{ℕ, zero, suc, ◌+◌, ◌*◌, ◌/◌, ◌≤◌, ◌<◌}
 use native.Mathlib.Omega.{arith}
-use mathlib.Core.Path.{◌≡◌, refl, sym, ap, ◌∙◌}
+use mathlib.Core.Path.{◌≡◌, refl, sym, ap, subst, ◌∙◌}
 use mathlib.Core.Bool.{Bool, true, false, ◌||◌}
 use mathlib.Core.List.{List, [], ◌∷◌}
-use mathlib.Core.Option.{Option, some}
+use mathlib.Core.Logic.{inl, inr}
+use mathlib.Core.Option.{some}
 use lib.ListN.{length, get_or, drop, get_elem?, length-drop}
 use lib.Seq.{get_or-drop, drop-drop}
 use Rattle.formula.specs.Causes.{any}
 use Rattle.study.specs.declared.Setting.{Setting}
 use Rattle.study.specs.Study.{setting_from, settings_of}
-use Rattle.study.specs.Private.Turns.{setting_at}
+use Rattle.study.specs.Private.Turns.{setting_at, Tells}
 
 first_setting : (l : List ℕ) → 4 ≤ length l → settings_of l ≡ setting_from l ∷ settings_of (drop 4 l)
 unfolding settings_of
@@ -58,17 +59,30 @@ module _ (l : List ℕ) (i : ℕ) where
       let to_limit = on_limit ∙ sym (get_or-drop (4 * i) l 3 0) in
       λ d. record { trim = to_trim d; preference = to_preference d; clearing = to_clearing d; limit = to_limit d }
 
-  -- Whether a setting passes a test: from a place on.
-  module _ (test : Setting → Bool) where
-    pub any_here : i < length l / 4 → test (setting_at l i) ≡ true → any test (settings_of (drop (4 * i) l)) ≡ true
-    any_here h e = ap (any test) (next_setting h) ∙ ap (λ (b : Bool). b || any test (settings_of (drop (4 * (i + 1)) l))) e
+  -- What a test tells of the settings from a place on.
+  module _ (told : Setting → Bool → Type 0) where
+    pub told_here : i < length l / 4 → (s : Setting) → s ≡ setting_at l i → told s true → Tells told (settings_of (drop (4 * i) l)) true
+    unfolding Tells
+    told_here h s read passes = subst (λ (ss : List Setting). Tells told ss true) (sym (next_setting h))
+        (inl (subst (λ (t : Setting). told t true) read passes, refl))
 
-    pub any_next : i < length l / 4 → test (setting_at l i) ≡ false
-        → any test (settings_of (drop (4 * i) l)) ≡ any test (settings_of (drop (4 * (i + 1)) l))
-    any_next h e = ap (any test) (next_setting h) ∙ ap (λ (b : Bool). b || any test (settings_of (drop (4 * (i + 1)) l))) e
+    pub told_next : i < length l / 4 → (s : Setting) → s ≡ setting_at l i → told s false → (r : Bool) → Tells told (settings_of (drop (4 * (i + 1)) l)) r
+        → Tells told (settings_of (drop (4 * i) l)) r
+    unfolding Tells
+    told_next h s read fails r later = subst (λ (ss : List Setting). Tells told ss r) (sym (next_setting h))
+        (inr (subst (λ (t : Setting). told t false) read fails, later))
 
-    pub any_past : length l / 4 ≤ i → any test (settings_of (drop (4 * i) l)) ≡ false
-    any_past h = ap (any test) (past_settings h)
+    pub told_past : length l / 4 ≤ i → Tells told (settings_of (drop (4 * i) l)) false
+    unfolding Tells
+    told_past h = subst (λ (ss : List Setting). Tells told ss false) (sym (past_settings h)) refl
+
+-- What is told of a test that says of each setting what the definition says.
+pub any_told : (told : Setting → Bool → Type 0) (test : Setting → Bool) → ((s : Setting) (b : Bool) → told s b → b ≡ test s) → (ss : List Setting) (r : Bool)
+    → Tells told ss r → any test ss ≡ r
+unfolding Tells
+any_told told test so [] r e = sym e
+any_told told test so (s ∷ ss) r (inl here) = ap (λ (b : Bool). b || any test ss) (sym (so s true here.0)) ∙ sym here.1
+any_told told test so (s ∷ ss) r (inr later) = ap (λ (b : Bool). b || any test ss) (sym (so s false later.0)) ∙ any_told told test so ss r later.1
 
 pub setting_there : (l : List ℕ) (i : ℕ) → i < length l / 4 → get_elem? (settings_of l) i ≡ some (setting_at l i)
 setting_there l zero h = ap (λ (ss : List Setting). get_elem? ss zero) (first_setting l (omega arith))

@@ -1,18 +1,18 @@
 -- A run leaves areas of the sizes that it found, and its cause depends on these sizes alone. Assumes nothing.
 use Prim.Native.Nat.{ℕ, ◌*◌, ◌/◌, ◌%◌, ◌≤◌}
 use native.Mathlib.Omega.{arith}
-use mathlib.Core.Path.{◌≡◌, refl, sym, ap, subst, ◌∙◌}
-use mathlib.Core.Bool.{Bool, true, false, not, ◌&&◌, cond, and-eq-true_iff}
-use mathlib.Core.List.{List, [], ◌++◌}
+use mathlib.Core.Path.{◌≡◌, sym, subst, ◌∙◌}
+use mathlib.Core.Bool.{Bool, true, not, ◌&&◌, cond, and-eq-true_iff}
+use mathlib.Core.List.{List, ◌++◌}
 use lib.Dec.{eqb, leb}
 use lib.IntN.{ℤ}
-use lib.ListN.{length, drop, replicate, length-append, length-drop, length-map, length-replicate}
+use lib.ListN.{length, drop, length-append, length-drop, length-map, length-replicate}
 use borrow.Author.Tests.{leb-true, eqb-true, eq-eqb}
 use Rattle.formula.specs.Formula.{max_rows, work_size, Kind, existential, universal}
 use Rattle.formula.specs.Causes.{checked, number as cause_number}
 use Rattle.rows.specs.Table.{room, table_fits, zeroed}
 use Rattle.rows.proofs.ZeroedLaws.{length_zeroed}
-use Rattle.rounds.specs.Run.{Entry, run, highest}
+use Rattle.rounds.specs.Run.{Entry, highest}
 use Rattle.rounds.specs.Claim.{table}
 use Rattle.rounds.specs.Counts.{came, counts}
 use Rattle.rounds.proofs.Bounds.{count_in_room}

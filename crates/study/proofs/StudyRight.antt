@@ -13,7 +13,6 @@ use borrow.Author.Tests.{eq-eqb, ne_eqb, eqb-true}
 use Rattle.formula.specs.Formula.{work_size, existential, universal, prefix}
 use Rattle.formula.specs.Causes.{count}
 use Rattle.formula.specs.Meaning.{meaning, verdict}
-use Rattle.rows.specs.Table.{room}
 use Rattle.trimming_rules.specs.Proved.{Proved}
 use Rattle.rounds.specs.Run.{is_false, is_true, spent, no_room_universal, no_room_existential, Answer as RunAnswer}
 use Rattle.rounds.specs.Claim.{answer_of as run_answer_of, most_with}
@@ -21,8 +20,7 @@ use Rattle.rounds.proofs.Claim.{claim}
 use Rattle.rounds.proofs.Verdict.{verdict_right}
 use Rattle.engine.specs.declared.run.Answer.{Answer}
 use Rattle.engine.specs.declared.run.Answer.TheVariants.{False, True, Spent, NoRoomUniversal, NoRoomExistential, Refused}
-use Rattle.engine.specs.declared.run.Outcome.{Outcome}
-use Rattle.engine.specs.Outcome.{Areas, Given, lent, cause as run_cause, accepted, reached, named, reported, refusal, returned, after, left}
+use Rattle.engine.specs.Outcome.{Areas, Given, lent, cause as run_cause, reached, named, reported, refusal, returned, after, left}
 use Rattle.study.specs.declared.Setting.{Setting}
 use Rattle.study.specs.Study.{settings_of, formula_of, preferences_of, given_of, cause, Ending, ending, is_verdict, in_turn, studied}
 use Rattle.study.specs.StudyRight.{answer_of, Promised, StudyRight}

@@ -1,5 +1,10 @@
 -- What the functions of a study make, step by step: the setting's run, the runs in turn, the whole. Assumes nothing.
 use Prim.Native.Nat.{ℕ, zero, suc, ◌+◌, ◌-◌, ◌*◌, ◌/◌, ◌≤◌, ◌<◌}
+use Rattle.std.specs.Prelude.{⊤, Result, Err, Ok, is_ok, is_err, MatchResult, IsErrAnd}
+use Rattle.std.specs.Result.{result_unwrap_or}
+use Rattle.cause.specs.declared.Cause.{Cause}
+use Rattle.cause.specs.Cause.{number as number_of_cause, caused, told, unless_cause}
+use Rattle.cause.proofs.Numbers.{Known}
 use native.Mathlib.Omega.{arith}
 use native.Mathlib.Numerals.{add-one}
 use mathlib.Core.Path.{◌≡◌, refl, sym, ap, subst, ◌∙◌}
@@ -16,8 +21,6 @@ use Rattle.formula.specs.Formula.{max_entries, prefix}
 use Rattle.formula.specs.Causes.{any}
 use Rattle.trimming_rules.specs.Trimming.{trimmed}
 use Rattle.trimming.specs.Outcome.{cause as trim_cause, outcome, output_after, used}
-use Rattle.trimming.specs.declared.Trimmed.{Trimmed}
-use Rattle.trimming.specs.declared.Trimmed.TheVariants.{Entries, Refused}
 use Rattle.rounds.specs.Run.{is_false, is_true, spent, no_room_universal, no_room_existential, number, Answer as RunAnswer}
 use Rattle.engine.specs.declared.run.Answer.{Answer}
 use Rattle.engine.specs.declared.run.Outcome.{Outcome}
@@ -27,7 +30,7 @@ use Rattle.study.specs.declared.Setting.{Setting}
 use Rattle.study.specs.declared.Studied.{Studied}
 use Rattle.study.specs.Study.{settings_of, formula_of, preferences_of, given_of, trims, list_cause, cause, ending, is_verdict, in_turn, studied}
 use Rattle.study.specs.StudyRight.{Studies}
-use Rattle.study.specs.Private.Turns.{at_once, setting_at, formula_from, is_end, Holds, Ready, SameSizes}
+use Rattle.study.specs.Private.Turns.{at_once, setting_at, formula_from, is_end, numbered, Holds, Ready, SameSizes}
 use Rattle.study.proofs.SettingLaws.{length_settings, next_setting, setting_there}
 use Rattle.study.proofs.CauseLaws.{tested, never_accepted, cause_tested, any_there, some_setting, some_round, cause_of_run, list_passes, each_accepted, formula_accepted, trimming_proved, passes}
 use Rattle.study.proofs.SizeLaws.{same_cause}
@@ -79,17 +82,66 @@ few_bytes p = by_test (ltb p 256)
 
 -- ---- the whole
 
+-- The entries used, or none.
+pub entries_used : (r : Result ℕ Cause) → result_unwrap_or r 0 ≡ used r
+entries_used (Ok n) = refl
+entries_used (Err cause) = refl
+
+tested_so : (n of_list : ℕ) → eqb n 0 ≡ false → cond (eqb n 6) (numbered of_list) (Err n) ≡ numbered (cond (eqb n 6) of_list n)
+tested_so n of_list other = by_test (eqb n 6)
+  where
+    by_test : (b : Bool) → cond b (numbered of_list) (Err n) ≡ numbered (cond b of_list n)
+    by_test true = refl
+    by_test false = sym (ap (λ (b : Bool). cond b (Ok tt) (Err n)) other)
+
+-- The numbers of causes that are told.
+pub numbered_so : (n : ℕ) → Known n → (r : Result ⊤ Cause) (q : Result ⊤ ℕ) (P : Cause → ℕ → Type 0) → ((cause : Cause) (m : ℕ) → P cause m → m ≡ number_of_cause cause)
+    → r ≡ unless_cause n tt → MatchResult r (λ x. q ≡ Ok x) (λ cause. IsErrAnd q (P cause)) → q ≡ numbered n
+numbered_so n known r q P so on_r mapped = by_test (eqb n 0) known (subst (λ (a : Result ⊤ Cause). MatchResult a (λ x. q ≡ Ok x) (λ cause. IsErrAnd q (P cause))) on_r mapped)
+  where
+    of_error : (q : Result ⊤ ℕ) → IsErrAnd q (P (caused n)) → number_of_cause (caused n) ≡ n → q ≡ Err n
+    of_error (Ok x) e same = absurd e
+    of_error (Err m) e same = ap Err (so (caused n) m e ∙ same)
+
+    by_test : (b : Bool) → told {A = ℕ} (cond b (Ok 0) (Err (caused n))) ≡ n
+        → MatchResult (cond b (Ok tt) (Err (caused n))) (λ x. q ≡ Ok x) (λ cause. IsErrAnd q (P cause)) → q ≡ cond b (Ok tt) (Err n)
+    by_test true same e = e
+    by_test false same e = of_error q e same
+
+abbrev refused_number : Result ⊤ ℕ → ℕ
+refused_number (Ok x) = 0
+refused_number (Err n) = n
+
+-- A number refused with is the cause's, and no cause's is 0.
+pub refused_with : (n c : ℕ) (r : Result ⊤ ℕ) → r ≡ numbered n → r ≡ Err c → (c ≡ n) × (c ≡ 0 → ⊥)
+refused_with n c r on_r is = by_test (eqb n 0) refl (sym on_r ∙ is)
+  where
+    by_test : (b : Bool) → eqb n 0 ≡ b → ◌≡◌ {A = Result ⊤ ℕ} (cond b (Ok tt) (Err n)) (Err c) → (c ≡ n) × (c ≡ 0 → ⊥)
+    by_test true t e = absurd (true≢false (ap is_ok e))
+    by_test false t e = let same : n ≡ c = ap refused_number e in (sym same, λ z. eqb-false n 0 t (same ∙ z))
+
+pub not_refused : (n : ℕ) (r : Result ⊤ ℕ) → r ≡ numbered n → ((c : ℕ) → r ≡ Err c → ⊥) → n ≡ 0
+not_refused n r on_r other = by_test (eqb n 0) refl
+  where
+    by_test : (b : Bool) → eqb n 0 ≡ b → n ≡ 0
+    by_test true t = eqb-true n 0 t
+    by_test false t = absurd (other n (on_r ∙ ap (λ (b : Bool). cond b (Ok tt) (Err n)) t))
+
 module _ (kinds : List ℕ) (literals : List ℤ) (settings : List ℕ) (found : Areas) where
   module _ (o : Outcome) (exit : Areas) (test : Ended (tested kinds literals settings found) o exit) where
     pub untouched : exit ≡ found
     unfolding left
     untouched = test.left_so ∙ ap (λ (b : Bool). cond b (after (tested kinds literals settings found) 0) found) (never_accepted kinds literals settings found)
 
-    pub first_cause : (n c : ℕ) → n ≡ number_of o.answer → c ≡ cond (eqb n 6) (list_cause settings) n → c ≡ cause kinds literals settings found
-    first_cause n c on_number on_cause =
+    pub first_cause : (n : ℕ) (r : Result ⊤ ℕ) → n ≡ number_of o.answer → r ≡ cond (eqb n 6) (numbered (list_cause settings)) (Err n)
+        → r ≡ numbered (cause kinds literals settings found)
+    first_cause n r on_number on_cause =
         let told : n ≡ run_cause (tested kinds literals settings found) =
         on_number ∙ test.numbered ∙ ap (λ (b : Bool). cond b (number (reached (tested kinds literals settings found)).answer) (run_cause (tested kinds literals settings found))) (never_accepted kinds literals settings found) in
-        on_cause ∙ ap (λ (m : ℕ). cond (eqb m 6) (list_cause settings) m) told ∙ sym (cause_tested kinds literals settings found)
+        on_cause
+        ∙ ap (λ (m : ℕ). cond (eqb m 6) (numbered (list_cause settings)) (Err m)) told
+        ∙ tested_so (run_cause (tested kinds literals settings found)) (list_cause settings) (never_accepted kinds literals settings found)
+        ∙ ap numbered (sym (cause_tested kinds literals settings found))
 
   pub refused_so : (c : ℕ) (r : Studied) (exit : Areas) → c ≡ cause kinds literals settings found → (c ≡ 0 → ⊥) → (r.outcome ≡ refusal c) × (r.setting ≡ 0) → exit ≡ found
       → Studies kinds literals settings found r exit
@@ -116,7 +168,7 @@ module _ (kinds : List ℕ) (literals : List ℤ) (settings : List ℕ) (found :
         let no_cause : trim_cause kinds literals lent ≡ 0 = λ d. cond (eqb (formula d) 0) (cond (roomy d) 15 0) (formula d) in
         let passed : eqb (trim_cause kinds literals lent) 0 ≡ true = eq-eqb (trim_cause kinds literals lent) 0 no_cause in
         let is_entries : entries ≡ length (trimmed kinds literals) =
-        on_entries ∙ ap (λ (b : Bool). used (cond b (Entries (length (trimmed kinds literals))) (Refused (trim_cause kinds literals lent)))) passed in
+        on_entries ∙ ap (λ (b : Bool). used (cond b (Ok (length (trimmed kinds literals))) (Err (caused (trim_cause kinds literals lent))))) passed in
         let is_table : table ≡ trimmed kinds literals ++ drop (length (trimmed kinds literals)) lent =
         on_table ∙ ap (λ (b : Bool). cond b (trimmed kinds literals ++ drop (length (trimmed kinds literals)) lent) lent) passed in
         record {
@@ -137,6 +189,14 @@ module _ (kinds : List ℕ) (literals : List ℤ) (settings : List ℕ) (found :
 pub studies_found : {kinds : List ℕ} {literals : List ℤ} {settings : List ℕ} {present found : Areas} {r : Studied} {exit : Areas} → present ≡ found
     → Studies kinds literals settings present r exit → Studies kinds literals settings found r exit
 studies_found {kinds} {literals} {settings} {r = r} {exit} unmoved = subst (λ (a : Areas). Studies kinds literals settings a r exit) unmoved
+
+-- Whether the list is refused.
+pub list_refused : (n : ℕ) (r : Result ⊤ Cause) (b : Bool) → r ≡ unless_cause n tt → is_err r ≡ b → eqb n 0 ≡ not b
+list_refused n r b on_r is = by_test (eqb n 0) (sym (ap is_err on_r) ∙ is)
+  where
+    by_test : (c : Bool) → is_err {T = ⊤} {E = Cause} (cond c (Ok tt) (Err (caused n))) ≡ b → c ≡ not b
+    by_test true e = ap not e
+    by_test false e = ap not e
 
 pub at_once_by : (settings : List ℕ) {none trim : Bool} → eqb (list_cause settings) 0 ≡ none → any trims (settings_of settings) ≡ trim
     → at_once settings ≡ cond none (not trim) false

@@ -5,18 +5,18 @@
 // The run belongs to `run`, trimming to `trimming`. A study costs its runs, and if a setting trims one trimming and one test of the formula more.
 #![tactic(auto)]
 
-ghost use Rattle.std.specs.Prelude.{◌*◌, ◌/◌, ◌≤◌, ◌<◌, ◌≡◌, ◌||◌, cond, ◌∷◌, [], eqb, length, take};
-ghost use Rattle.formula.specs.Causes.{any};
+ghost use Rattle.std.specs.Prelude.{◌*◌, ◌/◌, ◌≤◌, ◌<◌, ◌≡◌, ◌||◌, cond, ◌∷◌, [], eqb, length, get_or, take, Err};
+ghost use Rattle.cause.specs.Cause.{unless_cause};
 ghost use Rattle.trimming.specs.Outcome.{outcome, output_after, used};
 ghost use Rattle.engine.specs.Outcome.{areas, refusal};
 ghost use Rattle.engine.specs.Ended.{Ended};
 ghost use Rattle.study.specs.Study.{settings_of, preferences_of, given_of, unknown, trims, list_cause};
 ghost use Rattle.study.specs.StudyRight.{Studies};
-ghost use Rattle.study.specs.Private.Turns.{asked_of, at_once, setting_at, formula_from, is_end, Holds, Ready};
+ghost use Rattle.study.specs.Private.Turns.{at_once, setting_at, formula_from, is_end, numbered, Tells, Holds, Ready};
 
+use cause::Cause;
 use engine::run::{Answer, Outcome};
 use formula::Formula;
-use trimming::Trimmed;
 
 // How a run of a study is made: over the trimmed formula (1) or the lent one (0), with a preference byte or `HOUSE`, the universal table cleared in
 // each round that `clearing` divides, and never if it is 0, within the limit of rounds.
@@ -35,14 +35,6 @@ pub struct Studied {
     pub setting: usize,
 }
 
-// What may be asked of a setting: has it an unknown field, does it permit no round, does it trim.
-#[derive(Clone, Copy)]
-enum Asked {
-    Unknown,
-    NoRound,
-    Trims,
-}
-
 // The numbers of a setting in a table of settings, in the order of its fields.
 pub const FIELDS: usize = 4;
 
@@ -53,9 +45,6 @@ const ENTRIES: usize = SETTINGS * FIELDS;
 
 // The preference for which no byte is lent.
 pub const HOUSE: u32 = 256;
-
-// Cause 6, which a run with the limit 0 gives where no other cause applies.
-const NO_LIMIT: u32 = 6;
 
 // Runs the formula under the settings of the table in turn. Every cause is tested before the first run. If no setting trims, the first run tests
 // those that do not depend on a setting.
@@ -112,13 +101,10 @@ pub fn study(
 fn runs_at_once(settings: &[u32]) -> bool
     ensures { result ≡ at_once settings.now }
 {
-    if list_cause(settings) != 0 {
+    if list_cause(settings).is_err() {
         return false;
     }
-    if any_setting(settings, Asked::Trims) {
-        return false;
-    }
-    true
+    !any_setting(settings, |setting| setting.trim != 0)
 }
 
 // The study of a list with a cause, or with a setting that trims. A run with the limit 0 tests all causes that do not depend on a setting, and
@@ -157,8 +143,7 @@ fn after_test(
         0,
     );
     let answer = tested.answer;
-    let cause = first_cause(engine::run::number(answer), settings);
-    if cause != 0 {
+    if let Err(cause) = first_cause(engine::run::number(answer), settings) {
         return refused(cause);
     }
     let mut table = [0i32; Formula::ENTRIES];
@@ -196,61 +181,49 @@ fn refused(cause: u32) -> Studied
     }
 }
 
-// The cause that a run with the limit 0 gives, or where it is that limit the list's, or 0.
-fn first_cause(of_run: u32, settings: &[u32]) -> u32
-    ensures { result ≡ cond (eqb of_run 6) (list_cause settings.now) of_run }
+// The number of the cause that a run with the limit 0 gives, or where it is that limit the list's. Kept: a number, as `Answer::Refused` holds one.
+fn first_cause(of_run: u32, settings: &[u32]) -> Result<(), u32>
+    ensures { result ≡ cond (eqb of_run 6) (numbered (list_cause settings.now)) (Err of_run) }
 {
-    if of_run == NO_LIMIT {
-        return list_cause(settings);
+    if of_run != Cause::Limit.number() {
+        return Err(of_run);
     }
-    of_run
+    list_cause(settings).map_err(Cause::number)
 }
 
-// Cause 26 or 6 of the list, or 0.
-fn list_cause(settings: &[u32]) -> u32
-    ensures { result ≡ list_cause settings.now }
+// The list's cause, `Settings` or `Limit`.
+fn list_cause(settings: &[u32]) -> Result<(), Cause>
+    ensures { result ≡ unless_cause (list_cause settings.now) tt }
 {
-    if settings.len() == 0 {
-        return 26;
+    if settings.is_empty() {
+        return Err(Cause::Settings);
     }
     if settings.len() > ENTRIES {
-        return 26;
+        return Err(Cause::Settings);
     }
     if settings.len() % FIELDS != 0 {
-        return 26;
+        return Err(Cause::Settings);
     }
-    if any_setting(settings, Asked::Unknown) {
-        return 26;
+    if any_setting(settings, is_unknown) {
+        return Err(Cause::Settings);
     }
-    if any_setting(settings, Asked::NoRound) {
-        return NO_LIMIT;
+    if any_setting(settings, |setting| setting.limit == 0) {
+        return Err(Cause::Limit);
     }
-    0
+    Ok(())
 }
 
-// Whether a setting passes the test that is asked for.
-fn any_setting(settings: &[u32], asked: Asked) -> bool
-    ensures { result ≡ any (asked_of asked) (settings_of settings.now) }
+// Whether a setting passes the test.
+fn any_setting<F: Fn(Setting) -> bool>(settings: &[u32], test: F) -> bool
+    requires { F.IsAlwaysCallable test }
+    ensures { Tells (F.post test) (settings_of settings.now) result }
 {
-    let count = settings.len() / FIELDS;
-    let mut at = 0;
-    while at < count {
-        if passes(setting_at(settings, at), asked) {
+    for at in 0..settings.len() / FIELDS {
+        if test(setting_at(settings, at)) {
             return true;
         }
-        at += 1;
     }
     false
-}
-
-fn passes(setting: Setting, asked: Asked) -> bool
-    ensures { result ≡ asked_of asked setting }
-{
-    match asked {
-        Asked::Unknown => is_unknown(setting),
-        Asked::NoRound => setting.limit == 0,
-        Asked::Trims => setting.trim != 0,
-    }
 }
 
 fn is_unknown(setting: Setting) -> bool
@@ -280,10 +253,7 @@ fn trim_into(kinds: &[u8], literals: &[i32], table: &mut [i32]) -> usize
     ensures value { result ≡ used (outcome kinds.now literals.now table.old) }
     ensures table_after { table.new ≡ output_after kinds.now literals.now table.old }
 {
-    match trimming::trim(kinds, literals, table) {
-        Trimmed::Entries(entries) => entries,
-        Trimmed::Refused(_) => 0,
-    }
+    trimming::trim(kinds, literals, table).unwrap_or(0)
 }
 
 // One run after the other, each over what the one before it has left.
@@ -311,8 +281,7 @@ fn in_turn<'a>(
         result
         (areas universal_rows.new universal_marks.new universal_counts.new existential_rows.new existential_marks.new existential_counts.new work.new) }
 {
-    let mut at = 0;
-    loop {
+    for at in 0..settings.len() / FIELDS {
         let setting = setting_at(settings, at);
         let outcome = with_setting(
             kinds,
@@ -336,8 +305,8 @@ fn in_turn<'a>(
                 setting: at,
             };
         }
-        at = next;
     }
+    unreachable!()
 }
 
 // Whether no run follows this answer: it is a verdict, or a refusal, or no setting is left.
@@ -411,16 +380,14 @@ fn chosen<'a>(trim: u32, literals: &'a [i32], table: &'a [i32], entries: usize) 
 }
 
 // The preference byte, and how many are lent: one, or none for house preferences.
-fn byte_of(preference: u32) -> u8
-    ensures { preference < 256 → result ≡ preference }
+pub fn byte_of(preference: u32) -> u8
+    ensures value { result ≡ get_or (preferences_of preference) 0 0 }
+    ensures lent { preference < 256 → result ≡ preference }
 {
-    if preference < HOUSE {
-        return preference as u8;
-    }
-    0
+    u8::try_from(preference).unwrap_or(0)
 }
 
-fn lent_of(preference: u32) -> usize
+pub fn lent_of(preference: u32) -> usize
     ensures { result ≡ length (preferences_of preference) }
 {
     if preference < HOUSE {

@@ -1,5 +1,6 @@
 -- From what the readers, `decide` and the writers promise to what is printed. Assumes nothing.
 use Prim.Native.Nat.{ℕ, suc, ◌+◌, ◌≤◌}
+use Rattle.std.specs.Prelude.{Ok}
 use native.Mathlib.Omega.{arith}
 use mathlib.Core.Path.{◌≡◌, sym, ap, subst, ◌∙◌}
 use mathlib.Core.Bool.{Bool}
@@ -8,7 +9,6 @@ use lib.IntN.{ℤ}
 use lib.ListN.{take, replicate}
 use Rattle.formula.specs.Formula.{max_clauses, work_size}
 use Rattle.formula.specs.Causes.{checked, sizes}
-use Rattle.formula.specs.declared.Check.TheVariants.{Accepted}
 use Rattle.engine.specs.Outcome.{number_of}
 use Rattle.named.specs.Named.{max_variables}
 use Rattle.text.specs.Reading.{refused, read_as}
@@ -24,7 +24,7 @@ use Rattle.study_answer.specs.AnswerRight.{Settles}
 use Rattle.study_answer.proofs.HouseLaws.{no_cause}
 
 -- A formula that passes: what the study returns, and the lines of it.
-module _ (kinds : List ℕ) (literals : List ℤ) (passes : checked kinds literals ≡ Accepted (sizes kinds literals)) where
+module _ (kinds : List ℕ) (literals : List ℤ) (passes : checked kinds literals ≡ Ok (sizes kinds literals)) where
   module _ {r : Studied} {work : List ℕ} (d : Decided kinds literals (replicate work_size 0) r work) where
     pub answered_so : Answered r
     answered_so = d.answered (no_cause kinds literals passes)
@@ -52,7 +52,7 @@ module _ (gates : Bool) (text : List ℕ) where
     passes_so : Passes f.formula
     passes_so = reading_passes gates text f.formula f.whole
 
-    pub front_passes : checked (take u kinds) (take e literals) ≡ Accepted (sizes (take u kinds) (take e literals))
+    pub front_passes : checked (take u kinds) (take e literals) ≡ Ok (sizes (take u kinds) (take e literals))
     front_passes = rw (f.kinds_front, f.literals_front) passes_so.accepted
 
     pub variables_small : v ≤ max_variables

@@ -1,19 +1,18 @@
 -- The house list over 256 rows a side: the causes that are left, and what the run that gave the outcome says of its answer and counts. Assumes nothing.
 use Prim.Native.Nat.{ℕ, zero, suc, ◌*◌, ◌%◌, ◌≤◌, ◌<◌}
+use Rattle.std.specs.Prelude.{Ok}
 use native.Mathlib.Omega.{arith}
 use mathlib.Core.Path.{◌≡◌, refl, sym, ap, subst, ◌∙◌}
 use mathlib.Core.Bool.{Bool, true, false, not, cond, ◌&&◌, and-eq-true_iff}
 use mathlib.Core.List.{List, [], ◌∷◌}
-use mathlib.Core.Option.{Option, some, none-ne-some}
+use mathlib.Core.Option.{some, none-ne-some}
 use borrow.Author.Tests.{eqb-true, leb-true}
 use lib.Dec.{eqb, leb}
 use lib.IntN.{ℤ}
 use lib.ListN.{length, get_elem?, replicate, length-replicate}
 use Rattle.formula.specs.Formula.{max_rows, work_size, universal, existential, prefix}
 use Rattle.formula.specs.Causes.{checked, sizes}
-use Rattle.formula.specs.declared.Check.TheVariants.{Accepted}
 use Rattle.rows.specs.Table.{room, table_fits}
-use Rattle.rounds.specs.Run.{run}
 use Rattle.rounds.proofs.Bounds.{count_in_room}
 use Rattle.engine.specs.declared.run.Outcome.{Outcome}
 use Rattle.engine.specs.Outcome.{Areas, Given, lent, side_fits, tables_fit, accepted, cause as run_cause, reached, reported, returned}
@@ -32,7 +31,7 @@ list_fine = refl
 
 module _ (list : List ℕ) (fine : list_cause list ≡ 0) where
   -- Of a formula that passes, cause 5 is left.
-  pub cause_left : (kinds : List ℕ) (literals : List ℤ) (work : List ℕ) → checked kinds literals ≡ Accepted (sizes kinds literals)
+  pub cause_left : (kinds : List ℕ) (literals : List ℤ) (work : List ℕ) → checked kinds literals ≡ Ok (sizes kinds literals)
       → cause kinds literals list (own_areas work) ≡ cond (eqb (length work) work_size) 0 5
   unfolding cause
   cause_left kinds literals work passes =
@@ -45,7 +44,7 @@ module _ (list : List ℕ) (fine : list_cause list ≡ 0) where
 pub whole : eqb (length (replicate {A = ℕ} work_size 0)) work_size ≡ true
 whole = ap (λ (n : ℕ). eqb n work_size) (length-replicate {A = ℕ} work_size 0)
 
-pub no_cause : (kinds : List ℕ) (literals : List ℤ) → checked kinds literals ≡ Accepted (sizes kinds literals)
+pub no_cause : (kinds : List ℕ) (literals : List ℤ) → checked kinds literals ≡ Ok (sizes kinds literals)
     → cause kinds literals house_list (own_areas (replicate work_size 0)) ≡ 0
 no_cause kinds literals passes =
     cause_left house_list list_fine kinds literals (replicate work_size 0) passes ∙ ap (λ (long : Bool). cond long 0 5) whole

@@ -1,6 +1,6 @@
 -- What a study's printed lines say of the text or gate list that was read. Assumes nothing.
 use Rattle.std.specs.Prelude.{ℕ, ◌≤◌, ◌≡◌, Bool, true, false, List, ◌⊎◌, ℤ, length, replicate}
-use Rattle.formula.specs.Formula.{work_size, prefix}
+use Rattle.formula.specs.Formula.{work_size}
 use Rattle.formula.specs.Meaning.{verdict}
 use Rattle.text.specs.Reading.{Read, taken, refused, read_as}
 use Rattle.text.specs.GatesRight.{CircuitIs}

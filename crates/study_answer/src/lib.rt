@@ -4,9 +4,8 @@
 // Reading belongs to `text`, the runs to `study`, the lines to `report`; here what one returns is handed to the next.
 #![tactic(auto)]
 
-ghost use Rattle.std.specs.Prelude.{◌≡◌, true, false};
+ghost use Rattle.std.specs.Prelude.{◌≡◌, true, false, Ok};
 ghost use Rattle.formula.specs.Causes.{checked, sizes};
-ghost use Rattle.formula.specs.declared.Check.TheVariants.{Accepted};
 ghost use Rattle.text.specs.Offered.{offered};
 ghost use Rattle.report.specs.Report.{put, put_count};
 ghost use Rattle.study_answer.specs.House.{Decided};
@@ -15,7 +14,7 @@ ghost use Rattle.study_answer.specs.AnswerRight.{Settles, StudyAnswerRight};
 
 use formula::Formula;
 use study::Studied;
-use text::Reading;
+use text::Taken;
 
 // Room for every answer.
 pub const LONGEST: usize = 192;
@@ -56,13 +55,15 @@ fn answer_as(input: &[u8], length: usize, gates: bool, out: &mut [u8]) -> usize
     let mut literals = [0i32; Formula::ENTRIES];
     let mut names = [0u16; Formula::UNKNOWNS];
     match text::read_offered(input, length, gates, &mut kinds, &mut literals, &mut names) {
-        Reading::Refused { number, line } => report::refusal(out, number, line as u32),
-        Reading::Taken {
-            unknowns,
-            entries,
-            variables,
-            clauses,
-        } => settled(
+        Err(refusal) => report::refusal(out, refusal.cause.number(), refusal.line as u32),
+        Ok(
+            Taken {
+                unknowns,
+                entries,
+                variables,
+                clauses,
+            },
+        ) => settled(
             &kinds[..unknowns],
             &literals[..entries],
             variables as u32,
@@ -74,7 +75,7 @@ fn answer_as(input: &[u8], length: usize, gates: bool, out: &mut [u8]) -> usize
 
 // The lines of a formula that is accepted.
 fn settled(kinds: &[u8], literals: &[i32], variables: u32, clauses: u32, out: &mut [u8]) -> usize
-    requires { checked kinds.now literals.now ≡ Accepted (sizes kinds.now literals.now) }
+    requires { checked kinds.now literals.now ≡ Ok (sizes kinds.now literals.now) }
     ensures value { result ≡ put_count (result_of kinds.now literals.now variables clauses) out.old }
     ensures out_after { out.new ≡ put (result_of kinds.now literals.now variables clauses) out.old }
     ensures settles { Settles kinds.now literals.now }

@@ -1,5 +1,6 @@
 -- From what the reader, the study and the writers promise to what is delivered. Assumes nothing.
-use Prim.Native.Nat.{ℕ, suc, ◌+◌, ◌≤◌, ◌<◌}
+use Prim.Native.Nat.{ℕ, suc, ◌+◌, ◌≤◌}
+use Rattle.std.specs.Prelude.{Ok}
 use native.Mathlib.Omega.{arith}
 use mathlib.Core.Path.{◌≡◌, refl, sym, ap, subst, ◌∙◌}
 use mathlib.Core.Bool.{Bool, cond}
@@ -10,7 +11,6 @@ use lib.ListN.{length, take}
 use borrow.Author.Tests.{eq-eqb, ne_eqb}
 use Rattle.formula.specs.Formula.{max_unknowns, work_size}
 use Rattle.formula.specs.Causes.{checked, sizes}
-use Rattle.formula.specs.declared.Check.TheVariants.{Accepted}
 use Rattle.formula.proofs.Accepted.{accepted}
 use Rattle.rounds.specs.Run.{is_false, is_true, spent, no_room_universal, no_room_existential, number, Answer as RunAnswer}
 use Rattle.engine.specs.declared.run.Answer.{Answer}
@@ -60,18 +60,21 @@ module _ (unknowns variables clauses : ℕ) {r : Studied} {U E : List ℕ} (read
   pub number_so : {n : ℕ} → n ≡ number_of r.outcome.answer → n ≡ number ready.end.answer
   number_so = any.number_so unknowns clauses ready.ran
 
-  module _ {R : Record} (out lines : List ℕ) {n : ℕ} {out_then : List ℕ} (counted : n ≡ put_count (file R U E) out) (written : out_then ≡ put (file R U E) out) where
-    delivered : (x : Record) {a : RunAnswer} → R ≡ x → ready.end.answer ≡ a → only_file (file x U E) ≡ gives (named a)
-        → Delivered (gives r.outcome.answer) out lines (counts n 0) out_then lines
-    delivered x is answer given =
-        subst (λ (y : Output). Delivered y out lines (counts n 0) out_then lines)
-        (ap (λ (y : Record). only_file (file y U E)) is ∙ given ∙ ap gives (answer_so answer)) (file_delivered (file R U E) out lines counted written)
+  module _ {R : Record} (out lines : List ℕ) {n : ℕ} {out_then : List ℕ} (counted : n ≡ put_count (file R U E) out) (written : out_then ≡ put (file R U E) out)
+    where
+      delivered : (x : Record) {a : RunAnswer} → R ≡ x → ready.end.answer ≡ a → only_file (file x U E) ≡ gives (named a)
+          → Delivered (gives r.outcome.answer) out lines (counts n 0) out_then lines
+      delivered x is answer given =
+          subst (λ (y : Output). Delivered y out lines (counts n 0) out_then lines)
+          (ap (λ (y : Record). only_file (file y U E)) is ∙ given ∙ ap gives (answer_so answer)) (file_delivered (file R U E) out lines counted written)
 
-    pub true_delivered : number ready.end.answer ≡ 1 → R ≡ true_record unknowns clauses r.outcome → Delivered (gives r.outcome.answer) out lines (counts n 0) out_then lines
-    true_delivered one is = delivered (true_record unknowns clauses r.outcome) is (any.true_if ready.end.answer one) refl
+      pub true_delivered : number ready.end.answer ≡ 1 → R ≡ true_record unknowns clauses r.outcome →
+          Delivered (gives r.outcome.answer) out lines (counts n 0) out_then lines
+      true_delivered one is = delivered (true_record unknowns clauses r.outcome) is (any.true_if ready.end.answer one) refl
 
-    pub false_delivered : number ready.end.answer ≡ 0 → R ≡ false_record unknowns clauses r.outcome → Delivered (gives r.outcome.answer) out lines (counts n 0) out_then lines
-    false_delivered none is = delivered (false_record unknowns clauses r.outcome) is (any.false_if ready.end.answer none) refl
+      pub false_delivered : number ready.end.answer ≡ 0 → R ≡ false_record unknowns clauses r.outcome →
+          Delivered (gives r.outcome.answer) out lines (counts n 0) out_then lines
+      false_delivered none is = delivered (false_record unknowns clauses r.outcome) is (any.false_if ready.end.answer none) refl
 
   -- The lines, with the setting counted from 1.
   lines_so : {n : ℕ} → n ≡ number_of r.outcome.answer
@@ -95,25 +98,27 @@ module _ (unknowns variables clauses : ℕ) {r : Studied} {U E : List ℕ} (read
 
 -- ---- a formula that is accepted
 
-module _ (kinds : List ℕ) (literals : List ℤ) (work : List ℕ) (passes : checked kinds literals ≡ Accepted (sizes kinds literals)) (whole : length work ≡ work_size) where
-  pub few_unknowns : length kinds ≤ max_unknowns
-  few_unknowns = (accepted kinds literals passes).few_unknowns
+module _ (kinds : List ℕ) (literals : List ℤ) (work : List ℕ) (passes : checked kinds literals ≡ Ok (sizes kinds literals)) (whole : length work ≡ work_size)
+  where
+    pub few_unknowns : length kinds ≤ max_unknowns
+    few_unknowns = (accepted kinds literals passes).few_unknowns
 
-  module _ {r : Studied} {exit : Areas} (s : Studies kinds literals witness_list (own_areas work) r exit) where
-    pub ready_so : Ready r exit.universal_rows exit.existential_rows
-    ready_so =
-        subst (λ (e : Ending). Ready e.result e.areas_left.universal_rows e.areas_left.existential_rows) (sym s.studied_so)
-        (study_lent kinds literals work passes (eq-eqb (length work) work_size whole)).ready
+    module _ {r : Studied} {exit : Areas} (s : Studies kinds literals witness_list (own_areas work) r exit) where
+      pub ready_so : Ready r exit.universal_rows exit.existential_rows
+      ready_so =
+          subst (λ (e : Ending). Ready e.result e.areas_left.universal_rows e.areas_left.existential_rows) (sym s.studied_so)
+          (study_lent kinds literals work passes (eq-eqb (length work) work_size whole)).ready
 
-    pub work_so : exit.work ≡ (witness_study kinds literals work).areas_left.work
-    work_so = ap (λ (e : Ending). e.areas_left.work) s.studied_so
+      pub work_so : exit.work ≡ (witness_study kinds literals work).areas_left.work
+      work_so = ap (λ (e : Ending). e.areas_left.work) s.studied_so
 
-    pub formula_delivered : (variables clauses : ℕ) (file lines : List ℕ) {c : Counts} {file_then lines_then : List ℕ}
-        → Delivered (by_answer r.outcome.answer (length kinds) variables clauses r exit.universal_rows exit.existential_rows) file lines c file_then lines_then
-        → Delivered (on_formula kinds literals variables clauses work) file lines c file_then lines_then
-    unfolding on_formula on_ending
-    formula_delivered variables clauses file lines {c} {file_then} {lines_then} d =
-        subst (λ (e : Ending). Delivered (on_ending (length kinds) variables clauses e) file lines c file_then lines_then) s.studied_so d
+      pub formula_delivered : (variables clauses : ℕ) (file lines : List ℕ) {c : Counts} {file_then lines_then : List ℕ}
+          → Delivered (by_answer r.outcome.answer (length kinds) variables clauses r exit.universal_rows exit.existential_rows) file lines c file_then
+          lines_then
+          → Delivered (on_formula kinds literals variables clauses work) file lines c file_then lines_then
+      unfolding on_formula on_ending
+      formula_delivered variables clauses file lines {c} {file_then} {lines_then} d =
+          subst (λ (e : Ending). Delivered (on_ending (length kinds) variables clauses e) file lines c file_then lines_then) s.studied_so d
 
 -- ---- from the reading
 
@@ -134,7 +139,8 @@ module _ (gates : Bool) (text work : List ℕ) where
     unfolding studied
     refused_study short =
         let cause_5 = stopped formula.kinds formula.literals work (reading_passes gates text formula t.whole).accepted (ne_eqb (length work) work_size short) in
-        sym (ap (λ (n : ℕ). cond (eqb n 0) (in_turn formula.kinds formula.literals (settings_of witness_list) 0 (own_areas work)) (ending (refusal n) 0 (own_areas work))) cause_5)
+        sym (ap (λ (n : ℕ). cond (eqb n 0) (in_turn formula.kinds formula.literals (settings_of witness_list) 0 (own_areas work))
+        (ending (refusal n) 0 (own_areas work))) cause_5)
 
     refused_output : (length work ≡ work_size → ⊥) → only_lines (refusal_line 5 0) ≡ on_reading (read_as gates text) work
     unfolding on_formula on_ending
@@ -144,7 +150,8 @@ module _ (gates : Bool) (text work : List ℕ) where
     refused_work : (length work ≡ work_size → ⊥) → work ≡ work_by (read_as gates text) work
     refused_work short = ap (λ (y : Ending). y.areas_left.work) (refused_study short) ∙ ap (λ (x : Result). work_by x work) (sym t.whole)
 
-    decided_work : {work_then : List ℕ} → work_then ≡ (witness_study (take u kinds) (take e literals) work).areas_left.work → work_then ≡ work_by (read_as gates text) work
+    decided_work : {work_then : List ℕ} → work_then ≡ (witness_study (take u kinds) (take e literals) work).areas_left.work →
+        work_then ≡ work_by (read_as gates text) work
     decided_work {work_then} settled =
         let here : work_then ≡ study.areas_left.work = rw (t.kinds_front, t.literals_front) at settled in
         here ∙ ap (λ (x : Result). work_by x work) (sym t.whole)
@@ -163,10 +170,11 @@ module _ (gates : Bool) (text work : List ℕ) where
     text_refused e d = certified _ (ap (λ (x : Result). on_reading x work) (sym e)) (ap (λ (x : Result). work_by x work) (sym e)) d
 
     module _ {u e v c : ℕ} {kinds : List ℕ} {literals : List ℤ} (t : Front (read_as gates text) u e v c kinds literals) where
-      pub work_refused : (length work ≡ work_size → ⊥) → Delivered (only_lines (refusal_line 5 0)) file lines r file_then lines_then
+      pub work_refused : {n : ℕ} → n ≡ 5 → (length work ≡ work_size → ⊥) → Delivered (only_lines (refusal_line n 0)) file lines r file_then lines_then
           → Certified file lines r file_then lines_then work
-      work_refused short d = certified _ (refused_output t short) (refused_work t short) d
+      work_refused five short d = certified _ (ap (λ (n : ℕ). only_lines (refusal_line n 0)) five ∙ refused_output t short) (refused_work t short) d
 
       pub text_decided : {work_then : List ℕ} → work_then ≡ (witness_study (take u kinds) (take e literals) work).areas_left.work
-          → Delivered (on_formula (take u kinds) (take e literals) v c work) file lines r file_then lines_then → Certified file lines r file_then lines_then work_then
+          → Delivered (on_formula (take u kinds) (take e literals) v c work) file lines r file_then lines_then → Certified file lines r file_then lines_then
+          work_then
       text_decided settled d = certified _ (decided_output t) (decided_work t settled) d

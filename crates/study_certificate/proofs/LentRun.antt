@@ -1,5 +1,6 @@
 -- A study none of whose settings trims is ended by a run of the lent formula, so its rows are that formula's. Assumes nothing.
 use Prim.Native.Nat.{ℕ, zero, suc, ◌+◌, ◌≤◌, ◌<◌}
+use Rattle.std.specs.Prelude.{Ok}
 use native.Mathlib.Omega.{arith}
 use mathlib.Core.Path.{◌≡◌, refl, ap, subst, ◌∙◌}
 use mathlib.Core.Bool.{Bool, true, false, ◌||◌, cond, true≢false}
@@ -10,7 +11,6 @@ use lib.ListN.{length}
 use borrow.Author.Tests.{eq-eqb}
 use Rattle.formula.specs.Formula.{work_size, prefix}
 use Rattle.formula.specs.Causes.{checked, sizes}
-use Rattle.formula.specs.declared.Check.TheVariants.{Accepted}
 use Rattle.preference.specs.Preference.{prefer}
 use Rattle.rows.specs.Table.{room}
 use Rattle.rounds.specs.Run.{highest}
@@ -136,7 +136,7 @@ list_some = omega arith
 
 -- ---- the study by the list
 
-module _ (kinds : List ℕ) (literals : List ℤ) (work : List ℕ) (passes : checked kinds literals ≡ Accepted (sizes kinds literals)) where
+module _ (kinds : List ℕ) (literals : List ℤ) (work : List ℕ) (passes : checked kinds literals ≡ Ok (sizes kinds literals)) where
   abbrev stops : ℕ
   stops = cause kinds literals witness_list (own_areas work)
 

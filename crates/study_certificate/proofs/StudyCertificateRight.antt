@@ -1,5 +1,6 @@
 -- The file written of a study is accepted by the judge, for every text and gate list. Assumes nothing.
 use Prim.Native.Nat.{ℕ, suc}
+use Rattle.std.specs.Prelude.{Ok}
 use native.Mathlib.Omega.{arith}
 use mathlib.Core.Path.{◌≡◌, refl, sym, ap, subst, ◌∙◌}
 use mathlib.Core.Bool.{Bool, true, false}
@@ -8,7 +9,6 @@ use mathlib.Core.Logic.{inl, inr}
 use lib.ListN.{length, replicate}
 use Rattle.formula.specs.Formula.{work_size}
 use Rattle.formula.specs.Causes.{checked, sizes}
-use Rattle.formula.specs.declared.Check.TheVariants as Check
 use Rattle.rows.specs.Table.{table_of}
 use Rattle.rounds.specs.Run.{rows, is_false, is_true, spent, no_room_universal, no_room_existential, number, Answer, Outcome}
 use Rattle.engine.specs.Outcome.{named, number_of}
@@ -69,7 +69,7 @@ module _ (gates : Bool) (text : List ℕ) where
     abbrev r : Studied
     r = study.result
 
-    passes : checked s.kinds s.literals ≡ Check.Accepted (sizes s.kinds s.literals)
+    passes : checked s.kinds s.literals ≡ Ok (sizes s.kinds s.literals)
     passes = (reading_passes gates text s e).accepted
 
     held : Lent s.kinds s.literals study

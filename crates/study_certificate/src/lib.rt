@@ -5,10 +5,9 @@
 // Reading belongs to `text`, the runs to `study`, the file to `witness`, lines to `report`; here what one returns is handed to the next.
 #![tactic(auto)]
 
-ghost use Rattle.std.specs.Prelude.{◌≤◌, ◌<◌, ◌≡◌, true, false, length};
+ghost use Rattle.std.specs.Prelude.{◌≤◌, ◌<◌, ◌≡◌, true, false, length, Ok};
 ghost use Rattle.formula.specs.Formula.{max_unknowns, max_clauses, work_size};
 ghost use Rattle.formula.specs.Causes.{checked, sizes};
-ghost use Rattle.formula.specs.declared.Check.TheVariants.{Accepted};
 ghost use Rattle.text.specs.Offered.{offered};
 ghost use Rattle.report.specs.Report.{put, put_count};
 ghost use Rattle.witness.specs.File.{made, file as file_of, size, write_cause};
@@ -18,11 +17,12 @@ ghost use Rattle.study_certificate.specs.StudyCertificate.{by_answer, on_formula
 ghost use Rattle.study_certificate.specs.StudyCertificateRight.{StudyCertificateRight};
 ghost use Rattle.study_certificate.specs.Private.Steps.{Ready};
 
+use cause::Cause;
 use certificate::Counts;
 use formula::Formula;
 use study::Studied;
-use text::Reading;
-use witness::{Record, Written};
+use text::Taken;
+use witness::Record;
 
 // Room for every file, and for the lines.
 pub const FILE: usize = 4_106;
@@ -84,17 +84,19 @@ fn certify_as(
     let mut literals = [0i32; Formula::ENTRIES];
     let mut names = [0u16; Formula::UNKNOWNS];
     match text::read_offered(input, length, gates, &mut kinds, &mut literals, &mut names) {
-        Reading::Refused { number, line } => {
-            certificate::refuse(number, line as u32, file, lines)
+        Err(refusal) => {
+            certificate::refuse(refusal.cause.number(), refusal.line as u32, file, lines)
         }
-        Reading::Taken {
-            unknowns,
-            entries,
-            variables,
-            clauses,
-        } => {
+        Ok(
+            Taken {
+                unknowns,
+                entries,
+                variables,
+                clauses,
+            },
+        ) => {
             if work.len() != Formula::WORK {
-                return certificate::refuse(5, 0, file, lines);
+                return certificate::refuse(Cause::Work.number(), 0, file, lines);
             }
             decided(
                 &kinds[..unknowns],
@@ -119,7 +121,7 @@ fn decided(
     lines: &mut [u8],
     work: &mut [u8],
 ) -> Counts
-    requires { (checked kinds.now literals.now ≡ Accepted (sizes kinds.now literals.now)) × (length work.old ≡ work_size) × (clauses ≤ max_clauses) }
+    requires { (checked kinds.now literals.now ≡ Ok (sizes kinds.now literals.now)) × (length work.old ≡ work_size) × (clauses ≤ max_clauses) }
     ensures delivered { Delivered (on_formula kinds.now literals.now variables clauses work.old) file.old lines.old result file.new lines.new }
     ensures work_after { work.new ≡ (witness_study kinds.now literals.now work.old).areas_left.work }
 {
@@ -250,7 +252,7 @@ fn put_file(record: Record, universal: &[u8], existential: &[u8], file: &mut [u8
     ensures file_after { file.new ≡ put (file_of «record» universal.now existential.now) file.old }
 {
     match witness::write(record, universal, existential, file) {
-        Written::Length(length) => length,
-        Written::Refused(_) => 0,
+        Ok(length) => length,
+        Err(_) => 0,
     }
 }

@@ -2,15 +2,14 @@
 use Prim.Native.Nat.{ℕ, zero, suc}
 use native.Mathlib.Omega.{arith}
 use mathlib.Core.Path.{◌≡◌, refl, sym, subst, ◌∙◌}
-use mathlib.Core.Bool.{Bool, true, false, ◌&&◌, false≢true}
+use mathlib.Core.Bool.{Bool, true, false, ◌&&◌}
 use mathlib.Core.List.{List}
-use borrow.Author.Tests.{eqb-true}
 use lib.Dec.{eqb}
 use lib.IntN.{ℤ}
 use lib.ListN.{take}
 use Rattle.text.specs.declared.body.Counts.{Counts}
 use Rattle.lines.specs.Lines.{Bytes, words}
-use Rattle.lines.specs.Shapes.{is_prefix, is_gate}
+use Rattle.lines.specs.Shapes.{is_prefix}
 use Rattle.text.specs.Reading.{State, went, fault, unless, prefix_line, clause_read, clause_line, gate_line, is_item, item_line, body_line, is_gates, Scan, go_on}
 use Rattle.text.specs.Private.Steps.{Marked, placed_in, Sized, settled, LineRead, items_at}
 
@@ -28,14 +27,6 @@ resized b f e v r m z =
       unread = λ none. sym f ∙ z.unread (r ∙ none);
       made = omega (arith, z.made);
     }
-
--- Before the first clause line no name is free.
-pub none_read : (n : ℕ) (b : Bool) → (eqb n 0 && b) ≡ true → n ≡ 0
-none_read n b e = go (eqb n 0) refl e
-  where
-    go : (a : Bool) → eqb n 0 ≡ a → (a && b) ≡ true → n ≡ 0
-    go true q e = eqb-true n 0 q
-    go false q e = absurd (false≢true e)
 
 pub marked_bound : (bound free : ℕ) (N : List ℕ) {P : List ℕ} → free ≡ 0 → Marked (placed_in bound free N) P → Marked (take bound N) P
 marked_bound bound free N {P} e m = subst (λ (k : ℕ). Marked (placed_in bound k N) P) e m
@@ -60,10 +51,6 @@ module _ (gates : Bool) (s : State) (line : Bytes) where
   pub body_none : (eqb s.clauses_read 0 && is_prefix line) ≡ false → is_item gates line ≡ false → body_line gates s line ≡ fault 10
   unfolding body_line
   body_none h k = rw (h, k) refl
-
--- A line behind the prefix, by the form.
-pub gate_shape : (gates : Bool) (line : Bytes) → gates ≡ true → is_item gates line ≡ true → is_gate line ≡ true
-gate_shape gates line so e = subst (λ (b : Bool). is_item b line ≡ true) so e
 
 module _ (gates : Bool) where
   pub gate_item : gates ≡ true → (s : State) (line : Bytes) → (eqb s.clauses_read 0 && is_prefix line) ≡ false → is_item gates line ≡ true

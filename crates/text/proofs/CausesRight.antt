@@ -2,13 +2,13 @@
 use Prim.Native.Nat.{ℕ, zero, suc, ◌+◌, ◌-◌}
 use native.Mathlib.Omega.{arith}
 use mathlib.Core.Path.{◌≡◌, refl, sym, ap, subst, ◌∙◌}
+use mathlib.Core.Bool.{Bool, true, false}
 use mathlib.Core.List.{List}
-use mathlib.Core.Logic.{◌⊎◌, inl, inr}
+use mathlib.Core.Logic.{inl, inr}
 use Rattle.lines.specs.Lines.{Bytes}
 use Rattle.named.specs.Names.{In}
-use Rattle.text.specs.declared.Reading.{Reading}
-use Rattle.text.specs.declared.Reading.TheVariants.{Refused}
-use Rattle.text.specs.Reading.{Result, taken, refused, read, read_gates, returned, number_of, text_causes, gates_causes}
+use Rattle.cause.specs.Cause.{number, caused}
+use Rattle.text.specs.Reading.{Reading, stopped, scan, result_of, Result, taken, refused, read, read_gates, returned, number_of, text_causes, gates_causes}
 use Rattle.text.specs.CausesRight.{CausesRight}
 use Rattle.text.proofs.TextLaws.{OfText, Results, Passes, read_passes}
 use Rattle.text.proofs.GatesPass.{GatesResults, gates_pass}
@@ -43,28 +43,58 @@ not_of_gates (inr (inr (inr (inr (inr (inl e)))))) = omega (arith, e)
 not_of_gates (inr (inr (inr (inr (inr (inr (inl e))))))) = omega (arith, e)
 not_of_gates (inr (inr (inr (inr (inr (inr (inr i))))))) = i
 
+-- Those of a gate list have causes.
+pub known_of_gates : {n : ℕ} → In n gates_causes → number (caused n) ≡ n
+known_of_gates (inl e) = rw (← e) refl
+known_of_gates (inr (inl e)) = rw (← e) refl
+known_of_gates (inr (inr (inl e))) = rw (← e) refl
+known_of_gates (inr (inr (inr (inl e)))) = rw (← e) refl
+known_of_gates (inr (inr (inr (inr (inl e))))) = rw (← e) refl
+known_of_gates (inr (inr (inr (inr (inr (inl e)))))) = rw (← e) refl
+known_of_gates (inr (inr (inr (inr (inr (inr (inl e))))))) = rw (← e) refl
+known_of_gates (inr (inr (inr (inr (inr (inr (inr i))))))) = absurd i
+
+-- Each of a text is one of a gate list's.
+pub of_text_of_gates : {n : ℕ} → In n text_causes → In n gates_causes
+of_text_of_gates (inl e) = inl e
+of_text_of_gates (inr (inl e)) = inr (inl e)
+of_text_of_gates (inr (inr (inl e))) = inr (inr (inl e))
+of_text_of_gates (inr (inr (inr (inl e)))) = inr (inr (inr (inl e)))
+of_text_of_gates (inr (inr (inr (inr (inl e))))) = inr (inr (inr (inr (inl e))))
+of_text_of_gates (inr (inr (inr (inr (inr i))))) = absurd i
+
 -- From a result whose refusals have these numbers to what is returned.
-module _ (causes : List ℕ) (none : In 13 causes → ⊥) {r : Reading} where
+module _ (causes : List ℕ) (none : In 13 causes → ⊥) (known : (n : ℕ) → In n causes → number (caused n) ≡ n) {r : Reading} where
   by_result : (x : Result) → ((n line : ℕ) → x ≡ refused n line → In n causes) → r ≡ returned x → CausesRight causes r
-  by_result (taken s) known e =
+  by_result (taken s) among e =
       record {
-        one_of = λ n line told. let z : ◌≡◌ {A = ℕ} 0 1 = cc in absurd (omega arith);
+        one_of = λ refusal told. let z : ◌≡◌ {A = ℕ} 0 1 = cc in absurd (omega arith);
         never_13 = λ told. absurd (omega (arith, told, ap number_of e));
       }
-  by_result (refused m k) known e =
+  by_result (refused m k) among e =
+      let here = among m k refl in
       record {
-        one_of = λ n line told.
-            let same : m ≡ n = cc in
-            subst (λ (x : ℕ). In x causes) same (known m k refl);
-        never_13 = λ told. none (subst (λ (x : ℕ). In x causes) (sym (ap number_of e) ∙ told) (known m k refl));
+        one_of = λ refusal told.
+            let same : caused m ≡ refusal.cause = cc in
+            subst (λ (x : ℕ). In x causes) (sym (known m here) ∙ ap number same) here;
+        never_13 = λ told. none (subst (λ (x : ℕ). In x causes) (sym (known m here) ∙ sym (ap number_of e) ∙ told) here);
       }
 
 module _ (text : Bytes) (kinds literals names : ℕ) {r : Reading} where
   pub text_causes_right : r ≡ returned (read text kinds literals names) → CausesRight text_causes r
   text_causes_right =
-      by_result text_causes not_of_text (read text kinds literals names)
+      by_result text_causes not_of_text (λ n i. known_of_gates (of_text_of_gates i)) (read text kinds literals names)
       (λ n line e. among_text n (subst (Results Passes) e (read_passes text kinds literals names)))
 
   pub gates_causes_right : r ≡ returned (read_gates text kinds literals names) → CausesRight gates_causes r
   gates_causes_right =
-      by_result gates_causes not_of_gates (read_gates text kinds literals names) (λ n line e. subst GatesResults e (gates_pass text kinds literals names))
+      by_result gates_causes not_of_gates (λ n i. known_of_gates i) (read_gates text kinds literals names)
+      (λ n line e. subst GatesResults e (gates_pass text kinds literals names))
+
+-- So is each number at which the lines of either form stop.
+pub stops_among : (gates : Bool) (text : Bytes) (kinds literals names : ℕ) {n line : ℕ} → scan gates text kinds literals names ≡ stopped n line
+    → In n gates_causes
+unfolding read read_gates
+stops_among false text kinds literals names {n} e =
+    of_text_of_gates (among_text n (subst (Results Passes) (ap result_of e) (read_passes text kinds literals names)))
+stops_among true text kinds literals names e = subst GatesResults (ap result_of e) (gates_pass text kinds literals names)

@@ -1,11 +1,11 @@
 -- What is read of a text is true exactly if some values of the names bound nowhere make the text's own blocks and clauses true. Assumes nothing.
 use Prim.Native.Nat.{ℕ}
-use mathlib.Core.Path.{◌≡◌, refl, sym, subst, ◌∙◌}
+use mathlib.Core.Path.{◌≡◌, refl, subst}
 use native.Mathlib.Omega.{arith}
 use Rattle.formula.specs.Formula.{max_unknowns, max_entries}
 use Rattle.lines.specs.Lines.{Bytes}
 use Rattle.named.proofs.ClosingRight.{closing_right}
-use Rattle.text.specs.Reading.{State, Scan, whole, stopped, closed, Read, taken, result_of, read, text_scan, text_read}
+use Rattle.text.specs.Reading.{State, Scan, whole, stopped, closed, Read, taken, result_of, read, text_scan}
 use Rattle.text.specs.ClosedRight.{Closed, ClosedRight}
 use Rattle.text.proofs.KeptLaws.{Whole}
 use Rattle.text.proofs.ScanLaws.{Scans}

@@ -1,7 +1,7 @@
 -- What FormRight says of the form that is found out. Assumes nothing.
 use Prim.Native.Nat.{ℕ, suc}
 use native.Mathlib.Omega.{arith}
-use mathlib.Core.Path.{◌≡◌, refl, ap, sym, subst, ◌∙◌}
+use mathlib.Core.Path.{◌≡◌, refl, ap, ◌∙◌}
 use mathlib.Core.Bool.{Bool, true, false, cond, ◌&&◌, false≢true}
 use mathlib.Core.List.{List, [], ◌∷◌}
 use lib.Dec.{eqb}
@@ -11,11 +11,10 @@ use Rattle.lines.specs.Lines.{Bytes, Line, ended, lines, words, first, rest, sec
 use Rattle.lines.specs.Numbers.{is_number}
 use Rattle.lines.specs.Shapes.{is_comment, is_problem, is_trimmed, ends_problem, form_word, p_word, cnf_word, gate_word}
 use Rattle.named.proofs.NameLaws.{and_both}
-use Rattle.text.specs.declared.Form.TheVariants.{Either}
 use Rattle.text.specs.Reading.{State, went, unless, Scan, whole, stopped, go_on, body, problem_cause, items_of, opened, scan, Read, taken, result_of, read, read_gates, read_as}
 use Rattle.text.specs.Form.{p_words, gates_told, begins_gates}
 use Rattle.text.specs.FormRight.{FormRight}
-use Rattle.text.proofs.ScanLaws.{Steps, Scans, unless_so, go_on_so, scan_so}
+use Rattle.text.proofs.ScanLaws.{Scans, unless_so, go_on_so, scan_so}
 
 abbrev Any : ℕ → Type 0
 Any n = Unit {0}

@@ -5,8 +5,8 @@ use native.Mathlib.Omega.{arith}
 use mathlib.Core.Path.{◌≡◌, refl, sym, ap, subst, ◌∙◌}
 use mathlib.Core.Bool.{Bool, true, false, cond, ◌&&◌}
 use mathlib.Core.List.{List, [], ◌∷◌, ◌++◌, append_assoc}
-use mathlib.Core.Logic.{◌⊎◌, inl, inr}
-use borrow.Author.Tests.{ltb-true, ltb-false, eqb-true, eqb-false}
+use mathlib.Core.Logic.{inl, inr}
+use borrow.Author.Tests.{ltb-true, ltb-false, eqb-false}
 use lib.Dec.{eqb, ltb}
 use lib.IntN.{ℤ, pos, negsuc, nat_abs}
 use lib.ListN.{length, length-append}
@@ -23,9 +23,8 @@ use Rattle.named.specs.Closing.{closed_names}
 use Rattle.named.specs.Gates.{Gate}
 use Rattle.named.proofs.CauseLaws.{zeros_placed}
 use Rattle.named.proofs.CircuitRight.{zeros_flat, gate_in, name_here, wider}
-use Rattle.text.specs.Reading.{max_variables, State, Step, went, fault, unless, name_cause, bind, kind_of_word, prefix_line, gate_cause, input_cause, first_cause, inputs_cause, gate_of, clauses_of_gate, entries_of_gate, limit_cause, with_gate, gate_line, body_line, step, Scan, whole, stopped, go_on, gate_list, with_output, output_cause, finish, body, problem_cause, output_range, max_items, literal_of, opened, Read, closed, Result, taken, refused, result_of, scan, read_gates, gates_causes}
+use Rattle.text.specs.Reading.{max_variables, State, went, fault, unless, name_cause, bind, kind_of_word, prefix_line, gate_cause, input_cause, first_cause, inputs_cause, gate_of, clauses_of_gate, entries_of_gate, limit_cause, with_gate, gate_line, body_line, step, Scan, whole, stopped, go_on, gate_list, with_output, output_cause, finish, body, problem_cause, max_items, literal_of, opened, Read, closed, Result, taken, refused, result_of, scan, read_gates, gates_causes}
 use Rattle.text.proofs.NameLaws.{name_cause_zero}
-use Rattle.named.proofs.NameLaws.{and_both}
 use Rattle.text.proofs.KeptLaws.{any_behind, ended_closed}
 use Rattle.text.proofs.ScanLaws.{cond_so, NoneOr, Steps, Scans, unless_so, go_on_so, bind_all_so, body_so, scan_so}
 use Rattle.text.proofs.TextLaws.{kind_known, Passes, Within, within_passes}

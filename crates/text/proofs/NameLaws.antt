@@ -1,21 +1,19 @@
 -- The words of prefix and clause lines, taken from the left into tables. Assumes nothing.
 use Prim.Native.Nat.{ℕ, zero, suc, ◌+◌, ◌≤◌, ◌<◌}
 use mathlib.Core.Path.{◌≡◌, refl, ◌∙◌}
-use mathlib.Core.Bool.{Bool, true, false, cond, not}
+use mathlib.Core.Bool.{Bool, true, false, cond}
 use mathlib.Core.List.{List, ◌∷◌}
 use native.Mathlib.Numerals.{add-one}
 use native.Mathlib.Omega.{arith}
-use borrow.Author.Tests.{eq-eqb, ne_eqb, eqb-true, ltb-true, ltb-false}
-use lib.Dec.{eqb, ltb}
-use lib.IntN.{ℤ}
+use borrow.Author.Tests.{ne_eqb, ltb-true, ltb-false}
+use lib.Dec.{ltb}
 use lib.ListN.{length, take, set}
-use lib.Seq.{take-suc-set, length-take-le}
+use lib.Seq.{take-suc-set}
 use Rattle.formula.specs.Formula.{max_unknowns, max_entries}
 use Rattle.lines.specs.Lines.{Bytes}
 use Rattle.lines.specs.Numbers.{number, unsigned, is_zero}
 use Rattle.named.specs.Named.{among}
-use Rattle.named.specs.Closing.{closed_names}
-use Rattle.text.specs.Reading.{State, Step, went, unless, name_cause, with_prefix, bind, bind_all, room_cause, has_place, literal_cause, entry, free_with, with_entries, add_entry, add_entries}
+use Rattle.text.specs.Reading.{State, Step, unless, name_cause, with_prefix, bind, bind_all, room_cause, has_place, literal_cause}
 
 pub refused_alike : (cause : ℕ) → (cause ≡ 0 → ⊥) → (t u : Step) → unless cause t ≡ unless cause u
 refused_alike zero h t u = absurd (h refl)
@@ -51,30 +49,12 @@ literal_cause_zero variables names used w h = go (is_zero w) (ltb variables (num
     go false false false h = absurd (omega arith)
 
 module _ (kind count v : ℕ) (K N : List ℕ) (w : Bytes) (ws : List Bytes) (value : v ≡ number w) (s : State) where
-  pub bind_ended : v ≡ 0 → bind_all kind (with_prefix s (take count K) (take count N)) (w ∷ ws) ≡ went (with_prefix s (take count K) (take count N))
-  bind_ended h = rw (← value, eq-eqb v 0 h) refl
-
   module _ (variables cause : ℕ) (same : s.variables ≡ variables) (found : cause ≡ name_cause variables (take count N) v) (some : v ≡ 0 → ⊥) where
     bind_step : bind_all kind (with_prefix s (take count K) (take count N)) (w ∷ ws)
         ≡ unless cause (bind_all kind (bind kind (with_prefix s (take count K) (take count N)) v) ws)
     bind_step = rw (← value, ne_eqb v 0 some, found, ← same) refl
 
-    pub bind_refused : (cause ≡ 0 → ⊥) → (t : Step) → bind_all kind (with_prefix s (take count K) (take count N)) (w ∷ ws) ≡ unless cause t
-    bind_refused h t = bind_step ∙ refused_alike cause h (bind_all kind (bind kind (with_prefix s (take count K) (take count N)) v) ws) t
-
     pub bind_taken : cause ≡ 0 → count < length K → count < length N
         → bind_all kind (with_prefix s (take count K) (take count N)) (w ∷ ws)
         ≡ bind_all kind (with_prefix s (take (count + 1) (set K count kind)) (take (count + 1) (set N count v))) ws
     bind_taken h k n = bind_step ∙ rw (h, add-one, take-suc-set K count kind k, take-suc-set N count v n) refl
-
-module _ (variables cause count : ℕ) (F : List ℕ) (L : List ℤ) (w : Bytes) (ws : List Bytes) (s : State)
-    (same : s.variables ≡ variables) (fits : count ≤ length L) (found : cause ≡ literal_cause variables (closed_names F s.names) count w) where
-  add_step : add_entries (with_entries s F (take count L)) (w ∷ ws) ≡ unless cause (add_entries (add_entry (with_entries s F (take count L)) w) ws)
-  add_step = rw (length-take-le count L fits, found, ← same) refl
-
-  pub add_refused : (cause ≡ 0 → ⊥) → (t : Step) → add_entries (with_entries s F (take count L)) (w ∷ ws) ≡ unless cause t
-  add_refused h t = add_step ∙ refused_alike cause h (add_entries (add_entry (with_entries s F (take count L)) w) ws) t
-
-  pub add_taken : cause ≡ 0 → count < length L → (z : ℤ) → z ≡ entry w → (more : List ℕ) → more ≡ free_with F s.names w
-      → add_entries (with_entries s F (take count L)) (w ∷ ws) ≡ add_entries (with_entries s more (take (count + 1) (set L count z))) ws
-  add_taken h k z e more f = add_step ∙ rw (h, add-one, take-suc-set L count z k, e, f) refl

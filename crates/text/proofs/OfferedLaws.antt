@@ -11,8 +11,7 @@ use lib.Seq.{take_all}
 use borrow.Author.Tests.{lt-ltb, le-ltb}
 use Rattle.formula.specs.Formula.{max_unknowns, max_entries}
 use Rattle.lines.specs.Lines.{Bytes, lines}
-use Rattle.text.specs.declared.Reading.{Reading}
-use Rattle.text.specs.Reading.{max_bytes, scan, stopped, after_comments, refused, result_of, read_as, ReadSo}
+use Rattle.text.specs.Reading.{Reading, max_bytes, scan, stopped, after_comments, refused, result_of, read_as, ReadSo}
 use Rattle.text.specs.declared.Form.{Form}
 use Rattle.text.specs.Form.{has_gates}
 use Rattle.text.specs.Offered.{too_long, offered}

@@ -1,6 +1,6 @@
 -- From the lines of a text to what is returned and written. Assumes nothing.
-use Prim.Native.Nat.{ℕ, zero, suc, ◌+◌, ◌≤◌}
-use mathlib.Core.Path.{◌≡◌, refl, sym, subst, ◌∙◌}
+use Prim.Native.Nat.{ℕ, zero, suc, ◌+◌}
+use mathlib.Core.Path.{◌≡◌, refl, sym, ap, subst, ◌∙◌}
 use mathlib.Core.Bool.{Bool, true, false}
 use mathlib.Core.List.{List, map}
 use native.Mathlib.Omega.{arith}
@@ -13,7 +13,10 @@ use Rattle.named.specs.Named.{placed}
 use Rattle.named.specs.Closing.{closed_kinds}
 use Rattle.named.proofs.CauseLaws.{length_map, as_many_closed}
 use Rattle.text.specs.declared.body.Counts.{Counts}
-use Rattle.text.specs.declared.Reading.TheVariants.{Taken, Refused}
+use Rattle.std.specs.Prelude.{Ok, Err}
+use Rattle.cause.specs.declared.Cause.{Cause}
+use Rattle.cause.specs.Cause.{number}
+use Rattle.cause.proofs.Numbers.{caused_number}
 use Rattle.text.specs.Reading.{Scan, whole, stopped, closed, taken, result_of, scan, ReadSo}
 use Rattle.text.specs.Private.Steps.{free_in, placed_in, outcome, settled, held, Sized, Placeable}
 use Rattle.text_closing.specs.Written.{Written}
@@ -25,9 +28,17 @@ use Rattle.text.proofs.TextLaws.{OfText, scan_whole}
 use Rattle.text.proofs.GatesRight.{Any, AllEnded, scan_ended}
 
 -- A refusal leaves the tables.
-pub refused_whole : {x : Scan} {number line : ℕ} {K : List ℕ} {L : List ℤ} {N : List ℕ} → x ≡ stopped number line
-    → ReadSo (result_of x) (Refused number line) K L N K L N
-refused_whole e = rw e (record { returns = refl; numbered = refl; writes_kinds = refl; writes_literals = refl; writes_names = refl; fitting = tt })
+pub refused_whole : {x : Scan} {cause : Cause} {line : ℕ} {K : List ℕ} {L : List ℤ} {N : List ℕ} → x ≡ stopped (number cause) line
+    → ReadSo (result_of x) (Err (record { cause = cause; line = line })) K L N K L N
+refused_whole {cause = cause} {line = line} e = rw e
+    (record {
+      returns = ap (λ (c : Cause). Err (record { cause = c; line = line })) (sym (caused_number cause));
+      numbered = refl;
+      writes_kinds = refl;
+      writes_literals = refl;
+      writes_names = refl;
+      fitting = tt;
+    })
 
 pub outcome_refused : (c : Counts) (K N : List ℕ) (L : List ℤ) → (c.cause ≡ 0 → ⊥) → outcome c K N L ≡ stopped c.cause c.line
 unfolding outcome
@@ -42,7 +53,8 @@ unfolding outcome
 outcome_taken c K N L h = rw h refl
 
 -- The names of a text whose lines are all read have positions.
-pub scan_placeable : (gates : Bool) (text : Bytes) (kinds literals names : ℕ) (c : Counts) (K N : List ℕ) (L : List ℤ) → scan gates text kinds literals names ≡ whole (held c K N L)
+pub scan_placeable : (gates : Bool) (text : Bytes) (kinds literals names : ℕ) (c : Counts) (K N : List ℕ) (L : List ℤ) →
+    scan gates text kinds literals names ≡ whole (held c K N L)
     → Placeable (placed_in c.bound c.free N) (take c.entries L)
 unfolding held
 scan_placeable false text kinds literals names c K N L e = (subst (Scans OfText Whole) e (scan_whole text kinds literals names)).kept.placeable
@@ -67,10 +79,12 @@ module _ (c : Counts) (OK ON : List ℕ) (OL : List ℤ) (sized : Sized c OK ON 
   pub taken_whole : (K : List ℕ) (L : List ℤ) (N : List ℕ) {K' : List ℕ} {L' : List ℤ} {N' : List ℕ}
       → (length K ≡ max_unknowns) × (length L ≡ max_entries) × (length N ≡ max_unknowns) → Placeable names (take c.entries OL)
       → Written c.bound c.free c.entries OK OL ON K L N K' L' N'
-      → ReadSo (taken (closed (held c OK ON OL))) (Taken (c.free + c.bound) c.entries c.variables c.clauses) K L N K' L' N'
+      → ReadSo (taken (closed (held c OK ON OL)))
+      (Ok (record { unknowns = c.free + c.bound; entries = c.entries; variables = c.variables; clauses = c.clauses })) K L N K' L' N'
   unfolding held closed
   taken_whole K L N lent placeable w =
-      let over = closed_so c.bound c.free c.entries OK OL ON K L N (record { unknowns = sized.unknowns; entries = sized.entries; read = (sized.kinds, sized.literals, sized.names); lent = lent }) placeable.small w in
+      let over = closed_so c.bound c.free c.entries OK OL ON K L N
+      (record { unknowns = sized.unknowns; entries = sized.entries; read = (sized.kinds, sized.literals, sized.names); lent = lent }) placeable.small w in
       record {
         returns = rw (length_names, length_literals) refl;
         numbered = refl;

@@ -1,7 +1,8 @@
 -- What holds of every text: a cause's number is one of 9 to 12 and 14, and its line is within the text's lines or right behind them, of a gate list
 -- too; of a text that is taken causes 1 to 3 don't apply, V and C are within their limits, and its names have positions.
 -- Assumes nothing.
-use Prim.Native.Nat.{ℕ, zero, suc, ◌+◌, ◌≤◌}
+use Prim.Native.Nat.{ℕ, suc, ◌+◌, ◌≤◌}
+use Rattle.std.specs.Prelude.{Ok}
 use native.Mathlib.Omega.{arith}
 use mathlib.Core.Path.{◌≡◌, refl, subst, ◌∙◌}
 use mathlib.Core.Bool.{Bool, true, false, cond, ◌&&◌, false≢true}
@@ -11,7 +12,6 @@ use lib.Dec.{eqb, leb, ltb}
 use lib.IntN.{ℤ}
 use lib.ListN.{length}
 use Rattle.formula.specs.Formula.{max_unknowns, max_clauses, max_entries}
-use Rattle.formula.specs.declared.Check.TheVariants.{Accepted}
 use Rattle.formula.specs.Causes.{any, other_kind, zeros, ended, checked, sizes, cause_3}
 use Rattle.formula.proofs.Order.{no_cause_1, no_cause_2}
 use Rattle.lines.specs.Lines.{Bytes, Line, ended as line_ended, unended, in_front, pieces, as_lines, lines, words, fourth, third, first, rest, same}
@@ -224,7 +224,7 @@ results_so P Q implies (stopped n line) p = p
 
 -- None of causes 1 to 3 applies to a formula that was read, and V and C are in range.
 pub record Passes (r : Read) : Type 0 where
-  pub accepted : checked r.kinds r.literals ≡ Accepted (sizes r.kinds r.literals)
+  pub accepted : checked r.kinds r.literals ≡ Ok (sizes r.kinds r.literals)
   pub few_variables : r.variables ≤ max_variables
   pub few_clauses : r.clauses ≤ max_clauses
 

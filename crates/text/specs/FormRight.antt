@@ -2,7 +2,7 @@
 -- whatever lengths the tables have; and no text that one of the two readers takes is lost by it. Assumes nothing.
 use Rattle.std.specs.Prelude.{ℕ, ◌≡◌, true, false}
 use Rattle.lines.specs.Lines.{Bytes}
-use Rattle.text.specs.declared.Form.TheVariants.{Clauses, Gates, Either}
+use Rattle.text.specs.declared.Form.TheVariants.{Either}
 use Rattle.text.specs.Reading.{Read, taken, scan, result_of, read, read_gates, text_read, gates_read}
 use Rattle.text.specs.Form.{begins_gates, has_gates, form_read}
 

@@ -2,14 +2,16 @@
 -- names, and positions are given once, after its last line, since a name that no block binds (02) moves all others. Both forms of a text share
 -- everything but the p line's end, the lines behind the prefix and the end of the text; `gates` says that a text is a gate list. Assumes nothing.
 use Rattle.std.specs.Prelude.{ℕ, zero, suc, ◌+◌, ◌≤◌, ◌≡◌, Bool, true, false, cond, ◌&&◌, ◌||◌, List, [], ◌∷◌, ◌++◌, leb, ltb, eqb, ℤ, pos, nat_abs, length}
+use Rattle.std.specs.Prelude.{Result as Outcome, Ok, Err}
 use Rattle.formula.specs.Formula.{max_unknowns, max_clauses, max_entries}
-use Rattle.text.specs.declared.Reading.{Reading}
-use Rattle.text.specs.declared.Reading.TheVariants.{Taken, Refused}
-use Rattle.lines.specs.Lines.{Bytes, Line, ended, unended, lines, words, first, rest, second, third, fourth, fifth, same}
-use Rattle.lines.specs.Numbers.{number, is_zero, negative, unsigned}
+use Rattle.cause.specs.Cause.{number as number_of_cause, caused}
+use Rattle.text.specs.declared.Taken.{Taken}
+use Rattle.text.specs.declared.Refusal.{Refusal}
+use Rattle.lines.specs.Lines.{Bytes, Line, ended, unended, lines, words, first, rest, third, fourth, fifth, same}
+use Rattle.lines.specs.Numbers.{number, is_zero, unsigned}
 use Rattle.lines.specs.Shapes.{is_comment, is_problem, is_prefix, is_clause, is_gate, a_word}
 pub use Rattle.named.specs.Named.{max_variables}
-use Rattle.named.specs.Named.{among, signed}
+use Rattle.named.specs.Named.{among}
 use Rattle.named.specs.Gates.{Gate}
 use Rattle.named.specs.Closing.{insert, closed_names, closed_kinds, closed_literals}
 pub use Rattle.text_gates.specs.GateLine.{literal_of, first_cause, inputs_of, function_of, gate_of, entries_of_gate, clauses_of_gate}
@@ -53,7 +55,17 @@ name_cause variables names v =
 -- A name is bound behind those bound before.
 abbrev pub with_prefix : State → List ℕ → List ℕ → State
 with_prefix s kinds names =
-    record { variables = s.variables; clauses = s.clauses; kinds = kinds; names = names; free = s.free; entries = s.entries; clauses_read = s.clauses_read; made = s.made }
+    record {
+      variables = s.variables;
+      clauses = s.clauses;
+      kinds = kinds;
+      names = names;
+      free = s.free;
+      entries = s.entries;
+      clauses_read = s.clauses_read;
+      made
+          = s.made;
+    }
 
 abbrev pub bind : ℕ → State → ℕ → State
 bind kind s v = with_prefix s (s.kinds ++ (kind ∷ [])) (s.names ++ (v ∷ []))
@@ -98,7 +110,17 @@ free_with free names w =
 -- A word's entry is added behind those before.
 abbrev pub with_entries : State → List ℕ → List ℤ → State
 with_entries s free entries =
-    record { variables = s.variables; clauses = s.clauses; kinds = s.kinds; names = s.names; free = free; entries = entries; clauses_read = s.clauses_read; made = s.made }
+    record {
+      variables = s.variables;
+      clauses = s.clauses;
+      kinds = s.kinds;
+      names = s.names;
+      free = free;
+      entries = entries;
+      clauses_read = s.clauses_read;
+      made
+          = s.made;
+    }
 
 abbrev pub add_entry : State → Bytes → State
 add_entry s w = with_entries s (free_with s.free s.names w) (s.entries ++ (entry w ∷ []))
@@ -114,7 +136,17 @@ add_entries s (w ∷ ws) =
 abbrev pub clause_read : Step → Step
 clause_read (fault cause) = fault cause
 clause_read (went s) =
-    went (record { variables = s.variables; clauses = s.clauses; kinds = s.kinds; names = s.names; free = s.free; entries = s.entries; clauses_read = suc s.clauses_read; made = s.made })
+    went (record {
+      variables = s.variables;
+      clauses = s.clauses;
+      kinds = s.kinds;
+      names = s.names;
+      free = s.free;
+      entries = s.entries;
+      clauses_read = suc
+          s.clauses_read;
+      made = s.made;
+    })
 
 -- 'Then 14 for a line too many, then tokens from the left'.
 unfoldable pub clause_line : State → List Bytes → Step
@@ -248,7 +280,8 @@ output_range true v = cond (ltb max_variables v) 11 0
 unfoldable pub problem_cause : Bool → Bytes → ℕ
 problem_cause gates line =
     cond (is_problem gates line)
-    (cond (ltb max_variables (number (third (words line)))) 11 (cond (ltb (max_items gates) (number (fourth (words line)))) 11 (output_range gates (number (unsigned (fifth (words line)))))))
+    (cond (ltb max_variables (number (third (words line)))) 11 (cond (ltb (max_items gates) (number (fourth (words line)))) 11
+    (output_range gates (number (unsigned (fifth (words line)))))))
     10
 
 -- What the p line, line k, says of the lines behind the prefix.
@@ -319,15 +352,18 @@ read text kinds literals names = result_of (scan false text kinds literals names
 unfoldable pub read_gates : Bytes → ℕ → ℕ → ℕ → Result
 read_gates text kinds literals names = result_of (scan true text kinds literals names)
 
--- 'Returns n, the literals used, V and C', or number and line.
+-- 'Returns n, the literals used, V and C', or number and line: the cause that has the number.
+abbrev pub Reading : Type 0
+Reading = Outcome Taken Refusal
+
 abbrev pub returned : Result → Reading
-returned (taken r) = Taken (length r.names) (length r.literals) r.variables r.clauses
-returned (refused number line) = Refused number line
+returned (taken r) = Ok (record { unknowns = length r.names; entries = length r.literals; variables = r.variables; clauses = r.clauses })
+returned (refused number line) = Err (record { cause = caused number; line = line })
 
 -- 01's number of each case: 0 for a text that is taken, else the cause's.
 abbrev pub number_of : Reading → ℕ
-number_of (Taken unknowns entries variables clauses) = 0
-number_of (Refused number line) = number
+number_of (Ok text) = 0
+number_of (Err refusal) = number_of_cause refusal.cause
 
 -- The number of the cause for which a text is refused, or 0.
 abbrev pub cause_of : Result → ℕ
@@ -353,7 +389,8 @@ Fits (taken r) = (length r.kinds ≡ length r.names) × (length r.names ≤ max_
 Fits (refused number line) = Unit {0}
 
 -- What `read` promises: the outcome and each table at exit, from a result and the tables at entry.
-pub record ReadSo (result : Result) (outcome : Reading) (kinds : List ℕ) (literals : List ℤ) (names kinds' : List ℕ) (literals' : List ℤ) (names' : List ℕ) : Type 0 where
+pub record ReadSo (result : Result) (outcome : Reading) (kinds : List ℕ) (literals : List ℤ) (names kinds' : List ℕ) (literals' : List ℤ)
+    (names' : List ℕ) : Type 0 where
   pub returns : outcome ≡ returned result
   pub numbered : number_of outcome ≡ cause_of result
   pub writes_kinds : kinds' ≡ kinds_after result kinds

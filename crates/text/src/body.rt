@@ -157,7 +157,7 @@ fn prefix_line(
 fn kind_of(word: &[u8]) -> u8
     ensures { result ≡ kind_of_word word.now }
 {
-    if numbers::same(word, b"a") { 1 } else { 0 }
+    u8::from(numbers::same(word, b"a"))
 }
 
 // Reads a clause line.

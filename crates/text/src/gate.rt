@@ -38,12 +38,15 @@ pub(crate) fn gate_line(
         s.cause = cause;
         return s;
     }
-    let put = text_gates::put_line(line, v as u16, c.made, c.entries, places, literals);
-    s.cause = put.cause;
-    if put.cause != 0 {
-        return s;
-    }
+    let put = match text_gates::put_line(line, v as u16, c.made, c.entries, places, literals) {
+        Ok(put) => put,
+        Err(cause) => {
+            s.cause = cause.number();
+            return s;
+        }
+    };
     bind(v, c.bound, kinds, names, places);
+    s.cause = 0;
     s.bound += 1;
     s.entries = put.entries;
     s.made = put.made;
@@ -95,12 +98,19 @@ pub(crate) fn add_output(
     requires { (length literals.old ≡ max_entries) × (c.entries ≤ max_entries) × (c.made ≤ max_clauses) × (v ≤ max_variables) }
     ensures { OutputAdded c (with_sign negative v) line places.now literals.old result literals.new }
 {
-    let put = text_gates::put_output(negative, v as u16, c.made, c.entries, places, literals);
     let mut s = c;
     s.line = line;
-    s.cause = put.cause;
-    s.entries = put.entries;
-    s.made = put.made;
-    s.clauses = put.made;
+    match text_gates::put_output(negative, v as u16, c.made, c.entries, places, literals) {
+        Ok(put) => {
+            s.cause = 0;
+            s.entries = put.entries;
+            s.made = put.made;
+            s.clauses = put.made;
+        }
+        Err(cause) => {
+            s.cause = cause.number();
+            s.clauses = c.made;
+        }
+    }
     s
 }

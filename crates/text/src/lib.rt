@@ -6,6 +6,8 @@
 #![tactic(auto)]
 
 ghost use Rattle.std.specs.Prelude.{length, ◌≡◌};
+ghost use Rattle.cause.specs.Cause.{number as cause_number};
+ghost use Rattle.named.specs.Names.{In};
 ghost use Rattle.text.specs.Reading.{read as definition, read_gates as gates_definition, scan, result_of, ReadSo, text_causes, gates_causes};
 ghost use Rattle.text.specs.Offered.{offered};
 ghost use Rattle.text.specs.CausesRight.{CausesRight};
@@ -14,6 +16,7 @@ ghost use Rattle.text.specs.GatesRight.{GatesRight};
 ghost use Rattle.text.specs.Form.{has_gates, form_told};
 ghost use Rattle.text.specs.FormRight.{FormRight};
 
+use cause::Cause;
 use formula::Formula;
 
 // The most bytes of a text.
@@ -23,9 +26,6 @@ mod body;
 mod gate;
 mod names;
 mod opening;
-
-// 01's number for a text over 65,536 bytes.
-const TOO_LONG: u32 = 9;
 
 // The form of a text: clauses, gates, or the one that its p line tells.
 #[derive(Clone, Copy)]
@@ -48,23 +48,29 @@ pub fn form_told(byte: u8) -> Form
     Form::Either
 }
 
-// What a text gives: the unknowns, the entries of the literals, V and C; or the cause's number and its line.
-#[derive(Clone, Copy)]
-pub enum Reading {
-    Taken {
-        unknowns: usize,
-        entries: usize,
-        variables: usize,
-        clauses: usize,
-    },
-    Refused {
-        number: u32,
-        line: usize,
-    },
+// What a text gives that is taken: the unknowns, the entries of the literals, V and C.
+#[derive(Clone, Copy, Debug, PartialEq, Eq)]
+pub struct Taken {
+    pub unknowns: usize,
+    pub entries: usize,
+    pub variables: usize,
+    pub clauses: usize,
+}
+
+// Why a text is refused, and at which line.
+#[derive(Clone, Copy, Debug, PartialEq, Eq)]
+pub struct Refusal {
+    pub cause: Cause,
+    pub line: usize,
 }
 
 // Reads the text. The tables are written only if all of it is taken.
-pub fn read(text: &[u8], kinds: &mut [u8], literals: &mut [i32], names: &mut [u16]) -> Reading
+pub fn read(
+    text: &[u8],
+    kinds: &mut [u8],
+    literals: &mut [i32],
+    names: &mut [u16],
+) -> Result<Taken, Refusal>
     ensures written { ReadSo (definition text.now (length kinds.old) (length literals.old) (length names.old)) result kinds.old literals.old names.old kinds.new literals.new names.new }
     ensures proved { ClosedRight text.now }
     ensures causes { CausesRight text_causes result }
@@ -73,7 +79,12 @@ pub fn read(text: &[u8], kinds: &mut [u8], literals: &mut [i32], names: &mut [u1
 }
 
 // Reads a gate list, and writes its clauses. The tables are written only if all of it is taken.
-pub fn read_gates(text: &[u8], kinds: &mut [u8], literals: &mut [i32], names: &mut [u16]) -> Reading
+pub fn read_gates(
+    text: &[u8],
+    kinds: &mut [u8],
+    literals: &mut [i32],
+    names: &mut [u16],
+) -> Result<Taken, Refusal>
     ensures written { ReadSo (gates_definition text.now (length kinds.old) (length literals.old) (length names.old)) result kinds.old literals.old names.old kinds.new literals.new names.new }
     ensures proved { GatesRight text.now }
     ensures causes { CausesRight gates_causes result }
@@ -89,15 +100,15 @@ pub fn read_form(
     kinds: &mut [u8],
     literals: &mut [i32],
     names: &mut [u16],
-) -> Reading
+) -> Result<Taken, Refusal>
     ensures written { ReadSo (result_of (scan (has_gates form (offered buffer.now count)) (offered buffer.now count) (length kinds.old) (length literals.old) (length names.old))) result kinds.old literals.old names.old kinds.new literals.new names.new }
     ensures proved { FormRight (offered buffer.now count) }
 {
     if buffer.len() < count {
-        return Reading::Refused {
-            number: TOO_LONG,
+        return Err(Refusal {
+            cause: Cause::TooLong,
             line: 0,
-        };
+        });
     }
     let gates = has_gates(&buffer[..count], form);
     read_as(&buffer[..count], gates, kinds, literals, names)
@@ -122,14 +133,14 @@ pub fn read_offered(
     kinds: &mut [u8],
     literals: &mut [i32],
     names: &mut [u16],
-) -> Reading
+) -> Result<Taken, Refusal>
     ensures written { ReadSo (result_of (scan gates (offered buffer.now count) (length kinds.old) (length literals.old) (length names.old))) result kinds.old literals.old names.old kinds.new literals.new names.new }
 {
     if buffer.len() < count {
-        return Reading::Refused {
-            number: TOO_LONG,
+        return Err(Refusal {
+            cause: Cause::TooLong,
             line: 0,
-        };
+        });
     }
     read_as(&buffer[..count], gates, kinds, literals, names)
 }
@@ -141,16 +152,10 @@ pub fn read_as(
     kinds: &mut [u8],
     literals: &mut [i32],
     names: &mut [u16],
-) -> Reading
+) -> Result<Taken, Refusal>
     ensures written { ReadSo (result_of (scan gates text.now (length kinds.old) (length literals.old) (length names.old))) result kinds.old literals.old names.old kinds.new literals.new names.new }
 {
-    let o = opening::read_opening(text, gates, kinds.len(), literals.len(), names.len());
-    if o.cause != 0 {
-        return Reading::Refused {
-            number: o.cause,
-            line: o.line,
-        };
-    }
+    let o = opening::read_opening(text, gates, kinds.len(), literals.len(), names.len())?;
     let mut own_kinds = [0u8; Formula::UNKNOWNS];
     let mut own_literals = [0i32; Formula::ENTRIES];
     let mut own_names = [0u16; Formula::UNKNOWNS];
@@ -163,10 +168,10 @@ pub fn read_as(
         &mut own_names,
     );
     if c.cause != 0 {
-        return Reading::Refused {
-            number: c.cause,
+        return Err(Refusal {
+            cause: caused(c.cause),
             line: c.line,
-        };
+        });
     }
     text_closing::close(
         c.bound,
@@ -179,10 +184,26 @@ pub fn read_as(
         literals,
         names,
     );
-    Reading::Taken {
+    Ok(Taken {
         unknowns: c.free + c.bound,
         entries: c.entries,
         variables: c.variables,
         clauses: c.clauses,
+    })
+}
+
+// The cause of a number with which a text or a gate list is refused.
+fn caused(number: u32) -> Cause
+    requires { In number gates_causes }
+    ensures { cause_number result ≡ number }
+{
+    match number {
+        9 => Cause::TooLong,
+        10 => Cause::Shape,
+        11 => Cause::Range,
+        12 => Cause::BoundTwice,
+        14 => Cause::Sizes,
+        19 => Cause::Input,
+        _ => Cause::GateTwice,
     }
 }

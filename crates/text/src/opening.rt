@@ -1,19 +1,20 @@
 // The lengths of what is lent, and the lines up to the p line.
 ghost use Rattle.std.specs.Prelude.{◌≡◌, ◌&&◌, leb, eqb};
+ghost use Rattle.cause.specs.Cause.{unless_cause};
 ghost use Rattle.formula.specs.Formula.{max_unknowns, max_entries};
 ghost use Rattle.text.specs.Reading.{max_bytes, max_items};
 ghost use Rattle.lines.specs.Lines.{words};
 ghost use Rattle.text.specs.Form.{begins_gates as gates_begin, gates_told};
 ghost use Rattle.text.specs.Private.Steps.{OpenedRead, CommentsRead, ProblemRead, range_cause as range};
 
-use super::BYTES;
+use super::{BYTES, Refusal};
+use cause::Cause;
 use formula::Formula;
 use lines::{numbers, shapes};
 
-// A text up to its p line: a cause, 0 for none, and its line, which is the p line's without one; then V, C or G, O, and where the next line starts.
+// A text up to its p line: that line's number; V, C or G, O; and where the next line starts.
 #[derive(Clone, Copy)]
 pub(crate) struct Opened {
-    pub(crate) cause: u32,
     pub(crate) line: usize,
     pub(crate) variables: usize,
     pub(crate) clauses: usize,
@@ -29,46 +30,38 @@ pub(crate) fn read_opening(
     kinds: usize,
     literals: usize,
     names: usize,
-) -> Opened
+) -> Result<Opened, Refusal>
     ensures { OpenedRead gates text.now kinds literals names result }
 {
-    if lent_well(text.len(), kinds, literals, names) {} else {
-        return Opened {
-            cause: 9,
+    if !lent_well(text.len(), kinds, literals, names) {
+        return Err(Refusal {
+            cause: Cause::TooLong,
             line: 0,
-            variables: 0,
-            clauses: 0,
-            output: 0,
-            negative: false,
-            at: 0,
-        };
+        });
     }
     let start = comments(text);
     let at = start.at;
     let line = start.line;
     let end = lines::find(text, at, b'\n');
     if end == text.len() {
-        return Opened {
-            cause: 10,
+        return Err(Refusal {
+            cause: Cause::Shape,
             line,
-            variables: 0,
-            clauses: 0,
-            output: 0,
-            negative: false,
-            at,
-        };
+        });
     }
-    let p = read_problem(&text[at..end], gates);
+    let p = match read_problem(&text[at..end], gates) {
+        Ok(p) => p,
+        Err(cause) => return Err(Refusal { cause, line }),
+    };
     let next = end + 1;
-    Opened {
-        cause: p.cause,
+    Ok(Opened {
         line,
         variables: p.variables,
         clauses: p.clauses,
         output: p.output,
         negative: p.negative,
         at: next,
-    }
+    })
 }
 
 // Whether the text and the tables have the lengths that they may have.
@@ -139,10 +132,9 @@ fn comments(text: &[u8]) -> Place
     Place { at, line }
 }
 
-// The p line's cause, 0 for none, its numbers, and its literal's name and sign.
+// The p line's numbers, and its literal's name and sign.
 #[derive(Clone, Copy)]
 struct Problem {
-    cause: u32,
     variables: usize,
     clauses: usize,
     output: usize,
@@ -150,39 +142,42 @@ struct Problem {
 }
 
 // Reads the p line.
-fn read_problem(line: &[u8], gates: bool) -> Problem
-    ensures { ProblemRead gates line.now result.cause result.variables result.clauses result.output result.negative }
+fn read_problem(line: &[u8], gates: bool) -> Result<Problem, Cause>
+    ensures { ProblemRead gates line.now result }
 {
     let p = shapes::p_line(line, gates);
-    Problem {
-        cause: range_cause(gates, p.good, p.variables, p.clauses, p.output),
+    check_range(gates, p.good, p.variables, p.clauses, p.output)?;
+    Ok(Problem {
         variables: p.variables,
         clauses: p.clauses,
         output: p.output,
         negative: p.negative,
-    }
+    })
 }
 
-// The cause of a p line whose shape is good or not, 0 for none.
-fn range_cause(gates: bool, good: bool, variables: usize, clauses: usize, output: usize) -> u32
-    ensures { result ≡ range gates good variables clauses output }
+// Tests a p line whose shape is good or not.
+fn check_range(
+    gates: bool,
+    good: bool,
+    variables: usize,
+    clauses: usize,
+    output: usize,
+) -> Result<(), Cause>
+    ensures { result ≡ unless_cause (range gates good variables clauses output) tt }
 {
-    if good {} else {
-        return 10;
+    if !good {
+        return Err(Cause::Shape);
     }
     if named::LARGEST < variables {
-        return 11;
+        return Err(Cause::Range);
     }
     if items(gates) < clauses {
-        return 11;
+        return Err(Cause::Range);
     }
-    if gates {} else {
-        return 0;
+    if gates && named::LARGEST < output {
+        return Err(Cause::Range);
     }
-    if named::LARGEST < output {
-        return 11;
-    }
-    0
+    Ok(())
 }
 
 // The most lines behind the prefix.

@@ -1,22 +1,20 @@
 -- From what the functions copy to what is written. Assumes nothing.
-use Prim.Native.Nat.{ℕ, zero, suc, ◌+◌, ◌≤◌, ◌<◌}
+use Prim.Native.Nat.{ℕ, ◌+◌, ◌-◌, ◌≤◌}
 use mathlib.Core.Path.{◌≡◌, refl, sym, ap, ap₂, subst, ◌∙◌}
 use mathlib.Core.Bool.{Bool, true, false, false≢true, ◌&&◌}
-use mathlib.Core.List.{List, [], ◌∷◌, ◌++◌, map}
-use native.Mathlib.Nat.{zero-add}
-use native.Mathlib.Numerals.{add-one}
+use mathlib.Core.List.{List, [], ◌∷◌, ◌++◌, map, append_assoc}
 use native.Mathlib.Omega.{arith}
 use borrow.Author.Tests.{le-leb, leb-true, eq-eqb, eqb-true}
 use lib.Dec.{leb, eqb}
 use lib.IntN.{ℤ}
-use lib.ListN.{length, get_or, take, drop, replicate, length-drop, length-replicate, length-append}
-use lib.Seq.{paste, take-suc, get_or-take, take-add, take_all, take_at, drop_at, drop-drop, length-take-le}
+use lib.ListN.{length, take, drop, replicate, length-drop, length-replicate, length-append}
+use lib.Seq.{take-add, take_at, drop_at, drop-drop, length-take-le}
 use Rattle.formula.specs.Formula.{max_unknowns, max_entries}
 use Rattle.named.specs.Named.{max_variables, placed}
 use Rattle.named.specs.Names.{UpTo}
 use Rattle.named.specs.Closing.{closed_kinds}
 use Rattle.named.proofs.CauseLaws.{length_map}
-use Rattle.named.proofs.NameLaws.{and_both, up_to_append, up_to_at}
+use Rattle.named.proofs.NameLaws.{and_both, up_to_append}
 use Rattle.text_closing.specs.Written.{free_in, placed_in, are_small, are_tables, tables_fit, all_fit, over, Written}
 use Rattle.text_closing.specs.Private.Steps.{ClosedOver}
 
@@ -32,19 +30,6 @@ small_up_to (v ∷ vs) e = go (leb v max_variables) refl e (small_up_to vs)
 pub up_to_small : (names : List ℕ) → UpTo max_variables names → are_small names ≡ true
 up_to_small [] u = refl
 up_to_small (v ∷ vs) u = rw (le-leb v max_variables u.0, up_to_small vs u.1) refl
-
-pub up_to_next : (N : List ℕ) (i : ℕ) {v : ℕ} → UpTo max_variables (take i N) → v ≡ get_or N i 0 → i < length N → v ≤ max_variables →
-    UpTo max_variables (take (i + 1) N)
-up_to_next N i u is h small =
-    let e : take (i + 1) N ≡ take i N ++ (get_or N i 0 ∷ []) = rw (add-one i) (take-suc N i 0 h) in
-    subst (UpTo max_variables) (sym e) (up_to_append max_variables (take i N) (get_or N i 0 ∷ []) u (omega arith, tt))
-
-pub large_at : (N : List ℕ) (n i : ℕ) {v : ℕ} → v ≡ get_or N i 0 → i < n → max_variables < v → false ≡ are_small (take n N)
-large_at N n i {v} is h large = go (are_small (take n N)) refl
-  where
-    go : (b : Bool) → are_small (take n N) ≡ b → false ≡ b
-    go false e = refl
-    go true e = absurd (omega (arith, up_to_at max_variables (take n N) i (small_up_to (take n N) e), get_or-take n N i 0 h))
 
 -- The names read, in the order in which they are written.
 up_to_front : (m : ℕ) (xs ys : List ℕ) → UpTo m (xs ++ ys) → UpTo m xs
@@ -134,22 +119,15 @@ closed_so bound free m OK OL ON K L N {K'} {L'} {N'} z u w =
     ) refl in
     record { kinds = w.kinds ∙ rw e refl; literals = w.literals ∙ rw e refl; names = w.names ∙ rw e refl }
 
--- A table with the first n entries of another over its own, or with those of two.
-paste_over : {A : Type 0} (old new : List A) (n : ℕ) → n ≤ length new → paste old 0 new n ≡ over (take n new) old
-paste_over old new n h = rw (length-take-le n new h, zero-add n) refl
-
-paste_two : {A : Type 0} (old a b : List A) (f n : ℕ) → f ≤ length a → n ≤ length b → paste (paste old 0 a f) f b n ≡ over (take f a ++ take n b) old
-paste_two old a b f n h k =
-    let l = length-take-le f a h in
-    let whole : 0 + f + n ≡ length (take f a ++ take n b) = omega (arith, length-append (take f a) (take n b), length-take-le n b k) in
-    ap₂ (λ (front behind : List _). front ++ take n b ++ behind) (take_at (take f a) (drop (0 + f) old) f l)
-    (sym (drop-drop n f (paste old 0 a f)) ∙ ap (drop n) (drop_at (take f a) (drop (0 + f) old) f l) ∙ drop-drop n (0 + f) old)
-    ∙ ap (λ (i : ℕ). (take f a ++ take n b) ++ drop i old) whole
-
-map_take : {A B : Type 0} (f : A → B) (n : ℕ) (l : List A) → take n (map f l) ≡ map f (take n l)
-map_take f zero l = refl
-map_take f (suc n) [] = refl
-map_take f (suc n) (x ∷ l) = ap (λ t. f x ∷ t) (map_take f n l)
+-- A table whose front was written in two parts, as slices are put back.
+pub two_parts : {A : Type 0} (old a b : List A) (f n k : ℕ) → length a ≡ f → length b ≡ n → k ≡ n
+    → take f (a ++ drop f old) ++ (b ++ drop k (drop f (a ++ drop f old))) ≡ over (a ++ b) old
+two_parts old a b f n k size_a size_b e =
+    let whole : f + n ≡ length (a ++ b) = omega (arith, length-append a b) in
+    ap₂ (λ (front behind : List _). front ++ (b ++ behind)) (take_at a (drop f old) f size_a)
+    (ap (λ (i : ℕ). drop i (drop f (a ++ drop f old))) e ∙ ap (drop n) (drop_at a (drop f old) f size_a) ∙ drop-drop n f old)
+    ∙ sym (append_assoc a b (drop (f + n) old))
+    ∙ ap (λ (i : ℕ). (a ++ b) ++ drop i old) whole
 
 -- What is read is written over the front of the tables.
 module _ (bound free m : ℕ) (OK : List ℕ) (OL : List ℤ) (ON : List ℕ) (unknowns : bound + free ≤ max_unknowns) (entries : m ≤ max_entries)
@@ -160,43 +138,50 @@ module _ (bound free m : ℕ) (OK : List ℕ) (OL : List ℤ) (ON : List ℕ) (u
   length_free : length (free_in bound free ON) ≡ free
   length_free = length-take-le free (drop bound ON) (omega (arith, length-drop bound ON))
 
-  length_names : length all_names ≡ free + bound
+  pub length_names : length all_names ≡ free + bound
   length_names = length-append (free_in bound free ON) (take bound ON) ∙ ap₂ ◌+◌ length_free (length-take-le bound ON (omega arith))
 
-  names_written : (N : List ℕ) {N₁ N₂ : List ℕ} → N₁ ≡ paste N 0 (drop bound ON) free → N₂ ≡ paste N₁ free (drop 0 ON) bound → N₂ ≡ over all_names N
+  -- A table of numbers with a written over its front, and behind it b.
+  abbrev pub in_two : List ℕ → List ℕ → List ℕ → List ℕ
+  in_two old a b = take free (a ++ drop free old) ++ (b ++ drop (free + bound - free) (drop free (a ++ drop free old)))
+
+  names_written : (N : List ℕ) {a b : List ℕ} → a ≡ take (bound + free - bound) (drop bound ON) → b ≡ take bound ON → in_two N a b ≡ over all_names N
   names_written N e f =
-      f
-      ∙ ap (λ (l : List ℕ). paste l free (drop 0 ON) bound) e
-      ∙ paste_two N (drop bound ON) ON free bound (omega (arith, length-drop bound ON)) (omega arith)
+      let width : bound + free - bound ≡ free = omega arith in
+      rw (e, f, width)
+      (two_parts N (free_in bound free ON) (take bound ON) free bound (free + bound - free) length_free (length-take-le bound ON (omega arith)) (omega arith))
 
   -- They stand at the front.
-  pub names_front : (N : List ℕ) {N₁ N₂ : List ℕ} → N₁ ≡ paste N 0 (drop bound ON) free → N₂ ≡ paste N₁ free (drop 0 ON) bound →
-      take (free + bound) N₂ ≡ all_names
+  pub names_front : (N : List ℕ) {a b : List ℕ} → a ≡ take (bound + free - bound) (drop bound ON) → b ≡ take bound ON →
+      take (free + bound) (in_two N a b) ≡ all_names
   names_front N e f = ap (take (free + bound)) (names_written N e f) ∙ take_at all_names (drop (length all_names) N) (free + bound) length_names
 
-  kinds_written : (K : List ℕ) {K₁ K₂ : List ℕ} → K₁ ≡ paste K 0 (replicate free 0) free → K₂ ≡ paste K₁ free OK bound
-      → K₂ ≡ over (closed_kinds (free_in bound free ON) (take bound OK)) K
-  kinds_written K e f =
-      f
-      ∙ ap (λ (l : List ℕ). paste l free OK bound) e
-      ∙ paste_two K (replicate free 0) OK free bound (omega (arith, length-replicate {A = ℕ} free 0)) (omega arith)
-      ∙ ap (λ (l : List ℕ). over (l ++ take bound OK) K)
-      (take_all free (replicate free 0) (omega (arith, length-replicate {A = ℕ} free 0)) ∙ ap (λ (n : ℕ). replicate n 0) (sym length_free))
+  kinds_written : (K : List ℕ) {a b : List ℕ} → length K ≡ max_unknowns → a ≡ replicate (length (take free K)) 0 → b ≡ take bound OK
+      → in_two K a b ≡ over (closed_kinds (free_in bound free ON) (take bound OK)) K
+  kinds_written K size e f =
+      let width : length (take free K) ≡ length (free_in bound free ON) = length-take-le free K (omega arith) ∙ sym length_free in
+      rw (e, f, width)
+      (two_parts K (replicate (length (free_in bound free ON)) 0) (take bound OK) free bound (free + bound - free)
+      (length-replicate {A = ℕ} (length (free_in bound free ON)) 0 ∙ length_free) (length-take-le bound OK (omega arith)) (omega arith))
 
-  literals_written : (L : List ℤ) {L₁ : List ℤ} (front : List ℕ) → front ≡ all_names → L₁ ≡ paste L 0 (map (placed front) OL) m →
-      L₁ ≡ over (map (placed all_names) (take m OL)) L
+  literals_written : (L : List ℤ) {a : List ℤ} (front : List ℕ) → front ≡ all_names → a ≡ map (placed front) (take m OL) →
+      a ++ drop m L ≡ over (map (placed all_names) (take m OL)) L
   literals_written L front e f =
-      f
-      ∙ ap (λ (l : List ℕ). paste L 0 (map (placed l) OL) m) e
-      ∙ paste_over L (map (placed all_names) OL) m (omega (arith, length_map (placed all_names) OL))
-      ∙ ap (λ (l : List ℤ). over l L) (map_take (placed all_names) m OL)
+      let size : m ≡ length (map (placed all_names) (take m OL)) = omega (
+        arith,
+        length_map (placed all_names) (take m OL),
+        length-take-le m OL
+            (omega arith),
+      ) in
+      rw (f, e) (ap (λ (i : ℕ). map (placed all_names) (take m OL) ++ drop i L) size)
 
-  pub closed_over : (K : List ℕ) (L : List ℤ) (N : List ℕ) {K₁ K₂ : List ℕ} {L₁ : List ℤ} {N₁ N₂ : List ℕ}
-      → N₁ ≡ paste N 0 (drop bound ON) free → N₂ ≡ paste N₁ free (drop 0 ON) bound → K₁ ≡ paste K 0 (replicate free 0) free → K₂ ≡ paste K₁ free OK bound
-      → L₁ ≡ paste L 0 (map (placed (take (free + bound) N₂)) OL) m → ClosedOver bound free m OK OL ON K L N K₂ L₁ N₂
-  closed_over K L N n₁ n₂ k₁ k₂ l =
+  pub closed_over : (K : List ℕ) (L : List ℤ) (N : List ℕ) {k₁ k₂ n₁ n₂ : List ℕ} {l : List ℤ} → length K ≡ max_unknowns
+      → n₁ ≡ take (bound + free - bound) (drop bound ON) → n₂ ≡ take bound ON → k₁ ≡ replicate (length (take free K)) 0 → k₂ ≡ take bound OK
+      → l ≡ map (placed (take (free + bound) (in_two N n₁ n₂))) (take m OL)
+      → ClosedOver bound free m OK OL ON K L N (in_two K k₁ k₂) (l ++ drop m L) (in_two N n₁ n₂)
+  closed_over K L N size names_free names_bound kinds_free kinds_bound literals =
       record {
-        kinds = kinds_written K k₁ k₂;
-        literals = literals_written L (take (free + bound) _) (names_front N n₁ n₂) l;
-        names = names_written N n₁ n₂;
+        kinds = kinds_written K size kinds_free kinds_bound;
+        literals = literals_written L (take (free + bound) _) (names_front N names_free names_bound) literals;
+        names = names_written N names_free names_bound;
       }

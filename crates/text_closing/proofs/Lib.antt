@@ -1,5 +1,4 @@
 -- The laws that the proofs of the functions cite, callees first.
 pub mod InsertLaws
-pub mod Tables
 pub mod Positions
 pub mod ClosingLaws

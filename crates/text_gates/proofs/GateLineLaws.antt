@@ -1,5 +1,5 @@
 -- A gate line's words and its clauses, as the code takes them. Assumes nothing.
-use Prim.Native.Nat.{ℕ, zero, suc, ◌+◌, ◌-◌, ◌^◌, ◌≤◌, ◌<◌}
+use Prim.Native.Nat.{ℕ, zero, suc, ◌+◌, ◌≤◌, ◌<◌}
 use native.Mathlib.Omega.{arith}
 use native.Mathlib.Numerals.{add-one}
 use mathlib.Core.Path.{◌≡◌, refl, sym, ap, subst, ◌∙◌}
@@ -13,6 +13,9 @@ use lib.Seq.{take-suc-set, get_or-set_same, get_or-set_other, drop-set-lt, set_s
 use mir.Facts.{to_z-of_z}
 use mir.Syntax.{w32}
 use mir.Val.{of_z, to_z}
+use Rattle.cause.specs.declared.Cause.{Cause}
+use Rattle.cause.specs.Cause.{number}
+use Rattle.cause.proofs.Numbers.{from_1}
 use Rattle.gates.proofs.EntryLaws.{small_fits}
 use Rattle.formula.specs.Formula.{max_clauses, Clause}
 use Rattle.formula.specs.Causes.{beyond}
@@ -22,11 +25,10 @@ use Rattle.gates.specs.declared.Function.TheVariants.{And, Or, Xor}
 use Rattle.gates.specs.Clauses.{with_each, negated, gate_clauses, flat}
 use Rattle.gates.specs.Put.{entries_of, place_behind, laid}
 use Rattle.lines.specs.Lines.{Bytes, words, first, rest}
-use Rattle.lines.specs.Numbers.{number, unsigned, negative, is_zero}
+use Rattle.lines.specs.Numbers.{is_zero}
 use Rattle.lines.specs.Shapes.{is_gate}
 use Rattle.named.specs.Named.{max_variables, max_places, signed}
 use Rattle.named.specs.CircuitRight.{Fits}
-use Rattle.named.proofs.Negation.{signed_size, signed_bits}
 use Rattle.text_gates.specs.GateLine.{marked, literal_of, known_cause, first_cause, known_causes, inputs_of, function_of, room_limit, line_cause}
 use Rattle.text_gates.specs.GateLine.{line_entries, line_clauses, output_cause, PutSo}
 use Rattle.text_gates.specs.Private.Steps.{InputRead, InputsRead, clause_count, GatePut}
@@ -84,26 +86,6 @@ pub no_mark : (P : List ℕ) (v : ℕ) → max_places ≤ v → false ≡ marked
 unfolding marked
 no_mark P v past = rw (le-ltb v max_places past) refl
 
--- An input.
-module _ (w : Bytes) (P : List ℕ) {v : ℕ} (value : v ≡ number (unsigned w)) where
-  pub input_above : max_variables < v → InputRead P w 11 (pos 0)
-  input_above above = record { right = rw (← value, lt-ltb max_variables v above) refl; written = λ e. absurd (omega arith); small = omega arith }
-
-  pub input_unknown : v ≤ max_variables → marked P v ≡ false → InputRead P w 19 (pos 0)
-  input_unknown small none =
-      record { right = rw (← value, le-ltb max_variables v small, none) refl; written = λ e. absurd (omega arith); small = omega arith }
-
-  -- Literals come through their bits.
-  pub input_taken : v ≤ max_variables → marked P v ≡ true → {y : ℤ} → y ≡ signed (negative w) v → InputRead P w 0 (to_z w32 (of_z w32 y))
-  input_taken small there {y} same =
-      let z = to_z w32 (of_z w32 y) in
-      let is : z ≡ signed (negative w) v = signed_bits (negative w) v y (omega arith) same in
-      record {
-        right = rw (← value, le-ltb max_variables v small, there) refl;
-        written = λ _. is ∙ ap (signed (negative w)) value;
-        small = subst (λ (y : ℤ). nat_abs y ≤ max_variables) (sym is) (omega (arith, signed_size (negative w) v));
-      }
-
 -- The words of a gate line behind its name, up to `at`.
 pub record Passed (line : Bytes) (i : ℕ) (P : List ℕ) (count at : ℕ) (I : List ℤ) : Type 0 where
   pub within : at ≤ length line
@@ -113,11 +95,6 @@ pub record Passed (line : Bytes) (i : ℕ) (P : List ℕ) (count at : ℕ) (I : 
   pub many : length (inputs_of (words (drop i line))) ≡ count + length (inputs_of (words (drop at line)))
   pub kept : count ≤ max_clauses → inputs_of (words (drop i line)) ≡ take count I ++ inputs_of (words (drop at line))
   pub small : (j : ℕ) → nat_abs (get_or I j (pos 0)) ≤ max_variables
-
-pub passed_none : (line : Bytes) (i : ℕ) (P : List ℕ) (I : List ℤ) → i ≤ length line → length I ≡ max_clauses →
-    ((j : ℕ) → nat_abs (get_or I j (pos 0)) ≤ max_variables) → Passed line i P 0 i I
-passed_none line i P I within size small =
-    record { within = within; few = omega arith; size = size; right = refl; many = omega arith; kept = λ few. refl; small = small }
 
 small_set : (I : List ℤ) (n : ℕ) (z : ℤ) → nat_abs z ≤ max_variables → ((j : ℕ) → nat_abs (get_or I j (pos 0)) ≤ max_variables) → n < length I
     → (j : ℕ) → nat_abs (get_or (set I n z) j (pos 0)) ≤ max_variables
@@ -143,32 +120,12 @@ module _ (line : Bytes) (i : ℕ) (P : List ℕ) (count at : ℕ) (I : List ℤ)
   passed_all none = stopped_so (ap inputs_of none) (ap (known_causes (marked P)) none)
 
   module _ (w : Bytes) (ws : List Bytes) (next : words (drop at line) ≡ w ∷ ws) where
-    -- The closing 0.
-    pub passed_zero : is_zero w ≡ true → InputsRead line i P 0 count I
-    passed_zero end = stopped_so (ap inputs_of next ∙ rw end refl) (ap (known_causes (marked P)) next ∙ rw end refl)
-
     module _ (some : is_zero w ≡ false) where
       cause_front : known_causes (marked P) (words (drop at line)) ≡ first_cause (known_cause (marked P) w) (known_causes (marked P) ws)
       cause_front = ap (known_causes (marked P)) next ∙ rw some refl
 
       inputs_front : inputs_of (words (drop at line)) ≡ literal_of w ∷ inputs_of ws
       inputs_front = ap inputs_of next ∙ rw some refl
-
-      refused_first : (cause later : ℕ) → (cause ≡ 0 → ⊥) → cause ≡ first_cause cause later
-      refused_first zero later bad = absurd (bad refl)
-      refused_first (suc cause) later bad = refl
-
-      -- An input with a cause.
-      pub passed_refused : {cause : ℕ} {z : ℤ} → InputRead P w cause z → (cause ≡ 0 → ⊥) → InputsRead line i P cause count I
-      passed_refused {cause} e bad =
-          record {
-            size = p.size;
-            right = refused_first cause (known_causes (marked P) ws) bad ∙ ap (λ (n : ℕ). first_cause n (known_causes (marked P) ws)) e.right ∙ sym
-                (p.right ∙ cause_front);
-            many = λ free. absurd (bad free);
-            kept = λ free. absurd (bad free);
-            small = p.small;
-          }
 
       -- One input more.
       pub passed_more : {cause : ℕ} {z : ℤ} (end : ℕ) (I' : List ℤ) → InputRead P w cause z → cause ≡ 0 → words (drop end line) ≡ ws → at < end →
@@ -218,13 +175,6 @@ two_set L m o room =
     ∙ rw (one, two, take-suc-set L m o (omega arith), drop-set-lt (suc (suc m)) L m o (omega arith))
     (append_assoc (take m L) (o ∷ []) (pos 0 ∷ drop (suc (suc m)) L) ∙ sym (append_assoc (take m L) (o ∷ pos 0 ∷ []) (drop (suc (suc m)) L)))
 
-pub room_two : (m room : ℕ) → 2 ≤ room → leb m (room - 2) ≡ ltb (m + 1) room
-room_two m room some = go (leb m (room - 2)) refl
-  where
-    go : (b : Bool) → leb m (room - 2) ≡ b → b ≡ ltb (m + 1) room
-    go true e = sym (lt-ltb (m + 1) room (omega (arith, leb-true m (room - 2) e)))
-    go false e = sym (le-ltb (m + 1) room (omega (arith, leb-false m (room - 2) e)))
-
 -- Nothing is put, or all is.
 pub put_none : {cause c : ℕ} {zs : List ℤ} {clauses made m : ℕ} {L L' : List ℤ} → c ≡ cause → (c ≡ 0 → ⊥) → L' ≡ L →
     PutSo cause zs clauses made m L c m made L'
@@ -265,10 +215,6 @@ fits_so room m zs end behind other = go (leb (m + length zs) room) refl behind
 module _ (f : Function) (v : ℕ) (I : List ℤ) (count made m : ℕ) (L : List ℤ) where
   limited : (clauses entries : ℕ) → max_clauses < clauses → 14 ≡ room_limit (length L) clauses entries
   limited clauses entries over = rw (lt-ltb max_clauses clauses over) refl
-
-  -- More clauses than there may be, already.
-  pub put_many : max_clauses < made → GatePut f v I count made m L 14 m made L
-  put_many many is size kept fits = put_none (limited (made + length (gate_clauses f (pos v) is)) _ (omega (arith, many))) (λ e. omega arith) refl
 
   -- More inputs than a gate can have.
   pub put_wide : max_clauses ≤ count → GatePut f v I count made m L 14 m made L
@@ -312,12 +258,6 @@ module _ (f : Function) (v : ℕ) (I : List ℤ) (count made m : ℕ) (L : List 
         done.1 (all_clauses all sum is size fits)
         (subst (λ (l : List ℤ). L' ≡ laid L m (flat (gate_clauses f (pos v) l))) same put)
 
--- Few clauses for the inputs.
-pub count_few : (f : Function) (n : ℕ) → clause_count f n ≤ n + 4
-count_few And n = omega arith
-count_few Or n = omega arith
-count_few Xor n = omega arith
-
 -- What is put is the gate's.
 pub put_entries : (f g : Function) (v count : ℕ) (I : List ℤ) → g ≡ f → v ≤ 65535 → ((j : ℕ) → nat_abs (get_or I j (pos 0)) ≤ max_variables)
     → (z : ℤ) → z ≡ pos v → (is : List ℤ) → is ≡ take count I → entries_of g z is ≡ flat (gate_clauses f (pos v) (take count I))
@@ -334,6 +274,9 @@ pub zeros_small : (n j : ℕ) → nat_abs (get_or (replicate n (pos 0)) j (pos 0
 zeros_small zero j = omega arith
 zeros_small (suc n) zero = omega arith
 zeros_small (suc n) (suc j) = zeros_small n j
+
+pub some_cause : (c : Cause) → number c ≡ 0 → ⊥
+some_cause c none = omega (arith, from_1 c)
 
 -- A whole gate line: an input with a cause, or its clauses put.
 module _ (line : Bytes) (i v made m : ℕ) (P : List ℕ) (L : List ℤ) (shape : is_gate line ≡ true) (others : words (drop i line) ≡ rest (rest (words line))) where

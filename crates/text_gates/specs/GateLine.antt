@@ -1,5 +1,8 @@
 -- A gate line: its inputs, its clauses and their cause, by whether a name is known; and O's clause. Assumes nothing.
-use Rattle.std.specs.Prelude.{ℕ, zero, suc, ◌+◌, ◌≡◌, Bool, cond, not, ◌&&◌, List, [], ◌∷◌, ltb, eqb, ℤ, pos, length, get_or}
+use Rattle.std.specs.Prelude.{ℕ, zero, suc, ◌+◌, ◌≡◌, Bool, cond, not, ◌&&◌, List, [], ◌∷◌, ltb, eqb, ℤ, pos, length, get_or, Result, Ok, Err}
+use Rattle.cause.specs.declared.Cause.{Cause}
+use Rattle.cause.specs.Cause.{unless_cause}
+use Rattle.text_gates.specs.declared.Put.{Put}
 use Rattle.formula.specs.Formula.{max_clauses}
 use Rattle.gates.specs.Clauses.{gate_clauses, flat}
 use Rattle.gates.specs.Put.{laid}
@@ -80,6 +83,19 @@ line_cause known line v made m room =
 -- O's cause: 19, then the limits.
 unfoldable pub output_cause : (ℕ → Bool) → ℕ → ℕ → ℕ → ℕ → ℕ
 output_cause known v made m room = cond (known v) (room_limit room (suc made) (m + 2)) 19
+
+-- The entries used and the clauses made afterwards: a refusal leaves both.
+abbrev pub entries_after : ℕ → Result Put Cause → ℕ
+entries_after m (Ok put) = put.entries
+entries_after m (Err cause) = m
+
+abbrev pub made_after : ℕ → Result Put Cause → ℕ
+made_after made (Ok put) = put.made
+made_after made (Err cause) = made
+
+-- What is returned: how far clauses were put, or the cause.
+abbrev pub put_told : ℕ → List ℤ → ℕ → ℕ → ℕ → Result Put Cause
+put_told cause zs clauses made m = unless_cause cause record { entries = m + length zs; made = made + clauses }
 
 -- Entries, and as many clauses as they are, are put unless there is a cause.
 pub record PutSo (cause : ℕ) (zs : List ℤ) (clauses made m : ℕ) (L : List ℤ) (r_cause r_entries r_made : ℕ) (L' : List ℤ) : Type 0 where

@@ -4,22 +4,23 @@
 #![tactic(auto)]
 
 ghost use Rattle.std.specs.Prelude.{◌≡◌, true, cond, [], ◌∷◌, ℕ, ◌+◌, ◌≤◌, ◌<◌, ltb, pos, nat_abs, length, get_or, set};
+ghost use Rattle.cause.specs.Cause.{told};
 ghost use Rattle.formula.specs.Formula.{max_clauses};
 ghost use Rattle.lines.specs.Shapes.{is_gate};
 ghost use Rattle.named.specs.Named.{max_variables, signed as with_sign};
 ghost use Rattle.text_gates.specs.GateLine.{marked as has_mark, function_of as function_word, line_cause, line_entries, line_clauses, output_cause};
-ghost use Rattle.text_gates.specs.GateLine.{PutSo};
-ghost use Rattle.text_gates.specs.Private.Steps.{InputRead, InputsRead, clause_count as count_of, GatePut};
+ghost use Rattle.text_gates.specs.GateLine.{PutSo, put_told, entries_after, made_after};
+ghost use Rattle.text_gates.specs.Private.Steps.{literal_in, count_in, InputRead, InputsRead, clause_count as count_of, GatePut};
 
+use cause::Cause;
 use formula::Formula;
 use gates::Function;
 use lines::{numbers, shapes};
 use named::Places;
 
-// How far clauses were put: a cause, 0 for none, the entries used, and the clauses made in all.
-#[derive(Clone, Copy)]
+// How far clauses were put: the entries used, and the clauses made in all.
+#[derive(Clone, Copy, Debug, PartialEq, Eq)]
 pub struct Put {
-    pub cause: u32,
     pub entries: usize,
     pub made: usize,
 }
@@ -32,17 +33,15 @@ pub fn put_line(
     m: usize,
     places: &Places,
     literals: &mut [i32],
-) -> Put
-    ensures { PutSo (line_cause (has_mark places.now) line.now v made m (length literals.old))
-        (line_entries line.now v) (line_clauses line.now v) made m literals.old result.cause result.entries result.made
+) -> Result<Put, Cause>
+    ensures returned { result ≡ put_told (line_cause (has_mark places.now) line.now v made m (length literals.old))
+        (line_entries line.now v) (line_clauses line.now v) made m }
+    ensures put { PutSo (line_cause (has_mark places.now) line.now v made m (length literals.old))
+        (line_entries line.now v) (line_clauses line.now v) made m literals.old (told result) (entries_after m result) (made_after made result)
         literals.new }
 {
-    if shapes::is_gate(line) {} else {
-        return Put {
-            cause: 10,
-            entries: m,
-            made,
-        };
+    if !shapes::is_gate(line) {
+        return Err(Cause::Shape);
     }
     put_clauses(line, v, made, m, places, literals)
 }
@@ -55,38 +54,26 @@ pub fn put_output(
     m: usize,
     places: &Places,
     literals: &mut [i32],
-) -> Put
-    ensures { PutSo (output_cause (has_mark places.now) v made m (length literals.old)) (with_sign negative v ∷ pos 0 ∷ []) 1 made
-        m literals.old result.cause result.entries result.made literals.new }
+) -> Result<Put, Cause>
+    ensures returned { result ≡ put_told (output_cause (has_mark places.now) v made m (length literals.old)) (with_sign negative v ∷ pos 0 ∷ []) 1 made m }
+    ensures put { PutSo (output_cause (has_mark places.now) v made m (length literals.old)) (with_sign negative v ∷ pos 0 ∷ []) 1 made
+        m literals.old (told result) (entries_after m result) (made_after made result) literals.new }
 {
-    if is_marked(places, v as usize) {} else {
-        return Put {
-            cause: 19, // O is unknown
-            entries: m,
-            made,
-        };
+    if !is_marked(places, usize::from(v)) {
+        return Err(Cause::Input); // O is unknown
     }
     if Formula::CLAUSES <= made {
-        return Put {
-            cause: 14,
-            entries: m,
-            made,
-        };
+        return Err(Cause::Sizes);
     }
-    if has_two(literals.len(), m) {} else {
-        return Put {
-            cause: 14,
-            entries: m,
-            made,
-        };
+    if !has_two(literals.len(), m) {
+        return Err(Cause::Sizes);
     }
     literals[m] = named::signed(negative, v);
     literals[m + 1] = 0;
-    Put {
-        cause: 0,
+    Ok(Put {
         entries: m + 2,
         made: made + 1,
-    }
+    })
 }
 
 // Whether there is room for two entries behind m.
@@ -103,10 +90,7 @@ fn has_two(room: usize, m: usize) -> bool
 fn is_marked(places: &Places, v: usize) -> bool
     ensures { result ≡ has_mark places.now v }
 {
-    if v < named::PLACES {
-        return places[v] != 0;
-    }
-    false
+    v < named::PLACES && places[v] != 0
 }
 
 // Puts the clauses of a line that has the shape. All its words are read before one is put.
@@ -117,10 +101,10 @@ fn put_clauses(
     m: usize,
     places: &Places,
     literals: &mut [i32],
-) -> Put
+) -> Result<Put, Cause>
     requires { is_gate line.now ≡ true }
     ensures { PutSo (line_cause (has_mark places.now) line.now v made m (length literals.old))
-        (line_entries line.now v) (line_clauses line.now v) made m literals.old result.cause result.entries result.made
+        (line_entries line.now v) (line_clauses line.now v) made m literals.old (told result) (entries_after m result) (made_after made result)
         literals.new }
 {
     let word = lines::next(line, 0);
@@ -128,33 +112,19 @@ fn put_clauses(
     let start = word.start;
     let end = word.end;
     let mut inputs = [0i32; Formula::CLAUSES];
-    let read = read_inputs(line, name.end, places, &mut inputs);
-    if read.cause != 0 {
-        return Put {
-            cause: read.cause,
-            entries: m,
-            made,
-        };
-    }
-    put_gate(&line[start..end], v, &inputs, read.count, made, m, literals)
+    let count = read_inputs(line, name.end, places, &mut inputs)?;
+    put_gate(&line[start..end], v, &inputs, count, made, m, literals)
 }
 
-// The inputs read: the first cause, 0 for none, and how many there are.
-#[derive(Clone, Copy)]
-struct Inputs {
-    cause: u32,
-    count: usize,
-}
-
-// Reads the inputs from i on, and keeps as many as a gate can have.
+// Reads the inputs from i on, and keeps as many as a gate can have: how many there are.
 fn read_inputs(
     line: &[u8],
     i: usize,
     places: &Places,
     inputs: &mut [i32; Formula::CLAUSES],
-) -> Inputs
+) -> Result<usize, Cause>
     requires { (i ≤ length line.now) × (length inputs.old ≡ max_clauses) × ((j : ℕ) → nat_abs (get_or inputs.old j (pos 0)) ≤ max_variables) }
-    ensures { InputsRead line.now i places.now result.cause result.count inputs.new }
+    ensures { InputsRead line.now i places.now (told result) (count_in result) inputs.new }
 {
     let mut count = 0;
     let mut at = i;
@@ -163,52 +133,31 @@ fn read_inputs(
         let start = w.start;
         let end = w.end;
         if start == end {
-            return Inputs { cause: 0, count };
+            return Ok(count);
         }
         if numbers::is_zero(&line[start..end]) {
-            return Inputs { cause: 0, count };
+            return Ok(count);
         }
-        let e = read_input(&line[start..end], places);
-        if e.cause != 0 {
-            return Inputs {
-                cause: e.cause,
-                count,
-            };
-        }
-        keep(inputs, count, e.literal);
+        let literal = read_input(&line[start..end], places)?;
+        keep(inputs, count, literal);
         count += 1;
         at = end;
     }
-    Inputs { cause: 0, count }
+    Ok(count)
 }
 
-// An input: its cause, 0 for none, and its literal by name.
-#[derive(Clone, Copy)]
-struct Input {
-    cause: u32,
-    literal: i32,
-}
-
-fn read_input(word: &[u8], places: &Places) -> Input
-    ensures { InputRead places.now word.now result.cause result.literal }
+// Reads an input: its literal by name.
+fn read_input(word: &[u8], places: &Places) -> Result<i32, Cause>
+    ensures { InputRead places.now word.now (told result) (literal_in result) }
 {
     let v = numbers::magnitude(word);
     if named::LARGEST < v {
-        return Input {
-            cause: 11,
-            literal: 0,
-        };
+        return Err(Cause::Range);
     }
-    if is_marked(places, v) {} else {
-        return Input {
-            cause: 19, // the input is unknown
-            literal: 0,
-        };
+    if !is_marked(places, v) {
+        return Err(Cause::Input);
     }
-    Input {
-        cause: 0,
-        literal: named::signed(numbers::negative(word), v as u16),
-    }
+    Ok(named::signed(numbers::negative(word), v as u16))
 }
 
 // Keeps an input if there is room.
@@ -230,46 +179,35 @@ fn put_gate(
     made: usize,
     m: usize,
     literals: &mut [i32],
-) -> Put
+) -> Result<Put, Cause>
     requires { (length inputs.now ≡ max_clauses) × ((j : ℕ) → nat_abs (get_or inputs.now j (pos 0)) ≤ max_variables) }
-    ensures { GatePut (function_word word.now) v inputs.now count made m literals.old result.cause result.entries result.made
+    ensures { GatePut (function_word word.now) v inputs.now count made m literals.old (told result) (entries_after m result) (made_after made result)
         literals.new }
 {
     if Formula::CLAUSES < made {
-        return Put {
-            cause: 14,
-            entries: m,
-            made,
-        };
+        return Err(Cause::Sizes);
     }
     if Formula::CLAUSES <= count {
-        return Put {
-            cause: 14,
-            entries: m,
-            made,
-        };
+        return Err(Cause::Sizes);
     }
     let all = made + clause_count(function_of(word), count);
     if Formula::CLAUSES < all {
-        return Put {
-            cause: 14,
-            entries: m,
-            made,
-        };
+        return Err(Cause::Sizes);
     }
-    let end = gates::put(function_of(word), v as i32, &inputs[0..count], literals, m);
+    let end = gates::put(
+        function_of(word),
+        i32::from(v),
+        &inputs[..count],
+        literals,
+        m,
+    );
     if end == m {
-        return Put {
-            cause: 14,
-            entries: m,
-            made,
-        };
+        return Err(Cause::Sizes);
     }
-    Put {
-        cause: 0,
+    Ok(Put {
         entries: end,
         made: all,
-    }
+    })
 }
 
 fn function_of(word: &[u8]) -> Function

@@ -1,5 +1,7 @@
 -- From what `read`, `trim` and `write` promise to what `trim_text` does. Assumes nothing.
 use Prim.Native.Nat.{ℕ, ◌+◌, ◌≤◌}
+use Rattle.std.specs.Prelude.{Result as Answer, Err, Ok}
+use Rattle.cause.specs.declared.Cause.{Cause}
 use native.Mathlib.Omega.{arith}
 use mathlib.Core.Path.{◌≡◌, refl, sym, ap, subst, ◌∙◌}
 use mathlib.Core.List.{List, [], ◌++◌}
@@ -12,13 +14,10 @@ use Rattle.formula.specs.Causes.{checked, number}
 use Rattle.formula.specs.Formula.{max_unknowns, max_entries}
 use Rattle.lines.specs.Lines.{Bytes}
 use Rattle.report.specs.Report.{refusal_line, put, put_count}
-use Rattle.text.specs.declared.Reading.{Reading}
-use Rattle.text.specs.declared.Reading.TheVariants.{Taken}
-use Rattle.text.specs.Reading.{max_bytes, max_variables, Read, Result, taken, refused, ReadSo, text_read}
+use Rattle.text.specs.declared.Taken.{Taken}
+use Rattle.text.specs.Reading.{max_bytes, max_variables, Reading, Read, Result, taken, refused, ReadSo, text_read}
 use Rattle.text.proofs.TextLaws.{refused_line}
 use Rattle.text.proofs.FrontLaws.{Front}
-use Rattle.trimming.specs.declared.Trimmed.{Trimmed}
-use Rattle.trimming.specs.declared.Trimmed.TheVariants.{Entries, Refused}
 use Rattle.trimming.specs.Outcome.{formula_cause, cause, outcome, output_after}
 use Rattle.trimming_rules.specs.Trimming.{trimmed}
 use Rattle.writing.specs.Writing.{written}
@@ -34,17 +33,17 @@ pub record Names (r : Read) (unknowns : ℕ) (names : List ℕ) : Type 0 where
   pub there : unknowns ≤ length names
   pub front : take unknowns names ≡ r.names
 
-names_of : (r : Read) {outcome : Reading} {K : List ℕ} {L : List ℤ} {N K' : List ℕ} {L' : List ℤ} {N' : List ℕ} {u e v c : ℕ}
-    → ReadSo (taken r) outcome K L N K' L' N' → outcome ≡ Taken u e v c → Names r u N'
-names_of r {N = N} {N' = N'} {u = u} so is =
-    let many : u ≡ length r.names = cc so.returns in
+names_of : (r : Read) {outcome : Reading} {K : List ℕ} {L : List ℤ} {N K' : List ℕ} {L' : List ℤ} {N' : List ℕ} {t : Taken}
+    → ReadSo (taken r) outcome K L N K' L' N' → outcome ≡ Ok t → Names r t.unknowns N'
+names_of r {N = N} {N' = N'} {t = t} so is =
+    let many : t.unknowns ≡ length r.names = cc so.returns in
     record {
       there = omega (arith, ap length so.writes_names, length-append r.names (drop (length r.names) N));
-      front = ap (take u) so.writes_names ∙ take_at r.names (drop (length r.names) N) u (sym many);
+      front = ap (take t.unknowns) so.writes_names ∙ take_at r.names (drop (length r.names) N) t.unknowns (sym many);
     }
 
-pub names_read : {result : Result} {outcome : Reading} {K : List ℕ} {L : List ℤ} {N K' : List ℕ} {L' : List ℤ} {N' : List ℕ} {u e v c : ℕ} (r : Read) → result ≡ taken r
-    → ReadSo result outcome K L N K' L' N' → outcome ≡ Taken u e v c → Names r u N'
+pub names_read : {result : Result} {outcome : Reading} {K : List ℕ} {L : List ℤ} {N K' : List ℕ} {L' : List ℤ} {N' : List ℕ} {t : Taken} (r : Read) → result ≡ taken r
+    → ReadSo result outcome K L N K' L' N' → outcome ≡ Ok t → Names r t.unknowns N'
 names_read {outcome = outcome} {K = K} {L = L} {N = N} {K' = K'} {L' = L'} {N' = N'} r same so is =
     names_of r (subst (λ (x : Result). ReadSo x outcome K L N K' L' N') same so) is
 
@@ -65,7 +64,7 @@ module _ (kinds : List ℕ) (literals left : List ℤ) (fine : number (checked k
   unfolding cause
   no_cause = rw (eq-eqb (formula_cause kinds literals) 0 fine, le-ltb (length left) (length literals) room) refl
 
-  entries_so : outcome kinds literals left ≡ Entries (length (trimmed kinds literals))
+  entries_so : outcome kinds literals left ≡ Ok (length (trimmed kinds literals))
   unfolding outcome
   entries_so = rw (eq-eqb (cause kinds literals left) 0 no_cause) refl
 
@@ -73,8 +72,8 @@ module _ (kinds : List ℕ) (literals left : List ℤ) (fine : number (checked k
   unfolding output_after
   left_so = rw (eq-eqb (cause kinds literals left) 0 no_cause) refl
 
-  module _ {r : Trimmed} {after : List ℤ} (returned : r ≡ outcome kinds literals left) (leaves : after ≡ output_after kinds literals left) where
-    pub trimmed_entries : (n : ℕ) → r ≡ Entries n → (n ≤ length after) × (take n after ≡ trimmed kinds literals)
+  module _ {r : Answer ℕ Cause} {after : List ℤ} (returned : r ≡ outcome kinds literals left) (leaves : after ≡ output_after kinds literals left) where
+    pub trimmed_entries : (n : ℕ) → r ≡ Ok n → (n ≤ length after) × (take n after ≡ trimmed kinds literals)
     trimmed_entries n e =
         let many : n ≡ length (trimmed kinds literals) = cc entries_so in
         let whole = leaves ∙ left_so in (
@@ -82,8 +81,8 @@ module _ (kinds : List ℕ) (literals left : List ℤ) (fine : number (checked k
           ap (take n) whole ∙ take_at (trimmed kinds literals) (drop (length (trimmed kinds literals)) left) n (sym many),
         )
 
-    pub never_refused : (n : ℕ) → r ≡ Refused n → ⊥
-    never_refused n e = let z : ◌≡◌ {A = ℕ} 0 1 = cc entries_so in omega arith
+    pub never_refused : (c : Cause) → r ≡ Err c → ⊥
+    never_refused c e = let z : ◌≡◌ {A = ℕ} 0 1 = cc entries_so in omega arith
 
 -- ---- writing
 
@@ -111,16 +110,16 @@ module _ (text : Bytes) where
   variables_small f = omega (arith, f.variables_so, (read_writable text f.formula f.whole).few_variables)
 
   module _ (out lines : Bytes) where
-    pub refusal_delivered : {n line count : ℕ} {after : Bytes} → text_read text ≡ refused n line → count ≡ put_count (refusal_line n line) lines → after ≡ put (refusal_line n line) lines
+    pub refusal_delivered : {n m line count : ℕ} {after : Bytes} → text_read text ≡ refused n line → m ≡ n → count ≡ put_count (refusal_line m line) lines → after ≡ put (refusal_line m line) lines
         → Delivered text out lines (record { text = 0; lines = count }) out after
-    refusal_delivered {n} {line} e counted written =
+    refusal_delivered {n} {line = line} e told counted written =
         let r = (trimmed_text_right text).if_refused n line e in
         let none = nothing_put (trimmed_text text) out r.nothing in
         record {
           text_counted = none.0;
           text_written = none.1;
-          lines_counted = counted ∙ ap (λ (bytes : Bytes). put_count bytes lines) (sym r.its_line);
-          lines_written = written ∙ ap (λ (bytes : Bytes). put bytes lines) (sym r.its_line);
+          lines_counted = counted ∙ ap (λ (k : ℕ). put_count (refusal_line k line) lines) told ∙ ap (λ (bytes : Bytes). put_count bytes lines) (sym r.its_line);
+          lines_written = written ∙ ap (λ (k : ℕ). put (refusal_line k line) lines) told ∙ ap (λ (bytes : Bytes). put bytes lines) (sym r.its_line);
         }
 
     pub text_delivered : {count : ℕ} {after bytes : Bytes} (r : Read) → text_read text ≡ taken r → bytes ≡ trimmed_text text → count ≡ put_count bytes out → after ≡ put bytes out

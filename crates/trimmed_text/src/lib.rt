@@ -15,8 +15,7 @@ ghost use Rattle.trimmed_text.specs.TrimmedText.{Delivered};
 ghost use Rattle.trimmed_text.specs.TrimmedTextRight.{TrimmedTextRight};
 
 use formula::Formula;
-use text::Reading;
-use trimming::Trimmed;
+use text::Taken;
 
 // How many bytes were put into each buffer.
 #[derive(Clone, Copy)]
@@ -39,19 +38,21 @@ pub fn trim_text(input: &[u8], length: usize, out: &mut [u8], lines: &mut [u8]) 
     let mut literals = [0i32; Formula::ENTRIES];
     let mut names = [0u16; Formula::UNKNOWNS];
     match text::read_offered(input, length, false, &mut kinds, &mut literals, &mut names) {
-        Reading::Refused { number, line } => {
-            let count = report::refusal(lines, number, line as u32);
+        Err(refusal) => {
+            let count = report::refusal(lines, refusal.cause.number(), refusal.line as u32);
             Counts {
                 text: 0,
                 lines: count,
             }
         }
-        Reading::Taken {
-            unknowns,
-            entries,
-            variables,
-            ..
-        } => {
+        Ok(
+            Taken {
+                unknowns,
+                entries,
+                variables,
+                ..
+            },
+        ) => {
             let count = put_trimmed(
                 &kinds[..unknowns],
                 &literals[..entries],
@@ -91,7 +92,7 @@ fn trim(kinds: &[u8], literals: &[i32], left: &mut [i32]) -> usize
     ensures left_after { take result left.new ≡ trimmed kinds.now literals.now }
 {
     match trimming::trim(kinds, literals, left) {
-        Trimmed::Entries(entries) => entries,
-        Trimmed::Refused(_) => 0,
+        Ok(entries) => entries,
+        Err(_) => 0,
     }
 }

@@ -27,7 +27,7 @@ use Rattle.trimming.proofs.MarkLaws.{marked_stays, marked_entries}
 use Rattle.trimming.proofs.ReduceLaws.{two_from, reduced_codes, reduced_local, clause_reduced}
 use Rattle.trimming.proofs.DropLaws.{marked_around}
 use Rattle.trimming.proofs.EndLaws.{Stands, stands}
-use Rattle.trimming.proofs.NamedLaws.{standing_listed, here_named, shows}
+use Rattle.trimming.proofs.NamedLaws.{standing_listed, here_named}
 use Rattle.trimming.proofs.NotedLaws.{units_changed}
 use Rattle.trimming.proofs.OneLaws.{toward_ends, toward_more, Marks, after_length, after_list, Becomes, except_changed}
 

@@ -3,12 +3,12 @@
 use Prim.Native.Nat.{ℕ, ◌+◌, ◌%◌, ◌≤◌, ◌<◌}
 use native.Mathlib.Omega.{arith}
 use native.Mathlib.Numerals.{add-one}
-use mathlib.Core.Path.{◌≡◌, refl, sym, ◌∙◌, ap}
+use mathlib.Core.Path.{◌≡◌, sym, ◌∙◌, ap}
 use mathlib.Core.Bool.{Bool, true, false, cond}
 use mathlib.Core.List.{List, [], ◌∷◌, ◌++◌, map, append-nil}
 use borrow.Author.Tests.{ltb-true}
 use lib.IntN.{ℤ, pos}
-use lib.ListN.{length, get_or, take, drop, set, length-append, length-map, length-drop, get_or-map}
+use lib.ListN.{length, get_or, take, drop, set, length-append, length-map, get_or-map}
 use lib.Seq.{take_all, take-suc, length-take-le, append_snoc, set_at}
 use Rattle.formula.proofs.Places.{drop_front}
 use Rattle.codes.specs.Codes.{code_of}
@@ -39,9 +39,6 @@ module _ (literals : List ℤ) (table : List ℕ) (same : codes table ≡ map co
       pub counted : to ≡ length (left (take i table))
       pub is : output ≡ left (take i table) ++ drop to output₀
 
-    pub copied_begins : Copied output₀ 0 0
-    copied_begins = record { inside = omega arith; counted = refl; is = refl }
-
     module _ {output : List ℤ} {to i : ℕ} (p : Copied output to i) where
       pub fewer : to ≤ i
       fewer =
@@ -50,15 +47,6 @@ module _ (literals : List ℤ) (table : List ℕ) (same : codes table ≡ map co
           let e = length-take-le i table (let m = as_many in let h = p.inside in omega arith) in
           let f = p.counted in
           omega arith
-
-      pub copied_length : length output ≡ length output₀
-      copied_length =
-          let a = length-append (left (take i table)) (drop to output₀) in
-          let b = length-drop to output₀ in
-          let f = p.counted in
-          let g = fewer in
-          let h = p.inside in
-          ap length p.is ∙ omega arith
 
       module _ (below : i < length literals) where
         one_more : left (take (i + 1) table) ≡ left (take i table) ++ left (get_or table i 0 ∷ [])

@@ -3,22 +3,38 @@
 use Prim.Native.Nat.{ℕ, zero, suc, ◌+◌, ◌-◌, ◌≤◌, ◌<◌}
 use native.Mathlib.Omega.{arith}
 use mathlib.Core.Path.{◌≡◌, refl, sym, ◌∙◌, ap, ap₂, subst}
-use mathlib.Core.Bool.{Bool, true, false, not, cond, true≢false}
+use mathlib.Core.Bool.{Bool, true, false, cond, ◌&&◌, true≢false}
 use mathlib.Core.List.{List, [], ◌∷◌, ◌++◌, map, append_assoc, append-nil}
-use borrow.Author.Tests.{eq-eqb, ne_eqb, eqb-true, eqb-false, ltb-true, ltb-false}
-use lib.Dec.{eqb, ltb}
+use borrow.Author.Tests.{eq-eqb, ne_eqb, eqb-true, eqb-false, ltb-true, lt-ltb}
+use lib.Dec.{eqb, ltb, leb}
+use Rattle.std.proofs.lemmas.Bool.{leb-true, leb-false}
 use lib.ListN.{length, get_or, set, drop, length-append, length-set, replicate, length-replicate}
 use lib.Seq.{take_at, drop_at, get_or-set_same, get_or-set_other}
 use Rattle.codes.specs.Codes.{last_code}
 use Rattle.trimming_rules.proofs.ClauseLaws.{Every}
 use Rattle.trimming_marks.specs.Marks.{ends, marked, mark_clause, first_clause, first_length}
-use Rattle.trimming_marks.proofs.Walks.{clause_more}
 use Rattle.index.specs.Index.{code_count, index_of, removed}
-use Rattle.trimming.specs.Private.Table.{Entry, Block, standing, whole, Fine, laid, marked_at, times, Dropping}
+use Rattle.trimming.specs.Private.Table.{Entry, Block, standing, whole, Fine, laid, marked_at, left_from, times, Dropping}
 use Rattle.trimming.proofs.BlockLaws.{map_append, every_append, entry_goes_on, block_marked, block_length}
 use Rattle.trimming.proofs.MarkLaws.{marked_stays, marked_goes}
 use Rattle.trimming.proofs.ListedLaws.{block_has}
 use Rattle.trimming.proofs.ChangeLaws.{around, same_index, removed_index, others_kept, own_gone, own_kept, one_codes, dropped_entry}
+
+-- What a test of an entry says.
+pub left_bounds : (low x : ℕ) → left_from low x ≡ true → (low ≤ x) × (x < 512)
+left_bounds low x = by (leb low x) (ltb x 512) refl refl
+  where
+    by : (a b : Bool) → leb low x ≡ a → ltb x 512 ≡ b → (a && b) ≡ true → (low ≤ x) × (x < 512)
+    by true true e f h = (leb-true low x e, ltb-true x 512 f)
+    by true false e f h = absurd (true≢false (sym h))
+    by false b e f h = absurd (true≢false (sym h))
+
+pub not_left : (low x : ℕ) → left_from low x ≡ false → x < 512 → x < low
+not_left low x = by (leb low x) refl
+  where
+    by : (a : Bool) → leb low x ≡ a → (a && ltb x 512) ≡ false → x < 512 → x < low
+    by true e h small = absurd (true≢false (sym (lt-ltb x 512 small) ∙ h))
+    by false e h small = leb-false low x e
 
 get_or_behind : (l r : List ℕ) → get_or (l ++ r) (length l) 0 ≡ get_or r 0 0
 get_or_behind [] r = refl
@@ -55,13 +71,6 @@ module _ {low start at : ℕ} {table index counts : List ℕ} (p : Dropping low 
 
   looked : table ≡ front ++ (p.post ++ (0 ∷ laid p.ys))
   looked = p.is ∙ shape p.post
-
-  pub inside : at < length table
-  inside =
-      let a = ap length looked ∙ length-append front (p.post ++ (0 ∷ laid p.ys)) in
-      let b = length-append p.post (0 ∷ laid p.ys) in
-      let e = at_front in
-      omega arith
 
   read : get_or table at 0 ≡ get_or (p.post ++ (0 ∷ laid p.ys)) 0 0
   read = ap₂ (λ (t : List ℕ) (n : ℕ). get_or t n 0) looked at_front ∙ get_or_behind front (p.post ++ (0 ∷ laid p.ys))
@@ -135,11 +144,8 @@ module _ {low start at : ℕ} {table index counts : List ℕ} (p : Dropping low 
 
     -- The entry is dropped.
     module _ (from : low ≤ x) (small : x < 512) where
-      pub code_small : x < last_code + 1
+      code_small : x < last_code + 1
       code_small = let k = m.entry.known in omega arith
-
-      pub stands_once : 0 < get_or counts x 0
-      stands_once = let e = p.counted x from code_small in let f = times_own in omega arith
 
       abbrev after : List ℕ
       after = around p.xs (standing (p.pre ++ ((x + 512) ∷ m.rest))) p.ys
@@ -269,24 +275,17 @@ module _ (counts : List ℕ) (sized : length counts ≡ last_code + 1) (x : ℕ)
           ap (λ (k : ℕ). get_or (set counts x (get_or counts x 0 + 1)) k 0) same
           ∙ get_or-set_same counts x (get_or counts x 0 + 1) 0 (omega arith)
           ∙ ap (λ (k : ℕ). get_or counts k 0 + 1) (sym same)
-      go false e = get_or-set_other counts x y (get_or counts x 0 + 1) 0 (eqb-false y x e) ∙ (let z : get_or counts y 0 ≡ get_or counts y 0 + (0 + 0) = omega arith in
+      go false e = get_or-set_other counts x y (get_or counts x 0 + 1) 0 (eqb-false y x e) ∙ (let z : get_or counts y 0 ≡ get_or counts y 0 + (0 + 0) = omega
+          arith in
           z)
 
   pub no_more : last_code + 1 ≤ x → (y : ℕ) → y < last_code + 1 → get_or counts y 0 ≡ get_or counts y 0 + times y (x ∷ [])
   no_more large y below = rw (ne_eqb y x (λ e. omega arith)) (omega arith)
 
-pub times_more : (y x : ℕ) (l : List ℕ) (n : ℕ) → n + times y (x ∷ l) ≡ (n + times y (x ∷ [])) + times y l
-times_more y x l n = omega arith
-
 get_or_zeros : (n y : ℕ) → ◌≡◌ {A = ℕ} (get_or (replicate n 0) y 0) 0
 get_or_zeros zero y = refl
 get_or_zeros (suc n) zero = refl
 get_or_zeros (suc n) (suc y) = get_or_zeros n y
-
-get_d_past : (l : List ℕ) (k : ℕ) → length l ≤ k → get_or l k 0 ≡ 0
-get_d_past [] k h = refl
-get_d_past (x ∷ l) zero h = absurd (omega arith)
-get_d_past (x ∷ l) (suc k) h = get_d_past l k (omega arith)
 
 -- Counts that are made while a clause is walked over.
 pub record Counting (table : List ℕ) (start : ℕ) (counts : List ℕ) (i : ℕ) : Type 0 where
@@ -305,44 +304,6 @@ counting_begins table start counts e =
   where
     zeros : (y : ℕ) → get_or counts y 0 ≡ 0
     zeros y = ap (λ (l : List ℕ). get_or l y 0) e ∙ get_or_zeros (last_code + 1) y
-
-module _ {table : List ℕ} {start i : ℕ} {counts : List ℕ} (p : Counting table start counts i) where
-  pub counting_more : i < length table → ends (get_or table i 0) ≡ false → (counts' : List ℕ)
-      → (length counts' ≡ last_code + 1) × ((y : ℕ) → y < last_code + 1 → get_or counts' y 0 ≡ get_or counts y 0 + times y (get_or table i 0 ∷ [])) → Counting table
-      start counts' (i + 1)
-  counting_more within on counts' e =
-      record {
-        sized = e.0;
-        bounded = λ y. small y (ltb y (last_code + 1)) refl;
-        so_far = λ y below.
-            ap (λ (n : ℕ). n + times y (first_clause (drop (i + 1) table))) (e.1 y below)
-            ∙ sym (times_more y (get_or table i 0) (first_clause (drop (i + 1) table)) (get_or counts y 0))
-            ∙ ap (λ (l : List ℕ). get_or counts y 0 + times y l) (sym (clause_more table i within on))
-            ∙ p.so_far y below;
-      }
-    where
-      one : (y : ℕ) → times y (get_or table i 0 ∷ []) ≤ 1
-      one y = go (eqb y (get_or table i 0))
-        where
-          go : (t : Bool) → cond t 1 0 + 0 ≤ 1
-          go true = omega arith
-          go false = omega arith
-
-      small : (y : ℕ) (t : Bool) → ltb y (last_code + 1) ≡ t → get_or counts' y 0 ≤ i + 1
-      small y true b = let a = e.1 y (ltb-true y (last_code + 1) b) in let f = p.bounded y in let g = one y in omega arith
-      small y false b = let a = get_d_past counts' y (let g = ltb-false y (last_code + 1) b in let h = e.0 in omega arith) in omega arith
-
-  pub counting_ends : first_clause (drop i table) ≡ [] → (length counts ≡ last_code + 1) ×
-      ((y : ℕ) → y < last_code + 1 → get_or counts y 0 ≡ times y (first_clause (drop start table)))
-  counting_ends over = (
-    p.sized,
-    λ y below. (let z : get_or counts y 0 ≡ get_or counts y 0 + 0 = omega arith in z) ∙ ap
-        (λ (l : List ℕ). get_or counts y 0 + times y l) (sym over) ∙ p.so_far y below,
-  )
-
-pub turned : (b : Bool) {t : Bool} → not b ≡ t → b ≡ not t
-turned true e = ap not e
-turned false e = ap not e
 
 -- The same under equal names.
 pub moved_on : {low start at : ℕ} {table index counts index' counts' : List ℕ} → Dropping low start table index counts at → index' ≡ index → counts' ≡ counts →

@@ -1,17 +1,18 @@
 -- The first clauses of one entry are noted, forgotten and asked.
 -- Assumes nothing.
-use Prim.Native.Nat.{ℕ, zero, suc, ◌+◌, ◌*◌, ◌/◌, ◌%◌, ◌≤◌, ◌<◌}
+use Prim.Native.Nat.{ℕ, zero, suc, ◌+◌, ◌*◌, ◌/◌, ◌%◌, ◌≤◌, ◌<◌, min}
 use native.Mathlib.Omega.{arith}
 use mathlib.Core.Path.{◌≡◌, refl, sym, ◌∙◌, ap, ap₂, subst}
 use mathlib.Core.Logic.{◌⊎◌, inl, inr}
 use mathlib.Core.Bool.{Bool, true, false, cond, ◌||◌, true≢false}
 use mathlib.Core.List.{List, [], ◌∷◌, ◌++◌, append_assoc, append-nil}
 use mathlib.Core.Option.{Option, none, some}
-use borrow.Author.Tests.{eq-eqb, ne_eqb, eqb-true, eqb-false, ltb-true, ltb-false, le-leb, lt-leb, lt-ltb, le-ltb}
+use borrow.Author.Tests.{eq-eqb, ne_eqb, eqb-true, eqb-false, ltb-true, ltb-false, le-leb, lt-leb}
 use lib.Dec.{eqb, ltb, leb}
 use lib.IntN.{ℤ}
 use lib.ListN.{length, get_or, set, drop, replicate, length-append, length-set, get_or-replicate}
 use lib.Seq.{get_or-set_same, get_or-set_other, drop_at}
+use Rattle.std.proofs.lemmas.List.{set-get_or}
 use Rattle.formula.specs.Formula.{max_unknowns, max_entries, prefix}
 use Rattle.formula.specs.Causes.{any}
 use Rattle.codes.specs.Codes.{last_code, opposite, has}
@@ -273,7 +274,8 @@ module _ (kinds firsts : List ℕ) (start : ℕ) (table : List ℕ) where
               (subst (λ (n : ℕ). get_or (noted_unit x start firsts) (x / 2) 0 ≤ n) (sym e) (noted_own sized small (λ z. some_unit (sym same ∙ z)))))
 
       by : (v : ℕ) → (v ≡ 0 → ⊥) → 0 < v → v < max_unknowns + 1 → (get_or (noted_unit x start firsts) v 0 ≡ 65535 → ⊥)
-          → (get_or (noted_unit x start firsts) v 0 ≡ get_or firsts v 0) ⊎ ((v ≡ x / 2) × (x ≡ 0 → ⊥) × (get_or (noted_unit x start firsts) v 0 ≡ start)) → SomeAt
+          → (get_or (noted_unit x start firsts) v 0 ≡ get_or firsts v 0) ⊎ ((v ≡ x / 2) × (x ≡ 0 → ⊥) × (get_or (noted_unit x start firsts) v 0 ≡ start)) →
+          SomeAt
           (FirstUnit kinds (noted_unit x start firsts) [] v) 0 u.blocks
       by v other positive below some_IsFirst (inl same) =
           some_later (FirstUnit kinds firsts [] v) (FirstUnit kinds (noted_unit x start firsts) [] v)
@@ -369,7 +371,8 @@ module _ (kinds firsts : List ℕ) where
     all_clauses : clauses_left table ≡ all_shown u.blocks
     all_clauses = ap clauses_left u.is ∙ laid_clauses u.blocks u.fine
 
-    pub unit_found : (v : ℕ) → 0 < v → v < max_unknowns + 1 → ((w : ℕ) → 0 < w → w < v → get_or firsts w 0 ≡ 65535) → (get_or firsts v 0 ≡ 65535 → ⊥) → (c : ℕ) →
+    pub unit_found : (v : ℕ) → 0 < v → v < max_unknowns + 1 → ((w : ℕ) → 0 < w → w < v → get_or firsts w 0 ≡ 65535) → (get_or firsts v 0 ≡ 65535 → ⊥) →
+        (c : ℕ) →
         c ≡ unit kinds (first_clause (drop (get_or firsts v 0) table)) → Picked (lowest_unit (prefix kinds) (clauses_left table)) c
     unit_found v from below lower_none_noted some_IsFirst c e =
         record {
@@ -539,17 +542,6 @@ code_small kinds {table} l {start} n =
     ∙ block_clause (laid t.behind) t.block parts.1.0 in
     subst (λ (k : List ℕ). unit kinds k < last_code + 1) (sym e) (unit_block kinds t.block parts.1.0).chosen.small
 
-pub none_before : (firsts : List ℕ) (name : ℕ) → ((w : ℕ) → 0 < w → w < name → get_or firsts w 0 ≡ 65535) → get_or firsts name 0 ≡ 65535 → (w : ℕ) → 0 < w →
-    w < name + 1 → get_or firsts w 0 ≡ 65535
-none_before firsts name so_far here w positive below = go (eqb w name) refl
-  where
-    go : (t : Bool) → eqb w name ≡ t → get_or firsts w 0 ≡ 65535
-    go true e = ap (λ (n : ℕ). get_or firsts n 0) (eqb-true w name e) ∙ here
-    go false e = so_far w positive (apart (eqb-false w name e))
-      where
-        apart : (w ≡ name → ⊥) → w < name
-        apart never = omega arith
-
 pub none_noted : (firsts : List ℕ) → firsts ≡ replicate (max_unknowns + 1) 65535 → (v : ℕ) → v < max_unknowns + 1 → get_or firsts v 0 ≡ 65535
 none_noted firsts e v below = ap (λ (l : List ℕ). get_or l v 0) e ∙ get_or-replicate {A = ℕ} (max_unknowns + 1) v 65535 0 below
 
@@ -569,12 +561,15 @@ module _ (code start : ℕ) (firsts : List ℕ) where
   unfolding noted_unit
   noted_none e = sym (ap (λ (b : Bool). cond b firsts (cond (ltb start (get_or firsts (code / 2) 0)) (set firsts (code / 2) start) firsts)) (eq-eqb code 0 e))
 
-  pub noted_first : (code ≡ 0 → ⊥) → start < get_or firsts (code / 2) 0 → set firsts (code / 2) start ≡ noted_unit code start firsts
+  pub noted_least : (code ≡ 0 → ⊥) → set firsts (code / 2) (min (get_or firsts (code / 2) 0) start) ≡ noted_unit code start firsts
   unfolding noted_unit
-  noted_first e h = sym (ap₂ (λ (a b : Bool). cond a firsts (cond b (set firsts (code / 2) start) firsts)) (ne_eqb code 0 e)
-      (lt-ltb start (get_or firsts (code / 2) 0) h))
-
-  pub noted_later : (code ≡ 0 → ⊥) → get_or firsts (code / 2) 0 ≤ start → firsts ≡ noted_unit code start firsts
-  unfolding noted_unit
-  noted_later e h = sym (ap₂ (λ (a b : Bool). cond a firsts (cond b (set firsts (code / 2) start) firsts)) (ne_eqb code 0 e)
-      (le-ltb start (get_or firsts (code / 2) 0) h))
+  noted_least e =
+      by (ltb start (get_or firsts (code / 2) 0)) refl
+      ∙ sym (ap (λ (b : Bool). cond b firsts (cond (ltb start (get_or firsts (code / 2) 0)) (set firsts (code / 2) start) firsts)) (ne_eqb code 0 e))
+    where
+      by : (b : Bool) → ltb start (get_or firsts (code / 2) 0) ≡ b → set firsts (code / 2) (min (get_or firsts (code / 2) 0) start) ≡ cond b
+          (set firsts (code / 2) start) firsts
+      by true t = let h = ltb-true start (get_or firsts (code / 2) 0) t in ap (λ (k : ℕ). set firsts (code / 2) k) (omega (arith, h))
+      by false t =
+          let h = ltb-false start (get_or firsts (code / 2) 0) t in
+          ap (λ (k : ℕ). set firsts (code / 2) k) (omega (arith, h)) ∙ set-get_or firsts (code / 2) 0

@@ -6,12 +6,9 @@ use mathlib.Core.Path.{◌≡◌, refl, sym, ◌∙◌, ap, ap₂, subst}
 use mathlib.Core.Logic.{inl, inr}
 use mathlib.Core.Bool.{Bool, true, false, cond, ◌&&◌, true≢false, false≢true}
 use mathlib.Core.List.{List, [], ◌∷◌, ◌++◌}
-use borrow.Author.Tests.{eqb-true, eqb-false, eq-eqb, ne_eqb, le-leb}
-use lib.Dec.{eqb}
-use lib.ListN.{length, get_or, set, take, drop, drop_of_length-le}
-use lib.Seq.{get_or-set_same, get_or-set_other}
+use borrow.Author.Tests.{eq-eqb, ne_eqb, le-leb}
+use lib.ListN.{length, get_or, take, drop}
 use Rattle.formula.specs.Formula.{max_entries, Clause}
-use Rattle.formula.proofs.Places.{drop_front}
 use Rattle.codes.specs.Codes.{last_code}
 use Rattle.trimming_rules.proofs.ClauseLaws.{Every, In, every_in, every_from}
 use Rattle.trimming_marks.specs.Marks.{ends, mark_clause, first_clause, always_true}
@@ -30,44 +27,6 @@ use Rattle.trimming.proofs.MarkLaws.{marked_stays}
 use Rattle.trimming.proofs.TrueLaws.{gone_not_true}
 use Rattle.trimming.proofs.NamedLaws.{get_or_in, standing_listed, here_named, lists}
 use Rattle.trimming.proofs.ThinLaws.{in_names, saved_names, clearing_ends}
-
--- ---- names one after the other
-
-length_take : (n : ℕ) (l : List ℕ) → n ≤ length l → length (take n l) ≡ n
-length_take zero l h = refl
-length_take (suc n) [] h = absurd (omega arith)
-length_take (suc n) (x ∷ l) h = ap suc (length_take n l (omega arith))
-
-get_d_take : (n : ℕ) (l : List ℕ) (i : ℕ) → i < n → get_or (take n l) i 0 ≡ get_or l i 0
-get_d_take zero l i h = absurd (omega arith)
-get_d_take (suc n) [] i h = refl
-get_d_take (suc n) (x ∷ l) zero h = refl
-get_d_take (suc n) (x ∷ l) (suc i) h = get_d_take n l i (omega arith)
-
-pub next_name : (names : List ℕ) (count i : ℕ) → i < count → count ≤ length names → drop i (take count names) ≡ get_or names i 0 ∷ drop (i + 1) (take count names)
-next_name names count i below inside =
-    drop_front (take count names) i 0 (let l = length_take count names inside in omega arith)
-    ∙ ap (λ (x : ℕ). x ∷ drop (i + 1) (take count names)) (get_d_take count names i below)
-
-pub name_in : (names : List ℕ) (count i : ℕ) → i < count → count ≤ length names → In (get_or names i 0) (take count names)
-name_in names count i below inside = subst (λ (n : ℕ). In n (take count names)) (get_d_take count names i below)
-    (get_or_in (take count names) i (let l = length_take count names inside in omega arith))
-
-pub no_names : (names : List ℕ) (count i : ℕ) → count ≤ i → count ≤ length names → drop i (take count names) ≡ []
-no_names names count i past inside = drop_of_length-le (take count names) {i = i} (let l = length_take count names inside in omega arith)
-
-pub saved_more : (index names : List ℕ) (from i v : ℕ) → i < length names → ((k : ℕ) → k < i → get_or names k 0 ≡ get_or index (from + k) 0) →
-    v ≡ get_or index (from + i) 0
-    → (k : ℕ) → k < i + 1 → get_or (set names i v) k 0 ≡ get_or index (from + k) 0
-saved_more index names from i v inside so_far e k below = go (eqb k i) refl
-  where
-    go : (t : Bool) → eqb k i ≡ t → get_or (set names i v) k 0 ≡ get_or index (from + k) 0
-    go true p = let same = eqb-true k i p in ap (λ (n : ℕ). get_or (set names i v) n 0) same ∙ get_or-set_same names i v 0 inside ∙ e ∙ ap
-        (λ (n : ℕ). get_or index (from + n) 0) (sym same)
-    go false p = let other = eqb-false k i p in get_or-set_other names i k v 0 other ∙ so_far k (apart other)
-      where
-        apart : (k ≡ i → ⊥) → k < i
-        apart never = omega arith
 
 -- ---- where a list stands
 
@@ -233,10 +192,10 @@ pending_again kinds few irreducible d =
 -- ---- the clauses that are named
 
 -- The clause that is named there is left.
-pub named_stands : {table : List ℕ} → Laid table → length table ≤ max_entries → (names : List ℕ) (count i : ℕ) → i < count → count ≤ length names →
-    Every (λ s. In s (listed 1 table)) (take count names) → Names table 1 (get_or names i 0)
-named_stands {table} l few names count i below inside all = (here_named l {index = index_of table} few refl 1 (get_or names i 0) (omega arith)
-    (every_in (λ s. In s (listed 1 table)) (take count names) (get_or names i 0) all (name_in names count i below inside))).stands
+pub named_stands : {table : List ℕ} → Laid table → length table ≤ max_entries → (names : List ℕ) (i : ℕ) → i < length names →
+    Every (λ s. In s (listed 1 table)) names → Names table 1 (get_or names i 0)
+named_stands {table} l few names i below all = (here_named l {index = index_of table} few refl 1 (get_or names i 0) (omega arith)
+    (every_in (λ s. In s (listed 1 table)) names (get_or names i 0) all (get_or_in names i below))).stands
 
 pub standing_still : (table' : List ℕ) {kinds names table index : List ℕ} → Pending kinds names table index → listed 1 table' ≡ listed 1 table →
     Every (λ s. In s (listed 1 table')) names

@@ -14,7 +14,6 @@ use Rattle.formula.specs.Formula.{max_entries}
 use Rattle.codes.specs.Codes.{last_code, has}
 use Rattle.trimming_rules.specs.Trimming.{found}
 use Rattle.trimming_rules.proofs.ClauseLaws.{Every, In}
-use Rattle.trimming_marks.specs.Marks.{ends}
 use Rattle.index.specs.Occurrences.{whole_clause, has_left, listed, begins, Names}
 use Rattle.index.specs.Index.{code_count, begin_of, end_of}
 use Rattle.trimming.specs.Private.Table.{literal_of, clauses_left, Entry, Block, standing, gone, inner, whole, Fine, laid, shown, all_shown, Laid}

@@ -1,22 +1,13 @@
 -- The start of a table that is lent on, and what the table holds when it comes back.
---     part-shorter    the start of a longer table is shorter, so that lending it on ends
---     part_room       it has room for as much as was cut
---     part_length     when it comes back the table is as long as before
---     part-put        what is put at the start of the part is put at the start of the table
+--     part_put        what is put at the start of the part is put at the start of the table
 -- Assumes nothing.
-use Prim.Native.Nat.{ℕ, zero, suc, ◌+◌, ◌≤◌, ◌<◌}
+use Prim.Native.Nat.{ℕ, zero, suc, ◌≤◌, ◌<◌}
 use native.Mathlib.Omega.{arith}
-use mathlib.Core.Path.{◌≡◌, refl, sym, ◌∙◌, ap, subst}
+use mathlib.Core.Path.{◌≡◌, refl, ◌∙◌, ap}
 use mathlib.Core.List.{List, [], ◌∷◌, ◌++◌, append_assoc}
 use lib.IntN.{ℤ}
 use lib.ListN.{length, take, drop, length-append}
 use lib.Seq.{length-take-le}
-
-pub part_shorter : (n : ℕ) (l : List ℤ) → n < length l → length (take n l) < length l
-part_shorter n l shorter = let size = length-take-le n l (omega arith) in omega arith
-
-pub part_room : (n : ℕ) (l : List ℤ) → n < length l → n ≤ length (take n l)
-part_room n l shorter = let size = length-take-le n l (omega arith) in omega arith
 
 rejoined : (n : ℕ) (l : List ℤ) → take n l ++ drop n l ≡ l
 rejoined zero l = refl
@@ -29,13 +20,6 @@ dropped zero n l few = rejoined n l
 dropped (suc r) zero l few = absurd (omega arith)
 dropped (suc r) (suc n) [] few = refl
 dropped (suc r) (suc n) (x ∷ l) few = dropped r n l (omega arith)
-
-pub part_length : (n : ℕ) (l part : List ℤ) → length part ≡ length (take n l) → length (part ++ drop n l) ≡ length l
-part_length n l part same =
-    length-append part (drop n l)
-    ∙ ap (λ (k : ℕ). k + length (drop n l)) same
-    ∙ sym (length-append (take n l) (drop n l))
-    ∙ ap length (rejoined n l)
 
 pub part_put : (n r : ℕ) (l part put : List ℤ) → n < length l → r ≡ length put → length part ≡ length (take n l)
     → part ≡ put ++ drop r (take n l) → part ++ drop n l ≡ put ++ drop r l

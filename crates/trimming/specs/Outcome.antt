@@ -1,10 +1,10 @@
 -- What `trim` returns and leaves, for everything that is lent: 01's causes 1 to 3, then 02's 15, then the trimmed literals.
 -- Assumes nothing.
-use Rattle.std.specs.Prelude.{ℕ, cond, List, ◌++◌, eqb, ltb, ℤ, length, drop}
+use Rattle.std.specs.Prelude.{ℕ, cond, List, ◌++◌, eqb, ltb, ℤ, length, drop, Result, Ok, Err}
+use Rattle.cause.specs.declared.Cause.{Cause}
+use Rattle.cause.specs.Cause.{told, unless_cause}
 use Rattle.formula.specs.Causes as Causes
 use Rattle.trimming_rules.specs.Trimming.{trimmed}
-use Rattle.trimming.specs.declared.Trimmed.{Trimmed}
-use Rattle.trimming.specs.declared.Trimmed.TheVariants.{Entries, Refused}
 
 -- The number of the first of causes 1 to 3 that applies, or 0 for an accepted formula.
 abbrev pub formula_cause : List ℕ → List ℤ → ℕ
@@ -17,10 +17,8 @@ cause kinds literals output =
     cond (eqb (formula_cause kinds literals) 0) later (formula_cause kinds literals)
 
 -- 'Returns the entries used', or the cause ..
-unfoldable pub outcome : List ℕ → List ℤ → List ℤ → Trimmed
-outcome kinds literals output =
-    let answered = Entries (length (trimmed kinds literals)) in
-    cond (eqb (cause kinds literals output) 0) answered (Refused (cause kinds literals output))
+unfoldable pub outcome : List ℕ → List ℤ → List ℤ → Result ℕ Cause
+outcome kinds literals output = unless_cause (cause kinds literals output) (length (trimmed kinds literals))
 
 -- .. 'and keeps what lies past them'; after a refusal 'everything lent left as found'.
 unfoldable pub output_after : List ℕ → List ℤ → List ℤ → List ℤ
@@ -29,10 +27,9 @@ output_after kinds literals output =
     cond (eqb (cause kinds literals output) 0) answered output
 
 -- The number of each case: 0 for trimmed, a refusal has its cause's; and the entries used, 0 after a refusal.
-abbrev pub number : Trimmed → ℕ
-number (Entries n) = 0
-number (Refused cause) = cause
+abbrev pub number : Result ℕ Cause → ℕ
+number answer = told answer
 
-abbrev pub used : Trimmed → ℕ
-used (Entries n) = n
-used (Refused cause) = 0
+abbrev pub used : Result ℕ Cause → ℕ
+used (Ok n) = n
+used (Err cause) = 0

@@ -22,15 +22,9 @@ ghost use Rattle.trimming.specs.Private.Table.{literal_of, left, codes as codes_
 ghost use Rattle.trimming.specs.Private.Table.{true_from, Indexed, Here, marked_at, times, Dropping, At, left_from, Irreducible, Except, Units};
 ghost use Rattle.trimming.specs.Private.Table.{noted_unit, Pending, Dropped, Cleared};
 
-use formula::{Check, Formula};
+use cause::Cause;
+use formula::Formula;
 use trimming_marks::CODES;
-
-// The entries used, zeros included; a refusal has the number of its cause.
-#[derive(Clone, Copy)]
-pub enum Trimmed {
-    Entries(usize),
-    Refused(u32),
-}
 
 const DROPPED: u16 = 512;
 
@@ -40,22 +34,18 @@ const NONE: u16 = 65_535;
 // An entry for each name, and for 0.
 const NAMES: usize = Formula::UNKNOWNS + 1;
 
-// Trims the literals into the output table.
-pub fn trim(kinds: &[u8], literals: &[i32], output: &mut [i32]) -> Trimmed
+// Trims the literals into the output table: the entries used, zeros included.
+pub fn trim(kinds: &[u8], literals: &[i32], output: &mut [i32]) -> Result<usize, Cause>
     ensures value { result ≡ outcome kinds.now literals.now output.old }
     ensures output_after { output.new ≡ output_after kinds.now literals.now output.old }
     ensures result_value { number result ≡ cause_of kinds.now literals.now output.old }
     ensures proved { formula_cause kinds.now literals.now ≡ 0 → Proved kinds.now literals.now }
 {
-    match Formula::check(kinds, literals) {
-        Check::Refused(cause) => Trimmed::Refused(cause),
-        Check::Accepted(_) => {
-            if output.len() < literals.len() {
-                return Trimmed::Refused(15);
-            }
-            Trimmed::Entries(over_output(kinds, literals, output))
-        }
+    Formula::check(kinds, literals)?;
+    if output.len() < literals.len() {
+        return Err(Cause::Output);
     }
+    Ok(over_output(kinds, literals, output))
 }
 
 // Over as much of the output as there are literals. For that it calls itself, because the compiler then leaves it, and the tables below, out of its
@@ -141,13 +131,11 @@ fn count(table: &[u16], start: usize, counts: &mut [u16; CODES])
     ensures { (length counts.new ≡ last_code + 1) × ((y : ℕ) → y < last_code + 1 → get_or counts.new y 0 ≡ times y
         (first_clause (drop start table.now))) }
 {
-    let mut i = start;
-    while i < table.len() {
+    for i in start..table.len() {
         let x = table[i];
         if is_end(x) {
             return;
         }
-        i += 1;
         count_one(counts, x);
     }
 }
@@ -163,12 +151,13 @@ fn drop_each(
     ensures table_after { (table.new ≡ marked_at low 511 start table.old) × Indexed table.new index.new }
     ensures result_value { result + 1 ≡ start + first_length (drop start table.new) }
 {
-    let mut at = start;
-    while goes_on(table, at) {
+    for at in start..table.len() {
+        if is_end(table[at]) {
+            return at;
+        }
         drop_entry(table, index, counts, start, at, low);
-        at += 1;
     }
-    at
+    table.len() // never: the clause has its end
 }
 
 // Drops an entry, if it is from `low` on.
@@ -185,14 +174,10 @@ fn drop_entry(
     ensures table_unchanged { marked_at low 511 start table.new ≡ marked_at low 511 start table.old }
 {
     let x = table[at];
-    if x < low {
-        return;
+    if is_left_from(x, low) {
+        table[at] = x + DROPPED;
+        forget(index, counts, start, x);
     }
-    if x >= DROPPED {
-        return;
-    }
-    table[at] = x + DROPPED;
-    forget(index, counts, start, x);
 }
 
 // A code stands once less in the clause: it is taken out of the code's list with the last.
@@ -217,14 +202,6 @@ fn count_one(counts: &mut [u16; CODES], x: u16)
     if code < CODES {
         counts[code] += 1;
     }
-}
-
-// Whether an entry stands at a place, and no end.
-fn goes_on(table: &[u16], at: usize) -> bool
-    requires { at < length table.now }
-    ensures { result ≡ not (ends (get_or table.now at 0)) }
-{
-    table[at] % 512 != 0
 }
 
 fn is_end(x: u16) -> bool
@@ -270,35 +247,30 @@ fn settle(
     ensures { Passed (rounds (length table.old + 1) (prefix kinds.now)) table.old table.new × Indexed
         table.new index.new }
 {
-    let mut rounds = table.len() + 1;
     let mut count = save(index, 1, names);
-    while rounds > 0 {
-        reduce(kinds, table, index, names, count);
-        note_units(kinds, table, names, count, firsts);
+    for _round in 0..table.len() + 1 {
+        reduce(kinds, table, index, &names[..count]);
+        note_units(kinds, table, &names[..count], firsts);
         let code = next(kinds, table, index, firsts);
         if code == 0 {
             return;
         }
         count = set_true(table, index, code, names);
         forget_unit(firsts, code);
-        rounds -= 1;
     }
 }
 
 // Rule 2 over the clauses that are named. A universal literal that is dropped follows nothing, so once is enough.
-fn reduce(kinds: &[u8], table: &mut [u16], index: &mut [u16], names: &[u16], count: usize)
-    requires { Pending kinds.now (take count names.now) table.old index.old × (count ≤ max_entries) × (length names.now ≡ max_entries) }
+fn reduce(kinds: &[u8], table: &mut [u16], index: &mut [u16], names: &[u16])
+    requires { Pending kinds.now names.now table.old index.old }
     ensures passed { Passed (reduced (prefix kinds.now)) table.old table.new × Indexed table.new index.new ×
         Except (Irreducible kinds.now) [] table.new }
-    ensures by_index { ((firsts : List ℕ) → Units kinds.now firsts (take count names.now) (take count names.now) 0
-        table.old → Units kinds.now firsts (take count names.now) (take count names.now) 0 table.new) ×
+    ensures by_index { ((firsts : List ℕ) → Units kinds.now firsts names.now names.now 0 table.old → Units kinds.now firsts names.now names.now 0
+        table.new) ×
         (listed 1 table.new ≡ listed 1 table.old) }
 {
-    let mut i = 0; // from the first that is named
-    while i < count {
-        let start = wide(names[i]);
-        i += 1;
-        reduce_clause(kinds, table, index, start);
+    for start in names {
+        reduce_clause(kinds, table, index, *start as usize);
     }
 }
 
@@ -317,8 +289,7 @@ fn reduce_clause(kinds: &[u8], table: &mut [u16], index: &mut [u16], start: usiz
 fn has_from(table: &[u16], start: usize, low: u16) -> bool
     ensures { result ≡ any (left_from low) (first_clause (drop start table.now)) }
 {
-    let mut i = start;
-    while i < table.len() {
+    for i in start..table.len() {
         let x = table[i];
         if is_end(x) {
             return false;
@@ -326,7 +297,6 @@ fn has_from(table: &[u16], start: usize, low: u16) -> bool
         if is_left_from(x, low) {
             return true;
         }
-        i += 1;
     }
     false
 }
@@ -334,10 +304,7 @@ fn has_from(table: &[u16], start: usize, low: u16) -> bool
 fn is_left_from(x: u16, low: u16) -> bool
     ensures { result ≡ left_from low x }
 {
-    if x < low {
-        return false;
-    }
-    x < DROPPED
+    low <= x && x < DROPPED
 }
 
 // The code whose literal rule 3 or rule 4 makes true, or 0. A universal unknown in one sign loses its literal: the opposite one is made true.
@@ -364,28 +331,23 @@ fn lowest_unit(kinds: &[u8], table: &[u16], firsts: &[u16; NAMES]) -> u16
     requires { Units kinds.now firsts.now [] [] 0 table.now × (length table.now ≤ max_entries) }
     ensures { Picked (lowest_unit (prefix kinds.now) (clauses_left table.now)) result }
 {
-    let mut name: usize = 1;
-    while name < NAMES {
+    for name in 1..NAMES {
         let first = firsts[name];
         if first != NONE {
-            return trimming_marks::unit(kinds, table, wide(first));
+            return trimming_marks::unit(kinds, table, first as usize);
         }
-        name += 1;
     }
     0
 }
 
 // Notes the clauses of one entry among those that are named.
-fn note_units(kinds: &[u8], table: &[u16], names: &[u16], count: usize, firsts: &mut [u16; NAMES])
-    requires { Laid table.now × (length table.now ≤ max_entries) × Every (λ s. In s (listed 1 table.now)) (take count names.now) × Units kinds.now
-        firsts.old (take count names.now) [] 0 table.now × (length firsts.old ≡ max_unknowns + 1) × (count ≤ max_entries) ×
-        (length names.now ≡ max_entries) }
+fn note_units(kinds: &[u8], table: &[u16], names: &[u16], firsts: &mut [u16; NAMES])
+    requires { Laid table.now × (length table.now ≤ max_entries) × Every (λ s. In s (listed 1 table.now)) names.now × Units kinds.now
+        firsts.old names.now [] 0 table.now × (length firsts.old ≡ max_unknowns + 1) }
     ensures { Units kinds.now firsts.new [] [] 0 table.now × (length firsts.new ≡ max_unknowns + 1) }
 {
-    let mut i = 0;
-    while i < count {
-        let start = wide(names[i]);
-        i += 1;
+    for name in names {
+        let start = *name as usize;
         let code = trimming_marks::unit(kinds, table, start);
         note_unit(firsts, code, start);
     }
@@ -399,9 +361,7 @@ fn note_unit(firsts: &mut [u16; NAMES], code: u16, start: usize)
         return;
     }
     let name = (code / 2) as usize;
-    if start < wide(firsts[name]) {
-        firsts[name] = start as u16;
-    }
+    firsts[name] = firsts[name].min(start as u16);
 }
 
 // The unknown of a code is in no clause any more.
@@ -417,13 +377,11 @@ fn lowest_pure(kinds: &[u8], index: &[u16]) -> u16
     requires { length kinds.now ≤ max_unknowns }
     ensures { (cs : List Clause) → Found index.now cs → Picked (lowest_pure zero (prefix kinds.now) cs) result }
 {
-    let mut position = 0;
-    while position < kinds.len() {
+    for position in 0..kinds.len() {
         let code = pure_at(index, position);
         if code != 0 {
             return code;
         }
-        position += 1;
     }
     0
 }
@@ -434,18 +392,10 @@ fn pure_at(index: &[u16], position: usize) -> u16
 {
     let positive = has_names(index, 2 * position + 2);
     let negative = has_names(index, 2 * position + 3);
-    if positive {
-        if negative {
-            0
-        } else {
-            (2 * position + 2) as u16
-        }
-    } else {
-        if negative {
-            (2 * position + 3) as u16
-        } else {
-            0
-        }
+    match (positive, negative) {
+        (true, false) => (2 * position + 2) as u16,
+        (false, true) => (2 * position + 3) as u16,
+        _ => 0,
     }
 }
 
@@ -494,7 +444,7 @@ fn drop_literals(table: &mut [u16], index: &mut [u16], code: u16, names: &mut [u
         ((d : ℕ) → d < code_count → (d ≡ code → ⊥) → listed d table.new ≡ listed d table.old) }
 {
     let count = save(index, code as usize, names);
-    mark_each(table, names, count, code);
+    mark_each(table, &names[..count], code);
     index::clear(index, code as usize);
     count
 }
@@ -508,31 +458,17 @@ fn save(index: &[u16], code: usize, names: &mut [u16]) -> usize
 {
     let from = index::begin(index, code);
     let count = index::end(index, code) - from;
-    let mut i = 0;
-    while i < count {
-        names[i] = index[from + i];
-        i += 1;
-    }
+    names[..count].copy_from_slice(&index[from..from + count]);
     count
 }
 
-fn mark_each(table: &mut [u16], names: &[u16], count: usize, code: u16)
-    requires { Laid table.old × (take count names.now ≡ listed code table.old) × (count ≤ length names.now) × (length names.now ≡ max_entries) ×
-        (2 ≤ code) × (code < last_code + 1) }
+fn mark_each(table: &mut [u16], names: &[u16], code: u16)
+    requires { Laid table.old × (names.now ≡ listed code table.old) × (2 ≤ code) × (code < last_code + 1) }
     ensures { Cleared code table.old table.new [] }
 {
-    let mut i = 0;
-    while i < count {
-        let start = wide(names[i]);
-        i += 1;
-        trimming_marks::mark(table, start, code, code);
+    for name in names {
+        trimming_marks::mark(table, *name as usize, code, code);
     }
-}
-
-fn wide(x: u16) -> usize
-    ensures { result ≡ x }
-{
-    x as usize
 }
 
 fn opposite(code: u16) -> u16
@@ -549,13 +485,9 @@ fn copy_left(literals: &[i32], table: &[u16], output: &mut [i32]) -> usize
     ensures output_after { output.new ≡ left table.now ++ drop result output.old }
 {
     let mut to = 0;
-    let mut i = 0;
-    while i < literals.len() {
-        let x = table[i];
-        let literal = literals[i];
-        i += 1;
-        if x < DROPPED {
-            output[to] = literal;
+    for (i, literal) in literals.iter().enumerate() {
+        if table[i] < DROPPED {
+            output[to] = *literal;
             to += 1;
         }
     }

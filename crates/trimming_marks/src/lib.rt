@@ -22,15 +22,12 @@ pub type Seen = [u8; CODES];
 pub fn past(table: &[u16], start: usize) -> usize
     ensures { result ≡ start + first_length (drop start table.now) }
 {
-    let mut i = start;
-    while i < table.len() {
-        let x = table[i];
-        i += 1;
-        if is_end(x) {
-            return i;
+    for i in start..table.len() {
+        if is_end(table[i]) {
+            return i + 1;
         }
     }
-    i
+    start.max(table.len())
 }
 
 // Drops the entries from `low` to `high` of the clause that begins at `start`, its end among them if `low` is 0, and returns the place
@@ -39,16 +36,14 @@ pub fn mark(table: &mut [u16], start: usize, low: u16, high: u16) -> usize
     ensures value { result ≡ start + first_length (drop start table.old) }
     ensures table_after { table.new ≡ take start table.old ++ mark_clause low high (drop start table.old) }
 {
-    let mut i = start;
-    while i < table.len() {
+    for i in start..table.len() {
         let x = table[i];
         table[i] = marked(x, low, high);
-        i += 1;
         if is_end(x) {
-            return i;
+            return i + 1;
         }
     }
-    i
+    start.max(table.len())
 }
 
 // Whether a clause has v and -v. Two walks, so that a long clause costs no more an entry than a short one.
@@ -64,13 +59,11 @@ pub fn is_always_true(table: &[u16], start: usize) -> bool
 fn note(table: &[u16], start: usize, seen: &mut Seen)
     ensures { seen.new ≡ noted seen.old (first_clause (drop start table.now)) }
 {
-    let mut i = start;
-    while i < table.len() {
+    for i in start..table.len() {
         let x = table[i];
         if is_end(x) {
             return;
         }
-        i += 1;
         note_one(seen, x);
     }
 }
@@ -78,7 +71,7 @@ fn note(table: &[u16], start: usize, seen: &mut Seen)
 fn note_one(seen: &mut Seen, x: u16)
     ensures { seen.new ≡ noted_one seen.old x }
 {
-    let code = x as usize;
+    let code = usize::from(x);
     if code < CODES {
         seen[code] = 1;
     }
@@ -87,8 +80,7 @@ fn note_one(seen: &mut Seen, x: u16)
 fn has_clash(table: &[u16], start: usize, seen: &Seen) -> bool
     ensures { result ≡ any (noted_clash seen.now) (first_clause (drop start table.now)) }
 {
-    let mut i = start;
-    while i < table.len() {
+    for i in start..table.len() {
         let x = table[i];
         if is_end(x) {
             return false;
@@ -96,7 +88,6 @@ fn has_clash(table: &[u16], start: usize, seen: &Seen) -> bool
         if is_noted_clash(seen, x) {
             return true;
         }
-        i += 1;
     }
     false
 }
@@ -104,7 +95,7 @@ fn has_clash(table: &[u16], start: usize, seen: &Seen) -> bool
 fn is_noted_clash(seen: &Seen, x: u16) -> bool
     ensures { result ≡ noted_clash seen.now x }
 {
-    let code = x as usize;
+    let code = usize::from(x);
     if code < CODES {
         seen[opposite(code)] == 1
     } else {
@@ -124,13 +115,11 @@ pub fn reducible(kinds: &[u8], table: &[u16], start: usize) -> u16
     ensures { result ≡ reducible_from kinds.now 2 (first_clause (drop start table.now)) }
 {
     let mut low: u16 = 2;
-    let mut i = start;
-    while i < table.len() {
+    for i in start..table.len() {
         let x = table[i];
         if is_end(x) {
             return low;
         }
-        i += 1;
         low = raised(kinds, low, x);
     }
     low
@@ -161,13 +150,11 @@ fn only(table: &[u16], start: usize) -> u16
     ensures { result ≡ only_left 0 (first_clause (drop start table.now)) }
 {
     let mut found: u16 = 0;
-    let mut i = start;
-    while i < table.len() {
+    for i in start..table.len() {
         let x = table[i];
         if is_end(x) {
             return found;
         }
-        i += 1;
         if x < 512 {
             if found != 0 {
                 return 0;
@@ -182,7 +169,7 @@ fn only(table: &[u16], start: usize) -> u16
 pub fn is_universal(kinds: &[u8], code: u16) -> bool
     ensures { result ≡ universal_code kinds.now code }
 {
-    let name = (code / 2) as usize;
+    let name = usize::from(code / 2);
     if name == 0 {
         return false;
     }

@@ -1,6 +1,7 @@
 -- The file that is written is read again, and what is read is the file that is written.
 -- Assumes nothing.
 use Prim.Native.Nat.{ℕ, suc, ◌+◌, ◌*◌, ◌/◌, ◌≤◌, ◌<◌}
+use Rattle.std.specs.Prelude.{Ok}
 use native.Mathlib.Omega.{arith}
 use mathlib.Core.Path.{◌≡◌, refl, sym, ap, ap₂, ◌∙◌}
 use mathlib.Core.Bool.{Bool, true, false, cond, ◌&&◌, ◌||◌}
@@ -10,13 +11,12 @@ use lib.ListN.{length, get_or, take, drop, length-append, take-append-drop, leng
 use borrow.Author.Tests.{eq-eqb, ne_eqb, le-ltb}
 use lib.Seq.{length-take-le, take_at, drop_at, drop-drop, drop-cons, get_or-drop, take-take}
 use Rattle.witness.specs.declared.Record.{Record}
-use Rattle.witness.specs.declared.Written.TheVariants.{Length}
 use Rattle.witness.specs.File.{stands, part, if_stands, two_bytes, word, rows_field, file, has, sizes_at, universal_at, universal_count, existential_at}
-use Rattle.witness.specs.File.{existential_count, rounds_at, end_of, record_of, side_rows, bad_claim, bad_count, bad_counts, content_cause, file_cause}
+use Rattle.witness.specs.File.{existential_count, rounds_at, end_of, record_of, side_rows, bad_count, content_cause, file_cause}
 use Rattle.witness.specs.File.{over_lent, write_cause, rows_back, out_after, kept}
 use Rattle.witness.specs.RoundTrip.{WrittenAgain, ReadAgain, RoundTrip}
 use Rattle.witness.specs.Private.Steps.{Fitting}
-use Rattle.witness.proofs.TestLaws.{stop, pass, passed, accepted, write_taken}
+use Rattle.witness.proofs.TestLaws.{stop, pass, content_passed, accepted, write_taken}
 use Rattle.witness.proofs.PutLaws.{fields_file, length_fields}
 
 -- Bytes from a word, and a word from bytes.
@@ -252,11 +252,6 @@ content_kept r =
     ap₂ (λ (s t : Bool). cond s 7 (cond t 4 0)) (alike_claim (stands 0 r.map) r.claim)
     (ap₂ ◌||◌ (alike_count (stands 2 r.map) r.universal) (alike_count (stands 3 r.map) r.existential))
 
-content_passed : (r : Record) → content_cause r ≡ 0 → (bad_claim r ≡ false) × (bad_counts r ≡ false)
-content_passed r e =
-    let claim = passed (bad_claim r) 6 (cond (bad_counts r) 4 0) e in
-    (claim.0, (passed (bad_counts r) 3 0 claim.1).0)
-
 written_again : (f out : List ℕ) → Bytes f → file_cause f ≡ 0 → length f ≤ length out → WrittenAgain f out
 unfolding write_cause out_after record_of
 written_again f out bytes e room =
@@ -277,7 +272,7 @@ written_again f out bytes e room =
     let again = ap₂ (λ (k l : List ℕ). file (record_of f) k l) u x ∙ read_written f bytes a.some a.whole in
     let taken = eq-eqb (write_cause (record_of f) (rows_back f true) (rows_back f false) (length out)) 0 none in
     record {
-      returned = stop _ taken ∙ ap Length (sym a.whole);
+      returned = stop _ taken ∙ ap Ok (sym a.whole);
       same = stop out taken ∙ ap₂ (λ (l : List ℕ) (k : ℕ). l ++ drop k out) again (sym a.whole);
     }
 

@@ -35,6 +35,25 @@ pub record Accepted (f : List ℕ) : Type 0 where
   pub whole : length f ≡ end_of f
   pub content : content_cause (record_of f) ≡ 0
 
+-- A record's content, by what the code tests.
+pub content_passed : (r : Record) → content_cause r ≡ 0 → (bad_claim r ≡ false) × (bad_counts r ≡ false)
+content_passed r e =
+    let claim = passed (bad_claim r) 6 (cond (bad_counts r) 4 0) e in
+    (claim.0, (passed (bad_counts r) 3 0 claim.1).0)
+
+-- A write is refused for the record's content before the rows lent are counted.
+content_first : (a b : Bool) (k : ℕ) → eqb (cond a 7 (cond b 4 0)) 0 ≡ false → cond a 7 (cond b 4 k) ≡ cond a 7 (cond b 4 0)
+content_first true b k e = refl
+content_first false true k e = refl
+content_first false false k e = absurd (let z : ◌≡◌ {A = ℕ} 0 1 = ap (λ (t : Bool). cond t 0 1) e in omega arith)
+
+pub write_content : (r : Record) (universal existential : List ℕ) (room : ℕ) → ltb 31 r.map ≡ false → ltb room (size r) ≡ false
+    → eqb (content_cause r) 0 ≡ false → write_cause r universal existential room ≡ content_cause r
+unfolding write_cause
+write_content r universal existential room map fits wrong =
+    pass 17 map ∙ pass 18 fits ∙ content_first (bad_claim r) (bad_counts r)
+    (cond (over_lent (stands 2 r.map) r.universal universal || over_lent (stands 3 r.map) r.existential existential) 4 0) wrong
+
 whole_then : (t : Bool) (k : ℕ) → cond t k 18 ≡ 0 → (t ≡ true) × (k ≡ 0)
 whole_then true k e = (refl, e)
 whole_then false k e = absurd (omega arith)

@@ -1,12 +1,11 @@
 -- 02's witness file (C-18): a record as bytes, what bytes are read as, and the causes of reading and of writing.
 -- Assumes nothing.
 use Rattle.std.specs.Prelude.{ℕ, ◌+◌, ◌*◌, ◌/◌, ◌%◌, ◌^◌, Bool, true, false, cond, ◌&&◌, ◌||◌, List, [], ◌∷◌, ◌++◌, eqb, ltb, length, get_or, take, drop}
+use Rattle.std.specs.Prelude.{Result, Ok, Err}
+use Rattle.cause.specs.declared.Cause.{Cause}
+use Rattle.cause.specs.Cause.{told, unless_cause}
 use Rattle.formula.specs.Formula.{max_rows}
 use Rattle.witness.specs.declared.Record.{Record}
-use Rattle.witness.specs.declared.Reading.{Reading}
-use Rattle.witness.specs.declared.Reading.TheVariants.{Taken, Refused}
-use Rattle.witness.specs.declared.Written.{Written}
-use Rattle.witness.specs.declared.Written.TheVariants.{Length, Refused as NotWritten}
 
 -- A record by its fields.
 abbrev pub made : ℕ → ℕ → ℕ → ℕ → ℕ → ℕ → ℕ → Record
@@ -143,17 +142,16 @@ write_cause r universal existential room =
     (cond (over_lent (stands 2 r.map) r.universal universal || over_lent (stands 3 r.map) r.existential existential) 4 0))))
 
 -- What reading returns.
-abbrev pub reading : List ℕ → Reading
-reading f = cond (eqb (file_cause f) 0) (Taken (record_of f)) (Refused (file_cause f))
+abbrev pub reading : List ℕ → Result Record Cause
+reading f = unless_cause (file_cause f) (record_of f)
 
 -- The number of each case, 0 for a record that is read, else the cause's; and the record, zeros where none is read.
-abbrev pub reading_number : Reading → ℕ
-reading_number (Taken r) = 0
-reading_number (Refused cause) = cause
+abbrev pub reading_number : Result Record Cause → ℕ
+reading_number answer = told answer
 
-abbrev pub record_read : Reading → Record
-record_read (Taken r) = r
-record_read (Refused cause) = made 0 0 0 0 0 0 0
+abbrev pub record_read : Result Record Cause → Record
+record_read (Ok r) = r
+record_read (Err cause) = made 0 0 0 0 0 0 0
 
 abbrev pub read_record : List ℕ → Record
 read_record f = cond (eqb (file_cause f) 0) (record_of f) (made 0 0 0 0 0 0 0)
@@ -171,19 +169,16 @@ unfoldable pub rows_start : List ℕ → Bool → ℕ
 rows_start f universal = cond (eqb (file_cause f) 0) (side_start universal f) 0
 
 -- 'A write returns the file's length and leaves what lies past it'; a refusal leaves every byte.
-abbrev pub writing : Record → List ℕ → List ℕ → List ℕ → Written
-writing r universal existential out =
-    let cause = write_cause r universal existential (length out) in
-    cond (eqb cause 0) (Length (size r)) (NotWritten cause)
+abbrev pub writing : Record → List ℕ → List ℕ → List ℕ → Result ℕ Cause
+writing r universal existential out = unless_cause (write_cause r universal existential (length out)) (size r)
 
 -- The number of each case, 0 for a file that is written, else the cause's; and the file's length, 0 where none is written.
-abbrev pub writing_number : Written → ℕ
-writing_number (Length n) = 0
-writing_number (NotWritten cause) = cause
+abbrev pub writing_number : Result ℕ Cause → ℕ
+writing_number answer = told answer
 
-abbrev pub length_written : Written → ℕ
-length_written (Length n) = n
-length_written (NotWritten cause) = 0
+abbrev pub length_written : Result ℕ Cause → ℕ
+length_written (Ok n) = n
+length_written (Err cause) = 0
 
 abbrev pub written_length : Record → List ℕ → List ℕ → List ℕ → ℕ
 written_length r universal existential out = cond (eqb (write_cause r universal existential (length out)) 0) (size r) 0

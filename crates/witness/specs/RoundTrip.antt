@@ -1,13 +1,12 @@
 -- The round trip of the witness file: what 02's C-18 says of reading and writing together.
 -- Assumes nothing.
-use Rattle.std.specs.Prelude.{ℕ, ◌*◌, ◌≤◌, ◌<◌, ◌≡◌, true, false, List, ◌++◌, length, get_or, take, drop}
+use Rattle.std.specs.Prelude.{ℕ, ◌*◌, ◌≤◌, ◌<◌, ◌≡◌, true, false, List, ◌++◌, length, get_or, take, drop, Ok}
 use Rattle.witness.specs.declared.Record.{Record}
-use Rattle.witness.specs.declared.Written.TheVariants.{Length}
 use Rattle.witness.specs.File.{stands, part, file, record_of, rows_back, file_cause, size, write_cause, writing, out_after, kept}
 
 -- What writing makes of an accepted file's record and rows, in an output with room for it: the file, and what lay past it.
 pub record WrittenAgain (f out : List ℕ) : Type 0 where
-  pub returned : writing (record_of f) (rows_back f true) (rows_back f false) out ≡ Length (length f)
+  pub returned : writing (record_of f) (rows_back f true) (rows_back f false) out ≡ Ok (length f)
   pub same : out_after (record_of f) (rows_back f true) (rows_back f false) out ≡ f ++ drop (length f) out
 
 -- What reading makes of the file of a record: the record, with 0 where no bit stands, and each side that stands as the first 16 · count bytes

@@ -5,12 +5,14 @@
 #![tactic(auto)]
 
 ghost use Rattle.std.specs.Prelude.{◌≡◌, true, ◌||◌, [], ◌∷◌, ◌+◌, ◌*◌, ◌/◌, ◌%◌, ◌^◌, ◌≤◌, ◌<◌, eqb, length, get_or, take, drop};
+ghost use Rattle.cause.specs.Cause.{unless_cause};
 ghost use Rattle.witness.specs.File.{stands as bit_stands, part, if_stands, two_bytes, word, rows_field, end_of, record_of, bad_claim, bad_count};
 ghost use Rattle.witness.specs.File.{bad_counts, content_cause, file_cause, size, over_lent, write_cause, reading, reading_number, record_read};
 ghost use Rattle.witness.specs.File.{read_record, rows_back, rows_start, writing, writing_number, length_written, written_length, out_after};
 ghost use Rattle.witness.specs.RoundTrip.{RoundTrip};
 ghost use Rattle.witness.specs.Private.Steps.{Placed, Put, Fitting, head, all_fields};
 
+use cause::Cause;
 use formula::Formula;
 
 // A map and its fields, the counts of rows under their side's name.
@@ -23,19 +25,6 @@ pub struct Record {
     pub universal: u16,
     pub existential: u16,
     pub rounds: u16,
-}
-
-#[derive(Clone, Copy)]
-pub enum Reading {
-    Taken(Record),
-    Refused(u32),
-}
-
-// The file's length, or the number of the cause.
-#[derive(Clone, Copy)]
-pub enum Written {
-    Length(usize),
-    Refused(u32),
 }
 
 // Where the fields of a file start, and where the last one ends.
@@ -65,20 +54,16 @@ const MAP: u8 = 31;
 const BYTES: usize = 16;
 
 // The record of a file. A field whose bit does not stand is 0.
-pub fn read(file: &[u8]) -> Reading
+pub fn read(file: &[u8]) -> Result<Record, Cause>
     ensures value { result ≡ reading file.now }
     ensures numbered { reading_number result ≡ file_cause file.now }
     ensures valued { record_read result ≡ read_record file.now }
     ensures round_trip { RoundTrip }
 {
     let at = layout_of(file);
-    let end = at.end;
     let record = record_of(file, at);
-    let cause = file_cause(file, end, record);
-    if cause == 0 {
-        return Reading::Taken(record);
-    }
-    Reading::Refused(cause)
+    file_cause(file, at.end, record)?;
+    Ok(record)
 }
 
 // A side's rows as a part of the file, empty at its start if the bit does not stand or the file is refused.
@@ -87,37 +72,41 @@ pub fn rows(file: &[u8], universal: bool) -> &[u8]
     ensures own { (result.ref_ptr.0 ≡ file.entry.ref_ptr.0) × (result.ref_ptr.1 ≡ file.entry.ref_ptr.1 + rows_start file.now universal) }
 {
     let at = layout_of(file);
-    let end = at.end;
     let record = record_of(file, at);
-    let refusal = file_cause(file, end, record);
-    if 0 < refusal {
+    if file_cause(file, at.end, record).is_err() {
         return &file[0..0];
     }
-    let map = record.map;
     if universal {
-        let start = at.universal;
-        let count = record.universal;
-        return rows_at(file, stands(map, UNIVERSAL), start, count);
+        return rows_at(
+            file,
+            stands(record.map, UNIVERSAL),
+            at.universal,
+            record.universal,
+        );
     }
-    let start = at.existential;
-    let count = record.existential;
-    rows_at(file, stands(map, EXISTENTIAL), start, count)
+    rows_at(
+        file,
+        stands(record.map, EXISTENTIAL),
+        at.existential,
+        record.existential,
+    )
 }
 
-// The file of a record and its sides' rows at the start of `out`.
-pub fn write(record: Record, universal: &[u8], existential: &[u8], out: &mut [u8]) -> Written
+// The file of a record and its sides' rows at the start of `out`: its length.
+pub fn write(
+    record: Record,
+    universal: &[u8],
+    existential: &[u8],
+    out: &mut [u8],
+) -> Result<usize, Cause>
     ensures value { result ≡ writing «record» universal.now existential.now out.old }
     ensures out_after { out.new ≡ out_after «record» universal.now existential.now out.old }
     ensures numbered { writing_number result ≡ write_cause «record» universal.now existential.now (length out.old) }
     ensures valued { length_written result ≡ written_length «record» universal.now existential.now out.old }
     ensures round_trip { RoundTrip }
 {
-    let cause = write_cause(record, universal, existential, out.len());
-    if cause != 0 {
-        return Written::Refused(cause);
-    }
-    let length = put_all(out, record, universal, existential);
-    Written::Length(length)
+    write_cause(record, universal, existential, out.len())?;
+    Ok(put_all(out, record, universal, existential))
 }
 
 // Where the fields of a file start, with a byte past the end read as 0.
@@ -145,131 +134,105 @@ fn record_of(file: &[u8], at: Layout) -> Record
     ensures { result ≡ record_of file.now }
 {
     let map = byte(file, 0);
-    let sizes = at.sizes;
-    let universal = at.universal;
-    let existential = at.existential;
-    let rounds = at.rounds;
     Record {
         map,
         claim: claim_of(file, stands(map, CLAIM)),
-        unknowns: number(file, stands(map, SIZES), sizes),
-        clauses: number(file, stands(map, SIZES), sizes + 2),
-        universal: number(file, stands(map, UNIVERSAL), universal),
-        existential: number(file, stands(map, EXISTENTIAL), existential),
-        rounds: number(file, stands(map, ROUNDS), rounds),
+        unknowns: number(file, stands(map, SIZES), at.sizes),
+        clauses: number(file, stands(map, SIZES), at.sizes + 2),
+        universal: number(file, stands(map, UNIVERSAL), at.universal),
+        existential: number(file, stands(map, EXISTENTIAL), at.existential),
+        rounds: number(file, stands(map, ROUNDS), at.rounds),
     }
 }
 
-// The cause for which a file is refused, 0 if it is accepted.
-fn file_cause(file: &[u8], end: usize, record: Record) -> u32
+// The cause for which a file is refused, if there is one.
+fn file_cause(file: &[u8], end: usize, record: Record) -> Result<(), Cause>
     requires { (end ≡ end_of file.now) × («record» ≡ record_of file.now) }
-    ensures { result ≡ file_cause file.now }
+    ensures { result ≡ unless_cause (file_cause file.now) tt }
 {
-    let map = record.map;
-    if file.len() == 0 {
-        return 18;
+    if file.is_empty() {
+        return Err(Cause::Length);
     }
-    if MAP < map {
-        return 17;
+    if record.map > MAP {
+        return Err(Cause::Map);
     }
-    if file.len() == end {
-        return content_cause(record);
+    if file.len() != end {
+        return Err(Cause::Length);
     }
-    18
+    content_cause(record)
 }
 
-// 7 and 4, of the fields whose bit stands.
-fn content_cause(record: Record) -> u32
-    ensures { result ≡ content_cause «record» }
+// A wrong claim and wrong counts, of the fields whose bit stands.
+fn content_cause(record: Record) -> Result<(), Cause>
+    ensures { result ≡ unless_cause (content_cause «record») tt }
 {
     if wrong_claim(record) {
-        return 7; // a claim above 1
+        return Err(Cause::Count); // a claim above 1
     }
     if wrong_counts(record) {
-        return 4; // a count of 0 or over 256
+        return Err(Cause::Rows); // a count of 0 or over 256
     }
-    0
+    Ok(())
 }
 
 fn wrong_claim(record: Record) -> bool
     ensures { result ≡ bad_claim «record» }
 {
-    let map = record.map;
-    let claim = record.claim;
-    if stands(map, CLAIM) {
-        return 1 < claim;
-    }
-    false
+    stands(record.map, CLAIM) && record.claim > 1
 }
 
 fn wrong_counts(record: Record) -> bool
     ensures { result ≡ bad_counts «record» }
 {
-    let map = record.map;
-    let universal = record.universal;
-    let existential = record.existential;
-    if wrong_count(stands(map, UNIVERSAL), universal) {
-        return true;
-    }
-    wrong_count(stands(map, EXISTENTIAL), existential)
+    wrong_count(stands(record.map, UNIVERSAL), record.universal)
+        || wrong_count(stands(record.map, EXISTENTIAL), record.existential)
 }
 
 fn wrong_count(there: bool, count: u16) -> bool
     ensures { result ≡ bad_count there count }
 {
-    if there {
-        if count == 0 {
-            return true;
-        }
-        return Formula::ROWS < count as usize;
-    }
-    false
+    there && (count == 0 || count as usize > Formula::ROWS)
 }
 
-// The cause for which a write is refused, 0 if it is taken.
-fn write_cause(record: Record, universal: &[u8], existential: &[u8], room: usize) -> u32
-    ensures { result ≡ write_cause «record» universal.now existential.now room }
+// The cause for which a write is refused, if there is one.
+fn write_cause(
+    record: Record,
+    universal: &[u8],
+    existential: &[u8],
+    room: usize,
+) -> Result<(), Cause>
+    ensures { result ≡ unless_cause (write_cause «record» universal.now existential.now room) tt }
 {
-    let map = record.map;
-    if MAP < map {
-        return 17;
+    if record.map > MAP {
+        return Err(Cause::Map);
     }
     if room < size_of(record) {
-        return 18;
+        return Err(Cause::Length);
     }
-    if wrong_claim(record) {
-        return 7;
-    }
-    if wrong_counts(record) {
-        return 4;
-    }
+    content_cause(record)?;
     if lent_too_few(record, universal, existential) {
-        return 4;
+        return Err(Cause::Rows);
     }
-    0
+    Ok(())
 }
 
 fn lent_too_few(record: Record, universal: &[u8], existential: &[u8]) -> bool
     ensures { result ≡ (over_lent (bit_stands 2 «record».map) «record».universal universal.now || over_lent (bit_stands 3 «record».map)
         «record».existential existential.now) }
 {
-    let map = record.map;
-    let universal_count = record.universal;
-    let existential_count = record.existential;
-    if too_few(stands(map, UNIVERSAL), universal_count, universal) {
-        return true;
-    }
-    too_few(stands(map, EXISTENTIAL), existential_count, existential)
+    too_few(stands(record.map, UNIVERSAL), record.universal, universal)
+        || too_few(
+            stands(record.map, EXISTENTIAL),
+            record.existential,
+            existential,
+        )
 }
 
 // Fewer whole rows are lent than counted.
 fn too_few(there: bool, count: u16, rows: &[u8]) -> bool
     ensures { result ≡ over_lent there count rows.now }
 {
-    if there {
-        return rows.len() / BYTES < count as usize;
-    }
-    false
+    there && rows.len() / BYTES < count as usize
 }
 
 // The length of a record's file.
@@ -277,12 +240,18 @@ fn size_of(record: Record) -> usize
     ensures { result ≡ size «record» }
 {
     let map = record.map;
-    let universal = record.universal;
-    let existential = record.existential;
     let front = 1 + width(stands(map, CLAIM), 1);
     let before = front + width(stands(map, SIZES), 4);
-    let between = before + width(stands(map, UNIVERSAL), 2 + BYTES * universal as usize);
-    let behind = between + width(stands(map, EXISTENTIAL), 2 + BYTES * existential as usize);
+    let between = before
+        + width(
+            stands(map, UNIVERSAL),
+            2 + BYTES * record.universal as usize,
+        );
+    let behind = between
+        + width(
+            stands(map, EXISTENTIAL),
+            2 + BYTES * record.existential as usize,
+        );
     behind + width(stands(map, ROUNDS), 2)
 }
 
@@ -292,19 +261,16 @@ fn put_all(out: &mut [u8], record: Record, universal: &[u8], existential: &[u8])
     ensures { Put out.old out.new 0 result (all_fields «record» universal.now existential.now) }
 {
     let map = record.map;
-    let universal_count = record.universal;
-    let existential_count = record.existential;
-    let rounds = record.rounds;
     let a = put_head(out, record);
-    let b = put_rows(out, a, stands(map, UNIVERSAL), universal_count, universal);
+    let b = put_rows(out, a, stands(map, UNIVERSAL), record.universal, universal);
     let c = put_rows(
         out,
         b,
         stands(map, EXISTENTIAL),
-        existential_count,
+        record.existential,
         existential,
     );
-    put_number(out, c, stands(map, ROUNDS), rounds)
+    put_number(out, c, stands(map, ROUNDS), record.rounds)
 }
 
 // The fields before the rows.
@@ -313,13 +279,10 @@ fn put_head(out: &mut [u8], record: Record) -> usize
     ensures { Put out.old out.new 0 result (head «record») }
 {
     let map = record.map;
-    let claim = record.claim;
-    let unknowns = record.unknowns;
-    let clauses = record.clauses;
     let a = put_byte(out, 0, true, map);
-    let b = put_byte(out, a, stands(map, CLAIM), claim);
-    let c = put_number(out, b, stands(map, SIZES), unknowns);
-    put_number(out, c, stands(map, SIZES), clauses)
+    let b = put_byte(out, a, stands(map, CLAIM), record.claim);
+    let c = put_number(out, b, stands(map, SIZES), record.unknowns);
+    put_number(out, c, stands(map, SIZES), record.clauses)
 }
 
 // A count and its rows, if the bit stands.
@@ -341,8 +304,7 @@ fn put_number(out: &mut [u8], at: usize, there: bool, number: u16) -> usize
     ensures { Put out.old out.new at result (part there (two_bytes number)) }
 {
     if there {
-        let low = put_byte(out, at, true, (number % 256) as u8);
-        return put_byte(out, low, true, (number / 256) as u8);
+        return buffer::append(out, at, &number.to_le_bytes());
     }
     at
 }
@@ -410,25 +372,16 @@ fn number(file: &[u8], there: bool, at: usize) -> u16
     ensures { result ≡ if_stands there (word (drop at file.now)) }
 {
     if there {
-        return join(byte(file, at), byte(file, at + 1));
+        return u16::from_le_bytes([byte(file, at), byte(file, at + 1)]);
     }
     0
-}
-
-fn join(low: u8, high: u8) -> u16
-    ensures { result ≡ low + high * 256 }
-{
-    low as u16 + high as u16 * 256
 }
 
 // A byte of the file, 0 past its end.
 fn byte(file: &[u8], at: usize) -> u8
     ensures { result ≡ get_or file.now at 0 }
 {
-    if at < file.len() {
-        return file[at];
-    }
-    0
+    file.get(at).copied().unwrap_or(0)
 }
 
 // Whether the map's bit of this weight stands.

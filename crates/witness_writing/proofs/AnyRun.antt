@@ -1,6 +1,7 @@
 -- Any run of a formula over at most 256 rows a side, with any preferences, limit and clearing: its rows as they were left make a file, and the judge
 -- accepts that file. Assumes nothing.
 use Prim.Native.Nat.{ℕ, suc, ◌*◌, ◌≤◌}
+use Rattle.std.specs.Prelude.{Ok}
 use native.Mathlib.Omega.{arith}
 use mathlib.Core.Path.{◌≡◌, refl, sym, ap, ap₂, subst, ◌∙◌}
 use mathlib.Core.Bool.{Bool, true, false}
@@ -11,22 +12,20 @@ use lib.Seq.{take_all, take_at}
 use Rattle.formula.specs.Formula.{max_rows, work_size, Kind, universal, existential, prefix, clauses}
 use Rattle.formula.specs.Meaning.{matrix}
 use Rattle.formula.specs.Causes.{checked, sizes}
-use Rattle.formula.specs.declared.Check.TheVariants as Check
 use Rattle.rows.specs.Table.{table_of, room}
 use Rattle.rows.proofs.TableLaws.{length_table_of}
 use Rattle.expansion.specs.Judge.{accepted}
 use Rattle.judge.specs.declared.Judgement.TheVariants as Judgement
 use Rattle.judge.specs.Judge.{width, outcome}
-use Rattle.rounds.specs.Run.{Entry, Table, rows, Answer, is_false, is_true, spent, no_room_universal, no_room_existential, number, Outcome, Lent, run}
+use Rattle.rounds.specs.Run.{Entry, Table, rows, is_false, is_true, Outcome, Lent, run}
 use Rattle.rounds.proofs.Bounds.{row_length, count_in_room}
 use Rattle.rounds.proofs.RunLaws.{run_reached}
 use Rattle.engine.specs.declared.run.Outcome.{Outcome as Returned}
-use Rattle.engine.specs.Outcome.{number_of, reported, row_bytes}
-use Rattle.engine.proofs.run.OutcomeLaws.{number_named}
+use Rattle.engine.specs.Outcome.{reported, row_bytes}
 use Rattle.engine.proofs.run.ByteLaws.{Wide}
 use Rattle.engine.proofs.run.GrowingLaws.{wide_of_sized}
 use Rattle.witness.specs.declared.Record.{Record}
-use Rattle.witness.specs.File.{made, file, size, write_cause}
+use Rattle.witness.specs.File.{file, size, write_cause}
 use Rattle.judgement.specs.declared.Finding.TheVariants as Finding
 use Rattle.judgement.specs.Finding as judging
 use Rattle.judgement.proofs.FindingLaws.{same_sizes, record_claimed, formula_read}
@@ -175,7 +174,7 @@ zeros = replicate work_size 0
 
 -- A file whose record has the formula's sizes and a claim, and whose rows the judge accepts.
 claim_accepted : (kinds : List ℕ) (literals : List ℤ) (f : List ℕ) (claim : ℕ) (bytes : List ℕ) → judging.claimed_rows f claim ≡ bytes
-    → outcome kinds literals claim bytes (room bytes) zeros ≡ Judgement.Accepted
+    → outcome kinds literals claim bytes (room bytes) zeros ≡ Ok Judgement.Accepted
     → judging.Finds (judging.on_claim kinds literals f claim) zeros (Finding.Accepted claim) (judging.on_claim kinds literals f claim zeros).work
 unfolding judging.on_claim
 claim_accepted kinds literals f claim bytes same right =
@@ -185,7 +184,7 @@ claim_accepted kinds literals f claim bytes same right =
       area = refl;
     }
 
-module _ (kinds : List ℕ) (literals : List ℤ) (clause_count : ℕ) (passes : checked kinds literals ≡ Check.Accepted (sizes kinds literals)) (o : Outcome)
+module _ (kinds : List ℕ) (literals : List ℤ) (clause_count : ℕ) (passes : checked kinds literals ≡ Ok (sizes kinds literals)) (o : Outcome)
     (b : Borne kinds literals o) where
   module _ (is : o.answer ≡ is_true) where
     abbrev r_true : Record
@@ -202,7 +201,7 @@ module _ (kinds : List ℕ) (literals : List ℤ) (clause_count : ℕ) (passes :
     rows_true : judging.claimed_rows f_true 1 ≡ table_of (rows o.S)
     rows_true = (again r_true [] (table_of (rows o.S)) fine_true).existential_back ∙ all_rows o.S (length o.S) refl
 
-    judged_true : outcome kinds literals 1 (table_of (rows o.S)) (room (table_of (rows o.S))) zeros ≡ Judgement.Accepted
+    judged_true : outcome kinds literals 1 (table_of (rows o.S)) (room (table_of (rows o.S))) zeros ≡ Ok Judgement.Accepted
     judged_true =
         judge_accepts kinds literals passes true (rows o.S) b.wide_s (omega (arith, some_s b is, length_rows o.S))
         (omega (arith, b.few_s, length_rows o.S))
@@ -234,7 +233,7 @@ module _ (kinds : List ℕ) (literals : List ℤ) (clause_count : ℕ) (passes :
     rows_false : judging.claimed_rows f_false 0 ≡ table_of (rows o.A)
     rows_false = (again r_false (table_of (rows o.A)) [] fine_false).universal_back ∙ all_rows o.A (length o.A) refl
 
-    judged_false : outcome kinds literals 0 (table_of (rows o.A)) (room (table_of (rows o.A))) zeros ≡ Judgement.Accepted
+    judged_false : outcome kinds literals 0 (table_of (rows o.A)) (room (table_of (rows o.A))) zeros ≡ Ok Judgement.Accepted
     judged_false =
         judge_accepts kinds literals passes false (rows o.A) b.wide_a (omega (arith, some_a b is, length_rows o.A))
         (omega (arith, b.few_a, length_rows o.A))

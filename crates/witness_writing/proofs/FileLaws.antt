@@ -1,7 +1,10 @@
 -- The file of a record that can be written: what is put into a buffer, and what is read again. Assumes nothing.
-use Prim.Native.Nat.{ℕ, ◌+◌, ◌*◌, ◌/◌, ◌≤◌}
+use Prim.Native.Nat.{ℕ, ◌*◌, ◌/◌, ◌≤◌}
+use Rattle.std.specs.Prelude.{Err, Ok, Result}
+use Rattle.cause.specs.declared.Cause.{Cause}
+use Rattle.cause.specs.Cause.{unless_cause}
 use native.Mathlib.Omega.{arith}
-use mathlib.Core.Path.{◌≡◌, refl, sym, ap, ap₂, ◌∙◌}
+use mathlib.Core.Path.{◌≡◌, refl, sym, ap, ◌∙◌}
 use mathlib.Core.Bool.{Bool, true, false, cond, ◌||◌}
 use mathlib.Core.List.{List, [], ◌∷◌, ◌++◌}
 use lib.Dec.{eqb, leb, ltb}
@@ -10,17 +13,14 @@ use borrow.Author.Tests.{ltb-true, ltb-false, le-leb, lt-leb, le-ltb, ne_eqb}
 use Rattle.formula.specs.Formula.{max_rows}
 use Rattle.report.specs.Report.{put, put_count}
 use Rattle.witness.specs.declared.Record.{Record}
-use Rattle.witness.specs.declared.Reading.TheVariants.{Taken, Refused as NotRead}
-use Rattle.witness.specs.declared.Written.{Written}
-use Rattle.witness.specs.declared.Written.TheVariants.{Length, Refused}
-use Rattle.witness.specs.File.{made, two_bytes, file, record_of, file_cause, size, bad_claim, bad_counts, over_lent, stands, write_cause, reading, rows_back, writing, out_after, kept}
+use Rattle.witness.specs.File.{made, two_bytes, file, record_of, size, bad_claim, bad_counts, over_lent, stands, write_cause, reading, writing, out_after, kept}
 use Rattle.witness.specs.RoundTrip.{ReadAgain}
 use Rattle.witness.proofs.TestLaws.{passed}
 use Rattle.witness.proofs.RoundTrip.{round_trip}
 
-abbrev count_of : Written → ℕ
-count_of (Length n) = n
-count_of (Refused cause) = 0
+abbrev count_of : Result ℕ Cause → ℕ
+count_of (Ok n) = n
+count_of (Err cause) = 0
 
 module _ (r : Record) (U E : List ℕ) (fine : write_cause r U E (size r) ≡ 0) where
   pub again : ReadAgain r U E
@@ -49,7 +49,7 @@ module _ (r : Record) (U E : List ℕ) (fine : write_cause r U E (size r) ≡ 0)
     fits_so true e = let more = ltb-true (length out) (size r) e in lt-leb (length f) (length out) (omega (arith, again.whole, more))
     fits_so false e = let most = ltb-false (length out) (size r) e in le-leb (length f) (length out) (omega (arith, again.whole, most))
 
-    counted_by : (b : Bool) → ltb (length out) (size r) ≡ b → count_of (cond (eqb (cond b 18 0) 0) (Length (size r)) (Refused (cond b 18 0))) ≡ put_count f out
+    counted_by : (b : Bool) → ltb (length out) (size r) ≡ b → count_of (unless_cause (cond b 18 0) (size r)) ≡ put_count f out
     unfolding put_count
     counted_by true e = ap (λ (t : Bool). cond t (length f) 0) (sym (fits_so true e))
     counted_by false e = sym again.whole ∙ ap (λ (t : Bool). cond t (length f) 0) (sym (fits_so false e))
@@ -61,22 +61,22 @@ module _ (r : Record) (U E : List ℕ) (fine : write_cause r U E (size r) ≡ 0)
         ap (λ (n : ℕ). f ++ drop n out) (sym again.whole) ∙ ap (λ (t : Bool). cond t (f ++ drop (length f) out) out) (sym (fits_so false e))
 
     counted_so : count_of (writing r U E out) ≡ put_count f out
-    counted_so = ap (λ (n : ℕ). count_of (cond (eqb n 0) (Length (size r)) (Refused n))) cause_so ∙ counted_by (ltb (length out) (size r)) refl
+    counted_so = ap (λ (n : ℕ). count_of (unless_cause n (size r))) cause_so ∙ counted_by (ltb (length out) (size r)) refl
 
     pub written_so : out_after r U E out ≡ put f out
     unfolding out_after
     written_so = ap (λ (n : ℕ). cond (eqb n 0) (f ++ drop (size r) out) out) cause_so ∙ written_by (ltb (length out) (size r)) refl
 
-    pub length_counted : {w : Written} {n : ℕ} → w ≡ writing r U E out → w ≡ Length n → n ≡ put_count f out
+    pub length_counted : {w : Result ℕ Cause} {n : ℕ} → w ≡ writing r U E out → w ≡ Ok n → n ≡ put_count f out
     length_counted returned told = ap count_of (sym told ∙ returned) ∙ counted_so
 
-    pub refused_counted : {w : Written} {cause : ℕ} → w ≡ writing r U E out → w ≡ Refused cause → 0 ≡ put_count f out
+    pub refused_counted : {w : Result ℕ Cause} {cause : Cause} → w ≡ writing r U E out → w ≡ Err cause → 0 ≡ put_count f out
     refused_counted returned told = ap count_of (sym told ∙ returned) ∙ counted_so
 
   -- Read again it is the record, if nothing in it counts for nothing.
-  pub read_so : kept r ≡ r → reading f ≡ Taken r
+  pub read_so : kept r ≡ r → reading f ≡ Ok r
   read_so same =
-      ap (λ (n : ℕ). cond (eqb n 0) (Taken (record_of f)) (NotRead n)) again.accepted ∙ ap Taken (again.same ∙ same)
+      ap (λ (n : ℕ). unless_cause n (record_of f)) again.accepted ∙ ap Ok (again.same ∙ same)
 
 -- The records of a true and of a false formula, with k rows.
 module _ (u c k rounds : ℕ) (some_row : 1 ≤ k) (few : k ≤ max_rows) where

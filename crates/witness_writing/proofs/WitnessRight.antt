@@ -1,19 +1,16 @@
 -- The file that is written of an untrimmed study is accepted by the judge. Assumes nothing.
 use Prim.Native.Nat.{ℕ, suc, ◌≤◌}
+use Rattle.std.specs.Prelude.{Ok}
 use native.Mathlib.Omega.{arith}
 use mathlib.Core.Path.{◌≡◌, refl, sym, ap, subst, ◌∙◌}
-use mathlib.Core.Bool.{Bool, true, false, cond, ◌&&◌, true≢false}
+use mathlib.Core.Bool.{Bool, true, false, cond, true≢false}
 use mathlib.Core.List.{List, []}
-use lib.Dec.{eqb, leb}
-use lib.IntN.{ℤ}
 use lib.ListN.{length, replicate}
 use borrow.Author.Tests.{eq-eqb, le-leb}
-use Rattle.formula.specs.Formula.{max_unknowns, max_clauses, max_rows, work_size}
+use Rattle.formula.specs.Formula.{max_unknowns, max_rows, work_size}
 use Rattle.formula.specs.Causes.{checked, sizes}
-use Rattle.formula.specs.declared.Check.TheVariants as Check
 use Rattle.formula.proofs.Accepted.{accepted}
-use Rattle.rows.specs.Table.{table_of}
-use Rattle.rounds.specs.Run.{rows, Answer, is_false, is_true, spent, no_room_universal, no_room_existential, Outcome}
+use Rattle.rounds.specs.Run.{Answer, is_false, is_true, spent, no_room_universal, no_room_existential, Outcome}
 use Rattle.engine.specs.declared.run.Answer.{Answer as Told}
 use Rattle.engine.specs.declared.run.Answer.TheVariants.{False, True, Spent, NoRoomUniversal, NoRoomExistential, Refused}
 use Rattle.engine.specs.Outcome.{Areas, named}
@@ -23,7 +20,6 @@ use Rattle.text.specs.Form.{has_gates, form_read}
 use Rattle.text.proofs.TextLaws.{Passes}
 use Rattle.text.proofs.ReadAsLaws.{reading_passes}
 use Rattle.report.specs.Report.{put, put_count}
-use Rattle.witness.specs.declared.Record.{Record}
 use Rattle.witness.specs.File.{file, size, write_cause}
 use Rattle.judgement.specs.declared.Finding.TheVariants as Finding
 use Rattle.judgement.specs.Finding as judging
@@ -33,7 +29,7 @@ use Rattle.decision.specs.declared.Decision.{Decision}
 use Rattle.decision.specs.Deciding.{Ending as Decided, decided}
 use Rattle.witness_writing.specs.WitnessFile.{side_record, record_file, numbers_fit, file_of, by_answer, decision_file}
 use Rattle.witness_writing.specs.WitnessRight.{Untrimmed, Accepted, file_left, WitnessRight}
-use Rattle.witness_writing.proofs.AnyRun.{true_record, false_record, true_writes, true_bytes, false_writes, false_bytes, found_true, short_true, found_false, short_false}
+use Rattle.witness_writing.proofs.AnyRun.{true_writes, true_bytes, false_writes, false_bytes, found_true, short_true, found_false, short_false}
 use Rattle.witness_writing.proofs.LentRun.{Lent, study_lent}
 
 abbrev zeros : List ℕ
@@ -75,7 +71,7 @@ module _ (form : Form) (text : List ℕ) (r : Read) (e : form_read form text ≡
   passes : Passes r
   passes = reading_passes (has_gates form text) text r e
 
-  accepts : checked r.kinds r.literals ≡ Check.Accepted (sizes r.kinds r.literals)
+  accepts : checked r.kinds r.literals ≡ Ok (sizes r.kinds r.literals)
   accepts = passes.accepted
 
   -- What the judge finds of a file.

@@ -1,5 +1,8 @@
 -- A record's file as it is put into a buffer, also where it cannot be written. Assumes nothing.
 use Prim.Native.Nat.{ℕ, ◌<◌}
+use Rattle.std.specs.Prelude.{Err, Ok, Result}
+use Rattle.cause.specs.declared.Cause.{Cause}
+use Rattle.cause.specs.Cause.{caused}
 use native.Mathlib.Omega.{arith}
 use mathlib.Core.Path.{◌≡◌, refl, sym, ap, ◌∙◌}
 use mathlib.Core.Bool.{Bool, true, false, cond, ◌&&◌, ◌||◌, true≢false, and-eq-true_iff}
@@ -9,8 +12,6 @@ use lib.ListN.{length, drop}
 use borrow.Author.Tests.{eqb-true, leb-true, le-ltb}
 use Rattle.report.specs.Report.{put, put_count}
 use Rattle.witness.specs.declared.Record.{Record}
-use Rattle.witness.specs.declared.Written.{Written}
-use Rattle.witness.specs.declared.Written.TheVariants.{Length, Refused}
 use Rattle.witness.specs.File.{file, size, bad_claim, bad_counts, over_lent, stands, write_cause, writing, out_after}
 use Rattle.witness_writing.specs.WitnessFile.{side_record, record_file, numbers_fit, file_of}
 use Rattle.witness_writing.proofs.FileLaws.{written_so, length_counted, refused_counted}
@@ -52,9 +53,9 @@ module _ (r : Record) (rows out : List ℕ) where
         (cond (bad_counts r) 4 (cond (over_lent (stands 2 r.map) r.universal rows || over_lent (stands 3 r.map) r.existential rows) 4 0)))
         (le-ltb (size r) (size r) (omega arith)) bad
 
-    returned_so : writing r rows rows out ≡ Refused (write_cause r rows rows (length out))
+    returned_so : writing r rows rows out ≡ Err (caused (write_cause r rows rows (length out)))
     returned_so =
-        ap (λ (b : Bool). cond b (Length (size r)) (Refused (write_cause r rows rows (length out)))) refused_here
+        ap (λ (b : Bool). cond b (Ok (size r)) (Err (caused (write_cause r rows rows (length out))))) refused_here
 
     left_so : out_after r rows rows out ≡ out
     unfolding out_after
@@ -67,15 +68,15 @@ module _ (r : Record) (rows out : List ℕ) where
       go true e = written_so r rows rows (no_cause e) out ∙ ap (λ (bytes : List ℕ). put bytes out) (sym (whole e))
       go false e = left_so e ∙ (nothing_put (record_file r rows) out (empty e)).1
 
-  module _ {w : Written} (returned : w ≡ writing r rows rows out) where
-    pub file_counted : {n : ℕ} → w ≡ Length n → n ≡ put_count (record_file r rows) out
+  module _ {w : Result ℕ Cause} (returned : w ≡ writing r rows rows out) where
+    pub file_counted : {n : ℕ} → w ≡ Ok n → n ≡ put_count (record_file r rows) out
     file_counted {n} told = go can refl
       where
         go : (b : Bool) → can ≡ b → n ≡ put_count (record_file r rows) out
         go true e = length_counted r rows rows (no_cause e) out returned told ∙ ap (λ (bytes : List ℕ). put_count bytes out) (sym (whole e))
         go false e = let z : ◌≡◌ {A = ℕ} 0 1 = cc (returned_so e) in absurd (omega (arith, z))
 
-    pub none_counted : {cause : ℕ} → w ≡ Refused cause → 0 ≡ put_count (record_file r rows) out
+    pub none_counted : {cause : Cause} → w ≡ Err cause → 0 ≡ put_count (record_file r rows) out
     none_counted {cause} told = go can refl
       where
         go : (b : Bool) → can ≡ b → 0 ≡ put_count (record_file r rows) out

@@ -10,7 +10,7 @@ ghost use Rattle.witness_writing.specs.WitnessRight.{WitnessRight};
 
 use decision::Decision;
 use engine::run::Answer;
-use witness::{Record, Written};
+use witness::Record;
 
 // Room for every file.
 pub const LONGEST: usize = 4_106;
@@ -126,7 +126,7 @@ fn put_file(record: Record, rows: &[u8], file: &mut [u8]) -> usize
     ensures file_after { file.new ≡ put (record_file «record» rows.now) file.old }
 {
     match witness::write(record, rows, rows, file) {
-        Written::Length(length) => length,
-        Written::Refused(_) => 0,
+        Ok(length) => length,
+        Err(_) => 0,
     }
 }

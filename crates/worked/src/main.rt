@@ -6,8 +6,9 @@
 ghost use Rattle.std.specs.Prelude.{◌*◌, ◌≤◌, length};
 ghost use Rattle.formula.specs.Formula.{max_rows};
 
+use cause::Cause;
 use engine::run::{Answer, Outcome};
-use formula::{Check, Formula};
+use formula::Formula;
 use judge::Judgement;
 use std::io;
 use std::io::Write;
@@ -201,8 +202,8 @@ fn print_run(
     existential_marks: &[u16],
     work: &[u8],
 ) -> io::Result<()> {
-    let universal = lower(end.universal, AMPLE);
-    let existential = lower(end.existential, AMPLE);
+    let universal = end.universal.min(AMPLE);
+    let existential = end.existential.min(AMPLE);
     if print_outcome(rt, end)? {
         print_side(
             rt,
@@ -252,7 +253,7 @@ fn print_outcome(rt: &HostRuntime, end: Outcome) -> io::Result<bool> {
             return Ok(false);
         }
     }
-    print_number(rt, b", round ", end.round as u64)?;
+    print_number(rt, b", round ", u64::from(end.round))?;
     print_number(rt, b", universal ", end.universal as u64)?;
     print_number(rt, b", existential ", end.existential as u64)?;
     print(rt, b"\n")?;
@@ -283,12 +284,12 @@ fn play_judge(
 }
 
 // Prints what the judge returns. Whether it is an answer.
-fn print_judgement(rt: &HostRuntime, judgement: Judgement) -> io::Result<bool> {
+fn print_judgement(rt: &HostRuntime, judgement: Result<Judgement, Cause>) -> io::Result<bool> {
     match judgement {
-        Judgement::NotBorneOut => print(rt, b": not borne out\n")?,
-        Judgement::Accepted => print(rt, b": accepted\n")?,
-        Judgement::Refused(cause) => {
-            print_refusal(rt, cause)?;
+        Ok(Judgement::NotBorneOut) => print(rt, b": not borne out\n")?,
+        Ok(Judgement::Accepted) => print(rt, b": accepted\n")?,
+        Err(cause) => {
+            print_refusal(rt, cause.number())?;
             return Ok(false);
         }
     }
@@ -299,21 +300,21 @@ fn print_judgement(rt: &HostRuntime, judgement: Judgement) -> io::Result<bool> {
 fn play_check(rt: &HostRuntime, name: &[u8], kinds: &[u8], literals: &[i32]) -> io::Result<()> {
     print(rt, name)?;
     match Formula::check(kinds, literals) {
-        Check::Accepted(_) => print(rt, b": accepted\n"),
-        Check::Refused(cause) => print_refusal(rt, cause),
+        Ok(_) => print(rt, b": accepted\n"),
+        Err(cause) => print_refusal(rt, cause.number()),
     }
 }
 
 // Fills a table with its own values: those of neighbours differ, and those of two tables too.
 fn fill(table: &mut [u8], first: u8) {
-    for i in 0..table.len() {
-        table[i] = value(first, i);
+    for (i, byte) in table.iter_mut().enumerate() {
+        *byte = value(first, i);
     }
 }
 
 fn fill_marks(marks: &mut [u16], first: u16) {
-    for i in 0..marks.len() {
-        marks[i] = mark_value(first, i);
+    for (i, mark) in marks.iter_mut().enumerate() {
+        *mark = mark_value(first, i);
     }
 }
 
@@ -327,25 +328,19 @@ fn mark_value(first: u16, i: usize) -> u16 {
 
 // Whether the table has its own values from an index on.
 fn as_found(table: &[u8], first: u8, from: usize) -> bool {
-    let mut i = from;
-    while i < table.len() {
-        if table[i] != value(first, i) {
-            return false;
-        }
-        i += 1;
-    }
-    true
+    table
+        .iter()
+        .enumerate()
+        .skip(from)
+        .all(|(i, byte)| *byte == value(first, i))
 }
 
 fn marks_as_found(marks: &[u16], first: u16, from: usize) -> bool {
-    let mut i = from;
-    while i < marks.len() {
-        if marks[i] != mark_value(first, i) {
-            return false;
-        }
-        i += 1;
-    }
-    true
+    marks
+        .iter()
+        .enumerate()
+        .skip(from)
+        .all(|(i, mark)| *mark == mark_value(first, i))
 }
 
 // Whether both tables of a side are as found past a count.
@@ -362,14 +357,7 @@ fn existential_kept(rows: &[u8], marks: &[u16], count: usize) -> bool
 }
 
 fn is_zero(table: &[u8]) -> bool {
-    let mut i = 0;
-    while i < table.len() {
-        if table[i] != 0 {
-            return false;
-        }
-        i += 1;
-    }
-    true
+    table.iter().all(|byte| *byte == 0)
 }
 
 fn print_side(
@@ -399,10 +387,8 @@ fn print_rows(rt: &HostRuntime, rows: &[u8], count: usize) -> io::Result<()> {
 // A space and the row's number, without leading zeros.
 fn print_row(rt: &HostRuntime, row: &[u8]) -> io::Result<()> {
     print(rt, b" ")?;
-    let mut left = row.len();
     let mut digits = 1;
-    while left > 0 {
-        left -= 1;
+    for left in (0..row.len()).rev() {
         digits = print_byte(rt, row[left], digits, left)?;
     }
     Ok(())
@@ -422,25 +408,18 @@ fn print_byte(rt: &HostRuntime, byte: u8, digits: usize, left: usize) -> io::Res
 }
 
 fn print_marks(rt: &HostRuntime, marks: &[u16], count: usize) -> io::Result<()> {
-    let end = lower(count, marks.len());
-    for i in 0..end {
-        print_mark(rt, marks[i])?;
+    for mark in marks.iter().take(count) {
+        print_mark(rt, *mark)?;
     }
     Ok(())
 }
 
 fn print_mark(rt: &HostRuntime, mark: u16) -> io::Result<()> {
-    print_number(rt, b" ", mark as u64)
-}
-
-fn lower(a: usize, b: usize) -> usize
-    ensures { result ≤ b }
-{
-    if a < b { a } else { b }
+    print_number(rt, b" ", u64::from(mark))
 }
 
 fn print_refusal(rt: &HostRuntime, cause: u32) -> io::Result<()> {
-    print_number(rt, b": refused ", cause as u64)?;
+    print_number(rt, b": refused ", u64::from(cause))?;
     print(rt, b"\n")
 }
 

@@ -1,16 +1,18 @@
 -- The whole text: that it fits, and what is written of what can be lent. Assumes nothing.
 use Prim.Native.Nat.{ℕ, ◌+◌, ◌≤◌, ◌<◌}
+use Rattle.std.specs.Prelude.{Err, Ok, Result}
+use Rattle.cause.specs.declared.Cause.{Cause}
+use Rattle.cause.specs.Cause.{number as number_of}
+use Rattle.cause.proofs.Numbers.{from_1}
 use native.Mathlib.Omega.{arith}
 use mathlib.Core.Path.{◌≡◌, refl, sym, ap, ◌∙◌}
-use mathlib.Core.Bool.{Bool, true, false, and-false}
+use mathlib.Core.Bool.{false, and-false}
 use mathlib.Core.List.{List, []}
 use borrow.Author.Tests.{eq-eqb, ne_eqb}
 use lib.Dec.{eqb, leb-zero}
 use lib.IntN.{ℤ}
 use lib.ListN.{length, take}
-use Rattle.formula.specs.Causes.{zeros, checked, number, cause_1, cause_2, cause_3, sizes, refused_if}
-use Rattle.formula.specs.declared.Check.{Check}
-use Rattle.formula.specs.declared.Check.TheVariants.{Accepted as Passed, Refused}
+use Rattle.formula.specs.Causes.{zeros, checked, number}
 use Rattle.formula.specs.declared.Formula.{Formula}
 use Rattle.formula.proofs.Accepted.{Accepted, accepted_sizes}
 use Rattle.buffer.specs.Buffer.{appended, place_behind}
@@ -34,31 +36,24 @@ parts_fit kinds literals names variables clauses a same small short =
     let few_entries = a.few_entries in
     omega (arith, p_line_length variables clauses, (decimal_short variables small).most, decimal_most 4 clauses (omega arith), prefix_most kinds names short, clauses_most names literals short)
 
-pub clauses_counted : (kinds : List ℕ) (literals : List ℤ) (f : Formula) → checked kinds literals ≡ Passed f → f.clauses ≡ zeros literals
+pub clauses_counted : (kinds : List ℕ) (literals : List ℤ) (f : Formula) → checked kinds literals ≡ Ok f → f.clauses ≡ zeros literals
 clauses_counted kinds literals f e = ap (λ (g : Formula). g.clauses) (accepted_sizes kinds literals e)
 
 -- ---- what is written of what is lent
-
-refused_not_zero : (a b c : Bool) (f : Formula) (n : ℕ) → refused_if a 1 (refused_if b 2 (refused_if c 3 (Passed f))) ≡ Refused n → eqb n 0 ≡ false
-refused_not_zero true b c f n e = let same : 1 ≡ n = cc in ne_eqb n 0 (λ z. omega arith)
-refused_not_zero false true c f n e = let same : 2 ≡ n = cc in ne_eqb n 0 (λ z. omega arith)
-refused_not_zero false false true f n e = let same : 3 ≡ n = cc in ne_eqb n 0 (λ z. omega arith)
-refused_not_zero false false false f n e = absurd (let z : ◌≡◌ {A = ℕ} 0 1 = cc in omega arith)
 
 module _ (kinds : List ℕ) (literals : List ℤ) (names : List ℕ) (variables : ℕ) where
   pub no_names : (length names ≡ length kinds → ⊥) → output kinds literals names variables ≡ []
   unfolding output
   no_names other = rw (ne_eqb (length names) (length kinds) other) refl
 
-  refused_number : (n : ℕ) → checked kinds literals ≡ Refused n → eqb (number (checked kinds literals)) 0 ≡ false
-  unfolding checked
-  refused_number n e = ap (λ (k : Check). eqb (number k) 0) e ∙ refused_not_zero (cause_1 kinds) (cause_2 literals) (cause_3 (length kinds) literals) (sizes kinds literals) n e
+  refused_number : (c : Cause) → checked kinds literals ≡ Err c → eqb (number (checked kinds literals)) 0 ≡ false
+  refused_number c e = ap (λ (k : Result Formula Cause). eqb (number k) 0) e ∙ ne_eqb (number_of c) 0 (λ z. omega (arith, from_1 c))
 
-  pub no_formula : (n : ℕ) → checked kinds literals ≡ Refused n → output kinds literals names variables ≡ []
+  pub no_formula : (c : Cause) → checked kinds literals ≡ Err c → output kinds literals names variables ≡ []
   unfolding output
-  no_formula n e = rw (refused_number n e, and-false (eqb (length names) (length kinds))) refl
+  no_formula c e = rw (refused_number c e, and-false (eqb (length names) (length kinds))) refl
 
-  pub a_text : (f : Formula) → length names ≡ length kinds → checked kinds literals ≡ Passed f → output kinds literals names variables ≡ written kinds literals names variables
+  pub a_text : (f : Formula) → length names ≡ length kinds → checked kinds literals ≡ Ok f → output kinds literals names variables ≡ written kinds literals names variables
   unfolding output
   a_text f same e = rw (eq-eqb (length names) (length kinds) same, e) refl
 

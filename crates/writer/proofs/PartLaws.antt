@@ -1,18 +1,16 @@
 -- The definition's bytes, part by part, as the code tests and reads. Assumes nothing.
-use Prim.Native.Nat.{ℕ, zero, suc, ◌+◌, ◌-◌, ◌≤◌, ◌<◌}
+use Prim.Native.Nat.{ℕ, zero, suc, ◌+◌, ◌-◌, ◌<◌}
 use native.Mathlib.Numerals.{sub-one}
 use native.Mathlib.Omega.{arith}
 use mathlib.Core.Path.{◌≡◌, refl, ap}
 use mathlib.Core.Bool.{Bool, true, false}
 use mathlib.Core.List.{List, [], ◌∷◌, ◌++◌, append_assoc}
 use borrow.Author.Tests.{eq-eqb, ne_eqb}
-use lib.IntN.{ℤ, pos, negsuc, nat_abs}
-use lib.ListN.{length, get_or, drop, length-append, drop_of_length-le}
-use Rattle.formula.specs.Literal.{negative, magnitude_at, negative_at}
+use lib.ListN.{length, get_or, drop, length-append}
 use Rattle.formula.proofs.Places.{drop_front}
 use Rattle.named.specs.Named.{signed}
 use Rattle.report.specs.Report.{ascii, decimal}
-use Rattle.writing.specs.Writing.{p_line, letter, unknown, blocks, prefix_lines, clause_lines}
+use Rattle.writing.specs.Writing.{p_line, letter, unknown, blocks, prefix_lines}
 use Rattle.writer.specs.Private.Steps.{entry}
 
 -- ---- the p line
@@ -55,13 +53,10 @@ module _ (before kind name : ℕ) where
             (letter kind),
       )
 
-pub next_unknown : (before : ℕ) (kinds names : List ℕ) (i : ℕ) → length names ≡ length kinds → i < length kinds
-    → blocks before (drop i kinds) (drop i names) ≡ unknown before (get_or kinds i 0) (get_or names i 0) ++ blocks (get_or kinds i 0) (drop (i + 1) kinds)
-    (drop (i + 1) names)
-next_unknown before kinds names i same below = rw (drop_front kinds i 0 below, drop_front names i 0 (omega arith)) refl
-
-pub no_unknown : (before : ℕ) (kinds names : List ℕ) (i : ℕ) → length kinds ≤ i → blocks before (drop i kinds) (drop i names) ≡ ascii "0\n" ++ []
-no_unknown before kinds names i past = rw (drop_of_length-le kinds past) refl
+pub next_unknown : (before : ℕ) (kinds names : List ℕ) (i : ℕ) {kind name : ℕ} → length names ≡ length kinds → i < length kinds
+    → kind ≡ get_or kinds i 0 → name ≡ get_or names i 0
+    → blocks before (drop i kinds) (drop i names) ≡ unknown before kind name ++ blocks kind (drop (i + 1) kinds) (drop (i + 1) names)
+next_unknown before kinds names i same below k n = rw (k, n, drop_front kinds i 0 below, drop_front names i 0 (omega arith)) refl
 
 pub prefix_none : (kinds names : List ℕ) → length kinds ≡ 0 → prefix_lines kinds names ≡ []
 prefix_none [] names e = refl
@@ -88,14 +83,3 @@ module _ (names : List ℕ) where
       entry names (signed minus m) ≡ ascii "-" ++ (decimal (get_or names (m - 1) 0) ++ ascii " ")
   entry_negative minus zero e other = absurd (other refl)
   entry_negative minus (suc m) e other = rw e (simp sub-one)
-
-  signed_again : (z : ℤ) → signed (negative z) (nat_abs z) ≡ z
-  signed_again (pos v) = refl
-  signed_again (negsuc v) = refl
-
-  pub next_entry : (literals : List ℤ) (i m : ℕ) (minus : Bool) → i < length literals → m ≡ magnitude_at literals i → minus ≡ negative_at literals i
-      → clause_lines names (drop i literals) ≡ entry names (signed minus m) ++ clause_lines names (drop (i + 1) literals)
-  next_entry literals i m minus below e f = rw (drop_front literals i (pos 0) below, e, f, signed_again (get_or literals i (pos 0))) refl
-
-  pub no_entry : (literals : List ℤ) (i : ℕ) → length literals ≤ i → clause_lines names (drop i literals) ≡ []
-  no_entry literals i past = rw (drop_of_length-le literals past) refl

@@ -1,7 +1,7 @@
 -- Bytes put one behind the other, and what is left to put. Assumes nothing.
 use Prim.Native.Nat.{ℕ, ◌+◌, ◌≤◌}
 use native.Mathlib.Omega.{arith}
-use mathlib.Core.Path.{◌≡◌, refl, sym, ap, subst, ◌∙◌}
+use mathlib.Core.Path.{◌≡◌, sym, ap, subst, ◌∙◌}
 use mathlib.Core.List.{[], ◌++◌, append-nil, append_assoc}
 use lib.ListN.{length, take, drop, length-append, length-take}
 use lib.Seq.{take_at}
@@ -42,9 +42,6 @@ pub record Left (all : Bytes) (place : ℕ) (before rest : Bytes) (end : ℕ) (a
   pub counted : end + length rest ≡ place + length all
   pub so_far : take end after ++ rest ≡ take place before ++ all
 
-pub left_all : (all : Bytes) (place : ℕ) (before : Bytes) → Left all place before all place before
-left_all all place before = record { sized = refl; counted = refl; so_far = refl }
-
 pub left_next : {all : Bytes} {place : ℕ} {before part rest whole : Bytes} {end next : ℕ} {now after : Bytes} → whole ≡ part ++ rest →
     Left all place before whole end now
     → Put part end now next after → length after ≡ length now → Left all place before rest next after
@@ -58,11 +55,6 @@ left_next {all} {place} {before} {part} {rest} {whole} {end} {next} {now} {after
           ap (λ (x : Bytes). x ++ rest) p.stands ∙ append_assoc (take end now) part rest ∙ ap (λ (x : Bytes). take end now ++ x) (sym e) ∙ l.so_far;
     }
 
-pub left_none : {all : Bytes} {place : ℕ} {before : Bytes} {end : ℕ} {after : Bytes} → Left all place before [] end after → Put all place before end after
-left_none {all} {place} {before} {end} {after} l =
-    let e = l.counted in
-    record { ends = omega arith; stands = sym (append-nil (take end after)) ∙ l.so_far }
-
 -- There is room for the next part, and for what is left.
 pub left_room : (part rest : Bytes) {all : Bytes} {place : ℕ} {before whole : Bytes} {end : ℕ} {now : Bytes} → whole ≡ part ++ rest →
     Left all place before whole end now
@@ -71,10 +63,6 @@ left_room part rest e l room =
     let a = l.sized in
     let b = l.counted in
     omega (arith, ap length e ∙ length-append part rest)
-
-pub left_ends : {all : Bytes} {place : ℕ} {before rest : Bytes} {end : ℕ} {after : Bytes} → rest ≡ [] → Left all place before rest end after →
-    Put all place before end after
-left_ends {all} {place} {before} {rest} {end} {after} e l = left_none (subst (λ (x : Bytes). Left all place before x end after) e l)
 
 -- What was put from the start on stands within.
 pub put_within : {bytes before after : Bytes} {end : ℕ} → Put bytes 0 before end after → end ≤ length after

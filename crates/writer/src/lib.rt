@@ -13,7 +13,7 @@ ghost use Rattle.writing.specs.WritingRight.{WritingRight};
 ghost use Rattle.writer.specs.Output.{output};
 ghost use Rattle.writer.specs.Private.Steps.{Put, entry, Known};
 
-use formula::{Check, Formula};
+use formula::Formula;
 
 // Room for every text: a p line of at most 23 bytes, 10 for an unknown and 4 besides, 7 for an entry.
 pub const LONGEST: usize = 27 + 10 * Formula::UNKNOWNS + 7 * Formula::ENTRIES;
@@ -28,8 +28,8 @@ pub fn write(kinds: &[u8], literals: &[i32], names: &[u16], variables: u32, out:
         return 0;
     }
     match Formula::check(kinds, literals) {
-        Check::Refused(_) => 0,
-        Check::Accepted(sizes) => {
+        Err(_) => 0,
+        Ok(sizes) => {
             let mut text = [0u8; LONGEST];
             let end = fill(kinds, literals, names, variables, sizes.clauses, &mut text);
             buffer::append(out, 0, &text[..end])
@@ -87,12 +87,9 @@ fn put_blocks(text: &mut [u8], at: usize, first: u8, kinds: &[u8], names: &[u16]
 {
     let mut end = at;
     let mut before = first;
-    let mut i = 0;
-    while i < kinds.len() {
-        let kind = kinds[i];
-        end = put_unknown(text, end, before, kind, names[i]);
-        before = kind;
-        i += 1;
+    for (kind, name) in kinds.iter().zip(names) {
+        end = put_unknown(text, end, before, *kind, *name);
+        before = *kind;
     }
     append(text, end, b"0\n")
 }
@@ -127,12 +124,14 @@ fn put_clauses(text: &mut [u8], at: usize, literals: &[i32], names: &[u16]) -> u
     ensures { Put (clause_lines names.now literals.now) at text.old result text.new }
 {
     let mut end = at;
-    let mut i = 0;
-    while i < literals.len() {
-        let magnitude = formula::magnitude_at(literals, i) as usize;
-        let negative = formula::negative_at(literals, i);
-        end = put_entry(text, end, names, magnitude, negative);
-        i += 1;
+    for literal in literals {
+        end = put_entry(
+            text,
+            end,
+            names,
+            literal.unsigned_abs() as usize,
+            *literal < 0,
+        );
     }
     end
 }

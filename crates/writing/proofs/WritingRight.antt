@@ -1,16 +1,18 @@
 -- The text that is written of a formula is read as that formula; and what is read of a text can be written. Assumes nothing.
 use Prim.Native.Nat.{ℕ, zero, suc, ◌≤◌, ◌<◌}
+use Rattle.std.specs.Prelude.{Result as Checked, Ok, Err}
 use native.Mathlib.Omega.{arith}
 use mathlib.Core.Path.{◌≡◌, refl, sym, ap, subst, ◌∙◌}
-use mathlib.Core.Bool.{Bool, true, false}
+use mathlib.Core.Bool.{true, false}
 use mathlib.Core.List.{List, [], ◌∷◌, ◌++◌, map, append_assoc}
 use borrow.Author.Tests.{le-ltb, le-leb}
 use lib.IntN.{ℤ, pos, nat_abs}
 use lib.ListN.{length, get_or, length-append}
+use Rattle.cause.specs.declared.Cause.{Cause}
+use Rattle.cause.proofs.Numbers.{from_1}
 use Rattle.formula.specs.Formula.{max_unknowns, max_clauses, max_entries, clauses}
-use Rattle.formula.specs.declared.Check.TheVariants.{Accepted as Passed}
 use Rattle.formula.specs.declared.Formula.{Formula}
-use Rattle.formula.specs.Causes.{zeros, is_zero as is_end, cause_1, cause_2, cause_3, sizes, refused_if, checked, number as number_of}
+use Rattle.formula.specs.Causes.{zeros, is_zero as is_end, checked, number as number_of}
 use Rattle.formula.proofs.Accepted.{Accepted, accepted}
 use Rattle.lines.specs.Lines.{Bytes, Line, ended as line_ended, lines, words}
 use Rattle.lines.specs.Shapes.{is_comment, is_problem, p_word, cnf_word}
@@ -34,16 +36,12 @@ use Rattle.writing.proofs.RangeLaws.{Any, Ranged, scan_ranged}
 
 -- ---- an accepted formula
 
-none_applies : (a b c : Bool) (f : Formula) → number_of (refused_if a 1 (refused_if b 2 (refused_if c 3 (Passed f)))) ≡ 0 → refused_if a 1 (refused_if b 2 (refused_if c 3 (Passed f))) ≡ Passed f
-none_applies true b c f e = absurd (omega (arith, e))
-none_applies false true c f e = absurd (omega (arith, e))
-none_applies false false true f e = absurd (omega (arith, e))
-none_applies false false false f e = refl
-
 pub accepted_so : (kinds : List ℕ) (literals : List ℤ) → number_of (checked kinds literals) ≡ 0 → Accepted kinds literals
-unfolding checked
-accepted_so kinds literals e =
-    accepted kinds literals (none_applies (cause_1 kinds) (cause_2 literals) (cause_3 (length kinds) literals) (sizes kinds literals) e)
+accepted_so kinds literals e = go (checked kinds literals) refl
+  where
+    go : (r : Checked Formula Cause) → checked kinds literals ≡ r → Accepted kinds literals
+    go (Ok f) same = accepted kinds literals same
+    go (Err c) same = absurd (omega (arith, from_1 c, ap number_of same, e))
 
 range_small : (variables : ℕ) (names : List ℕ) → variables < 100000 → Range variables names → Small names
 range_small variables [] few r i = omega arith

@@ -6,7 +6,6 @@ use native.Mathlib.Omega.{arith}
 use lib.ListN.{length, take, drop, length-append, length-take}
 use lib.Seq.{take_at}
 use Rattle.buffer.proofs.Laws.{appended_fits, behind_fits}
-use borrow.Author.Rules.{rules}
 use Rattle.account.proofs.append.Goals as goal
 
 pub returns : goal.returns

@@ -1,7 +1,6 @@
 -- `account::field` meets its contract: what `io::decimal` makes is the number's decimal form, of at most twenty bytes. Assumes nothing.
 use native.Mathlib.Omega.{arith}
 use Rattle.report.proofs.Decimal.{at_most_twenty, digits_decimal}
-use borrow.Author.Rules.{rules}
 use Rattle.account.proofs.field.Goals as goal
 
 pub append-requires : goal.append-requires

@@ -1,7 +1,6 @@
 -- `account::kind_line` meets its contract, by the kind. Assumes nothing.
 use native.Mathlib.Omega.{arith}
 use Rattle.account.proofs.LineLaws.{prefix_other}
-use borrow.Author.Rules.{rules}
 use Rattle.account.proofs.kind_line.Goals as goal
 
 pub returns-then-kind-eq0 : goal.returns-then-kind-eq0

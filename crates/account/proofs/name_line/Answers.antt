@@ -2,7 +2,6 @@
 use native.Mathlib.Omega.{arith}
 use lib.ListN.{take}
 use Rattle.account.proofs.LineLaws.{name_behind}
-use borrow.Author.Rules.{rules}
 use Rattle.account.proofs.name_line.Goals as goal
 
 pub returns : goal.returns

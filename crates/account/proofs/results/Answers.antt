@@ -1,6 +1,6 @@
 -- `results` meets its contract: the answer's number stands behind 01's two lines. Assumes nothing.
 use native.Mathlib.Omega.{arith}
-use mathlib.Core.Path.{refl, ◌∙◌}
+use mathlib.Core.Path.{◌∙◌}
 use Rattle.account.proofs.AccountLaws.{two_few, head_so}
 use Rattle.account.proofs.results.Goals as goal
 

@@ -4,7 +4,6 @@ use lib.ListN.{take}
 use Rattle.rows.specs.Row.{row_of}
 use Rattle.rows.specs.Table.{row_at}
 use Rattle.account.proofs.LineLaws.{row_behind}
-use borrow.Author.Rules.{rules}
 use Rattle.account.proofs.row_line.Goals as goal
 
 pub returns : goal.returns

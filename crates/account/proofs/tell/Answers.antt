@@ -1,11 +1,11 @@
 -- `account::tell` meets its contract: the lines that are delivered stand one behind the other. Assumes nothing.
 use Prim.Native.Nat.{ℕ}
-use mathlib.Core.Path.{refl, sym, ◌∙◌}
+use mathlib.Core.Path.{sym, ◌∙◌}
 use lib.Dec.{lit≤}
 use lib.ListN.{length-replicate}
 use lib.Seq.{length-take-le}
 use Rattle.account.proofs.AccountLaws.{delivered_short, lines_written}
-use Rattle.account.proofs.RoomLaws.{longest, front_fits, few_of, rest_few, inside, taken_many, side_so, side_ends, one_side, both_sides, all_lines}
+use Rattle.account.proofs.RoomLaws.{longest, front_fits, few_of, rest_few, inside, side_so, side_ends, one_side, both_sides, all_lines}
 use Rattle.account.proofs.tell.Goals as goal
 
 pub slice_bounds-front_lines-end : goal.slice_bounds-front_lines-end

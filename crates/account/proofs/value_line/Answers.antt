@@ -1,6 +1,5 @@
 -- `account::value_line` meets its contract, by the value. Assumes nothing.
 use native.Mathlib.Omega.{arith}
-use borrow.Author.Rules.{rules}
 use Rattle.account.proofs.value_line.Goals as goal
 
 pub returns-then-value : goal.returns-then-value

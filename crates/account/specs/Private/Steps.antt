@@ -1,12 +1,11 @@
 -- What private functions ask and promise. Assumes nothing.
-use Rattle.std.specs.Prelude.{ℕ, ◌+◌, ◌*◌, ◌-◌, ◌≤◌, ◌≡◌, List, [], ◌∷◌, ℤ, length, take}
+use Rattle.std.specs.Prelude.{ℕ, ◌+◌, ◌*◌, ◌-◌, ◌≤◌, ◌≡◌, List, [], ◌∷◌, ℤ, length, take, Ok}
 use Rattle.formula.specs.Formula.{max_unknowns, max_rows}
 use Rattle.formula.specs.Causes.{checked, sizes}
-use Rattle.formula.specs.declared.Check.TheVariants.{Accepted}
 use Rattle.rows.specs.Row.{row_of}
 use Rattle.rows.specs.Table.{row_at, rows_of}
 use Rattle.expansion.specs.Play.{Row}
-use Rattle.rounds.specs.Run.{Entry, Table, under_mark}
+use Rattle.rounds.specs.Run.{Table, under_mark}
 use Rattle.engine.specs.Outcome.{number_of}
 use Rattle.engine.specs.declared.run.Outcome.{Outcome}
 use Rattle.account.specs.Account.{each, Facts}
@@ -17,7 +16,7 @@ joined rows marks = each (λ (row : Row) (mark : ℕ). under_mark mark row ∷ [
 
 -- A formula that is accepted, with as many names as kinds.
 pub record Accepts (kinds : List ℕ) (literals : List ℤ) (names : List ℕ) : Type 0 where
-  pub passes : checked kinds literals ≡ Accepted (sizes kinds literals)
+  pub passes : checked kinds literals ≡ Ok (sizes kinds literals)
   pub as_many : length names ≡ length kinds
 
 -- What a run returned and left, read below the counts.

@@ -1,5 +1,4 @@
 -- The shared function, told the form of the text. Assumes nothing.
-use borrow.Author.Rules.{rules}
 use Rattle.text.specs.Reading.{read_gates}
 use Rattle.text.specs.Offered.{offered}
 use Rattle.answer.specs.Printed.{gates_printed, printed_as}

@@ -1,5 +1,4 @@
 -- The shared function, told the form of the text. Assumes nothing.
-use borrow.Author.Rules.{rules}
 use Rattle.text.specs.Reading.{read}
 use Rattle.text.specs.Offered.{offered}
 use Rattle.answer.specs.Printed.{printed, printed_as}

@@ -2,7 +2,7 @@
 use native.Mathlib.Omega.{arith}
 use mathlib.Core.Path.{ap, ◌∙◌}
 use mir.Syntax.{w32}
-use borrow.Author.Rules.{rules, Fits-under}
+use borrow.Author.Rules.{Fits-under}
 use Rattle.report.specs.Report.{put, put_count}
 use Rattle.answer.proofs.AnswerLaws.{zero_left, universal_few, existential_few, lines_so}
 use Rattle.answer.proofs.decided.Goals as goal

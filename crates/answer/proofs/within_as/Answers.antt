@@ -1,7 +1,6 @@
 -- `within_as` meets its contract: the text is read before its bytes are the work area. Assumes nothing.
-use mathlib.Core.Path.{refl, sym}
+use mathlib.Core.Path.{sym}
 use lib.Seq.{length-take-le}
-use borrow.Author.Rules.{rules}
 use Rattle.formula.specs.Formula.{work_size}
 use Rattle.answer.proofs.WithinLaws.{reading_usable, short_puts, past_puts, within_puts}
 use Rattle.answer.proofs.within_as.Goals as goal

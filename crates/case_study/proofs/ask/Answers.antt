@@ -1,13 +1,25 @@
 -- `case_study::ask` meets its contract. Assumes nothing.
-use Rattle.case_study.proofs.AskLaws.{shared_so, stopped_so, ran_so}
-use borrow.Author.Rules.{rules}
+use mathlib.Core.Path.{◌∙◌}
+use Rattle.case_study.proofs.AskLaws.{unclaimed, shared_so, unshared_so}
 use Rattle.case_study.proofs.ask.Goals as goal
+use Rattle.case_study.proofs.ask.Goals.{in-Some+else-serves, in_default}
 
 pub returns-then-serves : goal.returns-then-serves
-returns-then-serves c = shared_so c.args.setting c.args.bound c.args.depth c.args.claim c.args.kinds.now c.args.literals.now c.args.universal_rows.now c.args.universal_marks.now c.args.universal_counts.now c.args.existential_rows.now c.args.existential_marks.now c.args.existential_counts.now c.args.work.now c.args.made c.serves.result _ c.serves.ensures.value c.serves.ensures.work_after c.if-serves.true
-
-pub returns-then-is_reached : goal.returns-then-is_reached
-returns-then-is_reached c = stopped_so c.args.setting c.args.bound c.args.depth c.args.claim c.args.kinds.now c.args.literals.now c.args.universal_rows.now c.args.universal_marks.now c.args.universal_counts.now c.args.existential_rows.now c.args.existential_marks.now c.args.existential_counts.now c.args.work.now c.args.made c.serves.result _ c.serves.ensures.value c.serves.ensures.work_after c.if-serves.false c.is_reached.result c.is_reached.ensures c.if-is_reached.true
+returns-then-serves c =
+    let q = c.args in
+    shared_so q.setting q.bound q.depth q.claim q.kinds.now q.literals.now q.universal_rows.now q.universal_marks.now q.universal_counts.now
+    q.existential_rows.now q.existential_marks.now q.existential_counts.now q.work.now q.made c.in-Some.verdict c.in-Some.is c.serves.result _
+    c.serves.ensures.value c.serves.ensures.work_after c.if-serves.true
 
 pub returns : goal.returns
-returns c = ran_so c.args.setting c.args.bound c.args.depth c.args.claim c.args.kinds.now c.args.literals.now c.args.universal_rows.now c.args.universal_marks.now c.args.universal_counts.now c.args.existential_rows.now c.args.existential_marks.now c.args.existential_counts.now c.args.work.now c.args.made c.serves.result _ c.serves.ensures.value c.serves.ensures.work_after c.if-serves.false c.is_reached.result c.is_reached.ensures _ c.if-is_reached.false c.run_case.ensures
+returns c =
+    let q = c.args in
+    c.allowed.ensures
+    ∙ elim c.match-claim.branch [
+      | in-Some+else-serves w ↦ unshared_so q.setting q.bound q.depth q.claim q.kinds.now q.literals.now q.universal_rows.now q.universal_marks.now
+          q.universal_counts.now q.existential_rows.now q.existential_marks.now q.existential_counts.now q.work.now q.made w.in-Some.verdict w.in-Some.is
+          w.serves.result _ w.serves.ensures.value w.serves.ensures.work_after c.match-claim.work w.work-is w.if-serves.false
+      | in_default w ↦ unclaimed q.setting q.bound q.depth q.claim q.kinds.now q.literals.now q.universal_rows.now q.universal_marks.now
+          q.universal_counts.now q.existential_rows.now q.existential_marks.now q.existential_counts.now q.work.now q.made c.match-claim.work
+          w.in_default.not-Some w.work-is
+    ]

@@ -5,10 +5,6 @@ use mathlib.Core.Path.{refl}
 use lib.ListN.{length}
 use Rattle.case_study.proofs.NameLaws.{unnamed_most}
 use Rattle.case_study.proofs.ByteLaws.{descended, descended_all}
-use borrow.Author.Rules.{rules}
-use Rattle.case_study.proofs.descend.Reads as reads
-use Rattle.case_study.proofs.descend.Lts as lts
-use Rattle.case_study.proofs.unnamed.Reads as unnamed_reads
 use Rattle.case_study.proofs.descend.Goals as goal
 
 pub overflow_add-level : goal.overflow_add-level

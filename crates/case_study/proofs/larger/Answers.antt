@@ -1,7 +1,5 @@
 -- `case_study::larger` meets its contract. Assumes nothing.
 use Rattle.case_study.proofs.AskLaws.{second_larger, first_larger}
-use Rattle.case_study.proofs.larger.Reads as reads
-use Rattle.case_study.proofs.larger.Lts as lts
 use Rattle.case_study.proofs.larger.Goals as goal
 
 pub returns-then-a-b : goal.returns-then-a-b

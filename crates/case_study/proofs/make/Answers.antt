@@ -1,52 +1,38 @@
 -- `case_study::make` meets its contract. The loop's invariant: the table has the formula of the levels passed. Assumes nothing.
-use Prim.Native.Nat.{◌-◌}
 use native.Mathlib.Omega.{arith}
-use mathlib.Core.Path.{sym, ◌∙◌}
-use lib.ListN.{length}
+use mathlib.Core.Path.{◌∙◌}
 use Rattle.study.specs.Study.{formula_of}
 use Rattle.case_study.proofs.AcceptedLaws.{trimmed_accepted}
-use Rattle.case_study.proofs.MakeLaws.{few_accepted, Making, making_from, next_accepted, some_kind_left, some_value_left, next_known, made_next, made_all}
-use Rattle.case_study.proofs.make.Reads as reads
-use Rattle.case_study.proofs.make.Lts as lts
-use Rattle.case_study.proofs.narrow.Reads as narrow_reads
-use Rattle.case_study.proofs.settle.Reads as settle_reads
+use Rattle.case_study.proofs.MakeLaws.{few_accepted, making_from, next_accepted, some_kind_left, some_value_left, next_known, made_next}
 use Rattle.case_study.proofs.make.Goals as goal
 
 pub settle-entries-requires : goal.settle-entries-requires
 settle-entries-requires c = (c.requires.0, omega (arith, few_accepted c.args.kinds.now c.args.literals.now c.requires.0, c.requires.3))
 
 pub loop-i-init : goal.loop-i-init
-loop-i-init c = making_from c.args.setting c.args.kinds.now (formula_of c.args.setting.trim c.args.kinds.now c.args.literals.now) c.args.values.now _ _ _ c.settle-entries.ensures (c.settle-entries.auto.output ∙ c.requires.3) c.requires.4
-
-pub slice_bounds-narrow-count : goal.slice_bounds-narrow-count
-slice_bounds-narrow-count c = omega (arith, c.loop-i-test.true, c.requires.2)
-
-pub slice_bounds-narrow-start : goal.slice_bounds-narrow-start
-slice_bounds-narrow-start c = omega (arith, c.loop-i-test.true, c.requires.2)
-
-pub slice_bounds-narrow-end : goal.slice_bounds-narrow-end
-slice_bounds-narrow-end c = omega (arith, c.loop-i-test.true, c.requires.2)
-
-pub slice_bounds-narrow-count-in-loop-i : goal.slice_bounds-narrow-count-in-loop-i
-slice_bounds-narrow-count-in-loop-i c = omega (arith, c.loop-i-test.true)
+loop-i-init c = making_from c.args.setting c.args.kinds.now (formula_of c.args.setting.trim c.args.kinds.now c.args.literals.now) c.args.values.now _ _ _
+    c.settle-entries.ensures (c.settle-entries.auto.output ∙ c.requires.3) c.requires.4
 
 pub narrow-entries-requires : goal.narrow-entries-requires
-narrow-entries-requires c = (next_accepted c.args.setting c.args.kinds.now (formula_of c.args.setting.trim c.args.kinds.now c.args.literals.now) c.args.values.now c.loop-i.table c.loop-i.left c.loop-i.entries c.loop-i.i c.loop-i.invariant (trimmed_accepted c.args.setting.trim c.args.kinds.now c.args.literals.now c.requires.0) c.requires.2 c.requires.1, c.loop-i.invariant.made.inside, some_kind_left c.args.setting c.args.kinds.now (formula_of c.args.setting.trim c.args.kinds.now c.args.literals.now) c.args.values.now c.loop-i.table c.loop-i.left c.loop-i.entries c.loop-i.i c.loop-i.invariant (trimmed_accepted c.args.setting.trim c.args.kinds.now c.args.literals.now c.requires.0) c.requires.2 c.requires.1 c.loop-i-test.true, some_value_left c.args.setting c.args.kinds.now (formula_of c.args.setting.trim c.args.kinds.now c.args.literals.now) c.args.values.now c.loop-i.table c.loop-i.left c.loop-i.entries c.loop-i.i c.loop-i.invariant (trimmed_accepted c.args.setting.trim c.args.kinds.now c.args.literals.now c.requires.0) c.requires.2 c.requires.1 c.loop-i-test.true, next_known c.args.setting c.args.kinds.now (formula_of c.args.setting.trim c.args.kinds.now c.args.literals.now) c.args.values.now c.loop-i.table c.loop-i.left c.loop-i.entries c.loop-i.i c.loop-i.invariant (trimmed_accepted c.args.setting.trim c.args.kinds.now c.args.literals.now c.requires.0) c.requires.2 c.requires.1 c.loop-i-test.true, c.loop-i.invariant.table_long, c.loop-i.invariant.left_long)
-
-pub overflow_add-i : goal.overflow_add-i
-overflow_add-i c = omega arith
-
-pub loop-i-smaller : goal.loop-i-smaller
-loop-i-smaller c = omega (arith, c.loop-i-test.true)
+narrow-entries-requires c = (
+  next_accepted c.args.setting c.args.kinds.now (formula_of c.args.setting.trim c.args.kinds.now c.args.literals.now)
+      c.args.values.now c.loop-i.table c.loop-i.left c.loop-i.entries c.loop-i.i c.loop-i.invariant
+      (trimmed_accepted c.args.setting.trim c.args.kinds.now c.args.literals.now c.requires.0) c.requires.2 c.requires.1,
+  c.loop-i.invariant.made.inside,
+  some_kind_left c.args.setting c.args.kinds.now (formula_of c.args.setting.trim c.args.kinds.now c.args.literals.now) c.args.values.now c.loop-i.table
+      c.loop-i.left c.loop-i.entries c.loop-i.i c.loop-i.invariant (trimmed_accepted c.args.setting.trim c.args.kinds.now c.args.literals.now c.requires.0)
+      c.requires.2 c.requires.1 c.loop-i-test.true,
+  some_value_left c.args.setting c.args.kinds.now
+      (formula_of c.args.setting.trim c.args.kinds.now c.args.literals.now) c.args.values.now c.loop-i.table c.loop-i.left c.loop-i.entries c.loop-i.i
+      c.loop-i.invariant (trimmed_accepted c.args.setting.trim c.args.kinds.now c.args.literals.now c.requires.0) c.requires.2 c.requires.1 c.loop-i-test.true,
+  next_known c.args.setting c.args.kinds.now (formula_of c.args.setting.trim c.args.kinds.now c.args.literals.now) c.args.values.now c.loop-i.table
+      c.loop-i.left c.loop-i.entries c.loop-i.i c.loop-i.invariant (trimmed_accepted c.args.setting.trim c.args.kinds.now c.args.literals.now c.requires.0)
+      c.requires.2 c.requires.1 c.loop-i-test.true,
+  c.loop-i.invariant.table_long,
+  c.loop-i.invariant.left_long,
+)
 
 pub loop-i-preserved : goal.loop-i-preserved
-loop-i-preserved c = made_next c.args.setting c.args.kinds.now (formula_of c.args.setting.trim c.args.kinds.now c.args.literals.now) c.args.values.now c.loop-i.table c.loop-i.left c.loop-i.entries c.loop-i.i c.loop-i.invariant (trimmed_accepted c.args.setting.trim c.args.kinds.now c.args.literals.now c.requires.0) c.requires.2 c.requires.1 c.loop-i-test.true _ _ _ c.narrow-entries.ensures c.narrow-entries.auto.table c.narrow-entries.auto.left
-
-pub shape_of-table : goal.shape_of-table
-shape_of-table c = c.loop-i.invariant.table_long ∙ sym c.requires.3
-
-pub shape_of-left : goal.shape_of-left
-shape_of-left c = c.loop-i.invariant.left_long ∙ sym c.requires.4
-
-pub returns : goal.returns
-returns c = made_all c.args.setting c.args.kinds.now (formula_of c.args.setting.trim c.args.kinds.now c.args.literals.now) c.args.values.now c.loop-i.table c.loop-i.left c.loop-i.entries c.loop-i.i c.loop-i.invariant (trimmed_accepted c.args.setting.trim c.args.kinds.now c.args.literals.now c.requires.0) c.requires.2 c.requires.1 c.loop-i-test.false
+loop-i-preserved c = made_next c.args.setting c.args.kinds.now (formula_of c.args.setting.trim c.args.kinds.now c.args.literals.now) c.args.values.now
+    c.loop-i.table c.loop-i.left c.loop-i.entries c.loop-i.i c.loop-i.invariant (trimmed_accepted c.args.setting.trim c.args.kinds.now c.args.literals.now
+    c.requires.0) c.requires.2 c.requires.1 c.loop-i-test.true _ _ _ c.narrow-entries.ensures c.narrow-entries.auto.table c.narrow-entries.auto.left

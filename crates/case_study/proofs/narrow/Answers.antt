@@ -1,15 +1,8 @@
 -- `case_study::narrow` meets its contract. Assumes nothing.
 use Prim.Native.Nat.{◌-◌}
 use native.Mathlib.Omega.{arith}
-use lib.ListN.{length, take, drop}
+use lib.ListN.{take}
 use Rattle.case_study.proofs.MakeLaws.{few_accepted, part_accepted, fine_value, narrowed_accepted, narrowed}
-use borrow.Author.Rules.{rules}
-use Rattle.case_study.proofs.narrow.Reads as reads
-use Rattle.case_study.proofs.narrow.Lts as lts
-use Rattle.case_study.proofs.restrict.Reads as restrict_reads
-use Rattle.case_study.proofs.settle.Reads as settle_reads
-use Rattle.case_study.proofs.trim_at.Reads as trim_at_reads
-use Rattle.case_study.proofs.unnamed.Reads as unnamed_reads
 use Rattle.case_study.proofs.narrow.Goals as goal
 
 pub restrict-used-requires : goal.restrict-used-requires

@@ -1,8 +1,5 @@
 -- `case_study::nearer` meets its contract. Assumes nothing.
 use Rattle.case_study.proofs.LaidLaws.{nearer_below, nearer_above}
-use borrow.Author.Rules.{rules}
-use Rattle.case_study.proofs.nearer.Reads as reads
-use Rattle.case_study.proofs.nearer.Lts as lts
 use Rattle.case_study.proofs.nearer.Goals as goal
 
 pub returns-then-before-most : goal.returns-then-before-most

@@ -2,9 +2,6 @@
 use Prim.Native.Nat.{◌+◌}
 use native.Mathlib.Omega.{arith}
 use Rattle.case_study.proofs.AskLaws.{not_over, over}
-use borrow.Author.Rules.{rules}
-use Rattle.case_study.proofs.one_more.Reads as reads
-use Rattle.case_study.proofs.one_more.Lts as lts
 use Rattle.case_study.proofs.one_more.Goals as goal
 
 pub returns-then-runs-lt-MOST_RUNS : goal.returns-then-runs-lt-MOST_RUNS

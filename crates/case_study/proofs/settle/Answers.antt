@@ -1,11 +1,6 @@
 -- `case_study::settle` meets its contract. Assumes nothing.
 use lib.ListN.{length}
 use Rattle.case_study.proofs.LaidLaws.{settled_same, settled_trimmed, wrong_none}
-use borrow.Author.Rules.{rules}
-use Rattle.case_study.proofs.settle.Reads as reads
-use Rattle.case_study.proofs.settle.Lts as lts
-use Rattle.case_study.proofs.restrict.Reads as restrict_reads
-use Rattle.case_study.proofs.trim_into.Reads as trim_into_reads
 use Rattle.case_study.proofs.settle.Goals as goal
 
 pub restrict-requires : goal.restrict-requires

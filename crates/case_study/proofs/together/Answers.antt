@@ -1,10 +1,6 @@
 -- `case_study::together` meets its contract. Assumes nothing.
 use Prim.Native.Nat.{◌+◌}
-use native.Mathlib.Omega.{arith}
 use Rattle.case_study.proofs.AskLaws.{not_over, over}
-use borrow.Author.Rules.{rules}
-use Rattle.case_study.proofs.together.Reads as reads
-use Rattle.case_study.proofs.together.Lts as lts
 use Rattle.case_study.proofs.together.Goals as goal
 
 pub returns-then-sum-le-MOST_ROUNDS : goal.returns-then-sum-le-MOST_ROUNDS

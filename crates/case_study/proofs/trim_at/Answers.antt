@@ -1,10 +1,7 @@
 -- `case_study::trim_at` meets its contract. Assumes nothing.
 use mathlib.Core.Path.{sym, ap}
 use mathlib.Core.Bool.{Bool, cond}
-use Prim.Native.Nat.{ℕ}
 use borrow.Author.Tests.{eq-eqb, ne_eqb}
-use Rattle.case_study.proofs.trim_at.Reads as reads
-use Rattle.case_study.proofs.trim_at.Lts as lts
 use Rattle.case_study.proofs.trim_at.Goals as goal
 
 pub returns-then-passed-eq0 : goal.returns-then-passed-eq0

@@ -2,6 +2,7 @@
 -- place has been told. Cited by contracts of private functions alone.
 -- Assumes nothing.
 use Rattle.std.specs.Prelude.{ℕ, zero, suc, ◌+◌, ◌-◌, ◌≤◌, ◌<◌, ◌≡◌, Bool, true, false, cond, List, [], ◌∷◌, ◌++◌, ltb, ℤ, nat_abs, length, get_or, take, drop}
+use Rattle.std.specs.Prelude.{Option, Some, None}
 use Rattle.std.proofs.Math.Option.{some}
 use Rattle.formula.specs.Causes.{any}
 use Rattle.judge.specs.Judge.{outcome as judged, work_after}
@@ -11,6 +12,8 @@ use Rattle.case_rules.specs.Budget.{most_studies}
 use Rattle.restriction.specs.Outcome.{values_of}
 use Rattle.study.specs.declared.Setting.{Setting}
 use Rattle.case_study.specs.declared.Progress.{Progress}
+use Rattle.case_study.specs.declared.Reply.{Reply as Found}
+use Rattle.case_study.specs.declared.Reply.TheVariants.{Is, Undecided, Stopped}
 use Rattle.case_study.specs.Cases.{is_accepted, State, Reply, is, undecided, stopped, Told, told, second_value, first_value, half, agree, both_cases}
 use Rattle.case_study.specs.Cases.{Asking, by_run, sharing, decide_by}
 
@@ -103,25 +106,21 @@ pub record Climbed (kinds values : List ℕ) (depth : ℕ) (v : Bool) (after : L
       (decide_by s bound n (sharing v) (drop level kinds) (formula_at s kinds literals (path_of after level)) st)
   pub fewer : (level ≡ 0 → ⊥) → to_ask kinds (path_of after level) < to_ask kinds (path_of values depth)
 
--- The code's numbers of replies, and of ways to ask.
-abbrev pub reply_numbered : ℕ → Reply
-reply_numbered zero = is false
-reply_numbered (suc zero) = is true
-reply_numbered (suc (suc zero)) = undecided
-reply_numbered (suc (suc (suc n))) = stopped
+-- The code's replies, and how a claim asks: a verdict's claim by rows that serve twice, no claim by a run.
+abbrev pub replied : Found → Reply
+replied (Is v) = is v
+replied Undecided = undecided
+replied Stopped = stopped
 
-abbrev pub asking_numbered : ℕ → Asking
-asking_numbered zero = sharing false
-asking_numbered (suc zero) = sharing true
-asking_numbered (suc (suc n)) = by_run
+abbrev pub asking_by : Option Bool → Asking
+asking_by (Some v) = sharing v
+asking_by None = by_run
 
--- Whether the rows of the last run serve, by the number of the claim: universal ones for 0, existential ones for 1; and what the judge leaves.
-unfoldable pub shares : ℕ → List ℕ → List ℤ → List ℕ → List ℕ → Progress → List ℕ → Bool
-shares zero kinds literals A S made work = is_accepted (judged kinds literals 0 A made.universal work)
-shares (suc zero) kinds literals A S made work = is_accepted (judged kinds literals 1 S made.existential work)
-shares (suc (suc n)) kinds literals A S made work = false
+-- Whether the rows of the last run serve, by the claim: universal ones for false, existential ones for true; and what the judge leaves.
+unfoldable pub shares : Bool → List ℕ → List ℤ → List ℕ → List ℕ → Progress → List ℕ → Bool
+shares false kinds literals A S made work = is_accepted (judged kinds literals 0 A made.universal work)
+shares true kinds literals A S made work = is_accepted (judged kinds literals 1 S made.existential work)
 
-unfoldable pub shared_work : ℕ → List ℕ → List ℤ → List ℕ → List ℕ → Progress → List ℕ → List ℕ
-shared_work zero kinds literals A S made work = work_after kinds literals 0 A made.universal work
-shared_work (suc zero) kinds literals A S made work = work_after kinds literals 1 S made.existential work
-shared_work (suc (suc n)) kinds literals A S made work = work
+unfoldable pub shared_work : Bool → List ℕ → List ℤ → List ℕ → List ℕ → Progress → List ℕ → List ℕ
+shared_work false kinds literals A S made work = work_after kinds literals 0 A made.universal work
+shared_work true kinds literals A S made work = work_after kinds literals 1 S made.existential work

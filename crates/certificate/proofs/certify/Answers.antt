@@ -2,7 +2,6 @@
 use mathlib.Core.Path.{ap, ◌∙◌}
 use mathlib.Core.Bool.{false}
 use lib.ListN.{length}
-use borrow.Author.Rules.{rules}
 use Rattle.lines.specs.Lines.{Bytes}
 use Rattle.text.specs.Reading.{read, read_as}
 use Rattle.text.specs.Offered.{offered}

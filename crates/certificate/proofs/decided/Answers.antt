@@ -1,6 +1,5 @@
 -- `certificate::decided` meets its contract, from what the run promises. Assumes nothing.
 use Rattle.certificate.proofs.CertificateLaws.{few_unknowns, ran, work_so}
-use borrow.Author.Rules.{rules}
 use Rattle.certificate.proofs.decided.Goals as goal
 
 pub deliver-requires : goal.deliver-requires

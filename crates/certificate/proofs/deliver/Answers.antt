@@ -1,7 +1,6 @@
 -- `certificate::deliver` meets its contract, by the answer's number. Assumes nothing.
 use mathlib.Core.Path.{sym, ◌∙◌}
 use Rattle.certificate.proofs.CertificateLaws.{number_so, true_writes, true_delivered, false_writes, false_delivered, undecided_delivered}
-use borrow.Author.Rules.{rules}
 use Rattle.certificate.proofs.deliver.Goals as goal
 
 pub put_file-count-requires : goal.put_file-count-requires

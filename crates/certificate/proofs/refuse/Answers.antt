@@ -1,7 +1,6 @@
 -- `certificate::refuse` meets its contract. Assumes nothing.
 use Rattle.report.specs.Report.{refusal_line}
 use Rattle.certificate.proofs.CertificateLaws.{lines_delivered}
-use borrow.Author.Rules.{rules}
 use Rattle.certificate.proofs.refuse.Goals as goal
 
 pub returns : goal.returns

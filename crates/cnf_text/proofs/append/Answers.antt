@@ -1,5 +1,4 @@
 -- `cnf_text::append` meets its contract: the part fits. Assumes nothing.
-use borrow.Author.Rules.{rules}
 use Rattle.writer.proofs.PutLaws.{put_part}
 use Rattle.cnf_text.proofs.append.Goals as goal
 

@@ -2,7 +2,7 @@
 use Prim.Native.Nat.{◌-◌}
 use native.Mathlib.Omega.{arith}
 use mathlib.Core.Path.{sym, ap}
-use borrow.Author.Rules.{rules, Fits-under}
+use borrow.Author.Rules.{Fits-under}
 use mir.Syntax.{w64}
 use lib.ListN.{length}
 use Rattle.writer.proofs.PutLaws.{put_nothing, put_as}

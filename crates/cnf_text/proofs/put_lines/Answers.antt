@@ -1,7 +1,6 @@
 -- `cnf_text::put_lines` meets its contract. Assumes nothing.
 use native.Mathlib.Omega.{arith}
 use mathlib.Core.Path.{sym}
-use borrow.Author.Rules.{rules}
 use Rattle.writer.proofs.PutLaws.{put_then, put_as}
 use Rattle.cnf_text.proofs.EntryLaws.{walked_most, row_zero, row_other}
 use Rattle.cnf_text.proofs.put_lines.Goals as goal

@@ -1,7 +1,6 @@
 -- `cnf_text::put_literal` meets its contract. Assumes nothing.
 use native.Mathlib.Omega.{arith}
 use mathlib.Core.Path.{sym, ap}
-use borrow.Author.Rules.{rules}
 use lib.ListN.{length}
 use Rattle.writer.proofs.PutLaws.{put_then, put_as}
 use Rattle.cnf_text.proofs.EntryLaws.{literal_minus, literal_plain, minus_length}

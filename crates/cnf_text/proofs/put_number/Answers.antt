@@ -1,7 +1,6 @@
 -- `cnf_text::put_number` meets its contract: what `io::decimal` makes is the number's decimal form. Assumes nothing.
 use native.Mathlib.Omega.{arith}
 use mathlib.Core.Path.{ap, ◌∙◌}
-use borrow.Author.Rules.{rules}
 use lib.ListN.{length}
 use Rattle.report.proofs.Decimal.{digits_decimal}
 use Rattle.writer.proofs.PutLaws.{put_as}

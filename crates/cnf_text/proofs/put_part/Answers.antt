@@ -1,7 +1,6 @@
 -- `cnf_text::put_part` meets its contract. Assumes nothing.
 use native.Mathlib.Omega.{arith}
 use mathlib.Core.Path.{sym}
-use borrow.Author.Rules.{rules}
 use Rattle.cnf_text.proofs.PlaceLaws.{zeros_low}
 use Rattle.cnf_text.proofs.PartLaws.{part_put, first_most, times_fit}
 use Rattle.cnf_text.proofs.put_part.Goals as goal

@@ -1,6 +1,5 @@
 -- `cnf_text::put_spaced` meets its contract. Assumes nothing.
 use native.Mathlib.Omega.{arith}
-use borrow.Author.Rules.{rules}
 use lib.ListN.{length-append}
 use Rattle.report.specs.Report.{ascii, decimal}
 use Rattle.writer.proofs.PutLaws.{put_then}

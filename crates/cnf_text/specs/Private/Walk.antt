@@ -2,7 +2,7 @@
 -- of the side that searches, 2 and the number of its copy. A style is 0 for the clauses of claim 0, 1 and 2 for those of claim 1: that a further
 -- variable makes its clause false, and the literals of the clause that says that one of them is true. Assumes nothing.
 use Rattle.std.specs.Prelude.{ℕ, zero, suc, ◌+◌, ◌-◌, ◌*◌, ◌<◌, ◌≤◌, ◌≡◌, Bool, true, false, not, cond, ◌&&◌, List, [], ◌∷◌, ◌++◌, eqb, ltb, ℤ, pos, nat_abs}
-use Rattle.std.specs.Prelude.{length, get_or}
+use Rattle.std.specs.Prelude.{get_or}
 use Rattle.std.specs.Bool.{beq}
 use Rattle.formula.specs.Formula.{max_unknowns, prefix, clauses}
 use Rattle.formula.specs.Meaning.{bit}

@@ -1,12 +1,7 @@
 -- `codes::encode_clause` meets its contract. The loop's invariant: the codes written are those of the clause so far, and only
 -- they are marked as seen. Assumes nothing.
-use Prim.Native.Nat.{◌-◌}
-use lib.ListN.{length}
 use Rattle.codes.proofs.ReadLaws.{SoFar}
 use Rattle.codes.proofs.encode_clause.Given as goal
 
 abbrev pub invariant-loop-i : goal.invariant-loop-i
 invariant-loop-i l = SoFar l.literals l.from l.i l.start l.to l.initial.codes l.codes l.seen
-
-abbrev pub decreases-loop-i : goal.decreases-loop-i
-decreases-loop-i l = length l.literals - l.i

@@ -1,5 +1,5 @@
 -- `counts::count_up` meets its contract. The loop's invariant: it is counted up to the place. Assumes nothing.
-use Rattle.std.proofs.Common.{◌≡◌, ℕ, ◌-◌, ◌≤◌, Bool, List, length, get_or, set, sym, refl, ap, ◌∙◌, arith, length-set, rules}
+use Rattle.std.proofs.Common.{◌≡◌, ℕ, Bool, List, get_or, set, ap, ◌∙◌, arith, length-set}
 use Rattle.counts.specs.Counts.{was_yielded, one_more, counted_up}
 use Rattle.counts.proofs.CountLaws.{counted_up_there, counted_up_next, counted_up_most}
 use Rattle.counts.proofs.count_up.Goals as goal
@@ -14,21 +14,6 @@ counted came i counts₀ counts n yes_no inv is told =
     ∙ ap (λ (l : List ℕ). one_more (came i) (get_or l i 0)) inv
     ∙ ap (one_more (came i)) (counted_up_there came i counts₀)
 
-pub loop-i-init : goal.loop-i-init
-loop-i-init c = (refl, omega arith, refl)
-
-pub bounds-counts-i : goal.bounds-counts-i
-bounds-counts-i c = omega arith
-
-pub bounds-counts-i-in-loop-i : goal.bounds-counts-i-in-loop-i
-bounds-counts-i-in-loop-i c = omega arith
-
-pub overflow_step-i : goal.overflow_step-i
-overflow_step-i c = omega arith
-
-pub loop-i-smaller : goal.loop-i-smaller
-loop-i-smaller c = omega arith
-
 pub loop-i-preserved : goal.loop-i-preserved
 loop-i-preserved c =
     let given = c.args in
@@ -41,9 +26,6 @@ loop-i-preserved c =
       omega arith,
       length-set loop.counts loop.i c.one_more.result ∙ loop.invariant.2,
     )
-
-pub shape_of-counts : goal.shape_of-counts
-shape_of-counts c = c.loop-i.invariant.2
 
 pub returns : goal.returns
 returns c =

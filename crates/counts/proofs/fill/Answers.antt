@@ -1,6 +1,5 @@
 -- `counts::fill` meets its contract. The loop's invariant: it is filled up to the place. Assumes nothing.
-use Rattle.std.proofs.Common.{◌≡◌, ℕ, ◌-◌, ◌≤◌, max, List, length, set, sym, refl, ap, ◌∙◌, arith, length-set, rules}
-use Rattle.counts.specs.Counts.{filled}
+use Rattle.std.proofs.Common.{ℕ, List, set, sym, refl, ap, ◌∙◌, arith, length-set}
 use Rattle.counts.proofs.CountLaws.{filled_none, filled_next, filled_most}
 use Rattle.counts.proofs.fill.Goals as goal
 
@@ -8,15 +7,6 @@ pub loop-i-init : goal.loop-i-init
 loop-i-init c =
     let given = c.args in
     (sym (filled_none given.from given.from given.value given.counts.now (omega arith)), omega arith, omega arith, refl)
-
-pub bounds-counts-i : goal.bounds-counts-i
-bounds-counts-i c = omega arith
-
-pub overflow_step-i : goal.overflow_step-i
-overflow_step-i c = omega arith
-
-pub loop-i-smaller : goal.loop-i-smaller
-loop-i-smaller c = omega arith
 
 pub loop-i-preserved : goal.loop-i-preserved
 loop-i-preserved c =
@@ -28,9 +18,6 @@ loop-i-preserved c =
       omega arith,
       length-set loop.counts loop.i given.value ∙ loop.invariant.3,
     )
-
-pub shape_of-counts : goal.shape_of-counts
-shape_of-counts c = c.loop-i.invariant.3
 
 pub returns : goal.returns
 returns c =

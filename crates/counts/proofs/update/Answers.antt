@@ -1,5 +1,5 @@
 -- `counts::update` meets its contract. Assumes nothing.
-use Rattle.std.proofs.Common.{◌≡◌, ℕ, Bool, List, ap, ◌∙◌, rules}
+use Rattle.std.proofs.Common.{◌≡◌, ℕ, Bool, List, ap, ◌∙◌}
 use Rattle.counts.specs.Counts.{was_yielded, counted_up, filled, updated}
 use Rattle.counts.proofs.update.Goals as goal
 

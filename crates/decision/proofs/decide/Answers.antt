@@ -1,5 +1,4 @@
 -- `decision::decide` meets its contract. Assumes nothing.
-use borrow.Author.Rules.{rules}
 use Rattle.text.specs.Offered.{offered}
 use Rattle.engine.specs.Outcome.{areas}
 use Rattle.decision.proofs.DecidingLaws.{usable_so, decides_so}

@@ -1,6 +1,5 @@
 -- `decide_rows` meets its contract, from what `run` promises. Assumes nothing.
 use Rattle.decision.proofs.DecisionLaws.{ended_so}
-use borrow.Author.Rules.{rules}
 use Rattle.decision.proofs.decide_rows.Goals as goal
 
 pub returns : goal.returns

@@ -2,7 +2,6 @@
 use mathlib.Core.Path.{refl, sym}
 use lib.ListN.{length}
 use lib.Seq.{length-take-le}
-use borrow.Author.Rules.{rules}
 use Rattle.text.specs.Offered.{offered}
 use Rattle.engine.specs.Outcome.{areas}
 use Rattle.decision.proofs.DecidingLaws.{usable_so, front_there, within_so}

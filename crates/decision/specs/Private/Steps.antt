@@ -1,10 +1,9 @@
 -- What private functions ask for and promise: over a reading as the code has it, and tables with the formula at their front. Assumes nothing.
-use Rattle.std.specs.Prelude.{ℕ, ◌≤◌, ◌<◌, ◌≡◌, List, ℤ, length, take}
-use Rattle.text.specs.declared.Reading.{Reading}
-use Rattle.text.specs.declared.Reading.TheVariants.{Taken, Refused}
+use Rattle.std.specs.Prelude.{ℕ, ◌≤◌, ◌<◌, ◌≡◌, List, ℤ, length, take, Ok, Err}
+use Rattle.cause.specs.Cause.{number}
+use Rattle.text.specs.Reading.{Reading}
 use Rattle.engine.specs.Outcome.{Areas}
 use Rattle.study.specs.declared.Studied.{Studied}
-use Rattle.study.specs.Study.{studied}
 use Rattle.study.specs.StudyRight.{Studies}
 use Rattle.decision.specs.declared.Decision.{Decision}
 use Rattle.decision.specs.Deciding.{of_refusal, of_study}
@@ -17,8 +16,8 @@ pub record Usable (unknowns entries variables clauses : ℕ) (kinds : List ℕ) 
   pub clauses_fit : clauses < 4294967296
 
 abbrev pub ReadUsable : Reading → List ℕ → List ℤ → Type 0
-ReadUsable (Refused number line) kinds literals = line < 4294967296
-ReadUsable (Taken unknowns entries variables clauses) kinds literals = Usable unknowns entries variables clauses kinds literals
+ReadUsable (Err refusal) kinds literals = refusal.line < 4294967296
+ReadUsable (Ok t) kinds literals = Usable t.unknowns t.entries t.variables t.clauses kinds literals
 
 -- The counts and the setting fit 32 bits.
 pub record Small (r : Studied) : Type 0 where
@@ -37,5 +36,6 @@ pub record Studying (unknowns entries variables clauses : ℕ) (kinds : List ℕ
   pub studies : Studies kinds literals settings found result exit
 
 abbrev pub ReadDecides : Reading → List ℕ → List ℤ → List ℕ → Areas → Decision → Areas → Type 0
-ReadDecides (Refused number line) kinds literals settings found d exit = Refusing number line found d exit
-ReadDecides (Taken u e v c) kinds literals settings found d exit = Studying u e v c (take u kinds) (take e literals) settings found d exit
+ReadDecides (Err refusal) kinds literals settings found d exit = Refusing (number refusal.cause) refusal.line found d exit
+ReadDecides (Ok t) kinds literals settings found d exit =
+    Studying t.unknowns t.entries t.variables t.clauses (take t.unknowns kinds) (take t.entries literals) settings found d exit

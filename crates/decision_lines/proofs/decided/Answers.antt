@@ -1,6 +1,5 @@
 -- `decision_lines::decided` meets its contract. Assumes nothing.
 use mathlib.Core.Path.{ap}
-use borrow.Author.Rules.{rules}
 use Rattle.decision.specs.Deciding.{Ending}
 use Rattle.decision_lines.proofs.decided.Goals as goal
 

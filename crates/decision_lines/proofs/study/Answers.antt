@@ -1,6 +1,5 @@
 -- `decision_lines::study` meets its contract. Assumes nothing.
 use mathlib.Core.Path.{sym, ap, ◌∙◌}
-use borrow.Author.Rules.{rules}
 use Rattle.report.specs.Report.{put, put_count}
 use Rattle.decision_lines.proofs.LinesRight.{study_by}
 use Rattle.decision_lines.proofs.study.Goals as goal

@@ -1,6 +1,5 @@
 -- `decision_lines::study_within` meets its contract. Assumes nothing.
-use mathlib.Core.Path.{sym, ap, ◌∙◌}
-use borrow.Author.Rules.{rules}
+use mathlib.Core.Path.{ap, ◌∙◌}
 use Rattle.report.specs.Report.{put, put_count}
 use Rattle.text.specs.Offered.{offered}
 use Rattle.decision_lines.specs.Lines.{study_of}

@@ -1,11 +1,5 @@
-use borrow.Author.Rules.{rules}
 use Rattle.engine.specs.declared.run.Answer.TheVariants.{False, True, Spent, NoRoomUniversal, NoRoomExistential, Refused}
 use Rattle.decision_record.proofs.PutLaws.{charged_put, answer_put}
-use Rattle.decision_record.proofs.put.Reads as reads
-use Rattle.decision_record.proofs.put.Lts as lts
-use Rattle.decision_record.proofs.put_charge.Reads as put_charge_reads
-use Rattle.fee.proofs.fee.Reads as fee_reads
-use Rattle.report.proofs.refusal.Reads as refusal_reads
 use Rattle.decision_record.proofs.put.Goals as goal
 
 -- src/lib.rt:13:1

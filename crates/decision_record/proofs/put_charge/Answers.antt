@@ -1,24 +1,24 @@
-use borrow.Author.Rules.{rules}
-use Rattle.fee.specs.declared.Charge.TheVariants.{Cents, Refused}
+use Prim.Native.Nat.{ℕ}
+use mathlib.Core.Path.{ap, ◌∙◌}
+use Rattle.std.specs.Prelude.{Err, Ok}
+use Rattle.report.specs.Report.{refusal_line, put, put_count}
 use Rattle.decision_record.proofs.PutLaws.{charge_put}
-use Rattle.decision_record.proofs.put_charge.Reads as reads
-use Rattle.decision_record.proofs.put_charge.Lts as lts
-use Rattle.report.proofs.refusal.Reads as refusal_reads
-use Rattle.report.proofs.study_record.Reads as study_record_reads
 use Rattle.decision_record.proofs.put_charge.Goals as goal
 
 -- src/lib.rt:33:1
-pub returns-in-Cents : goal.returns-in-Cents
-returns-in-Cents c =
+pub returns-in-Ok : goal.returns-in-Ok
+returns-in-Ok c =
     let given = c.args in
-    let both = charge_put given.out.now given.answer given.rounds (Cents c.in-Cents.cents) c.in-Cents.is
+    let both = charge_put given.out.now given.answer given.rounds (Ok c.in-Ok.cents) c.in-Ok.is
     (c.study_record.ensures.value, c.study_record.ensures.out_after) in
     record { value = both.0; out_after = both.1 }
 
 -- src/lib.rt:33:1
-pub returns-in-Refused : goal.returns-in-Refused
-returns-in-Refused c =
+pub returns-in-Err : goal.returns-in-Err
+returns-in-Err c =
     let given = c.args in
-    let both = charge_put given.out.now given.answer given.rounds (Refused c.in-Refused.cause) c.in-Refused.is
-    (c.refusal.ensures.value, c.refusal.ensures.out_after) in
+    let both = charge_put given.out.now given.answer given.rounds (Err c.in-Err.cause) c.in-Err.is (
+      c.refusal.ensures.value ∙ ap (λ (n : ℕ). put_count (refusal_line n 0) given.out.now) c.number.ensures,
+      c.refusal.ensures.out_after ∙ ap (λ (n : ℕ). put (refusal_line n 0) given.out.now) c.number.ensures,
+    ) in
     record { value = both.0; out_after = both.1 }

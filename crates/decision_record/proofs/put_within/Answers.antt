@@ -1,22 +1,15 @@
-use borrow.Author.Rules.{rules}
 use native.Mathlib.Omega.{arith}
 use mathlib.Core.Path.{sym, ◌∙◌}
-use mathlib.Core.List.{List}
-use Prim.Native.Nat.{ℕ}
-use lib.ListN.{length, replicate}
+use lib.ListN.{replicate}
 use lib.Seq.{length-take-le}
 use Rattle.report.specs.Report.{put, put_count}
 use Rattle.text.specs.Offered.{offered}
 use Rattle.text.specs.Form.{form_read}
 use Rattle.decision.specs.Settings.{own_areas}
 use Rattle.decision.specs.Deciding.{front}
-use Rattle.decision_record.specs.Recorded.{recorded, kinds_of, decision_in, record_in}
+use Rattle.decision_record.specs.Recorded.{recorded, kinds_of, decision_in}
 use Rattle.decision_record.proofs.RecordedRight.{recorded_right}
 use Rattle.decision_record.proofs.WithinLaws.{few_unknowns, kinds_front, same_decision}
-use Rattle.decision_record.proofs.put_within.Reads as reads
-use Rattle.decision_record.proofs.put_within.Lts as lts
-use Rattle.decision.proofs.decide_within.Reads as decide_within_reads
-use Rattle.decision_record.proofs.put.Reads as put_reads
 use Rattle.decision_record.proofs.put_within.Goals as goal
 
 -- src/lib.rt:59:19

@@ -2,7 +2,7 @@
 use native.Mathlib.Omega.{arith}
 use mathlib.Core.Path.{ap, ◌∙◌}
 use mir.Syntax.{w32}
-use borrow.Author.Rules.{rules, Fits-under}
+use borrow.Author.Rules.{Fits-under}
 use Rattle.engine.specs.Numbers.{one_number}
 use Rattle.study.specs.declared.Studied.{Studied}
 use Rattle.door.proofs.StudyLaws.{number_fits}

@@ -1,7 +1,6 @@
 -- `vulzhenn_judge` meets its contract, in each case of what is found. Assumes nothing.
 use native.Mathlib.Omega.{arith}
 use mathlib.Core.Path.{sym, ◌∙◌}
-use borrow.Author.Rules.{rules}
 use Rattle.judgement.specs.declared.Finding.TheVariants.{NotBorneOut, Accepted, OtherFormula, Refused}
 use Rattle.door.proofs.WitnessLaws.{case_judged}
 use Rattle.door.proofs.vulzhenn_judge.Goals as goal

@@ -1,8 +1,8 @@
 -- `door::vulzhenn_study` meets its contract, from what `read` promises of the tables and `study_formula` of their fronts. Assumes nothing.
-use mathlib.Core.Path.{sym}
+use Prim.Native.Nat.{ℕ, ◌+◌}
+use mathlib.Core.Path.{sym, ap, ◌∙◌}
 use native.Mathlib.Omega.{arith}
 use lib.Seq.{length-take-le}
-use borrow.Author.Rules.{rules}
 use Rattle.text.proofs.FrontLaws.{read_refused, read_taken}
 use Rattle.door.proofs.DoorLaws.{refused_of_text}
 use Rattle.door.proofs.StudyLaws.{refused_study, taken_study}
@@ -11,28 +11,30 @@ use Rattle.door.proofs.vulzhenn_study.Goals as goal
 pub overflow_add-result : goal.overflow_add-result
 overflow_add-result c =
     let q = c.args in
-    omega (arith, (refused_of_text q.text.now c.in-Refused.number c.in-Refused.line (read_refused c.read.ensures.written c.in-Refused.is)).to_14)
+    omega (arith, c.number.ensures, (refused_of_text q.text.now _ _ (read_refused c.read.ensures.written c.in-Err.is)).to_14)
 
 pub slice_bounds-kinds-end : goal.slice_bounds-kinds-end
-slice_bounds-kinds-end c = (read_taken c.read.ensures.written c.in-Taken.is).kinds_there
+slice_bounds-kinds-end c = (read_taken c.read.ensures.written c.in-Ok.is).kinds_there
 
 pub slice_bounds-study_formula-end : goal.slice_bounds-study_formula-end
-slice_bounds-study_formula-end c = sym (length-take-le c.in-Taken.unknowns c.read.new.kinds (read_taken c.read.ensures.written c.in-Taken.is).kinds_there)
+slice_bounds-study_formula-end c = sym (length-take-le c.in-Ok.field-0.unknowns c.read.new.kinds (read_taken c.read.ensures.written c.in-Ok.is).kinds_there)
 
 pub slice_bounds-literals-end : goal.slice_bounds-literals-end
-slice_bounds-literals-end c = (read_taken c.read.ensures.written c.in-Taken.is).literals_there
+slice_bounds-literals-end c = (read_taken c.read.ensures.written c.in-Ok.is).literals_there
 
-pub slice_bounds-study_formula-end-in-Taken : goal.slice_bounds-study_formula-end-in-Taken
-slice_bounds-study_formula-end-in-Taken c = sym (length-take-le c.in-Taken.entries c.read.new.literals (read_taken c.read.ensures.written c.in-Taken.is).literals_there)
+pub slice_bounds-study_formula-end-in-Ok : goal.slice_bounds-study_formula-end-in-Ok
+slice_bounds-study_formula-end-in-Ok c = sym (length-take-le c.in-Ok.field-0.entries c.read.new.literals
+    (read_taken c.read.ensures.written c.in-Ok.is).literals_there)
 
-pub returns-in-Refused : goal.returns-in-Refused
-returns-in-Refused c =
+pub returns-in-Err : goal.returns-in-Err
+returns-in-Err c =
     let q = c.args in
-    let both = refused_study q.text.now q.work.now c.in-Refused.number c.in-Refused.line (read_refused c.read.ensures.written c.in-Refused.is) in
-    record { answered = both.0; left = both.1.0; right = both.1.1 }
+    let both = refused_study q.text.now q.work.now _ _ (read_refused c.read.ensures.written c.in-Err.is) in
+    record { answered = ap (λ (n : ℕ). 100 + n) c.number.ensures ∙ both.0; left = both.1.0; right = both.1.1 }
 
-pub returns-in-Taken : goal.returns-in-Taken
-returns-in-Taken c =
+pub returns-in-Ok : goal.returns-in-Ok
+returns-in-Ok c =
     let q = c.args in
-    let both = taken_study q.text.now q.work.now (read_taken c.read.ensures.written c.in-Taken.is) (c.study_formula.ensures.value, c.study_formula.ensures.work_after) in
+    let both = taken_study q.text.now q.work.now (read_taken c.read.ensures.written c.in-Ok.is)
+    (c.study_formula.ensures.value, c.study_formula.ensures.work_after) in
     record { answered = both.0; left = both.1.0; right = both.1.1 }

@@ -1,5 +1,4 @@
 -- `vulzhenn_witness` meets its contract, from what `certify` promises. Assumes nothing.
-use borrow.Author.Rules.{rules}
 use Rattle.door.proofs.WitnessLaws.{file_certified}
 use Rattle.door.proofs.vulzhenn_witness.Goals as goal
 

@@ -1,5 +1,8 @@
 -- What a run leaves, all rounds at once, is what its rounds leave one after the other: 02's C-15 and C-16 in their own words. Assumes nothing.
 use Prim.Native.Nat.{ℕ, ◌*◌}
+use Rattle.std.specs.Prelude.{Result}
+use Rattle.formula.specs.declared.Formula.{Formula}
+use Rattle.cause.specs.declared.Cause.{Cause}
 use native.Mathlib.Omega.{arith}
 use mathlib.Core.Path.{◌≡◌, refl, sym, ap, ◌∙◌}
 use mathlib.Core.Bool.{Bool, true, false, not, cond}
@@ -8,7 +11,6 @@ use lib.Dec.{eqb}
 use lib.ListN.{length, drop, replicate}
 use Rattle.formula.specs.Formula.{work_size, existential, universal}
 use Rattle.formula.specs.Causes.{number as cause_number, checked}
-use Rattle.formula.specs.declared.Check.{Check}
 use Rattle.rows.specs.Table.{zeroed}
 use Rattle.rounds.specs.Run.{run, highest}
 use Rattle.rounds.specs.GivenUp.{of_rows, of_marks, of_counts, cells}
@@ -40,7 +42,7 @@ module _ (g : Given) (passes : Passes g.kinds g.literals) (no_cause : cause g �
       (sym (later_cause _) ∙ no_cause)
     where
       later_cause : (later : ℕ) → cond (eqb (cause_number (checked g.kinds g.literals)) 0) later (cause_number (checked g.kinds g.literals)) ≡ later
-      later_cause later = ap (λ (c : Check). cond (eqb (cause_number c) 0) later (cause_number c)) passes
+      later_cause later = ap (λ (c : (Result Formula Cause)). cond (eqb (cause_number c) 0) later (cause_number c)) passes
 
   pub left_by_rounds : (r : ℕ) → after g r ≡ after_by_rounds g r
   unfolding row_bytes mark_numbers

@@ -1,5 +1,6 @@
 -- A table's bytes: the rows of the run stand in them, and what is read from them and written to them speaks of those rows. Assumes nothing.
 use Prim.Native.Nat.{ℕ, zero, suc, ◌+◌, ◌*◌, ◌≤◌, ◌<◌}
+use Rattle.std.specs.Prelude.{None, Some}
 use native.Mathlib.Omega.{arith}
 use mathlib.Core.Path.{◌≡◌, refl, sym, ap, subst, ◌∙◌}
 use mathlib.Core.Bool.{true, false, true≢false}
@@ -11,7 +12,6 @@ use Rattle.rows.specs.Row.{row_of, bytes_of}
 use Rattle.rows.specs.Table.{row_at, rows_of, table_of, room}
 use Rattle.rows.specs.Stray.{stray_rows}
 use Rattle.rows.specs.Access.{equal_rows, first_place}
-use Rattle.rows.specs.declared.Found.TheVariants.{At, Absent}
 use Rattle.rows.proofs.RowLaws.{IsRow, length_bytes_of, row_of_bytes_of, bytes_of_is_row}
 use Rattle.rows.proofs.TableLaws.{length_table_of, row_at_inside, length_rows_of, get_or_rows_of, none_stray_rows}
 use Rattle.rows.proofs.FindLaws.{equal_rows_true, equal_values_equal_rows, first_place_at, first_place_absent}
@@ -89,14 +89,14 @@ module _ (m : ℕ) (few : m ≤ max_unknowns) (rows : List Row) (rest : List ℕ
 
     -- A look-up among the first n rows.
     pub at_in : (n j p : ℕ) → n ≤ length rows → j < length others
-        → first_place (table_of rows ++ rest) n (table_of others ++ behind) j ≡ At p → In (get_or others j []) (take n rows)
+        → first_place (table_of rows ++ rest) n (table_of others ++ behind) j ≡ Some p → In (get_or others j []) (take n rows)
     at_in n j p hn hj e =
         let (below, equal, none) = first_place_at (table_of rows ++ rest) n (table_of others ++ behind) j p e in
         let here : get_or (take n rows) p [] ≡ get_or others j [] = get_or-take n rows p [] below ∙ equal_values p j (omega arith) hj equal in
         subst (λ (x : Row). In x (take n rows)) here (in_of_place (take n rows) p [] (omega (arith, length-take-le n rows hn)))
 
     pub absent_not_in : (n j : ℕ) → n ≤ length rows → j < length others
-        → first_place (table_of rows ++ rest) n (table_of others ++ behind) j ≡ Absent → In (get_or others j []) (take n rows) → ⊥
+        → first_place (table_of rows ++ rest) n (table_of others ++ behind) j ≡ None → In (get_or others j []) (take n rows) → ⊥
     absent_not_in n j hn hj e h =
         let (p, below, here) = place_of_in (get_or others j []) (take n rows) [] h in
         let hp : p < n = omega (arith, length-take-le n rows hn) in

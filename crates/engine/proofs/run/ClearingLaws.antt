@@ -16,6 +16,7 @@ use Rattle.rows.proofs.ZeroedLaws.{length_zeroed, zeroed_again, drop_zeroed, zer
 use Rattle.rows.proofs.TableLaws.{length_table_of}
 use Rattle.rounds.specs.Run.{Entry, Table, rows, clears}
 use Rattle.engine.specs.declared.run.Step.{Step}
+use Rattle.engine.specs.declared.run.Step.TheVariants.{Grown as GrownTo}
 use Rattle.engine.specs.Outcome.{row_bytes, mark_numbers}
 use Rattle.engine.specs.Private.Growing.{Passes, HoldsRows, Holds, Blank, Half, no_model, no_room, grows, half_of, Extended, Extends, ExtendsUniversal}
 use Rattle.engine.proofs.run.GrowingLaws.{length_row_bytes, length_mark_numbers}
@@ -189,20 +190,20 @@ module _ (kinds : List ℕ) (t : Table) (found found_marks R M : List ℕ) (held
           in_marks = marks_left ∙ held.in_marks;
         }
 
-    stopped : (step.end ≡ 2 → ⊥) → Extended kinds universal t h found found_marks (record { end = step.end; count = n }) R' M' W
+    stopped : ((k : ℕ) → step ≡ GrownTo k → ⊥) → Extended kinds universal t h found found_marks step R' M' W
     stopped stops = go h made
       where
         go : (k : Half) → Extended kinds universal q k from.behind from.marks_behind step R' M' W
-            → Extended kinds universal t k found found_marks (record { end = step.end; count = n }) R' M' W
-        go no_model m = record { ended = m.ended; counted = counted; holds = left_as_it_was m.holds; work_long = m.work_long }
-        go no_room m = record { ended = m.ended; counted = counted; holds = left_as_it_was m.holds; work_long = m.work_long }
-        go (grows u) m = absurd (stops m.ended)
+            → Extended kinds universal t k found found_marks step R' M' W
+        go no_model m = record { ended = m.ended; holds = left_as_it_was m.holds; work_long = m.work_long }
+        go no_room m = record { ended = m.ended; holds = left_as_it_was m.holds; work_long = m.work_long }
+        go (grows u) m = absurd (stops (length u) m.ended)
 
     -- With the places given up zero, the table stands over what was found.
-    given_up : (u : Table) → step.count ≡ length u → Holds kinds universal u from.behind from.marks_behind R' M'
-        → Holds kinds universal u found found_marks (rows_given_up R' M' step.count n) (marks_given_up R' M' step.count n)
+    given_up : (u : Table) (to : ℕ) → to ≡ length u → Holds kinds universal u from.behind from.marks_behind R' M'
+        → Holds kinds universal u found found_marks (rows_given_up R' M' to n) (marks_given_up R' M' to n)
     unfolding rows_given_up marks_given_up row_bytes mark_numbers
-    given_up u counted_u after =
+    given_up u to counted_u after =
         let in_room : length u ≤ room found = omega (arith, after.in_rows.in_room, from.same_room) in
         let rows_long : length R' ≡ length from.behind = ap length after.in_rows.in_bytes ∙ length_row_bytes u from.behind
         after.in_rows.in_room in
@@ -232,15 +233,14 @@ module _ (kinds : List ℕ) (t : Table) (found found_marks R M : List ℕ) (held
               ∙ ap (mark_numbers u) from.zeroed_marks;
         }
 
-    grown : step.end ≡ 2
-        → Extended kinds universal t h found found_marks step (rows_given_up R' M' step.count n) (marks_given_up R' M' step.count n) W
-    grown goes = go h made
+    grown : (to : ℕ) → step ≡ GrownTo to → Extended kinds universal t h found found_marks step (rows_given_up R' M' to n) (marks_given_up R' M' to n) W
+    grown to goes = go h made
       where
         go : (k : Half) → Extended kinds universal q k from.behind from.marks_behind step R' M' W
-            → Extended kinds universal t k found found_marks step (rows_given_up R' M' step.count n) (marks_given_up R' M' step.count n) W
-        go no_model m = absurd (omega (arith, m.ended))
-        go no_room m = absurd (omega (arith, m.ended))
-        go (grows u) m = record { ended = m.ended; counted = m.counted; holds = given_up u m.counted m.holds; work_long = m.work_long }
+            → Extended kinds universal t k found found_marks step (rows_given_up R' M' to n) (marks_given_up R' M' to n) W
+        go no_model m = let e = m.ended in cc
+        go no_room m = let e = m.ended in cc
+        go (grows u) m = record { ended = m.ended; holds = given_up u to (let e = m.ended in cc) m.holds; work_long = m.work_long }
 
 -- What `extend` makes of the rows that the round keeps.
 module _ (kinds : List ℕ) (literals : List ℤ) (preferences others : List ℕ) (other_count : ℕ) (R M : List ℕ) (n clear_every r mark : ℕ) (work : List ℕ)
@@ -270,28 +270,27 @@ module _ (kinds : List ℕ) (literals : List ℤ) (preferences others : List ℕ
         (extends from q from_found on.behind on.marks_behind passes counted_from (kept_is ∙ counted_kept t counted (clears clear_every r)) held_from
         on.held long)
 
-    stopped_so : (step.end ≡ 2 → ⊥)
-        → Extended kinds universal t (half_of kinds literals preferences universal place mark from q) found found_marks (record { end = step.end; count = n })
-        R' M' W
+    stopped_so : ((k : ℕ) → step ≡ GrownTo k → ⊥)
+        → Extended kinds universal t (half_of kinds literals preferences universal place mark from q) found found_marks step R' M' W
     stopped_so = stopped kinds t found found_marks R M held blank q on _ n counted step R' M' W made
 
-    grown_so : step.end ≡ 2
-        → Extended kinds universal t (half_of kinds literals preferences universal place mark from q) found found_marks
-        (record { end = step.end; count = step.count }) (rows_given_up R' M' step.count n) (marks_given_up R' M' step.count n) W
+    grown_so : (to : ℕ) → step ≡ GrownTo to
+        → Extended kinds universal t (half_of kinds literals preferences universal place mark from q) found found_marks step
+        (rows_given_up R' M' to n) (marks_given_up R' M' to n) W
     grown_so = grown kinds t found found_marks R M held blank q on _ n counted step R' M' W made
 
-  pub universal_stopped : (step.end ≡ 2 → ⊥) → Result (record { end = step.end; count = n }) R' M'
+  pub universal_stopped : ((k : ℕ) → step ≡ GrownTo k → ⊥) → Result step R' M'
   universal_stopped stops from t from_found found found_marks place passes counted_from counted held_from held blank room_is long =
       stopped_so from t from_found found found_marks place passes counted_from counted held_from held blank room_is long stops
 
-  pub universal_grown : step.end ≡ 2 → (rows_left marks_left : List ℕ) → rows_left ≡ rows_given_up R' M' step.count n
-      → marks_left ≡ marks_given_up R' M' step.count n → Result (record { end = step.end; count = step.count }) rows_left marks_left
-  universal_grown goes rows_left marks_left on_rows on_marks from t from_found found found_marks place passes counted_from counted held_from held blank room_is
+  pub universal_grown : (to : ℕ) → step ≡ GrownTo to → (rows_left marks_left : List ℕ) → rows_left ≡ rows_given_up R' M' to n
+      → marks_left ≡ marks_given_up R' M' to n → Result step rows_left marks_left
+  universal_grown to goes rows_left marks_left on_rows on_marks from t from_found found found_marks place passes counted_from counted held_from held blank
+      room_is
       long =
-      let made_so = grown_so from t from_found found found_marks place passes counted_from counted held_from held blank room_is long goes in
+      let made_so = grown_so from t from_found found found_marks place passes counted_from counted held_from held blank room_is long to goes in
       record {
         ended = made_so.ended;
-        counted = made_so.counted;
         holds =
             record {
               in_rows =

@@ -1,12 +1,13 @@
 -- Return counts of a side's step: from what the step leaves to what its update of the counts makes of them. Assumes nothing.
 use Prim.Native.Nat.{ℕ, suc, ◌+◌, ◌-◌, ◌*◌, ◌^◌, ◌≤◌, ◌<◌}
+use Rattle.std.specs.Prelude.{Option as CodeOption, None, Some}
 use native.Mathlib.Omega.{arith}
 use native.Mathlib.Nat.{add-zero}
 use mathlib.Core.Path.{◌≡◌, refl, sym, ap, subst, ◌∙◌}
 use mathlib.Core.Bool.{Bool, true, false, cond, false≢true}
 use mathlib.Core.List.{List, [], ◌∷◌, ◌++◌, map}
 use mathlib.Core.Option.{Option, none, some}
-use lib.Dec.{eqb, leb}
+use lib.Dec.{leb}
 use lib.IntN.{ℤ}
 use lib.ListN.{length, get_or, take, drop, replicate, length-map}
 use lib.Seq.{take_all}
@@ -16,8 +17,6 @@ use Rattle.formula.specs.Causes.{count}
 use Rattle.preference.specs.Preference.{prefer}
 use Rattle.rows.specs.Table.{table_of, room, zeroed}
 use Rattle.rows.specs.Access.{first_place}
-use Rattle.rows.specs.declared.Found.{Found}
-use Rattle.rows.specs.declared.Found.TheVariants.{At, Absent}
 use Rattle.expansion.specs.OtherSide.{side_of}
 use Rattle.expansion.specs.Play.{Row}
 use Rattle.expansion.specs.Copies.{among, fresh}
@@ -33,14 +32,26 @@ use Rattle.rounds.specs.Claim.{Stands}
 use Rattle.rounds.proofs.GrowthLaws.{sized_found}
 use Rattle.rounds.proofs.TableLaws.{rows_under_mark, stands_in, stands_append}
 use Rattle.engine.specs.declared.run.Step.{Step}
+use Rattle.engine.specs.declared.run.Step.TheVariants.{NoModel as WithoutModel, NoRoom as WithoutRoom, Grown as GrownTo}
 use Rattle.engine.specs.Outcome.{row_bytes}
 use Rattle.engine.specs.Private.Growing.{HoldsRows, Half, no_model, no_room, grows, half, half_fit, half_table, half_end, Extended, Extends}
 use Rattle.engine.specs.Private.Growing.{ExtendsUniversal}
-use Rattle.engine.specs.Private.Counting.{Packed, Packs, tallied, Counted, half_came, stood, Tallies, TalliesUniversal}
+use Rattle.engine.specs.Private.Counting.{Packed, Packs, tallied, Counted, half_came, Tallies, TalliesUniversal}
 use Rattle.engine.proofs.run.ByteLaws.{Wide, at_in, absent_not_in}
 use Rattle.engine.proofs.run.GrowingLaws.{wide_of_sized}
 use Rattle.engine.proofs.run.ExtendLaws.{few_unknowns, work_is}
 use Rattle.engine.proofs.run.TableClaim.{place_below, row_there}
+
+-- How many rows stood when a step's search was counted, and how many stand after it: without room as many as there were.
+abbrev stood : Step → ℕ → ℕ → ℕ
+stood WithoutModel kept count = count
+stood WithoutRoom kept count = count
+stood (GrownTo end) kept count = kept
+
+abbrev rows_after : Step → ℕ → ℕ
+rows_after WithoutModel count = count
+rows_after WithoutRoom count = count
+rows_after (GrownTo end) count = end
 
 length_rows : (t : Table) → length (rows t) ≡ length t
 length_rows [] = refl
@@ -63,13 +74,13 @@ module _ (m : ℕ) (few : m ≤ max_unknowns) (new : List Row) (rest : List ℕ)
       all : take (length new) new ≡ new
       all = take_all (length new) new (omega arith)
 
-      by_place : (f : Found) → first_place (table_of new ++ rest) (length new) (row_bytes u found) i ≡ f → is_place f ≡ among x.row new
-      by_place (At p) e =
+      by_place : (f : CodeOption ℕ) → first_place (table_of new ++ rest) (length new) (row_bytes u found) i ≡ f → is_place f ≡ among x.row new
+      by_place (Some p) e =
           sym (in_among x.row new
           (subst (λ (l : List Row). In x.row l) all
           (subst (λ (r : Row). In r (take (length new) new)) here
           (at_in m few new rest new_wide (rows u) (drop (16 * length u) found) u_wide (length new) i p (omega arith) below e))))
-      by_place Absent e =
+      by_place None e =
           sym (not_in_among x.row new (λ h.
           absent_not_in m few new rest new_wide (rows u) (drop (16 * length u) found) u_wide (length new) i (omega arith) below e
           (subst (λ (r : Row). In r (take (length new) new)) (sym here) (subst (λ (l : List Row). In x.row l) (sym all) h))))
@@ -151,13 +162,13 @@ module _ (t : Table) (came : Row → ℕ) (base counts : List ℕ) (counted : Co
     abbrev Tallied : Option (List Row) → List ℕ → Type 0
     Tallied s left = left ≡ tallied (half_came cleared (half place r (cond cleared [] t) s) s came) (half_table t (half place r (cond cleared [] t) s)) base
 
-    pub stopped_tallied : (s : Option (List Row)) → Made s → result.end ≡ 0 → Tallied s counts
+    pub stopped_tallied : (s : Option (List Row)) → Made s → result ≡ WithoutModel → Tallied s counts
     stopped_tallied none made e = tally_none cleared
     stopped_tallied (some new) made e = go (leb (length (grown r (cond cleared [] t) new)) place) made.ended
       where
-        go : (v : Bool) → result.end ≡ half_end (half_fit (cond v (some (grown r (cond cleared [] t) new)) none)) → Tallied (some new) counts
-        go true f = absurd (omega arith)
-        go false f = absurd (omega arith)
+        go : (v : Bool) → result ≡ half_end (half_fit (cond v (some (grown r (cond cleared [] t) new)) none)) → Tallied (some new) counts
+        go true f = cc
+        go false f = cc
 
     module _ (new : List Row) (sized : Sized (count side (prefix kinds)) new) (packed : Packed (some new) W) where
       abbrev m : ℕ
@@ -173,19 +184,18 @@ module _ (t : Table) (came : Row → ℕ) (base counts : List ℕ) (counted : Co
       new_wide = wide_of_sized m new sized
 
       full : Extended kinds side t no_room found found_marks result R M W
-          → after (stood result.end (length (cond cleared [] t)) (length t)) result.count ≡ tallied (half_came cleared no_room (some new) came) t base
+          → after (stood result (length (cond cleared [] t)) (length t)) (rows_after result (length t)) ≡ tallied (half_came cleared no_room (some new) came) t
+          base
       full made =
-          ap (λ (e : ℕ). after (stood e (length (cond cleared [] t)) (length t)) result.count) made.ended
-          ∙ ap (after (length t)) made.counted
+          ap (λ (s : Step). after (stood s (length (cond cleared [] t)) (length t)) (rows_after s (length t))) made.ended
           ∙ by_packed (length t) (length t)
           ∙ tally_full m few new new_wide packed.0 cleared R found made.holds.in_rows.sized made.holds.in_rows.in_bytes
 
       grew : (b : Bool) → cleared ≡ b → Extended kinds side t (grows (grown r (cond b [] t) new)) found found_marks result R M W
-          → after (stood result.end (length (cond b [] t)) (length t)) result.count
+          → after (stood result (length (cond b [] t)) (length t)) (rows_after result (length t))
           ≡ tallied (half_came b (grows (grown r (cond b [] t) new)) (some new) came) (grown r (cond b [] t) new) base
       grew b is made =
-          ap (λ (e : ℕ). after (stood e (length (cond b [] t)) (length t)) result.count) made.ended
-          ∙ ap (after (length (cond b [] t))) made.counted
+          ap (λ (s : Step). after (stood s (length (cond b [] t)) (length t)) (rows_after s (length t))) made.ended
           ∙ by_packed (length (cond b [] t)) (length (grown r (cond b [] t) new))
           ∙ go b is made.holds.in_rows
         where
@@ -200,21 +210,21 @@ module _ (t : Table) (came : Row → ℕ) (base counts : List ℕ) (counted : Co
       abbrev halved : Bool → Half
       halved v = half_fit (cond v (some (grown r (cond cleared [] t) new)) none)
 
-      found_tallied : Made (some new) → Tallied (some new) (after (stood result.end (length (cond cleared [] t)) (length t)) result.count)
+      found_tallied : Made (some new) → Tallied (some new) (after (stood result (length (cond cleared [] t)) (length t)) (rows_after result (length t)))
       found_tallied = go (leb (length (grown r (cond cleared [] t) new)) place)
         where
           go : (v : Bool) → Extended kinds side t (halved v) found found_marks result R M W
-              → after (stood result.end (length (cond cleared [] t)) (length t)) result.count
+              → after (stood result (length (cond cleared [] t)) (length t)) (rows_after result (length t))
               ≡ tallied (half_came cleared (halved v) (some new) came) (half_table t (halved v)) base
           go true made = grew cleared refl made
           go false made = full made
 
     pub search_tallied : (s : Option (List Row)) (n : ℕ) → ((new : List Row) → s ≡ some new → Sized (count side (prefix kinds)) new × (n ≡ length new))
-        → Packed s W → Made s → (result.end ≡ 0 → ⊥)
-        → Tallied s (updated (was_yielded R W n) (stood result.end (length (cond cleared [] t)) (length t)) result.count (length t) counts)
+        → Packed s W → Made s → (result ≡ WithoutModel → ⊥)
+        → Tallied s (updated (was_yielded R W n) (stood result (length (cond cleared [] t)) (length t)) (rows_after result (length t)) (length t) counts)
     search_tallied none n yields packed made found_one = absurd (found_one made.ended)
     search_tallied (some new) n yields packed made found_one =
-        ap (λ (k : ℕ). updated (was_yielded R W k) (stood result.end (length (cond cleared [] t)) (length t)) result.count (length t) counts)
+        ap (λ (k : ℕ). updated (was_yielded R W k) (stood result (length (cond cleared [] t)) (length t)) (rows_after result (length t)) (length t) counts)
         (yields new refl).1
         ∙ found_tallied new (yields new refl).0 packed made
 
@@ -241,12 +251,10 @@ yielded_rows kinds literals preferences side from n counted new e =
       counted ∙ sym (length_rows from) ∙ sym (ap length model.2 ∙ length-map (rows from) _),
     )
 
-stood_all : (end n : ℕ) → n ≡ stood end n n
-stood_all end n = go (eqb end 2)
-  where
-    go : (b : Bool) → n ≡ cond b n n
-    go true = refl
-    go false = refl
+stood_all : (s : Step) (n : ℕ) → n ≡ stood s n n
+stood_all WithoutModel n = refl
+stood_all WithoutRoom n = refl
+stood_all (GrownTo k) n = refl
 
 length_kept : (b : Bool) (t : Table) → cond b 0 (length t) ≡ length (cond b [] t)
 length_kept true t = refl
@@ -257,47 +265,55 @@ module _ (kinds : List ℕ) (literals : List ℤ) (preferences others : List ℕ
   abbrev yielded_by : Kind → Table → Option (List Row)
   yielded_by side from = search (prefer preferences) side (prefix kinds) (matrix (clauses literals)) (rows from)
 
-  abbrev update_to : ℕ → List ℕ
-  update_to stand = updated (was_yielded R' W' other_count) stand step.count n C
+  abbrev update_to : ℕ → ℕ → List ℕ
+  update_to stand end = updated (was_yielded R' W' other_count) stand end n C
 
   module _ (extends : Extends kinds literals preferences others other_count false R M n mark W step R' M' W') where
-    pub existential_uncounted : step.end ≡ 0 → Tallies kinds literals preferences others other_count R M n mark W C C
+    pub existential_uncounted : step ≡ WithoutModel → Tallies kinds literals preferences others other_count R M n mark W C C
     existential_uncounted e from t from_found found found_marks base came passes counted counted_t held held_t long one_a_row counts =
         stopped_tallied t came base C counts kinds existential (few_unknowns kinds literals passes existential) (room found) mark false found found_marks
         one_a_row
         held_t.in_rows.in_room (λ f. absurd (false≢true f)) step R' M' W' (yielded_by existential from)
         (extends from t from_found found found_marks passes counted counted_t held held_t long) e
 
-    pub existential_counted : Packs kinds literals preferences others other_count false W W' → (step.end ≡ 0 → ⊥) → (C' : List ℕ) → C' ≡ update_to n
-        → Tallies kinds literals preferences others other_count R M n mark W C C'
+    existential_counted : Packs kinds literals preferences others other_count false W W' → (step ≡ WithoutModel → ⊥) → (C' : List ℕ)
+        → C' ≡ update_to n (rows_after step n) → Tallies kinds literals preferences others other_count R M n mark W C C'
     existential_counted packs found_one C' is from t from_found found found_marks base came passes counted counted_t held held_t long one_a_row counts =
         is
-        ∙ (λ d. updated (was_yielded R' W' other_count) (counted_t d) step.count (counted_t d) C)
-        ∙ ap (λ (k : ℕ). updated (was_yielded R' W' other_count) k step.count (length t) C) (stood_all step.end (length t))
+        ∙ (λ d. updated (was_yielded R' W' other_count) (counted_t d) (rows_after step (counted_t d)) (counted_t d) C)
+        ∙ ap (λ (k : ℕ). updated (was_yielded R' W' other_count) k (rows_after step (length t)) (length t) C) (stood_all step (length t))
         ∙ search_tallied t came base C counts kinds existential (few_unknowns kinds literals passes existential) (room found) mark false found found_marks
         one_a_row
         held_t.in_rows.in_room (λ f. absurd (false≢true f)) step R' M' W' (yielded_by existential from) other_count
         (yielded_rows kinds literals preferences existential from other_count counted)
         (packs from from_found passes counted held long) (extends from t from_found found found_marks passes counted counted_t held held_t long) found_one
 
+    -- Without room all rows stand, and none is added.
+    pub existential_full : Packs kinds literals preferences others other_count false W W' → step ≡ WithoutRoom → (C' : List ℕ) → C' ≡ update_to n n
+        → Tallies kinds literals preferences others other_count R M n mark W C C'
+    existential_full packs is C' e = existential_counted packs (λ f. cc) C' (e ∙ ap (λ (s : Step). update_to n (rows_after s n)) (sym is))
+
+    pub existential_grown : Packs kinds literals preferences others other_count false W W' → (k : ℕ) → step ≡ GrownTo k → (C' : List ℕ)
+        → C' ≡ update_to n k → Tallies kinds literals preferences others other_count R M n mark W C C'
+    existential_grown packs k is C' e = existential_counted packs (λ f. cc) C' (e ∙ ap (λ (s : Step). update_to n (rows_after s n)) (sym is))
+
   module _ (clear_every r : ℕ) (extends : ExtendsUniversal kinds literals preferences others other_count R M n clear_every r mark W step R' M' W') where
-    pub universal_uncounted : step.end ≡ 0 → TalliesUniversal kinds literals preferences others other_count R M n clear_every r mark W C C
+    pub universal_uncounted : step ≡ WithoutModel → TalliesUniversal kinds literals preferences others other_count R M n clear_every r mark W C C
     universal_uncounted e from t from_found found found_marks base place came passes counted counted_t held held_t blank same long one_a_row base_blank counts =
         stopped_tallied t came base C counts kinds universal (few_unknowns kinds literals passes universal) place mark (clears clear_every r) found found_marks
         one_a_row
         held_t.in_rows.in_room (λ _. base_blank) step R' M' W' (yielded_by universal from) (extends from t from_found found found_marks place passes counted
         counted_t held held_t blank same long) e
 
-    pub universal_counted : Packs kinds literals preferences others other_count true W W' → (step.end ≡ 0 → ⊥) → (stand : ℕ)
-        → stand ≡ stood step.end (cond (clears clear_every r) 0 n) n → (C' : List ℕ) → C' ≡ update_to stand
+    universal_counted : Packs kinds literals preferences others other_count true W W' → (step ≡ WithoutModel → ⊥) → (C' : List ℕ)
+        → C' ≡ update_to (stood step (cond (clears clear_every r) 0 n) n) (rows_after step n)
         → TalliesUniversal kinds literals preferences others other_count R M n clear_every r mark W C C'
-    universal_counted packs found_one stand stands C' is from t from_found found found_marks base place came passes counted counted_t held held_t blank same
+    universal_counted packs found_one C' is from t from_found found found_marks base place came passes counted counted_t held held_t blank same
         long one_a_row base_blank counts =
         is
-        ∙ ap (λ (k : ℕ). updated (was_yielded R' W' other_count) k step.count n C) stands
-        ∙ (λ d. updated (was_yielded R' W' other_count) (stood step.end (cond (clears clear_every r) 0 (counted_t d)) (counted_t d)) step.count
+        ∙ (λ d. updated (was_yielded R' W' other_count) (stood step (cond (clears clear_every r) 0 (counted_t d)) (counted_t d)) (rows_after step (counted_t d))
         (counted_t d) C)
-        ∙ ap (λ (k : ℕ). updated (was_yielded R' W' other_count) (stood step.end k (length t)) step.count (length t) C)
+        ∙ ap (λ (k : ℕ). updated (was_yielded R' W' other_count) (stood step k (length t)) (rows_after step (length t)) (length t) C)
         (length_kept (clears clear_every r) t)
         ∙ search_tallied t came base C counts kinds universal (few_unknowns kinds literals passes universal) place mark (clears clear_every r) found found_marks
         one_a_row
@@ -305,3 +321,18 @@ module _ (kinds : List ℕ) (literals : List ℤ) (preferences others : List ℕ
         (yielded_rows kinds literals preferences universal from other_count counted)
         (packs from from_found passes counted held long) (extends from t from_found found found_marks place passes counted counted_t held held_t blank same
         long) found_one
+
+    -- Without room all rows stand, and none is added. Else those stand that the round keeps.
+    pub universal_full : Packs kinds literals preferences others other_count true W W' → step ≡ WithoutRoom → (C' : List ℕ) → C' ≡ update_to n n
+        → TalliesUniversal kinds literals preferences others other_count R M n clear_every r mark W C C'
+    universal_full packs is C' e =
+        universal_counted packs (λ f. cc) C'
+        (e ∙ ap (λ (s : Step). update_to (stood s (cond (clears clear_every r) 0 n) n) (rows_after s n)) (sym is))
+
+    pub universal_grown : Packs kinds literals preferences others other_count true W W' → (k : ℕ) → step ≡ GrownTo k → (stand : ℕ)
+        → stand ≡ cond (clears clear_every r) 0 n → (C' : List ℕ) → C' ≡ update_to stand k
+        → TalliesUniversal kinds literals preferences others other_count R M n clear_every r mark W C C'
+    universal_grown packs k is stand stands C' e =
+        universal_counted packs (λ f. cc) C'
+        (e ∙ ap (λ (m : ℕ). update_to m k) stands
+        ∙ ap (λ (s : Step). update_to (stood s (cond (clears clear_every r) 0 n) n) (rows_after s n)) (sym is))

@@ -1,5 +1,6 @@
 -- A side's step of a round, from the bytes before it to the bytes after it. Assumes nothing.
 use Prim.Native.Nat.{ℕ, zero, suc, ◌+◌, ◌-◌, ◌*◌, ◌/◌, ◌%◌, ◌≤◌, ◌<◌}
+use Rattle.std.specs.Prelude.{None, Some, Ok}
 use native.Mathlib.Omega.{arith}
 use mathlib.Core.Path.{◌≡◌, refl, sym, ap, subst, ◌∙◌}
 use mathlib.Core.Bool.{Bool, true, false, ◌&&◌, cond, true≢false, false≢true, and-eq-true_iff}
@@ -26,9 +27,9 @@ use Rattle.expansion.proofs.Progress.{search_answers}
 use Rattle.expansion.proofs.Counting.{Sized}
 use Rattle.engine.specs.Search.{lent_rows, cause, found as found_rows, answer, left, outcome, work_after}
 use Rattle.engine.specs.declared.run.Step.{Step}
+use Rattle.engine.specs.declared.run.Step.TheVariants.{NoModel as WithoutModel, NoRoom as WithoutRoom, Grown as GrownTo}
 use Rattle.rounds.specs.Run.{Entry, Table, rows, under_mark, grown, if_fits}
 use Rattle.engine.specs.Outcome.{row_bytes}
-use Rattle.growth.specs.declared.Growth.TheVariants.{Grown, NoRoom}
 use Rattle.growth.specs.Growth.{is_new, count_below, all_fit, Bytes, bytes, with_new_rows, growth, grown as grown_bytes}
 use Rattle.engine.specs.Private.Growing.{Passes, is_found, step_of, HoldsRows, Holds, Half, half, half_fit, half_of, Extended}
 use Rattle.rounds.proofs.GrowthLaws.{sized_found}
@@ -99,9 +100,9 @@ module _ (kinds : List ℕ) (literals : List ℤ) (preferences others : List ℕ
   unfolding found_rows
   found_is = ap (search (prefer preferences) (side_of side?) (prefix kinds) (matrix (clauses literals))) read_rows
 
-  outcome_is : outcome kinds literals preferences others n side? work ≡ answer searched
+  outcome_is : outcome kinds literals preferences others n side? work ≡ Ok (answer searched)
   unfolding outcome
-  outcome_is = rw no_cause (ap answer found_is)
+  outcome_is = rw no_cause (ap (λ (o : Option (List Row)). Ok (answer o)) found_is)
 
   pub work_is : work_after kinds literals preferences others n side? work ≡ left searched
   unfolding work_after
@@ -117,20 +118,20 @@ module _ (kinds : List ℕ) (literals : List ℤ) (preferences others : List ℕ
 
     -- What the search left, by its answer.
     abbrev Searched : Option (List Row) → Bool → List ℕ → Type 0
-    Searched s flag work' = (is_found (answer s) ≡ flag) × (work' ≡ left s)
+    Searched s flag work' = (is_found (Ok (answer s)) ≡ flag) × (work' ≡ left s)
 
     what_is_left : (flag : Bool) (work' : List ℕ) → flag ≡ is_found (outcome kinds literals preferences others n side? work)
         → work' ≡ work_after kinds literals preferences others n side? work → Searched searched flag work'
     what_is_left flag work' e w = (sym (e ∙ ap is_found outcome_is), w ∙ work_is)
 
     no_model_of : (s : Option (List Row)) (work' : List ℕ) → Searched s false work'
-        → Extended kinds (side_of side?) t (half (room found) r t s) found found_marks (record { end = 0; count = k }) R M work'
+        → Extended kinds (side_of side?) t (half (room found) r t s) found found_marks WithoutModel R M work'
     no_model_of none work' p =
-        record { ended = refl; counted = counted_t; holds = held; work_long = ap length p.1 ∙ length-replicate {A = ℕ} work_size 0 }
+        record { ended = refl; holds = held; work_long = ap length p.1 ∙ length-replicate {A = ℕ} work_size 0 }
     no_model_of (some new) work' p = absurd (true≢false p.0)
 
     pub no_model_extended : (flag : Bool) (work' : List ℕ) → flag ≡ is_found (outcome kinds literals preferences others n side? work)
-        → work' ≡ work_after kinds literals preferences others n side? work → flag ≡ false → Result (record { end = 0; count = k }) R M work'
+        → work' ≡ work_after kinds literals preferences others n side? work → flag ≡ false → Result WithoutModel R M work'
     no_model_extended flag work' e w off = no_model_of searched work' (what_is_left false work' (sym off ∙ e) w)
 
     -- With a model: the rows yielded are in the work area.
@@ -182,19 +183,19 @@ module _ (kinds : List ℕ) (literals : List ℤ) (preferences others : List ℕ
       same_room = ap (λ (l : ℕ). l / 16) (ap length held.in_rows.in_bytes ∙ length_row_bytes t found held.in_rows.in_room)
 
       no_room_of : room R < k + count_below n (λ j. is_new R k work' j)
-          → Extended kinds (side_of side?) t (half (room found) r t (some new)) found found_marks (record { end = 1; count = k }) R M work'
+          → Extended kinds (side_of side?) t (half (room found) r t (some new)) found found_marks WithoutRoom R M work'
       no_room_of full =
           let over : if_fits (room found) (grown r t new) ≡ none =
           ap (λ (b : Bool). cond b (some (grown r t new)) none) (lt-leb (length (grown r t new)) (room found) (omega (arith, same_room, total_is))) in
-          subst (λ (o : Option Table). Extended kinds (side_of side?) t (half_fit o) found found_marks (record { end = 1; count = k }) R M work') (sym over)
-          (record { ended = refl; counted = counted_t; holds = held; work_long = work_long' })
+          subst (λ (o : Option Table). Extended kinds (side_of side?) t (half_fit o) found found_marks WithoutRoom R M work') (sym over)
+          (record { ended = refl; holds = held; work_long = work_long' })
 
       abbrev after : Bytes
       after = with_new_rows work' r n (bytes R M k)
 
       grown_of : k + count_below n (λ j. is_new R k work' j) ≤ room R
           → Extended kinds (side_of side?) t (half (room found) r t (some new)) found found_marks
-          (record { end = 2; count = after.number }) after.row_part after.mark_part work'
+          (GrownTo after.number) after.row_part after.mark_part work'
       unfolding rest
       grown_of enough =
           let u : Table = grown r t new in
@@ -214,11 +215,10 @@ module _ (kinds : List ℕ) (literals : List ℤ) (preferences others : List ℕ
           (subst (λ (l : List Row). Sized (count (side_of side?) (prefix kinds)) (rows (grown r t l))) all_new
           (sized_grown (count (side_of side?) (prefix kinds)) few found found_marks held.one_a_row new rest new_sized t sized r (length new) (omega arith)))
           in
-          subst (λ (o : Option Table). Extended kinds (side_of side?) t (half_fit o) found found_marks (record { end = 2; count = after.number })
+          subst (λ (o : Option Table). Extended kinds (side_of side?) t (half_fit o) found found_marks (GrownTo after.number)
           after.row_part after.mark_part work') (sym under)
           (record {
-            ended = refl;
-            counted = ap (λ (b : Bytes). b.number) end;
+            ended = ap (λ (b : Bytes). GrownTo b.number) end;
             holds =
                 record {
                   in_rows =
@@ -236,12 +236,12 @@ module _ (kinds : List ℕ) (literals : List ℤ) (preferences others : List ℕ
 
       -- Whether all fit or not: what `grow` returns and leaves.
       model_of : Extended kinds (side_of side?) t (half (room found) r t (some new)) found found_marks
-          (step_of (growth R M k work' n r) k) (grown_bytes R M k work' n r).row_part (grown_bytes R M k work' n r).mark_part work'
+          (step_of (growth R M k work' n r)) (grown_bytes R M k work' n r).row_part (grown_bytes R M k work' n r).mark_part work'
       model_of = by_test (all_fit R k work' n) refl
         where
           by_test : (v : Bool) → all_fit R k work' n ≡ v
               → Extended kinds (side_of side?) t (half (room found) r t (some new)) found found_marks
-              (step_of (cond v (Grown after.number) NoRoom) k) (cond v after (bytes R M k)).row_part (cond v after (bytes R M k)).mark_part work'
+              (step_of (cond v (Some after.number) None)) (cond v after (bytes R M k)).row_part (cond v after (bytes R M k)).mark_part work'
           by_test true e = grown_of (leb-true (k + count_below n (λ j. is_new R k work' j)) (room R) e)
           by_test false e = no_room_of (leb-false (k + count_below n (λ j. is_new R k work' j)) (room R) e)
 
@@ -255,7 +255,7 @@ module _ (kinds : List ℕ) (literals : List ℤ) (preferences others : List ℕ
 
     pub model_extended : (flag : Bool) (work' : List ℕ) → flag ≡ is_found (outcome kinds literals preferences others n side? work)
         → work' ≡ work_after kinds literals preferences others n side? work → flag ≡ true
-        → (result : Step) (R' M' : List ℕ) → result ≡ step_of (growth R M k work' n r) k
+        → (result : Step) (R' M' : List ℕ) → result ≡ step_of (growth R M k work' n r)
         → R' ≡ (grown_bytes R M k work' n r).row_part → M' ≡ (grown_bytes R M k work' n r).mark_part
         → Result result R' M' work'
     model_extended flag work' e w on result R' M' is er em =
@@ -263,13 +263,12 @@ module _ (kinds : List ℕ) (literals : List ℤ) (preferences others : List ℕ
         by_model
         (λ s.
         Extended kinds (side_of side?) t (half (room found) r t s) found found_marks
-        (step_of (growth R M k work' n r) k) (grown_bytes R M k work' n r).row_part (grown_bytes R M k work' n r).mark_part work')
+        (step_of (growth R M k work' n r)) (grown_bytes R M k work' n r).row_part (grown_bytes R M k work' n r).mark_part work')
         work'
         (what_is_left true work' (sym on ∙ e) w)
         (λ new yielded packed. model_of new yielded work' packed) in
         record {
-          ended = ap (λ (s : Step). s.end) is ∙ made.ended;
-          counted = ap (λ (s : Step). s.count) is ∙ made.counted;
+          ended = is ∙ made.ended;
           holds =
               record {
                 in_rows =

@@ -26,10 +26,11 @@ use Rattle.rounds.specs.Opening.{last_row}
 use Rattle.rounds.proofs.TableLaws.{extends_itself, extends_grown, Extends as ExtendsTable}
 use Rattle.rounds.proofs.RunLaws.{existential_led, universal_led}
 use Rattle.engine.specs.declared.run.Step.{Step}
+use Rattle.engine.specs.declared.run.Step.TheVariants.{Grown as GrownTo}
 use Rattle.engine.specs.Outcome.{Given, lent}
 use Rattle.engine.specs.Private.Growing.{Passes, HoldsRows, half, half_fit, half_table, Extends}
 use Rattle.engine.proofs.run.ExtendLaws.{few_unknowns, read_rows}
-use Rattle.engine.proofs.run.LoopLaws.{Going, first}
+use Rattle.engine.proofs.run.LoopLaws.{Going, first, grown_to}
 use Rattle.engine.proofs.run.OpeningLaws.{last_row_at, length_last_row}
 
 -- The last row, by its bytes.
@@ -85,10 +86,10 @@ module _ (g : Given) (made u x : ℕ) (AR AM SR SM W : List ℕ) (now_going : Go
   -- The universal side's holds over the rows that the round's first step has left.
   pub known_a : (step : Step) (SR' SM' W' : List ℕ) → Extends g.kinds g.literals g.preferences AR u false SR SM x (made + 1) W step SR' SM' W' →
       made < g.limit
-      → KnownLeads g.kinds g.literals g.preferences AR u SR' step.count true
-  known_a step SR' SM' W' extends below =
+      → (k : ℕ) → step ≡ GrownTo k → KnownLeads g.kinds g.literals g.preferences AR u SR' k true
+  known_a step SR' SM' W' extends below k goes =
       let first_made = first g made u x AR AM SR SM W now_going step SR' SM' W' extends below in
-      known_leads g.kinds g.literals g.preferences SR' step.count true W' _ _ _ _ AR u now_going.passes first_made.counted
+      known_leads g.kinds g.literals g.preferences SR' k true W' _ _ _ _ AR u now_going.passes (grown_to _ _ step k goes first_made.ended)
       first_made.holds.in_rows
       first_made.work_long now_going.both.holds_a.in_rows now_going.counted_a
       (λ _. universal_led (lent g) made now_going.going _ (half_extends (room g.found.existential_rows) (made + 1) (run (lent g) made).S

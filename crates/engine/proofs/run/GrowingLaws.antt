@@ -1,5 +1,6 @@
 -- The bytes of a table while rows are added: the loops' results are those of the table grown by the yielded rows. Assumes nothing.
 use Prim.Native.Nat.{ℕ, zero, suc, ◌+◌, ◌*◌, ◌≤◌, ◌<◌}
+use Rattle.std.specs.Prelude.{None, Option, Some}
 use native.Mathlib.Omega.{arith}
 use native.Mathlib.Nat.{add-zero}
 use mathlib.Core.Path.{◌≡◌, refl, sym, ap, subst, ◌∙◌}
@@ -14,8 +15,6 @@ use Rattle.formula.specs.Formula.{max_unknowns}
 use Rattle.rows.specs.Row.{bytes_of, weight}
 use Rattle.rows.specs.Table.{table_of, room}
 use Rattle.rows.specs.Access.{first_place, placed}
-use Rattle.rows.specs.declared.Found.{Found}
-use Rattle.rows.specs.declared.Found.TheVariants.{At, Absent}
 use Rattle.rows.proofs.WriteLaws.{rows_written_inside, marks_written_inside}
 use Rattle.rows.proofs.TableLaws.{length_table_of}
 use Rattle.expansion.specs.Play.{Row}
@@ -139,23 +138,23 @@ module _ (m : ℕ) (few : m ≤ max_unknowns) (found found_marks : List ℕ) (on
       in_count : length u ≤ length (rows u)
       in_count = omega (arith, length_rows u)
 
-      by_places : (p q : Found) → first_place (row_bytes u found) (length u) area j ≡ p → first_place area j area j ≡ q
+      by_places : (p q : Option ℕ) → first_place (row_bytes u found) (length u) area j ≡ p → first_place area j area j ≡ q
           → (v : Bool) → is_absent p && is_absent q ≡ v → NewCase u j v
-      by_places (At i) q ep eq true e = absurd (false≢true e)
-      by_places (At i) q ep eq false e =
+      by_places (Some i) q ep eq true e = absurd (false≢true e)
+      by_places (Some i) q ep eq false e =
           inl
           (subst (λ (l : List Row). In (get_or new j []) l) all
           (at_in m few (rows u) behind (wide_of_sized m (rows u) sized) new rest (wide_of_sized m new new_sized) (length u) j i in_count hj ep))
-      by_places Absent (At i) ep eq true e = absurd (false≢true e)
-      by_places Absent (At i) ep eq false e =
+      by_places None (Some i) ep eq true e = absurd (false≢true e)
+      by_places None (Some i) ep eq false e =
           inr (at_in m few new rest (wide_of_sized m new new_sized) new rest (wide_of_sized m new new_sized) j j i (omega arith) hj eq)
-      by_places Absent Absent ep eq true e = (
+      by_places None None ep eq true e = (
         λ h.
             absent_not_in m few (rows u) behind (wide_of_sized m (rows u) sized) new rest (wide_of_sized m new new_sized) (length u) j in_count hj ep
             (subst (λ (l : List Row). In (get_or new j []) l) (sym all) h),
         absent_not_in m few new rest (wide_of_sized m new new_sized) new rest (wide_of_sized m new new_sized) j j (omega arith) hj eq,
       )
-      by_places Absent Absent ep eq false e = absurd (true≢false e)
+      by_places None None ep eq false e = absurd (true≢false e)
 
   module _ (t : Table) (sized : Sized m (rows t)) where
     -- The first pass counts the fresh rows.

@@ -1,6 +1,5 @@
 -- A round is its two sides' steps: what each of its ends returns and leaves. Assumes nothing.
 use Prim.Native.Nat.{ℕ}
-use native.Mathlib.Omega.{arith}
 use mathlib.Core.Path.{◌≡◌, refl, sym, ap, subst, ◌∙◌}
 use mathlib.Core.List.{List}
 use mathlib.Core.Option.{Option, none, some}
@@ -14,6 +13,7 @@ use Rattle.expansion.specs.Model.{search}
 use Rattle.engine.specs.declared.run.Answer.TheVariants.{Spent}
 use Rattle.engine.specs.declared.run.End.{End}
 use Rattle.engine.specs.declared.run.Step.{Step}
+use Rattle.engine.specs.declared.run.Step.TheVariants.{NoModel as WithoutModel, NoRoom as WithoutRoom, Grown as GrownTo}
 use Rattle.rounds.specs.Run.{Table, rows, grown, if_fits, Lent, kept, outcome, is_false, is_true, spent, no_room_universal, no_room_existential, step_1, step_2}
 use Rattle.rounds.specs.Run.{step_3, step_4, round_of, Outcome as RunOutcome, Answer as RunAnswer}
 use Rattle.engine.specs.Outcome.{Given, lent, named}
@@ -89,27 +89,27 @@ module _ (g : Given) (a_base a_marks_base : List ℕ) (A S : Table) (r u x : ℕ
 
   module _ (AR AM SR SM W : List ℕ) (step : Step) (held_a : Holds kinds universal A a_base a_marks_base AR AM)
       (made : Extended kinds existential S first s_found s_marks_found step SR SM W) where
-    pub existential_stopped : (step.end ≡ 2 → ⊥) → (result : End) → result ≡ said (existential_stop step.end) r u x
+    pub existential_stopped : ((k : ℕ) → step ≡ GrownTo k → ⊥) → (result : End) → result ≡ said (existential_stop step) r u x
         → Made (round_of l r A S) result AR AM SR SM W
     unfolding after_first
     existential_stopped stops result told = go first ends made
       where
-        by_end : (n : ℕ) → step.end ≡ n → result ≡ said (existential_stop n) r u x
-        by_end n e = told ∙ ap (λ (m : ℕ). said (existential_stop m) r u x) e
+        by_end : (s : Step) → step ≡ s → result ≡ said (existential_stop s) r u x
+        by_end s e = told ∙ ap (λ (q : Step). said (existential_stop q) r u x) e
 
         go : (h : Half) → round_of l r A S ≡ after_first l r A S h → Extended kinds existential S h s_found s_marks_found step SR SM W
             → Made (round_of l r A S) result AR AM SR SM W
-        go no_model is m = shown (round_of l r A S) is_false A S u x AR AM SR SM W result is (by_end 0 m.ended) counted_a counted_s held_a m.holds
+        go no_model is m = shown (round_of l r A S) is_false A S u x AR AM SR SM W result is (by_end WithoutModel m.ended) counted_a counted_s held_a m.holds
             m.work_long
-        go no_room is m = shown (round_of l r A S) no_room_existential A S u x AR AM SR SM W result is (by_end 1 m.ended) counted_a counted_s held_a
+        go no_room is m = shown (round_of l r A S) no_room_existential A S u x AR AM SR SM W result is (by_end WithoutRoom m.ended) counted_a counted_s held_a
             m.holds m.work_long
-        go (grows t) is m = absurd (stops m.ended)
+        go (grows t) is m = absurd (stops (length t) m.ended)
 
     -- The first step has grown the existential table; what follows is the second one.
-    module _ (goes : step.end ≡ 2) (AR' AM' W' : List ℕ) (back : Step)
+    module _ (k : ℕ) (goes : step ≡ GrownTo k) (AR' AM' W' : List ℕ) (back : Step)
         (made_back : Extended kinds universal A (second (half_table S first)) a_base a_marks_base back AR' AM' W') where
       later : (result : End)
-          → ((S' : Table) (h : Half) → round_of l r A S ≡ after_second r A S' h → step.count ≡ length S'
+          → ((S' : Table) (h : Half) → round_of l r A S ≡ after_second r A S' h → k ≡ length S'
           → Holds kinds existential S' s_found s_marks_found SR SM
           → Extended kinds universal A h a_base a_marks_base back AR' AM' W' → Made (round_of l r A S) result AR' AM' SR SM W')
           → Made (round_of l r A S) result AR' AM' SR SM W'
@@ -118,38 +118,37 @@ module _ (g : Given) (a_base a_marks_base : List ℕ) (A S : Table) (r u x : ℕ
         where
           go : (h : Half) → round_of l r A S ≡ after_first l r A S h → Extended kinds existential S h s_found s_marks_found step SR SM W
               → Extended kinds universal A (second (half_table S h)) a_base a_marks_base back AR' AM' W' → Made (round_of l r A S) result AR' AM' SR SM W'
-          go no_model is m b = absurd (omega (arith, m.ended))
-          go no_room is m b = absurd (omega (arith, m.ended))
-          go (grows S') is m b = each S' (second S') is m.counted m.holds b
+          go no_model is m b = let e = m.ended in cc
+          go no_room is m b = let e = m.ended in cc
+          go (grows S') is m b = each S' (second S') is (let e = m.ended in cc) m.holds b
 
-      pub universal_stopped : (back.end ≡ 2 → ⊥) → (result : End) → result ≡ said (universal_stop back.end) r u step.count
+      pub universal_stopped : ((j : ℕ) → back ≡ GrownTo j → ⊥) → (result : End) → result ≡ said (universal_stop back) r u k
           → Made (round_of l r A S) result AR' AM' SR SM W'
       unfolding after_second
       universal_stopped stops result told = later result go
         where
-          by_end : (n : ℕ) → back.end ≡ n → result ≡ said (universal_stop n) r u step.count
-          by_end n e = told ∙ ap (λ (m : ℕ). said (universal_stop m) r u step.count) e
+          by_end : (s : Step) → back ≡ s → result ≡ said (universal_stop s) r u k
+          by_end s e = told ∙ ap (λ (q : Step). said (universal_stop q) r u k) e
 
-          go : (S' : Table) (h : Half) → round_of l r A S ≡ after_second r A S' h → step.count ≡ length S' →
+          go : (S' : Table) (h : Half) → round_of l r A S ≡ after_second r A S' h → k ≡ length S' →
               Holds kinds existential S' s_found s_marks_found SR SM
               → Extended kinds universal A h a_base a_marks_base back AR' AM' W' → Made (round_of l r A S) result AR' AM' SR SM W'
           go S' no_model is n hS b =
-              shown (round_of l r A S) is_true A S' u step.count AR' AM' SR SM W' result is (by_end 0 b.ended) counted_a n b.holds hS b.work_long
+              shown (round_of l r A S) is_true A S' u k AR' AM' SR SM W' result is (by_end WithoutModel b.ended) counted_a n b.holds hS b.work_long
           go S' no_room is n hS b =
-              shown (round_of l r A S) no_room_universal A S' u step.count AR' AM' SR SM W' result is (by_end 1 b.ended) counted_a n b.holds hS
+              shown (round_of l r A S) no_room_universal A S' u k AR' AM' SR SM W' result is (by_end WithoutRoom b.ended) counted_a n b.holds hS
               b.work_long
-          go S' (grows t) is n hS b = absurd (stops b.ended)
+          go S' (grows t) is n hS b = absurd (stops (length t) b.ended)
 
-      pub round_finished : back.end ≡ 2 → Made (round_of l r A S) (said Spent r back.count step.count) AR' AM' SR SM W'
+      pub round_finished : (j : ℕ) → back ≡ GrownTo j → Made (round_of l r A S) (said Spent r j k) AR' AM' SR SM W'
       unfolding after_second
-      round_finished goes_Back = later (said Spent r back.count step.count) go
+      round_finished j goes_back = later (said Spent r j k) go
         where
-          go : (S' : Table) (h : Half) → round_of l r A S ≡ after_second r A S' h → step.count ≡ length S' →
+          go : (S' : Table) (h : Half) → round_of l r A S ≡ after_second r A S' h → k ≡ length S' →
               Holds kinds existential S' s_found s_marks_found SR SM
-              → Extended kinds universal A h a_base a_marks_base back AR' AM' W' → Made (round_of l r A S) (said Spent r back.count step.count) AR' AM' SR
-              SM W'
-          go S' no_model is n hS b = absurd (omega (arith, b.ended))
-          go S' no_room is n hS b = absurd (omega (arith, b.ended))
+              → Extended kinds universal A h a_base a_marks_base back AR' AM' W' → Made (round_of l r A S) (said Spent r j k) AR' AM' SR SM W'
+          go S' no_model is n hS b = let e = b.ended in cc
+          go S' no_room is n hS b = let e = b.ended in cc
           go S' (grows A') is n hS b =
-              shown (round_of l r A S) spent A' S' back.count step.count AR' AM' SR SM W' (said Spent r back.count step.count) is refl b.counted
+              shown (round_of l r A S) spent A' S' j k AR' AM' SR SM W' (said Spent r j k) is refl (let e = b.ended in cc)
               n b.holds hS b.work_long

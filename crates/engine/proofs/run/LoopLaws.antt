@@ -1,5 +1,5 @@
 -- The loop over the rounds: what holds before each, and what the run is when it ends. Assumes nothing.
-use Prim.Native.Nat.{ℕ, zero, suc, ◌+◌, ◌*◌, ◌/◌, ◌%◌, ◌≤◌, ◌<◌}
+use Prim.Native.Nat.{ℕ, suc, ◌+◌, ◌*◌, ◌/◌, ◌%◌, ◌≤◌, ◌<◌}
 use native.Mathlib.Omega.{arith}
 use native.Mathlib.Numerals.{add-one}
 use mathlib.Core.Path.{◌≡◌, refl, sym, ap, subst, ◌∙◌}
@@ -24,10 +24,12 @@ use Rattle.engine.specs.declared.run.Answer.{Answer}
 use Rattle.engine.specs.declared.run.Answer.TheVariants.{False, True, Spent, NoRoomUniversal, NoRoomExistential, Refused}
 use Rattle.engine.specs.declared.run.End.{End}
 use Rattle.engine.specs.declared.run.Step.{Step}
+use Rattle.engine.specs.declared.run.Step.TheVariants.{NoModel as WithoutModel, NoRoom as WithoutRoom, Grown as GrownTo}
 use Rattle.rounds.specs.Run.{Table, rows, Lent, kept, highest, is_false, is_true, spent, no_room_universal, no_room_existential, round_of, run}
 use Rattle.rounds.specs.Run.{Outcome as RunOutcome, Answer as RunAnswer}
 use Rattle.engine.specs.Outcome.{Given, lent, named, side_fits, tables_fit, row_bytes, mark_numbers}
 use Rattle.growth.specs.Growth.{with_preferred}
+use Rattle.engine.specs.Private.Growing.{Half, no_model, no_room, grows, half_end}
 use Rattle.engine.specs.Private.Growing.{Passes, Holds, half_table, half_of, Extended, Extends, ExtendsUniversal, said, existential_stop, universal_stop}
 use Rattle.engine.specs.Private.Growing.{HoldsBoth, Shows, ShowsRun, Ready}
 use Rattle.rounds.proofs.RoundLaws.{Over}
@@ -72,15 +74,23 @@ goes_on NoRoomUniversal = false
 goes_on NoRoomExistential = false
 goes_on (Refused n) = false
 
-existential_stops : (end : ℕ) → goes_on (existential_stop end) ≡ false
+existential_stops : (s : Step) → ((k : ℕ) → s ≡ GrownTo k → ⊥) → goes_on (existential_stop s) ≡ false
 unfolding goes_on
-existential_stops zero = refl
-existential_stops (suc end) = refl
+existential_stops WithoutModel stops = refl
+existential_stops WithoutRoom stops = refl
+existential_stops (GrownTo k) stops = absurd (stops k refl)
 
-universal_stops : (end : ℕ) → goes_on (universal_stop end) ≡ false
+universal_stops : (s : Step) → ((k : ℕ) → s ≡ GrownTo k → ⊥) → goes_on (universal_stop s) ≡ false
 unfolding goes_on
-universal_stops zero = refl
-universal_stops (suc end) = refl
+universal_stops WithoutModel stops = refl
+universal_stops WithoutRoom stops = refl
+universal_stops (GrownTo k) stops = absurd (stops k refl)
+
+-- The rows of a table that a step has grown.
+pub grown_to : (t : Table) (h : Half) (s : Step) (k : ℕ) → s ≡ GrownTo k → s ≡ half_end h → k ≡ length (half_table t h)
+grown_to t no_model s k goes e = cc
+grown_to t no_room s k goes e = cc
+grown_to t (grows u) s k goes e = cc
 
 goes_on_spent : (a : RunAnswer) → goes_on (named a) ≡ true → a ≡ spent
 unfolding goes_on
@@ -283,16 +293,18 @@ module _ (g : Given) where
           now_going.both.holds_s
           now_going.work_long
 
-      pub run_stopped : (step.end ≡ 2 → ⊥) → (result : End) → result ≡ said (existential_stop step.end) (made + 1) u x → ShowsRun g result AR AM SR' SM' W'
-      run_stopped stops result told =
+      pub run_stopped : (s : Step) → step ≡ s → ((k : ℕ) → s ≡ GrownTo k → ⊥) → (result : End) → result ≡ said (existential_stop s) (made + 1) u x
+          → ShowsRun g result AR AM SR' SM' W'
+      run_stopped s is stops result told =
+          let told_so : result ≡ said (existential_stop step) (made + 1) u x = told ∙ ap (λ (q : Step). said (existential_stop q) (made + 1) u x) (sym is) in
           run_ended result AR AM SR' SM' W'
           (existential_stopped g (row_base g n) (mark_base g n) A S (made + 1) u x now_going.counted_a now_going.counted_s
-          AR AM SR' SM' W' step now_going.both.holds_a first stops result told)
+          AR AM SR' SM' W' step now_going.both.holds_a first (λ k e. stops k (sym is ∙ e)) result told_so)
           below
-          (ap (λ (o : End). goes_on o.answer) told ∙ existential_stops step.end)
+          (ap (λ (o : End). goes_on o.answer) told ∙ existential_stops s stops)
 
-      module _ (goes : step.end ≡ 2) (back : Step) (AR' AM' W'' : List ℕ)
-          (extends_back : ExtendsUniversal g.kinds g.literals g.preferences SR' step.count AR AM u g.clear_every (made + 1) (made + 1) W' back
+      module _ (k : ℕ) (goes : step ≡ GrownTo k) (back : Step) (AR' AM' W'' : List ℕ)
+          (extends_back : ExtendsUniversal g.kinds g.literals g.preferences SR' k AR AM u g.clear_every (made + 1) (made + 1) W' back
           AR' AM' W'') where
         abbrev S' : Table
         S' = half_table S (half_of g.kinds g.literals g.preferences existential (room s_found) (made + 1) A S)
@@ -301,26 +313,28 @@ module _ (g : Given) where
             (kept l (made + 1) A))
             (row_base g n) (mark_base g n) back AR' AM' W''
         second =
-            extends_back S' A s_found (row_base g n) (mark_base g n) (room a_found) now_going.passes first.counted now_going.counted_a
+            extends_back S' A s_found (row_base g n) (mark_base g n) (room a_found) now_going.passes
+            (grown_to S (half_of g.kinds g.literals g.preferences existential (room s_found) (made + 1) A S) step k goes first.ended) now_going.counted_a
             first.holds.in_rows
             now_going.both.holds_a (blank_below (length A) n a_found a_marks_found (count_at_most_highest l made))
             (ap (λ (b : ℕ). b / 16) (length_zeroed (16 * n) a_found)) first.work_long
 
-        pub run_stopped_back : (back.end ≡ 2 → ⊥) → (result : End) → result ≡ said (universal_stop back.end) (made + 1) u step.count
+        pub run_stopped_back : (s : Step) → back ≡ s → ((j : ℕ) → s ≡ GrownTo j → ⊥) → (result : End) → result ≡ said (universal_stop s) (made + 1) u k
             → ShowsRun g result AR' AM' SR' SM' W''
-        run_stopped_back stops result told =
+        run_stopped_back s is stops result told =
+            let told_so : result ≡ said (universal_stop back) (made + 1) u k = told ∙ ap (λ (q : Step). said (universal_stop q) (made + 1) u k) (sym is) in
             run_ended result AR' AM' SR' SM' W''
             (universal_stopped g (row_base g n) (mark_base g n) A S (made + 1) u x now_going.counted_a now_going.counted_s
-            AR AM SR' SM' W' step now_going.both.holds_a first goes AR' AM' W'' back second stops result told)
+            AR AM SR' SM' W' step now_going.both.holds_a first k goes AR' AM' W'' back second (λ j e. stops j (sym is ∙ e)) result told_so)
             below
-            (ap (λ (o : End). goes_on o.answer) told ∙ universal_stops back.end)
+            (ap (λ (o : End). goes_on o.answer) told ∙ universal_stops s stops)
 
-        pub round_made : back.end ≡ 2 → Going g (made + 1) back.count step.count AR' AM' SR' SM' W''
+        pub round_made : (j : ℕ) → back ≡ GrownTo j → Going g (made + 1) j k AR' AM' SR' SM' W''
         unfolding goes_on
-        round_made goes_Back =
-            goes_further (said Spent (made + 1) back.count step.count) AR' AM' SR' SM' W''
+        round_made j goes_back =
+            goes_further (said Spent (made + 1) j k) AR' AM' SR' SM' W''
             (round_finished g (row_base g n) (mark_base g n) A S (made + 1) u x now_going.counted_a now_going.counted_s
-            AR AM SR' SM' W' step now_going.both.holds_a first goes AR' AM' W'' back second goes_Back)
+            AR AM SR' SM' W' step now_going.both.holds_a first k goes AR' AM' W'' back second j goes_back)
             below refl
 
     pub run_spent : g.limit ≤ made → (result : End) → result ≡ said Spent made u x → ShowsRun g result AR AM SR SM W

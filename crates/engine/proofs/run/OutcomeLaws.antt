@@ -1,5 +1,10 @@
 -- What `run` returns and leaves, cause by cause and after an answer. Assumes nothing.
 use Prim.Native.Nat.{ℕ, ◌*◌, ◌≤◌}
+use Rattle.std.specs.Prelude.{Err, Ok, Result}
+use Rattle.cause.specs.declared.Cause.{Cause}
+use Rattle.cause.specs.declared.Cause.TheVariants.{Rows, Work, Limit, Counts}
+use Rattle.cause.specs.Cause.{number as number_of_cause, told}
+use Rattle.cause.proofs.Numbers.{from_1}
 use native.Mathlib.Omega.{arith}
 use mathlib.Core.Path.{◌≡◌, refl, sym, ap, ◌∙◌}
 use mathlib.Core.Bool.{Bool, true, false, not, cond, true≢false}
@@ -21,10 +26,7 @@ use Rattle.rounds.proofs.Blocks.{block_at_most}
 use Rattle.engine.proofs.run.ExtendLaws.{few_unknowns}
 use Rattle.formula.specs.Causes.{checked, number as cause_number}
 use Rattle.formula.proofs.Accepted.{accepted_sizes}
-use Rattle.formula.proofs.Order.{refused_from_1}
 use Rattle.formula.specs.declared.Formula.{Formula}
-use Rattle.formula.specs.declared.Check.{Check}
-use Rattle.formula.specs.declared.Check.TheVariants.{Accepted, Refused}
 use Rattle.engine.specs.declared.run.End.{End}
 use Rattle.engine.specs.declared.run.Outcome.{Outcome}
 use Rattle.rounds.specs.Run.{Entry, is_false, is_true, spent, no_room_universal, no_room_existential, number, highest, Answer as RunAnswer}
@@ -97,13 +99,13 @@ passes_if_none : (g : Given) → cause g ≡ 0 → Passes g.kinds g.literals
 unfolding cause checked
 passes_if_none g none = go (checked g.kinds g.literals) refl _ none
   where
-    go : (c : Check) → checked g.kinds g.literals ≡ c → (later : ℕ) → cond (eqb (cause_number c) 0) later (cause_number c) ≡ 0
+    go : (c : (Result Formula Cause)) → checked g.kinds g.literals ≡ c → (later : ℕ) → cond (eqb (cause_number c) 0) later (cause_number c) ≡ 0
         → Passes g.kinds g.literals
-    go (Accepted f) e later z = e ∙ ap Accepted (accepted_sizes g.kinds g.literals e)
-    go (Refused n) e later z =
-        let from_1 = refused_from_1 g.kinds g.literals n e in
-        let same : n ≡ 0 = sym (ap (λ (b : Bool). cond b later n) (ne_eqb n 0 (omega arith))) ∙ z in
-        absurd (omega arith)
+    go (Ok f) e later z = e ∙ ap Ok (accepted_sizes g.kinds g.literals e)
+    go (Err c) e later z =
+        let n = number_of_cause c in
+        let same : n ≡ 0 = sym (ap (λ (b : Bool). cond b later n) (ne_eqb n 0 (λ none. omega (arith, from_1 c)))) ∙ z in
+        absurd (omega (arith, from_1 c))
 
 -- The answers that name a verdict.
 named_true : (a : RunAnswer) → named a ≡ True → a ≡ is_true
@@ -214,9 +216,13 @@ answered_so g no_cause some_limit end r AR AM Ac SR SM SC W W' shows counted cle
 
 -- ---- the first cause
 
-applies : (g : Given) (n u : ℕ) → n ≡ cause g → 1 ≤ n → FirstCause g (record { cause = n; universals = u })
-applies g n u e some_cause =
-    record { first = e; ready = λ (z : n ≡ 0). absurd (omega arith); some_limit = λ (z : n ≡ 0). absurd (omega arith) }
+applies : (g : Given) (c : Cause) → number_of_cause c ≡ cause g → FirstCause g (Err c)
+applies g c e =
+    record {
+      first = e;
+      ready = λ u is. absurd (let z : ◌≡◌ {A = ℕ} 0 1 = cc in omega arith);
+      some_limit = λ u is. absurd (let z : ◌≡◌ {A = ℕ} 0 1 = cc in omega arith);
+    }
 
 module _ (kinds : List ℕ) (literals : List ℤ) (A a_marks a_counts S s_marks s_counts work : List ℕ) (limit : ℕ) where
   abbrev g : Given
@@ -232,64 +238,59 @@ module _ (kinds : List ℕ) (literals : List ℤ) (A a_marks a_counts S s_marks 
   later = cond (not (tables_fit A a_marks S s_marks)) 4 counted
 
   -- The formula's cause comes first; without one it is a later cause or none.
-  formula_cause : (n : ℕ) → checked kinds literals ≡ Refused n → cause g ≡ n
+  formula_cause : (c : Cause) → checked kinds literals ≡ Err c → cause g ≡ number_of_cause c
   unfolding cause
-  formula_cause n e =
-      ap (λ (c : Check). cond (eqb (cause_number c) 0) later (cause_number c)) e
-      ∙ ap (λ (b : Bool). cond b later n) (ne_eqb n 0 (omega (arith, refused_from_1 kinds literals n e)))
+  formula_cause c e =
+      ap (λ (r : (Result Formula Cause)). cond (eqb (cause_number r) 0) later (cause_number r)) e
+      ∙ ap (λ (b : Bool). cond b later (number_of_cause c)) (ne_eqb (number_of_cause c) 0 (λ none. omega (arith, from_1 c)))
 
-  later_cause : (f : Formula) → checked kinds literals ≡ Accepted f → cause g ≡ later
+  later_cause : (f : Formula) → checked kinds literals ≡ Ok f → cause g ≡ later
   unfolding cause
-  later_cause f e = ap (λ (c : Check). cond (eqb (cause_number c) 0) later (cause_number c)) e
+  later_cause f e = ap (λ (c : (Result Formula Cause)). cond (eqb (cause_number c) 0) later (cause_number c)) e
 
-  pub formula_refused : (n u : ℕ) → checked kinds literals ≡ Refused n → FirstCause g (record { cause = n; universals = u })
-  formula_refused n u e = applies g n u (sym (formula_cause n e)) (refused_from_1 kinds literals n e)
+  pub formula_refused : (c : Cause) → checked kinds literals ≡ Err c → FirstCause g (Err c)
+  formula_refused c e = applies g c (sym (formula_cause c e))
 
-  module _ (f : Formula) (passes : checked kinds literals ≡ Accepted f) where
-    pub tables_refused : (u : ℕ) → tables_fit A a_marks S s_marks ≡ false → FirstCause g (record { cause = 4; universals = u })
-    tables_refused u e =
-        applies g 4 u
-        (sym (later_cause f passes ∙ ap (λ (b : Bool). cond (not b) 4 counted) e))
-        (omega arith)
+  module _ (f : Formula) (passes : checked kinds literals ≡ Ok f) where
+    pub tables_refused : tables_fit A a_marks S s_marks ≡ false → FirstCause g (Err Rows)
+    tables_refused e = applies g Rows (sym (later_cause f passes ∙ ap (λ (b : Bool). cond (not b) 4 counted) e))
 
     module _ (fit : tables_fit A a_marks S s_marks ≡ true) where
       counted_cause : cause g ≡ counted
       counted_cause = later_cause f passes ∙ ap (λ (b : Bool). cond (not b) 4 counted) fit
 
-      pub counts_refused : (u : ℕ) → tables_counted A a_counts S s_counts ≡ false → FirstCause g (record { cause = 16; universals = u })
-      counts_refused u e = applies g 16 u (sym (counted_cause ∙ ap (λ (b : Bool). cond (not b) 16 sized) e)) (omega arith)
+      pub counts_refused : tables_counted A a_counts S s_counts ≡ false → FirstCause g (Err Counts)
+      counts_refused e = applies g Counts (sym (counted_cause ∙ ap (λ (b : Bool). cond (not b) 16 sized) e))
 
       module _ (one_a_row : tables_counted A a_counts S s_counts ≡ true) where
         sized_cause : cause g ≡ sized
         sized_cause = counted_cause ∙ ap (λ (b : Bool). cond (not b) 16 sized) one_a_row
 
-        pub work_refused : (u : ℕ) → (length work ≡ work_size → ⊥) → FirstCause g (record { cause = 5; universals = u })
-        work_refused u differ =
-            applies g 5 u
+        pub work_refused : (length work ≡ work_size → ⊥) → FirstCause g (Err Work)
+        work_refused differ =
+            applies g Work
             (sym (sized_cause ∙ ap (λ (b : Bool). cond (not b) 5 (cond (eqb limit 0) 6 0)) (ne_eqb (length work) work_size differ)))
-            (omega arith)
 
         module _ (long : length work ≡ work_size) where
           limit_cause : cause g ≡ cond (eqb limit 0) 6 0
           limit_cause = sized_cause ∙ ap (λ (b : Bool). cond (not b) 5 (cond (eqb limit 0) 6 0)) (eq-eqb (length work) work_size long)
 
-          pub limit_refused : (u : ℕ) → limit ≡ 0 → FirstCause g (record { cause = 6; universals = u })
-          limit_refused u e = applies g 6 u (sym (limit_cause ∙ ap (λ (b : Bool). cond b 6 0) (eq-eqb limit 0 e))) (omega arith)
+          pub limit_refused : limit ≡ 0 → FirstCause g (Err Limit)
+          limit_refused e = applies g Limit (sym (limit_cause ∙ ap (λ (b : Bool). cond b 6 0) (eq-eqb limit 0 e)))
 
-          pub none_applies : (limit ≡ 0 → ⊥) → FirstCause g (record { cause = 0; universals = f.universals })
+          pub none_applies : (limit ≡ 0 → ⊥) → FirstCause g (Ok f.universals)
           none_applies some_limit =
               let sizes_are = accepted_sizes kinds literals passes in
               record {
                 first = sym (limit_cause ∙ ap (λ (b : Bool). cond b 6 0) (ne_eqb limit 0 some_limit));
                 ready =
-                    λ _.
+                    λ u is.
                     record {
-                      passes = passes ∙ ap Accepted sizes_are;
+                      passes = passes ∙ ap Ok sizes_are;
                       tables = fit;
                       counts = one_a_row;
                       work_long = long;
-                      counted = ap
-                          (λ (s : Formula). s.universals) sizes_are;
+                      counted = (let same : f.universals ≡ u = cc in sym same) ∙ ap (λ (s : Formula). s.universals) sizes_are;
                     };
-                some_limit = λ _. omega arith;
+                some_limit = λ _ _. omega arith;
               }

@@ -30,12 +30,13 @@ use Rattle.rounds.proofs.RunLaws.{run_goes_on, run_reached, run_stays}
 use Rattle.rounds.proofs.Highest.{count_at_most_highest, highest_stays}
 use Rattle.rounds.proofs.CountsLaws.{second_search, searched_s, searched_a, came_next, came_stays, came_at_most, absent_zero}
 use Rattle.engine.specs.declared.run.Step.{Step}
+use Rattle.engine.specs.declared.run.Step.TheVariants.{Grown as GrownTo}
 use Rattle.engine.specs.Outcome.{Given, lent, tables_counted}
 use Rattle.engine.specs.Private.Growing.{Half, no_model, no_room, grows, half, half_table, half_end, half_of, Extended, Extends, ExtendsUniversal, Ready}
 use Rattle.engine.specs.Private.Counting.{tallied, Counted, half_since, half_came, Tallies, TalliesUniversal, counts_after, CountsShow}
 use Rattle.engine.proofs.run.ClearingLaws.{blank_below}
 use Rattle.engine.proofs.run.HalfLaws.{after_first, after_second, end_1}
-use Rattle.engine.proofs.run.LoopLaws.{least_bytes, tables_fitting, row_base, mark_base, Going, number_in_marks, first, second}
+use Rattle.engine.proofs.run.LoopLaws.{least_bytes, tables_fitting, row_base, mark_base, Going, number_in_marks, first, second, grown_to}
 
 -- ---- the tables that are lent
 
@@ -154,7 +155,7 @@ module _ (g : Given) (made : ℕ) (going : (run (lent g) made).answer ≡ spent)
       next_a a answered A is [] none (λ n. n) (λ n. ap (λ (b : Bool). cond (b && clears l.clear_every (suc made)) 0 n) over) C
       (e ∙ (λ d. tallied (λ x. sym (add-zero (came l universal made x)) d) A (zeroed (highest l made) g.found.universal_counts)))
 
-  stopped_a : (h : Half) → o ≡ after_first l (made + 1) A S h → (half_end h ≡ 2 → ⊥) → (C : List ℕ) → C ≡ counts_after universal g made
+  stopped_a : (h : Half) → o ≡ after_first l (made + 1) A S h → ((k : ℕ) → half_end h ≡ GrownTo k → ⊥) → (C : List ℕ) → C ≡ counts_after universal g made
       → (C ≡ counts_after universal g (suc made)) × Over o.answer
   unfolding after_first
   stopped_a no_model is stops C e =
@@ -163,7 +164,7 @@ module _ (g : Given) (made : ℕ) (going : (run (lent g) made).answer ≡ spent)
   stopped_a no_room is stops C e =
       let answered : o.answer ≡ no_room_existential = ap (λ (q : Outcome). q.answer) is in
       (untouched_a no_room_existential answered (ap (λ (q : Outcome). q.A) is) refl refl C e, subst Over (sym answered) tt)
-  stopped_a (grows S') is stops C e = absurd (stops refl)
+  stopped_a (grows S') is stops C e = absurd (stops (length S') refl)
 
   -- A round that reaches it.
   module _ (S' : Table) where
@@ -189,11 +190,11 @@ module _ (g : Given) (made : ℕ) (going : (run (lent g) made).answer ≡ spent)
         (ap (λ (q : Outcome). rows_found (search l.prefer universal l.ks l.phi (rows q.S))) is)
         (λ n. cond (clears l.clear_every (made + 1)) 0 n) (λ n. ap (λ (r : ℕ). cond (clears l.clear_every r) 0 n) (sym (add-one made))) C e
 
-    stopped_over : (h : Half) → o ≡ after_second (made + 1) A S' h → (half_end h ≡ 2 → ⊥) → Over o.answer
+    stopped_over : (h : Half) → o ≡ after_second (made + 1) A S' h → ((k : ℕ) → half_end h ≡ GrownTo k → ⊥) → Over o.answer
     unfolding after_second
     stopped_over no_model is stops = subst Over (sym (ap (λ (q : Outcome). q.answer) is)) tt
     stopped_over no_room is stops = subst Over (sym (ap (λ (q : Outcome). q.answer) is)) tt
-    stopped_over (grows A') is stops = absurd (stops refl)
+    stopped_over (grows A') is stops = absurd (stops (length A') refl)
 
   -- The round by its first step.
   by_first : o ≡ after_first l (made + 1) A S (half l.room_s (made + 1) S (search l.prefer existential l.ks l.phi (rows A)))
@@ -264,16 +265,16 @@ module _ (g : Given) (made u x : ℕ) (AR AM SR SM W : List ℕ) (now_going : Go
           counts_s = counts_s ∙ counts_stay g (suc made) below over existential;
         }
 
-    pub counts_stopped : (step.end ≡ 2 → ⊥) → CountsShow g g.limit CA CS'
+    pub counts_stopped : ((k : ℕ) → step ≡ GrownTo k → ⊥) → CountsShow g g.limit CA CS'
     counts_stopped stops =
         let left =
-        stopped_a g made now_going.going first_half (by_first g made now_going.going) (λ e. stops (first_made.ended ∙ e)) CA now_counts.counts_a in
+        stopped_a g made now_going.going first_half (by_first g made now_going.going) (λ k e. stops k (first_made.ended ∙ e)) CA now_counts.counts_a in
         ended_here left.1 CA left.0
 
-    module _ (goes : step.end ≡ 2) (back : Step) (AR' AM' W'' CA' : List ℕ)
-        (extends_back : ExtendsUniversal g.kinds g.literals g.preferences SR' step.count AR AM u g.clear_every (made + 1) (made + 1) W' back AR'
+    module _ (k : ℕ) (goes : step ≡ GrownTo k) (back : Step) (AR' AM' W'' CA' : List ℕ)
+        (extends_back : ExtendsUniversal g.kinds g.literals g.preferences SR' k AR AM u g.clear_every (made + 1) (made + 1) W' back AR'
         AM' W'')
-        (tallies_back : TalliesUniversal g.kinds g.literals g.preferences SR' step.count AR AM u g.clear_every (made + 1) (made + 1) W' CA CA')
+        (tallies_back : TalliesUniversal g.kinds g.literals g.preferences SR' k AR AM u g.clear_every (made + 1) (made + 1) W' CA CA')
       where
         abbrev S' : Table
         S' = half_table (run (lent g) made).S first_half
@@ -285,7 +286,7 @@ module _ (g : Given) (made u x : ℕ) (AR AM SR SM W : List ℕ) (now_going : Go
 
         second_made : Extended g.kinds universal (run (lent g) made).A (second_half S') (row_base g (highest (lent g) made))
             (mark_base g (highest (lent g) made)) back AR' AM' W''
-        second_made = second g made u x AR AM SR SM W now_going step SR' SM' W' extends below goes back AR' AM' W'' extends_back
+        second_made = second g made u x AR AM SR SM W now_going step SR' SM' W' extends below k goes back AR' AM' W'' extends_back
 
         tallied_a : ByHalf g made now_going.going S' (second_half S') CA'
         tallied_a =
@@ -294,7 +295,8 @@ module _ (g : Given) (made u x : ℕ) (AR AM SR SM W : List ℕ) (now_going : Go
             let same : room (row_base g n) ≡ room g.found.universal_rows = ap (λ (b : ℕ). b / 16) (length_zeroed (16 * n) g.found.universal_rows) in
             tallies_back S' A g.found.existential_rows (row_base g n) (mark_base g n) (zeroed n g.found.universal_counts)
             (room g.found.universal_rows)
-            (came (lent g) universal made) now_going.passes first_made.counted now_going.counted_a first_made.holds.in_rows
+            (came (lent g) universal made) now_going.passes (grown_to (run (lent g) made).S first_half step k goes first_made.ended) now_going.counted_a
+            first_made.holds.in_rows
             now_going.both.holds_a
             (blank_below (length A) n g.found.universal_rows g.found.universal_marks (count_at_most_highest (lent g) made)) same first_made.work_long
             (length_zeroed n g.found.universal_counts ∙ fit.0 ∙ sym same)
@@ -305,19 +307,19 @@ module _ (g : Given) (made u x : ℕ) (AR AM SR SM W : List ℕ) (now_going : Go
         unfolding after_first
         by_second = go first_half (by_first g made now_going.going) (sym first_made.ended ∙ goes)
           where
-            go : (h : Half) → run (lent g) (suc made) ≡ after_first (lent g) (made + 1) (run (lent g) made).A (run (lent g) made).S h → half_end h ≡ 2
+            go : (h : Half) → run (lent g) (suc made) ≡ after_first (lent g) (made + 1) (run (lent g) made).A (run (lent g) made).S h → half_end h ≡ GrownTo k
                 → run (lent g) (suc made) ≡ after_second (made + 1) (run (lent g) made).A (half_table (run (lent g) made).S h)
                 (second_half (half_table (run (lent g) made).S h))
-            go no_model is e = absurd (omega arith)
-            go no_room is e = absurd (omega arith)
+            go no_model is e = cc
+            go no_room is e = cc
             go (grows T) is e = is
 
         counts_a : CA' ≡ counts_after universal g (suc made)
         counts_a = second_a g made now_going.going S' (second_half S') by_second CA' tallied_a
 
-        pub counts_stopped_back : (back.end ≡ 2 → ⊥) → CountsShow g g.limit CA' CS'
+        pub counts_stopped_back : ((j : ℕ) → back ≡ GrownTo j → ⊥) → CountsShow g g.limit CA' CS'
         counts_stopped_back stops =
-            ended_here (stopped_over g made now_going.going S' (second_half S') by_second (λ e. stops (second_made.ended ∙ e))) CA' counts_a
+            ended_here (stopped_over g made now_going.going S' (second_half S') by_second (λ j e. stops j (second_made.ended ∙ e))) CA' counts_a
 
         pub counts_made : CountsShow g (made + 1) CA' CS'
         counts_made = subst (λ (r : ℕ). CountsShow g r CA' CS') (sym (add-one made)) (record { counts_a = counts_a; counts_s = counts_s })

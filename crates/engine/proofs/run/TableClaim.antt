@@ -3,15 +3,13 @@ use Prim.Native.Nat.{ℕ, zero, suc, ◌-◌, ◌*◌, ◌≤◌, ◌<◌}
 use native.Mathlib.Omega.{arith}
 use mathlib.Core.Path.{◌≡◌, refl, sym, ap, subst, ◌∙◌}
 use mathlib.Core.List.{List, [], ◌∷◌, ◌++◌, map}
-use mathlib.Core.Logic.{◌≢◌}
-use mathlib.Core.Option.{some, none-ne-some}
-use lib.ListN.{length, get_or, take, drop, get_elem?, length-map}
+use mathlib.Core.Option.{none-ne-some}
+use lib.ListN.{length, get_or, take, drop, length-map}
 use lib.Seq.{take_at}
 use Rattle.formula.specs.Formula.{max_unknowns, Kind, existential, universal, prefix}
 use Rattle.formula.specs.Causes.{count}
 use Rattle.rows.specs.Row.{row_of}
 use Rattle.rows.specs.Table.{row_at, rows_of, table_of, zeroed}
-use Rattle.expansion.specs.Play.{Row}
 use Rattle.rounds.specs.Run.{Entry, Table, rows, run, highest}
 use Rattle.rounds.specs.Claim.{table, Stands, AllDifferent, NewRow, Claim}
 use Rattle.rounds.proofs.Bounds.{row_length}

@@ -1,17 +1,16 @@
 -- A clause read code by code: what holds of the rest gives the whole. Assumes nothing.
-use Prim.Native.Nat.{ℕ, zero, suc, ◌+◌, ◌-◌, ◌<◌, ◌≤◌}
+use Prim.Native.Nat.{ℕ, zero, suc, ◌+◌, ◌-◌, ◌<◌}
 use mathlib.Core.Path.{◌≡◌, refl, sym, ap, ◌∙◌, subst}
 use mathlib.Core.Logic.{◌⊎◌, inl, inr, ⊎_elim}
 use mathlib.Core.Bool.{true}
 use mathlib.Core.List.{List, [], ◌∷◌}
 use native.Mathlib.Omega.{arith}
-use native.Mathlib.Decide.{ℕ_discrete}
 use lib.Bits.{bit_and}
-use lib.ListN.{length, get_or, drop, drop_of_length-le}
+use lib.ListN.{length, get_or, drop}
 use Rattle.expansion.proofs.Booleans.{true_or_false}
 use Rattle.expansion.proofs.ClauseCuts.{Every, Some}
 use Rattle.codes.specs.Private.Clauses.{clause_of, HasEnd, Ended, Begins, code_onto, code_clauses}
-use Rattle.codes.proofs.CodeLaws.{clause_step, clause_stop}
+use Rattle.codes.proofs.CodeLaws.{clause_step}
 use Rattle.engine.specs.Private.TermTables.{bit}
 use Rattle.engine.specs.Private.TermSteps.{Hits, Remaining}
 use Rattle.engine.proofs.search.BitLaws.{and_both}
@@ -30,29 +29,11 @@ module _ (codes : List ℕ) (e : ℕ) (c : ℕ) (inside : e < length codes) (is 
     pub every_later : (c ≡ 0 → ⊥) → (Every Q (clause_of (drop e codes)) → A) → Q c → Every Q (clause_of (drop (e + 1) codes)) → A
     every_later some f q s = f (subst (λ (cs : List ℕ). Every Q cs) (sym (here some)) (q, s))
 
-    pub every_end : c ≡ 0 → (Every Q (clause_of (drop e codes)) → A) → A
-    every_end z f = f (subst (λ (cs : List ℕ). Every Q cs) (sym (clause_stop codes e inside (sym is ∙ z))) tt)
-
-pub every_past : (codes : List ℕ) (e : ℕ) (Q : ℕ → Type 0) {A : Type 0} → length codes ≤ e → (Every Q (clause_of (drop e codes)) → A) → A
-every_past codes e Q past f = f (subst (λ (cs : List ℕ). Every Q (clause_of cs)) (sym (drop_of_length-le codes past)) tt)
-
--- An entry more that ends no clause.
-pub no_end_more : (codes : List ℕ) {start e : ℕ} → ((x : ℕ) → start ≤ x → x < e → get_or codes x 0 ≡ 0 → ⊥) → (get_or codes e 0 ≡ 0 → ⊥)
-    → (x : ℕ) → start ≤ x → x < e + 1 → get_or codes x 0 ≡ 0 → ⊥
-no_end_more codes {start} {e} so_far here_none x from below z = go (ℕ_discrete x e)
-  where
-    go : Dec (x ≡ e) → ⊥
-    go (yes same) = here_none (ap (λ (y : ℕ). get_or codes y 0) (sym same) ∙ z)
-    go (no other) = so_far x from (omega arith) z
-
 -- ---- rows that remain
 
 pub record Reading (codes misses : List ℕ) (start rows left e : ℕ) : Type 0 where
   pub so_far : Remaining codes misses start rows left
   pub rest : (l : ℕ) → Some (Hits misses l) (clause_of (drop e codes)) → Some (Hits misses l) (clause_of (drop start codes))
-
-pub reading_start : (codes misses : List ℕ) (start rows : ℕ) → Reading codes misses start rows rows start
-reading_start codes misses start rows = record { so_far = record { every = λ l h. inl h }; rest = λ l s. s }
 
 module _ {codes misses : List ℕ} {start rows left e : ℕ} (reading : Reading codes misses start rows left e) (c : ℕ) (inside : e < length codes)
     (is : c ≡ get_or codes e 0) (some : c ≡ 0 → ⊥) where

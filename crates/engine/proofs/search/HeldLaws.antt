@@ -18,7 +18,7 @@ use Rattle.codes.specs.Private.Clauses.{position, code_true, code_clauses, claus
 use Rattle.codes.proofs.CodeLaws.{code_sign, clause_among, clause_coded, every_both, row_position_is}
 use Rattle.search_cells.specs.Cells.{cells}
 use Rattle.search_sets.specs.Private.Masks.{set_at, SetsKept, ReasonsAdded}
-use Rattle.engine.specs.Private.Reasons.{Fixed, Keeps, IsReason}
+use Rattle.engine.specs.Private.Reasons.{Fixed, IsReason}
 use Rattle.engine.specs.Private.Held.{Model, Implied, Denied, Held, LineSet, LineOpened, IsFalse, FalseBut, SetsBut}
 
 -- a literal is false by a number of its sign's parity
@@ -133,10 +133,6 @@ module _ (codes w s : List ℕ) (i : ℕ) where
           each c (x, inr at) (inl e) = absurd (apart c x.0 x.1 at e)
           each c (x, inr at) (inr takes) =
               inr (literal_false (set_at q p) f c x.0 x.1 at (λ l h. takes l (others.same (position c) x.1 (apart c x.0 x.1 at) l ∙ h)) m)
-
-  -- nothing is set
-  pub held_none : (a o : List ℕ) → ((j : ℕ) → j < max_unknowns → get_or a j 0 ≡ 0) → Held codes w s i a o
-  held_none a o none = record { reached = λ j lt set. absurd (let z = none j lt in omega arith) }
 
   -- ---- why a value is reached
 

@@ -1,32 +1,28 @@
 -- What the calls of each function leave, by what is held. Assumes nothing.
 use Prim.Native.Nat.{ℕ, zero, suc, ◌+◌, ◌*◌, ◌%◌, ◌≤◌, ◌<◌}
 use mathlib.Core.Path.{◌≡◌, refl, sym, ◌∙◌, ap, subst}
-use mathlib.Core.Logic.{◌≢◌, ◌⊎◌, inl, inr, ⊎_elim}
+use mathlib.Core.Logic.{◌≢◌, ◌⊎◌}
 use mathlib.Core.Bool.{Bool, true, false, not, cond, ◌&&◌}
 use mathlib.Core.List.{List, ◌∷◌}
 use native.Mathlib.Omega.{arith}
 use native.Mathlib.Decide.{ℕ_discrete}
 use native.Mathlib.Numerals.{add-one}
-use borrow.Author.Tests.{eq-eqb, ne_eqb, eqb-true}
 use lib.Dec.{eqb, ltb}
 use lib.ListN.{length, get_or, set, drop}
-use lib.Seq.{drop-cons, get_or-set_same, get_or-set_other}
+use lib.Seq.{drop-cons}
 use Rattle.formula.specs.Formula.{max_unknowns}
-use Rattle.preference.specs.Preference.{odd}
-use Rattle.rows.specs.Row.{weight}
 use Rattle.expansion.proofs.Booleans.{never_both}
-use Rattle.expansion.proofs.Cuts.{Mask}
 use Rattle.expansion.proofs.ClauseCuts.{Every}
 use Rattle.codes.specs.Codes.{last_code, row_position}
 use Rattle.codes.specs.Private.Clauses.{position, clause_of, HasEnd, Begins, Coded}
-use Rattle.codes.proofs.CodeLaws.{row_position_is, clause_step, clause_stop}
+use Rattle.codes.proofs.CodeLaws.{row_position_is, clause_step}
 use Rattle.search_cells.specs.Cells.{cells}
 use Rattle.search_sets.specs.Sets.{set_places, sets_size, added, has, emptied, reasons_added}
 use Rattle.search_sets.specs.Private.Masks.{set_at, SetGrown, SetsKept, Put, ReasonsAdded}
 use Rattle.search_sets.proofs.SetLaws.{add_grows, add_adds, has_is, empty_empties, empty_keeps, add_reasons_adds}
 use Rattle.search_sets.proofs.MaskLaws.{store_elsewhere}
 use Rattle.search_evaluation.specs.Evaluation.{has_row, level_in}
-use Rattle.engine.specs.Private.Reasons.{Fixed, IsReason, Shorter}
+use Rattle.engine.specs.Private.Reasons.{Fixed, IsReason}
 use Rattle.engine.specs.Private.Held.{LineSet, LineOpened, IsFalse, FalseBut, Held, Moved, Moves, StepsOn, SetsBut, Inheriting, Inherited, Same}
 use Rattle.engine.proofs.search.HeldLaws.{held_same, held_store, held_open, denied_false, implied_open, implied_fixed, implied_decided, implied_turned}
 use Rattle.engine.proofs.search.HeldLaws.{denied_reason}
@@ -35,9 +31,6 @@ use Rattle.engine.proofs.search.HeldLaws.{denied_reason}
 
 pub same_store : (o : List ℕ) (at x : ℕ) → 2 * (max_unknowns + 1) ≤ at → Same o (set o at x)
 same_store o at x behind = record { same = λ j le l. store_elsewhere o at x j l (omega arith) (omega arith) }
-
-pub same_refl : (o : List ℕ) → Same o o
-same_refl o = record { same = λ j le l. refl }
 
 pub same_trans : {o q t : List ℕ} → Same o q → Same q t → Same o t
 same_trans a b = record { same = λ j le l. b.same j le l ∙ a.same j le l }
@@ -87,51 +80,11 @@ none_more o k l none here j low high = go (ℕ_discrete j l)
     go (yes e) = subst (λ (x : ℕ). set_at o max_unknowns x ≡ false) (sym e) here
     go (no n) = none j low (omega arith)
 
--- ---- the line
-
-odd_weight : (m : ℕ) (y : Bool) → odd (2 * m + weight y) ≡ y
-odd_weight m true = eq-eqb ((2 * m + 1) % 2) 1 (omega arith)
-odd_weight m false = ne_eqb ((2 * m + 0) % 2) 1 (λ e. omega arith)
-
-pub line_set : (a : List ℕ) (p m r : ℕ) (y : Bool) → p < length a → r ≡ weight y → LineSet p y a (set a p (2 * m + r))
-line_set a p m r y inside e = record {
-  there = ap odd (get_or-set_same a p (2 * m + r) 0 inside) ∙ ap (λ (x : ℕ). odd (2 * m + x)) e ∙ odd_weight m y;
-  elsewhere = λ j n. get_or-set_other a p j (2 * m + r) 0 n;
-}
-
-pub opened_none : (a : List ℕ) → LineOpened a a
-opened_none a = record { each = λ j. inr refl }
-
-pub opened_more : {a b : List ℕ} (p r : ℕ) → LineOpened a b → p < length b → (r ≡ 0) ⊎ (r ≡ get_or b p 0) → LineOpened a (set b p r)
-opened_more {a} {b} p r so_far inside within = record { each = λ j. go j (ℕ_discrete j p) }
-  where
-    go : (j : ℕ) → Dec (j ≡ p) → (get_or (set b p r) j 0 ≡ 0) ⊎ (get_or (set b p r) j 0 ≡ get_or a j 0)
-    go j (yes e) =
-        let here = ap (λ (x : ℕ). get_or (set b p r) x 0) e ∙ get_or-set_same b p r 0 inside in
-        ⊎_elim
-        (λ z. inl (here ∙ z))
-        (λ z. ⊎_elim (λ q. inl (here ∙ z ∙ ap (λ (x : ℕ). get_or b x 0) (sym e) ∙ q)) (λ q. inr (here ∙ z ∙ ap (λ (x : ℕ). get_or b x 0) (sym e) ∙ q))
-        (so_far.each j))
-        within
-    go j (no n) =
-        let same = get_or-set_other b p j r 0 n in
-        ⊎_elim (λ q. inl (same ∙ q)) (λ q. inr (same ∙ q)) (so_far.each j)
-
-pub zero_more : (b : List ℕ) (p : ℕ) → ((j : ℕ) → j < p → get_or b j 0 ≡ 0) → p < length b → (j : ℕ) → j < p + 1 → get_or (set b p 0) j 0 ≡ 0
-zero_more b p zeros inside j less = go (ℕ_discrete j p)
-  where
-    go : Dec (j ≡ p) → get_or (set b p 0) j 0 ≡ 0
-    go (yes e) = ap (λ (x : ℕ). get_or (set b p 0) x 0) e ∙ get_or-set_same b p 0 0 inside
-    go (no n) = get_or-set_other b p j 0 0 n ∙ zeros j (omega arith)
-
 -- ---- a clause read code by code: what holds of the rest gives the whole
 
 pub record Reading (codes a : List ℕ) (start but e : ℕ) : Type 0 where
   pub ends : HasEnd (drop e codes) → HasEnd (drop start codes)
   pub rest : Every (λ c. (c ≡ but) ⊎ IsFalse a c) (clause_of (drop e codes)) → Every (λ c. (c ≡ but) ⊎ IsFalse a c) (clause_of (drop start codes))
-
-pub reading_start : (codes a : List ℕ) (start but : ℕ) → Reading codes a start but start
-reading_start codes a start but = record { ends = λ h. h; rest = λ h. h }
 
 module _ {codes a : List ℕ} {start but e : ℕ} (so_far : Reading codes a start but e) (inside : e < length codes) (c : ℕ) (is : c ≡ get_or codes e 0) where
   here : drop e codes ≡ c ∷ drop (e + 1) codes
@@ -149,18 +102,6 @@ module _ {codes a : List ℕ} {start but e : ℕ} (so_far : Reading codes a star
       ends_later : (x : ℕ) → HasEnd (drop (e + 1) codes) → HasEnd (x ∷ drop (e + 1) codes)
       ends_later zero h = tt
       ends_later (suc x) h = h
-
-  pub reading_end : c ≡ 0 → FalseBut codes a start but
-  reading_end z = record {
-    ends = so_far.ends (subst HasEnd (sym (here ∙ ap (λ (x : ℕ). x ∷ drop (e + 1) codes) z)) tt);
-    rest = so_far.rest (subst (λ (cs : List ℕ). Every (λ c. (c ≡ but) ⊎ IsFalse a c) cs) (sym (clause_stop codes e inside (sym is ∙ z))) tt);
-  }
-
-pub is_false : (a : List ℕ) (c p x : ℕ) → p ≡ row_position c → x ≡ get_or a p 0 → (x ≡ 0 → ⊥) → eqb (x % 2) (c % 2) ≡ true → IsFalse a c
-is_false a c p x there is set same =
-    let value : x ≡ get_or a (row_position c) 0 = is ∙ ap (λ (q : ℕ). get_or a q 0) there in
-    let parity = eqb-true (x % 2) (c % 2) same in
-    record { set = omega arith; is = sym (ap (λ (q : ℕ). q % 2) value) ∙ parity }
 
 -- ---- values that are put
 
@@ -185,15 +126,6 @@ fixed_held w s a o b q i p y size small fixed e1 ey stored codes held =
     (implied_fixed codes w s i (set_at q p) p small fixed)
 
 -- ---- steps one after the other
-
-pub moves_nothing : (codes a o : List ℕ) → Moves codes a a o o true
-moves_nothing codes a o = record { on = λ w s i coded held. record { held = held; denied = λ e. absurd (never_both refl e) } }
-
-pub moves_then : {codes a b o q c t : List ℕ} {r r' : Bool} → Moves codes a b o q r → Moves codes b c q t r' → Moves codes a c o t r'
-moves_then first second = record { on = λ w s i coded held. second.on w s i coded (first.on w s i coded held).held }
-
-pub moves_at : {codes a b o q : List ℕ} {r r' : Bool} → r ≡ r' → Moves codes a b o q r → Moves codes a b o q r'
-moves_at {codes} {a} {b} {o} {q} e moves = subst (λ (x : Bool). Moves codes a b o q x) e moves
 
 -- a clause that is false
 pub false_moves : (codes a o q1 q : List ℕ) (start c : ℕ) → length o ≡ sets_size → length q1 ≡ sets_size → Begins codes start → FalseBut codes a start c → c ≡ 0
@@ -264,14 +196,7 @@ turns codes w a a1 b b' o q1 q2 q i p y r opened inherited ey stored kept moves 
       q2 kept);
 }
 
-pub steps_at : {codes w : List ℕ} {i : ℕ} {a b o q : List ℕ} {going going' r : Bool} → going ≡ going' → StepsOn codes w i a b o q going r →
-    StepsOn codes w i a b o q going' r
-steps_at {codes} {w} {i} {a} {b} {o} {q} {going} {going'} {r} e steps = subst (λ (x : Bool). StepsOn codes w i a b o q x r) e steps
-
 -- ---- the set at p as it is taken from the one behind
-
-pub inheriting_none : (p : ℕ) (o : List ℕ) → Inheriting p 0 o o
-inheriting_none p o = record { others = λ j n l. refl; takes = λ l less. absurd (omega arith) }
 
 module _ {p e : ℕ} {o q : List ℕ} (small : p < max_unknowns) (so_far : Inheriting p e o q) where
   pub inheriting_passed : (set_at q max_unknowns e ≡ true → e ≢ p → ⊥) → Inheriting p (e + 1) o q
@@ -318,9 +243,3 @@ pub ends : {codes w s a o : List ℕ} (q : List ℕ) {i k : ℕ} {going r : Bool
     → Coded max_unknowns codes → r ≡ true → IsReason codes w s i k (set_at q max_unknowns)
 ends {codes} {w} {s} {a} {o} q {i} {k} {going} {r} moved same checked coded e =
     denied_reason codes w s i k (set_at q max_unknowns) ((moved_same same (moved coded)).denied (checked e).0) (checked e).1
-
-pub reason_later : {codes w s : List ℕ} {i m k : ℕ} {D : Mask} → m ≤ k → IsReason codes w s i m D → IsReason codes w s i k D
-reason_later le reason = record { denies = λ f keeps heeds. reason.denies f keeps (λ l lt. heeds l (omega arith)) }
-
-pub none_found : {codes w s : List ℕ} {i k : ℕ} {found : Bool} {low high : ℕ} → found ≡ false → Shorter codes w s i k found low high
-none_found e = record { reason = λ coded f. absurd (never_both f e) }

@@ -1,27 +1,23 @@
 -- All rows, and what the search learns of a row. Assumes nothing.
 use Prim.Native.Nat.{ℕ, ◌+◌, ◌-◌, ◌*◌, ◌/◌, ◌%◌, ◌<◌, ◌≤◌}
-use mathlib.Core.Path.{◌≡◌, refl, sym, ap, ◌∙◌, subst}
+use mathlib.Core.Path.{◌≡◌, sym, subst}
 use mathlib.Core.Logic.{◌⊎◌, inl, inr, ⊎_elim}
 use mathlib.Core.Bool.{true, false}
 use mathlib.Core.List.{List, ◌∷◌}
 use native.Mathlib.Omega.{arith}
 use native.Mathlib.Decide.{dec_lt}
-use lib.ListN.{length, get_or, drop, set, drop_of_length-le}
-use lib.Seq.{get_or-set_same, get_or-set_other}
+use lib.ListN.{length, get_or, drop, drop_of_length-le}
 use Rattle.formula.specs.Formula.{max_clauses, max_rows}
 use Rattle.expansion.proofs.Booleans.{never_both}
 use Rattle.expansion.proofs.ClauseCuts.{Every, Some, every_map, some_map}
 use Rattle.codes.specs.Private.Clauses.{position, clause_of, code_clauses, Ended, Coded}
 use Rattle.codes.proofs.CodeLaws.{clause_coded, every_some}
-use Rattle.engine.specs.Private.TermTables.{others, start_of, term_of, first_of, listed_in, row_words, names_from, bit, is_open, name_of}
+use Rattle.engine.specs.Private.TermTables.{others, start_of, term_of, listed_in, row_words, bit, is_open, name_of}
 use Rattle.engine.specs.Private.Terms.{own, StandsFor, Entered, Listed, GivenTrue, TermOpen, Opened, RowOpened}
 use Rattle.engine.specs.Private.TermSteps.{Missed, RowsLooked, Hits, WordFilled, Filled, Named}
 use Rattle.engine.proofs.search.ClauseLaws.{every_start}
 
 -- ---- a word more
-
-pub filled_none : (kinds codes terms work opened : List ℕ) → Filled kinds codes terms work 0 opened
-filled_none kinds codes terms work opened = record { listed = λ i j lt. absurd (omega arith) }
 
 -- A literal that hits is given and true.
 hit_given : {kinds work misses : List ℕ} {from rows : ℕ} → Missed kinds work from rows (length kinds) misses → (l : ℕ) → l < rows
@@ -61,24 +57,6 @@ module _ {kinds codes terms work before after misses : List ℕ} {w count all : 
           (hit_given looked.missed l (omega arith) (clause_of (drop (start_of terms j) codes)) (clause_coded (length kinds) codes (start_of terms j) coded)
           s)))
           ((word.listed fits).every j l below place (looked.ones l (omega arith)))
-
--- ---- the clauses that stand for the terms
-
-pub named_none : (terms a : List ℕ) → Named terms 0 a a
-named_none terms a = record { rows = λ p lt. refl; names = λ t lt. absurd (omega arith) }
-
-pub named_more : {terms before after : List ℕ} {n : ℕ} (v : ℕ) → Named terms n before after → names_from + n < length after → v ≡ first_of terms n
-    → Named terms (n + 1) before (set after (names_from + n) v)
-named_more {terms} {before} {after} {n} v so_far inside is = record {
-  rows = λ p lt. get_or-set_other after (names_from + n) p v 0 (λ z. omega arith) ∙ so_far.rows p lt;
-  names = λ t lt. go t lt (dec_lt t n);
-}
-  where
-    go : (t : ℕ) → t < n + 1 → Dec (t < n) → name_of (set after (names_from + n) v) t ≡ first_of terms t
-    go t lt (yes old) = get_or-set_other after (names_from + n) (names_from + t) v 0 (λ z. omega arith) ∙ so_far.names t old
-    go t lt (no new) =
-        let same : t ≡ n = omega arith in
-        ap (name_of (set after (names_from + n) v)) same ∙ get_or-set_same after (names_from + n) v 0 inside ∙ is ∙ ap (first_of terms) (sym same)
 
 -- ---- the promise
 

@@ -1,18 +1,21 @@
 -- The causes in order, and the outcome: what is answered over an accepted formula's tables is the outcome of the whole. Assumes nothing.
 use Prim.Native.Nat.{ℕ, zero, suc, ◌+◌, ◌-◌, ◌*◌, ◌%◌, ◌≤◌, ◌<◌}
+use Rattle.std.specs.Prelude.{Result, Ok, Err}
+use Rattle.cause.specs.declared.Cause.{Cause}
+use Rattle.cause.specs.Cause.{number as number_of, caused, told, unless_cause}
+use Rattle.cause.proofs.Numbers.{from_1, caused_number, Known, known_cond, known_told, unless_number}
 use mathlib.Core.Path.{◌≡◌, refl, sym, ◌∙◌, ap, subst}
-use mathlib.Core.Bool.{Bool, true, false, cond, ◌&&◌, and-eq-true_iff}
+use mathlib.Core.Bool.{Bool, true, false, not, cond, ◌&&◌, and-eq-true_iff}
 use mathlib.Core.List.{List, [], ◌∷◌}
 use mathlib.Core.Option.{Option, none, some}
 use native.Mathlib.Omega.{arith}
 use borrow.Author.Tests.{eq-eqb, ne_eqb, lt-ltb, le-ltb, leb-true}
-use lib.Dec.{eqb, leb}
+use lib.Dec.{eqb, leb, ltb}
 use lib.IntN.{ℤ}
 use lib.ListN.{length, length-map}
 use Rattle.formula.specs.Formula.{Kind, existential, universal, kind_of, prefix, clauses, max_rows, work_size}
 use Rattle.formula.specs.Meaning.{matrix}
-use Rattle.formula.specs.Causes.{count, checked, refused_if, cause_1, cause_2, cause_3, sizes}
-use Rattle.formula.specs.declared.Check.TheVariants.{Accepted as Passed, Refused as Turned}
+use Rattle.formula.specs.Causes.{count, checked}
 use Rattle.formula.specs.declared.Formula.{Formula}
 use Rattle.formula.proofs.Accepted.{accepted_sizes}
 use Rattle.preference.specs.Preference.{prefer}
@@ -24,7 +27,7 @@ use Rattle.expansion.specs.Model.{search}
 use Rattle.expansion.proofs.Booleans.{never_both}
 use Rattle.expansion.proofs.Right.{search_right}
 use Rattle.engine.specs.declared.search.Search.{Search}
-use Rattle.engine.specs.declared.search.Search.TheVariants.{Found, NoModel, Refused}
+use Rattle.engine.specs.declared.search.Search.TheVariants.{Found, NoModel}
 use Rattle.engine.specs.Search.{lent_rows, cause, found, answer, left, outcome, work_after, number, outcome_number, Searched}
 use Rattle.engine.specs.Private.Prepared.{later_cause, LastLeads, KnownLeads}
 use Rattle.engine.specs.Private.Whole.{side_kind, TablesOf, FoundIs, Finds, Answered}
@@ -67,62 +70,64 @@ fits_few rows e =
 -- ---- answers over tables that fit
 
 module _ (kinds codes index terms preferences own : List ℕ) (known : ℕ) (rows : List ℕ) (lent others side : ℕ) (w : List ℕ) where
-  pub answered_refused : (n : ℕ) → later_cause rows lent others w ≡ suc n →
-      Answered kinds codes index terms preferences own known rows lent others side w w (Refused (suc n))
-  answered_refused n e = record {
-    refused = λ f. (ap Refused (sym e), refl);
-    answered = λ z. absurd (omega arith);
+  pub answered_refused : (c : Cause) → later_cause rows lent others w ≡ number_of c →
+      Answered kinds codes index terms preferences own known rows lent others side w w (Err c)
+  answered_refused c e = record {
+    refused = λ f. (sym (ap (λ (n : ℕ). Err (caused n)) e ∙ ap Err (caused_number c)), refl);
+    answered = λ z. absurd (omega (arith, from_1 c));
   }
 
   pub answered_found : (u : List ℕ) (b : Bool) → later_cause rows lent others w ≡ 0 →
       Finds kinds codes index terms preferences own known rows lent others side b u → b ≡ true →
-      Answered kinds codes index terms preferences own known rows lent others side w u Found
+      Answered kinds codes index terms preferences own known rows lent others side w u (Ok Found)
   answered_found u b z found_is e = record {
     refused = λ f. absurd (f z);
     answered = λ q literals of leads. go (search (prefer preferences) (side_kind side) (prefix kinds) (matrix (clauses literals)) (rows_of others lent rows))
         (found_is literals of leads);
   }
     where
-      go : (o : Option (List Row)) → FoundIs o b u → (Found ≡ answer o) × (u ≡ left o)
+      go : (o : Option (List Row)) → FoundIs o b u → (◌≡◌ {A = Result Search Cause} (Ok Found) (Ok (answer o))) × (u ≡ left o)
       go none f = absurd (never_both e f.0)
       go (some ys) f = (refl, f.1)
 
   pub answered_none : (u : List ℕ) (b : Bool) → later_cause rows lent others w ≡ 0 →
       Finds kinds codes index terms preferences own known rows lent others side b u → b ≡ false →
-      Answered kinds codes index terms preferences own known rows lent others side w u NoModel
+      Answered kinds codes index terms preferences own known rows lent others side w u (Ok NoModel)
   answered_none u b z found_is e = record {
     refused = λ f. absurd (f z);
     answered = λ q literals of leads. go (search (prefer preferences) (side_kind side) (prefix kinds) (matrix (clauses literals)) (rows_of others lent rows))
         (found_is literals of leads);
   }
     where
-      go : (o : Option (List Row)) → FoundIs o b u → (NoModel ≡ answer o) × (u ≡ left o)
+      go : (o : Option (List Row)) → FoundIs o b u → (◌≡◌ {A = Result Search Cause} (Ok NoModel) (Ok (answer o))) × (u ≡ left o)
       go none f = (refl, f.1)
       go (some ys) f = absurd (never_both f.0 e)
 
 -- ---- the formula's causes
 
-turned_positive : (a b c : Bool) (f : Formula) (n : ℕ) → refused_if a 1 (refused_if b 2 (refused_if c 3 (Passed f))) ≡ Turned n → n ≡ 0 → ⊥
-turned_positive true b c f n e z = let q : ◌≡◌ {A = ℕ} 1 0 = cc in omega arith
-turned_positive false true c f n e z = let q : ◌≡◌ {A = ℕ} 2 0 = cc in omega arith
-turned_positive false false true f n e z = let q : ◌≡◌ {A = ℕ} 3 0 = cc in omega arith
-turned_positive false false false f n e z = let q : ◌≡◌ {A = ℕ} 0 1 = cc in omega arith
-
-checked_positive : (kinds : List ℕ) (literals : List ℤ) (n : ℕ) → checked kinds literals ≡ Turned n → n ≡ 0 → ⊥
-unfolding checked
-checked_positive kinds literals n e z = turned_positive (cause_1 kinds) (cause_2 literals) (cause_3 (length kinds) literals) (sizes kinds literals) n e z
-
 module _ (kinds : List ℕ) (literals : List ℤ) (preferences rows : List ℕ) (lent : ℕ) (universal? : Bool) (w : List ℕ) where
+  -- each cause's number is one's own
+  known_cause : Known (cause kinds literals rows lent universal? w)
+  unfolding cause
+  known_cause =
+      known_cond (eqb (told (checked kinds literals)) 0)
+      (known_cond (not (table_fits rows)) {n = 4} refl
+      (known_cond (not (eqb (length w) work_size)) {n = 5} refl
+      (known_cond (ltb (room rows) lent) {n = 7} refl
+      (known_cond (stray_rows (count (other (side_of universal?)) (prefix kinds)) lent rows) {n = 8} {m = 0} refl refl))))
+      (known_told (checked kinds literals))
+
   number_so : outcome_number kinds literals preferences rows lent universal? w ≡ number (outcome kinds literals preferences rows lent universal? w)
   unfolding outcome outcome_number
-  number_so = go (eqb (cause kinds literals rows lent universal? w) 0)
+  number_so = go (eqb (cause kinds literals rows lent universal? w) 0) known_cause
     where
-      go : (b : Bool) → cond b (number (answer (found kinds literals preferences rows lent universal?))) (cause kinds literals rows lent universal? w)
-          ≡ number (cond b (answer (found kinds literals preferences rows lent universal?)) (Refused (cause kinds literals rows lent universal? w)))
-      go true = refl
-      go false = refl
+      go : (b : Bool) → told {A = ℕ} (cond b (Ok 0) (Err (caused (cause kinds literals rows lent universal? w)))) ≡ cause kinds literals rows lent universal? w
+          → cond b (number (Ok (answer (found kinds literals preferences rows lent universal?)))) (cause kinds literals rows lent universal? w)
+          ≡ number (cond b (Ok (answer (found kinds literals preferences rows lent universal?))) (Err (caused (cause kinds literals rows lent universal? w))))
+      go true known = refl
+      go false known = sym known
 
-  searched : (r : Search) (u : List ℕ) → r ≡ outcome kinds literals preferences rows lent universal? w →
+  searched : (r : Result Search Cause) (u : List ℕ) → r ≡ outcome kinds literals preferences rows lent universal? w →
       u ≡ work_after kinds literals preferences rows lent universal? w
       → Searched kinds literals preferences rows lent universal? w r u
   searched r u e f =
@@ -134,22 +139,24 @@ module _ (kinds : List ℕ) (literals : List ℤ) (preferences rows : List ℕ) 
       }
 
   -- a cause of the formula's is the cause
-  cause_first : (n : ℕ) → checked kinds literals ≡ Turned n → cause kinds literals rows lent universal? w ≡ n
+  cause_first : (c : Cause) → checked kinds literals ≡ Err c → cause kinds literals rows lent universal? w ≡ number_of c
   unfolding cause
-  cause_first n e = rw e (rw (ne_eqb n 0 (checked_positive kinds literals n e)))
+  cause_first c e = rw e (rw (ne_eqb (number_of c) 0 (λ z. omega (arith, from_1 c))))
 
-  refused_outcome : (n : ℕ) → checked kinds literals ≡ Turned n → Refused n ≡ outcome kinds literals preferences rows lent universal? w
+  refused_outcome : (c : Cause) → checked kinds literals ≡ Err c → Err c ≡ outcome kinds literals preferences rows lent universal? w
   unfolding outcome
-  refused_outcome n e = sym (rw (cause_first n e, ne_eqb n 0 (checked_positive kinds literals n e)))
+  refused_outcome c e =
+      let answered = answer (found kinds literals preferences rows lent universal?) in
+      sym (ap (λ (n : ℕ). unless_cause n answered) (cause_first c e) ∙ unless_number c answered)
 
-  refused_work : (n : ℕ) → checked kinds literals ≡ Turned n → w ≡ work_after kinds literals preferences rows lent universal? w
+  refused_work : (c : Cause) → checked kinds literals ≡ Err c → w ≡ work_after kinds literals preferences rows lent universal? w
   unfolding work_after
-  refused_work n e = sym (rw (cause_first n e, ne_eqb n 0 (checked_positive kinds literals n e)))
+  refused_work c e = sym (rw (cause_first c e, ne_eqb (number_of c) 0 (λ z. omega (arith, from_1 c))))
 
-  pub refused_searched : (n : ℕ) → checked kinds literals ≡ Turned n → Searched kinds literals preferences rows lent universal? w (Refused n) w
-  refused_searched n e = searched (Refused n) w (refused_outcome n e) (refused_work n e)
+  pub refused_searched : (c : Cause) → checked kinds literals ≡ Err c → Searched kinds literals preferences rows lent universal? w (Err c) w
+  refused_searched c e = searched (Err c) w (refused_outcome c e) (refused_work c e)
 
-  module _ (f : Formula) (passed : checked kinds literals ≡ Passed f) (others side : ℕ) (same_side : side_kind side ≡ side_of universal?)
+  module _ (f : Formula) (passed : checked kinds literals ≡ Ok f) (others side : ℕ) (same_side : side_kind side ≡ side_of universal?)
       (others_known : others ≡ count (other (side_kind side)) (prefix kinds))
       (codes index terms own : List ℕ) (known : ℕ) (of : TablesOf kinds literals codes index terms)
       (leads : KnownLeads kinds literals preferences own known rows lent universal?) where
@@ -171,18 +178,17 @@ module _ (kinds : List ℕ) (literals : List ℤ) (preferences rows : List ℕ) 
         subst (λ (s : Kind). LastLeads kinds literals preferences own known s (rows_of others lent rows)) (sym same_side)
         (subst (λ (n : ℕ). LastLeads kinds literals preferences own known (side_of universal?) (rows_of n lent rows)) others_same leads)
 
-    answered_outcome : (u : List ℕ) (r : Search) → Answered kinds codes index terms preferences own known rows lent others side w u r →
+    answered_outcome : (u : List ℕ) (r : Result Search Cause) → Answered kinds codes index terms preferences own known rows lent others side w u r →
         r ≡ outcome kinds literals preferences rows lent universal? w
     unfolding outcome
     answered_outcome u r a = go (later_cause rows lent others w) refl
       where
         go : (n : ℕ) → later_cause rows lent others w ≡ n →
-            r ≡ cond (eqb (cause kinds literals rows lent universal? w) 0) (answer (found kinds literals preferences rows lent universal?))
-            (Refused (cause kinds literals rows lent universal? w))
+            r ≡ unless_cause (cause kinds literals rows lent universal? w) (answer (found kinds literals preferences rows lent universal?))
         go zero e = (a.answered e literals of leads_same).0 ∙ sym (rw (cause_later, e, found_same))
         go (suc n) e = (a.refused (λ z. omega arith)).0 ∙ sym (rw (cause_later, e, ne_eqb (suc n) 0 (λ z. omega arith)))
 
-    answered_work : (u : List ℕ) (r : Search) → Answered kinds codes index terms preferences own known rows lent others side w u r →
+    answered_work : (u : List ℕ) (r : Result Search Cause) → Answered kinds codes index terms preferences own known rows lent others side w u r →
         u ≡ work_after kinds literals preferences rows lent universal? w
     unfolding work_after
     answered_work u r a = go (later_cause rows lent others w) refl
@@ -192,7 +198,7 @@ module _ (kinds : List ℕ) (literals : List ℤ) (preferences rows : List ℕ) 
         go zero e = (a.answered e literals of leads_same).1 ∙ sym (rw (cause_later, e, found_same))
         go (suc n) e = (a.refused (λ z. omega arith)).1 ∙ sym (rw (cause_later, e, ne_eqb (suc n) 0 (λ z. omega arith)))
 
-    pub answered_searched : (u : List ℕ) (r : Search) → Answered kinds codes index terms preferences own known rows lent others side w u r
+    pub answered_searched : (u : List ℕ) (r : Result Search Cause) → Answered kinds codes index terms preferences own known rows lent others side w u r
         → Searched kinds literals preferences rows lent universal? w r u
     answered_searched u r a = searched r u (answered_outcome u r a) (answered_work u r a)
 
@@ -203,7 +209,7 @@ count_both [] = refl
 count_both (existential ∷ ks) = let r : count universal ks + count existential ks ≡ length ks = count_both ks in omega arith
 count_both (universal ∷ ks) = let r : count universal ks + count existential ks ≡ length ks = count_both ks in omega arith
 
-module _ (kinds : List ℕ) (literals : List ℤ) (f : Formula) (passed : checked kinds literals ≡ Passed f) where
+module _ (kinds : List ℕ) (literals : List ℤ) (f : Formula) (passed : checked kinds literals ≡ Ok f) where
   universals_known : f.universals ≡ count universal (prefix kinds)
   universals_known = ap (λ (x : Formula). x.universals) (accepted_sizes kinds literals passed)
 

@@ -1,5 +1,9 @@
 -- A formula's tables: what is made of an accepted formula, what of tables is tested, and what a search over them gives. Assumes nothing.
 use Prim.Native.Nat.{ℕ, zero, suc, ◌-◌, ◌/◌, ◌≤◌, ◌<◌}
+use Rattle.std.specs.Prelude.{Result, Ok, Err}
+use Rattle.cause.specs.declared.Cause.{Cause}
+use Rattle.cause.specs.declared.Cause.TheVariants.{Kinds, Literals}
+use Rattle.cause.specs.Cause.{refused_if, caused}
 use mathlib.Core.Path.{◌≡◌, refl, sym, ◌∙◌, ap, ap₂, subst}
 use mathlib.Core.Bool.{Bool, true, false, not, ◌&&◌, and-eq-true_iff, and-false, true≢false}
 use mathlib.Core.List.{List, [], ◌∷◌}
@@ -10,8 +14,7 @@ use lib.Dec.{eqb, ltb, leb-suc-zero}
 use lib.IntN.{ℤ, pos, nat_abs}
 use lib.ListN.{length, get_or, take, get_or-eq_default}
 use Rattle.formula.specs.Formula.{max_unknowns, max_entries, prefix}
-use Rattle.formula.specs.Causes.{any, beyond, cause_1, cause_2, cause_3, checked, sizes, refused_if, count}
-use Rattle.formula.specs.declared.Check.TheVariants.{Accepted as Passed, Refused as Turned}
+use Rattle.formula.specs.Causes.{any, beyond, cause_1, cause_2, cause_3, checked, sizes, count}
 use Rattle.formula.specs.declared.Formula.{Formula}
 use Rattle.formula.proofs.Accepted.{Accepted, accepted, accepting, accepted_sizes}
 use Rattle.formula.proofs.Any.{any_none, none_any, or_none}
@@ -23,7 +26,6 @@ use Rattle.index.specs.Index.{index_size, index_of, filled as index_filled}
 use Rattle.index.proofs.IndexLaws.{index_laid}
 use Rattle.engine.specs.Private.Terms.{ListedIn}
 use Rattle.engine.specs.declared.search.Search.{Search}
-use Rattle.engine.specs.declared.search.Search.TheVariants.{Refused}
 use Rattle.engine.specs.Private.Prepared.{Prepared, Prepares, no_code, tables_fit, later_cause, cause_over, SearchedOver}
 use Rattle.engine.specs.Private.Whole.{side_kind, Tables, TablesOf, Answered}
 use Rattle.engine.proofs.search.CallLaws.{lists}
@@ -86,8 +88,8 @@ used_within literals places = go (refused literals places) refl
     go false e = rw e (omega (arith, encoding_length literals, not_longer literals places e))
 
 -- An accepted formula has its own sizes.
-pub passes : (kinds : List ℕ) (literals : List ℤ) {f : Formula} → checked kinds literals ≡ Passed f → checked kinds literals ≡ Passed (sizes kinds literals)
-passes kinds literals e = e ∙ ap Passed (accepted_sizes kinds literals e)
+pub passes : (kinds : List ℕ) (literals : List ℤ) {f : Formula} → checked kinds literals ≡ Ok f → checked kinds literals ≡ Ok (sizes kinds literals)
+passes kinds literals e = e ∙ ap Ok (accepted_sizes kinds literals e)
 
 -- ---- what is tested
 
@@ -163,27 +165,28 @@ abbrev pub one : List ℤ
 one = pos 0 ∷ []
 
 module _ (kinds : List ℕ) where
-  checked_one : checked kinds one ≡ refused_if (cause_1 kinds) 1 (Passed (sizes kinds one))
+  checked_one : checked kinds one ≡ refused_if (cause_1 kinds) Kinds (Ok (sizes kinds one))
   unfolding checked cause_2 cause_3
   checked_one = rw (leb-suc-zero (length kinds))
 
   -- what is refused has cause 1, and no formula with these kinds is accepted
-  one_refused : (n : ℕ) → checked kinds one ≡ Turned n → (cause_1 kinds ≡ true) × (n ≡ 1)
-  one_refused n e = go (cause_1 kinds) (sym checked_one ∙ e)
+  one_refused : (c : Cause) → checked kinds one ≡ Err c → (cause_1 kinds ≡ true) × (c ≡ Kinds)
+  one_refused c e = go (cause_1 kinds) (sym checked_one ∙ e)
     where
-      go : (b : Bool) → refused_if b 1 (Passed (sizes kinds one)) ≡ Turned n → (b ≡ true) × (n ≡ 1)
-      go true q = (refl, let z : ◌≡◌ {A = ℕ} 1 n = cc in sym z)
+      go : (b : Bool) → refused_if b Kinds (Ok (sizes kinds one)) ≡ Err c → (b ≡ true) × (c ≡ Kinds)
+      go true q = (refl, let z : Kinds ≡ c = cc in sym z)
       go false q = absurd (let z : ◌≡◌ {A = ℕ} 0 1 = cc in omega arith)
 
-  one_passed : (f : Formula) → checked kinds one ≡ Passed f → cause_1 kinds ≡ false
+  one_passed : (f : Formula) → checked kinds one ≡ Ok f → cause_1 kinds ≡ false
   one_passed f e = go (cause_1 kinds) (sym checked_one ∙ e)
     where
-      go : (b : Bool) → refused_if b 1 (Passed (sizes kinds one)) ≡ Passed f → b ≡ false
+      go : (b : Bool) → refused_if b Kinds (Ok (sizes kinds one)) ≡ Ok f → b ≡ false
       go true q = absurd (let z : ◌≡◌ {A = ℕ} 0 1 = cc in omega arith)
       go false q = refl
 
-  one_accepted : (literals : List ℤ) → Accepted kinds literals → (n : ℕ) → checked kinds one ≡ Turned n → ⊥
-  one_accepted literals of n e = let z : Passed (sizes kinds one) ≡ Turned n = sym (accepting kinds one with_one) ∙ e in let y : ◌≡◌ {A = ℕ} 0 1 = cc in omega
+  one_accepted : (literals : List ℤ) → Accepted kinds literals → (c : Cause) → checked kinds one ≡ Err c → ⊥
+  one_accepted literals of c e = let z : ◌≡◌ {A = Result Formula Cause} (Ok (sizes kinds one)) (Err c) = sym (accepting kinds one with_one) ∙ e in let y : ◌≡◌
+      {A = ℕ} 0 1 = cc in omega
       arith
     where
       zero_there : (i : ℕ) → nat_abs (get_or one i (pos 0)) ≤ length kinds
@@ -203,7 +206,7 @@ module _ (kinds : List ℕ) where
 
 -- ---- what is answered over tables
 
-pub tables_lent : (kinds codes index : List ℕ) (f : Formula) → checked kinds one ≡ Passed f → tables_fit codes (length index) ≡ true → Tables kinds codes index
+pub tables_lent : (kinds codes index : List ℕ) (f : Formula) → checked kinds one ≡ Ok f → tables_fit codes (length index) ≡ true → Tables kinds codes index
 tables_lent kinds codes index f passed fits = record {
   few_unknowns = (accepted kinds one passed).few_unknowns;
   entries = fit_few codes (length index) fits;
@@ -237,19 +240,19 @@ module _ (kinds codes index terms : List ℕ) where
     unfolding cause_over
     cause_of_tables e f = rw (e, f)
 
-    pub over_refused_kinds : (n : ℕ) → checked kinds one ≡ Turned n →
-        SearchedOver kinds codes index terms preferences own known rows lent universal? w (Refused n) w
-    over_refused_kinds n e = record {
-      prepared = λ literals p _. absurd (one_accepted kinds literals (accepted kinds literals p.accepted) n e);
-      refused = λ _. (ap Refused ((one_refused kinds n e).1 ∙ sym (cause_of_kinds (one_refused kinds n e).0)), refl);
+    pub over_refused_kinds : (c : Cause) → checked kinds one ≡ Err c →
+        SearchedOver kinds codes index terms preferences own known rows lent universal? w (Err c) w
+    over_refused_kinds c e = record {
+      prepared = λ literals p _. absurd (one_accepted kinds literals (accepted kinds literals p.accepted) c e);
+      refused = λ _. (ap Err ((one_refused kinds c e).1 ∙ sym (ap caused (cause_of_kinds (one_refused kinds c e).0))), refl);
     }
 
-    module _ (f : Formula) (passed : checked kinds one ≡ Passed f) where
+    module _ (f : Formula) (passed : checked kinds one ≡ Ok f) where
       pub over_refused_tables : tables_fit codes (length index) ≡ false →
-          SearchedOver kinds codes index terms preferences own known rows lent universal? w (Refused 2) w
+          SearchedOver kinds codes index terms preferences own known rows lent universal? w (Err Literals) w
       over_refused_tables unfit = record {
         prepared = λ literals p _. absurd (true≢false (sym (prepared_fit literals p) ∙ unfit));
-        refused = λ _. (ap Refused (sym (cause_of_tables (one_passed kinds f passed) unfit)), refl);
+        refused = λ _. (sym (ap (λ (n : ℕ). Err (caused n)) (cause_of_tables (one_passed kinds f passed) unfit)), refl);
       }
 
       module _ (fits : tables_fit codes (length index) ≡ true) (others side : ℕ) (same_side : side_kind side ≡ side_of universal?)
@@ -258,10 +261,10 @@ module _ (kinds codes index terms : List ℕ) where
         unfolding cause_over
         later = rw (one_passed kinds f passed, fits, ← same_side, ← others_known)
 
-        pub over_answered : (u : List ℕ) (r : Search) → Answered kinds codes index terms preferences own known rows lent others side w u r →
+        pub over_answered : (u : List ℕ) (r : Result Search Cause) → Answered kinds codes index terms preferences own known rows lent others side w u r →
             SearchedOver kinds codes index terms preferences own known rows lent universal? w r u
         over_answered u r a = record {
           prepared = λ literals p leads. answered_searched kinds literals preferences rows lent universal? w (sizes kinds literals) p.accepted others side
               same_side others_known codes index terms own known (tables_of literals p) leads u r a;
-          refused = λ cause. let q = a.refused (λ z. cause (later ∙ z)) in (q.0 ∙ ap Refused (sym later), q.1);
+          refused = λ cause. let q = a.refused (λ z. cause (later ∙ z)) in (q.0 ∙ ap (λ (n : ℕ). Err (caused n)) (sym later), q.1);
         }

@@ -1,15 +1,15 @@
 -- What a look at one clause in one row gives the group: a clause whose literals are all false refutes it, and one whose literals are all false
 -- but one open one forces that one in all rows of its copy. Assumes nothing.
-use Prim.Native.Nat.{ℕ, zero, suc, ◌+◌, ◌%◌, ◌≤◌, ◌<◌}
+use Prim.Native.Nat.{ℕ, zero, suc, ◌+◌, ◌-◌, ◌%◌, min, ◌≤◌, ◌<◌}
 use mathlib.Core.Path.{◌≡◌, refl, sym, ◌∙◌, ap, subst}
 use mathlib.Core.Logic.{◌⊎◌, inl, inr, ⊎_elim}
 use mathlib.Core.Bool.{Bool, true, false}
 use mathlib.Core.List.{List}
 use native.Mathlib.Omega.{arith}
-use native.Mathlib.Decide.{ℕ_discrete, dec_le, dec_lt}
+use native.Mathlib.Decide.{dec_le, dec_lt}
 use lib.Dec.{eqb}
-use lib.ListN.{length, get_or, set, drop}
-use lib.Seq.{get_or-set_same, get_or-set_other}
+use lib.ListN.{length, get_or, take, drop, length-take}
+use lib.Seq.{get_or-take, get_or-drop}
 use Rattle.formula.specs.Formula.{max_unknowns}
 use Rattle.expansion.proofs.Booleans.{true_or_false, never_both}
 use Rattle.expansion.proofs.Cuts.{Mask, Problem, Agree, Refuted, Implied, Within, agree_sym, refuted_row, implied_row, implied_larger}
@@ -143,7 +143,8 @@ module _ (P : Problem) (kinds differences codes : List ℕ) (F : Fits P kinds di
     own =
         ⊎_elim
         (λ o. o)
-        (λ o. absurd (let z : 0 < (cells w).level i (position c) = (A.given i (position c) il ih below o).0 in let y : (cells w).level i (position c) ≡ 0 = unset
+        (λ o. absurd (let z : 0 < (cells w).level i (position c) = (A.given i (position c) il ih below o).0 in let y : (cells w).level i
+        (position c) ≡ 0 = unset
         in omega arith))
         (true_or_false (P.own (position c)))
 
@@ -324,21 +325,7 @@ lent_existential is lent = record {
   index_lent = lent.index_lent;
 }
 
-pub going_start : {H : Type 0} {differences codes : List ℕ} {lo hi level : ℕ} {w s : List ℕ} → Going H differences codes lo hi level w w s s
-going_start {H} {differences} {codes} {lo} {hi} {level} {w} {s} = record
-    { propagates = λ _. propagates_nothing differences codes lo hi level w s; work = refl; sets = refl }
-
 module _ {H : Type 0} {differences codes : List ℕ} {lo hi level : ℕ} {w u s t : List ℕ} (so_far : Going H differences codes lo hi level w u s t) where
-  pub lent_still : {side : ℕ} {x : List ℕ} → Lent side differences codes w s x → Lent side differences codes u t x
-  lent_still lent = record {
-    rows = lent.rows;
-    entries = lent.entries;
-    coded = lent.coded;
-    area = so_far.work ∙ lent.area;
-    sets_lent = so_far.sets ∙ lent.sets_lent;
-    index_lent = lent.index_lent;
-  }
-
   pub going_noted : {y : List ℕ} → SetsKept t y → length y ≡ length t → Going H differences codes lo hi level w u s y
   going_noted {y} noted same = record {
     propagates = λ h. propagates_then 0 differences codes lo hi level w u u s t y true (so_far.propagates h)
@@ -373,19 +360,24 @@ module _ {H : Type 0} {differences codes : List ℕ} {lo hi level : ℕ} {w u s 
 
 -- ---- lists of clauses
 
--- a start that is put behind those that are counted may be counted too
-pub starts_put : (codes list : List ℕ) (count start more : ℕ) → count < length list → more ≤ 1 → Begins codes start → Starts codes list 0 count →
-    Starts codes (set list count start) 0 (count + more)
-starts_put codes list count start more fits few begins starts at low high = go (ℕ_discrete at count)
-  where
-    go : Dec (at ≡ count) → Begins codes (get_or (set list count start) at 0)
-    go (yes e) = subst (λ (x : ℕ). Begins codes x) (sym (ap (λ (y : ℕ). get_or (set list count start) y 0) e ∙ get_or-set_same list count start 0 fits)) begins
-    go (no n) = subst (λ (x : ℕ). Begins codes x) (sym (get_or-set_other list count at start 0 n)) (starts at (omega arith) (omega arith))
-
 -- what stands at a place of a list
 pub starts_at : (codes list : List ℕ) (begin end at start : ℕ) → begin ≤ at → at < end → start ≡ get_or list at 0 → Starts codes list begin end →
     Begins codes start
 starts_at codes list begin end at start low high read starts = subst (λ (x : ℕ). Begins codes x) (sym read) (starts at low high)
+
+-- what a list begins with
+pub starts_taken : (codes list : List ℕ) (count : ℕ) → Starts codes list 0 count → Starts codes (take count list) 0 (length (take count list))
+starts_taken codes list count starts at low high =
+    let below : at < count = omega (arith, length-take count list) in
+    subst (λ (x : ℕ). Begins codes x) (sym (get_or-take count list at 0 below)) (starts at low below)
+
+-- a part of a list, which is empty if the list does not begin before its end
+pub starts_part : (codes list : List ℕ) (b e begin end : ℕ) → end ≤ e → begin ≡ min b end → Starts codes list b e
+    → Starts codes (take (end - begin) (drop begin list)) 0 (length (take (end - begin) (drop begin list)))
+starts_part codes list b e begin end low first starts = starts_taken codes (drop begin list) (end - begin) part
+  where
+    part : Starts codes (drop begin list) 0 (end - begin)
+    part at above below = subst (λ (x : ℕ). Begins codes x) (sym (get_or-drop begin list at 0)) (starts (begin + at) (omega arith) (omega arith))
 
 -- what the index lists for a code, up to an end that is no later
 pub lent_starts : {differences codes work sets index : List ℕ} → Lent 0 differences codes work sets index → Indexed 0 codes index → (c begin end : ℕ) → c ≤

@@ -11,25 +11,22 @@ use lib.Bits.{bit_and, bit_or, bit_xor}
 use lib.ListN.{length, get_or, set, drop, length-set}
 use lib.Seq.{get_or-set_same, get_or-set_other}
 use borrow.Author.Tests.{eq-eqb, ne_eqb}
-use Rattle.formula.specs.Formula.{max_unknowns, max_clauses, max_rows}
+use Rattle.formula.specs.Formula.{max_unknowns, max_rows}
 use Rattle.expansion.proofs.ClauseCuts.{Some}
 use Rattle.codes.specs.Codes.{last_code, row_position}
 use Rattle.codes.specs.Private.Clauses.{position, code_true, clause_of}
 use Rattle.codes.proofs.CodeLaws.{row_position_is}
 use Rattle.search_cells.specs.Cells.{flags, cells}
 use Rattle.search_cells.proofs.CellLaws.{value_at}
-use Rattle.engine.specs.Private.TermTables.{others, start_of, term_of, listed_in, row_words, bit}
+use Rattle.engine.specs.Private.TermTables.{others, start_of, term_of, row_words, bit}
 use Rattle.engine.specs.Private.Terms.{own, GivenTrue}
-use Rattle.engine.specs.Private.TermSteps.{Grown, Joined, Told, Missed, Hits, Remaining, Visited, WordFilled}
+use Rattle.engine.specs.Private.TermSteps.{Grown, Joined, Told, Missed, Hits, Remaining, Visited}
 use Rattle.engine.proofs.search.BitLaws.{or_left, or_right, full_bit, shifted_bit, left_over}
 
 -- ---- the values of a position
 
 pub told_own : (kind : ℕ) (work : List ℕ) (k from rows : ℕ) → rows ≤ 64 → Told kind work k from rows (2 ^ 64 - 1) (2 ^ 64 - 1)
 told_own kind work k from rows fits = record { true_there = λ l lt. inl (full_bit l (omega arith)); false_there = λ l lt. inl (full_bit l (omega arith)) }
-
-pub told_none : (kind : ℕ) (work : List ℕ) (k from on off : ℕ) → Told kind work k from 0 on off
-told_none kind work k from on off = record { true_there = λ l lt. absurd (omega arith); false_there = λ l lt. absurd (omega arith) }
 
 module _ {kind : ℕ} {work : List ℕ} {k from l on off : ℕ} (so_far : Told kind work k from l on off) (given : kind ≡ 1 → ⊥) (small : k < max_unknowns)
     (row : from + l < max_rows) (fits : l < 64)
@@ -56,9 +53,6 @@ module _ {kind : ℕ} {work : List ℕ} {k from l on off : ℕ} (so_far : Told k
       back m lt (no n) d = ⊎_elim (λ b. inl (or_left off ((1 - v) * 2 ^ l % 2 ^ 64) m b)) (λ r. inr r) (so_far.false_there m (omega arith))
 
 -- ---- the literals that miss
-
-pub missed_none : (kinds work misses : List ℕ) (from rows : ℕ) → Missed kinds work from rows 0 misses
-missed_none kinds work misses from rows = record { every = λ c l two lt. absurd (omega arith) }
 
 true_even : (f : ℕ → Bool) (k : ℕ) → f k ≡ true → code_true f (2 * k + 2) ≡ true
 unfolding code_true
@@ -120,9 +114,6 @@ module _ {kinds work misses : List ℕ} {from rows k : ℕ} (so_far : Missed kin
 
 -- ---- words that grow
 
-pub grown_refl : (a : List ℕ) → Grown a a
-grown_refl a = record { keeps = λ p l h. h }
-
 pub grown_trans : {a b c : List ℕ} → Grown a b → Grown b c → Grown a c
 grown_trans first second = record { keeps = λ p l h. second.keeps p l (first.keeps p l h) }
 
@@ -145,9 +136,6 @@ joined_stored a p rows inside = record {
 pub record Visiting (codes terms misses : List ℕ) (w all n : ℕ) (before after : List ℕ) : Type 0 where
   pub grown : Grown before after
   pub visited : Visited codes terms misses w all n after
-
-pub visiting_none : (codes terms misses : List ℕ) (w all : ℕ) (a : List ℕ) → Visiting codes terms misses w all 0 a a
-visiting_none codes terms misses w all a = record { grown = grown_refl a; visited = record { every = λ j l lt. absurd (omega arith) } }
 
 module _ {codes terms misses : List ℕ} {w all n : ℕ} {before now after : List ℕ} (so_far : Visiting codes terms misses w all n before now)
     (t start left : ℕ) (of : t ≡ term_of terms n % (others + 1)) (there : start ≡ start_of terms n)
@@ -174,10 +162,3 @@ module _ {codes terms misses : List ℕ} {w all n : ℕ} {before now after : Lis
           (subst (λ (x : ℕ). At l t x) (there ∙ ap (start_of terms) (sym same)) (new l h))
       go j l lt few h (no other) = ⊎_elim (λ b. inl (joined.grown.keeps (row_words * term_of terms j + w) l b)) (λ s. inr s)
           (so_far.visited.every j l (omega arith) few h)
-
-pub visited_all : {codes terms misses : List ℕ} {w all n : ℕ} {before after : List ℕ} → (listed_in terms ≤ max_clauses → n ≡ listed_in terms)
-    → Visiting codes terms misses w all n before after → WordFilled codes terms misses w all before after
-visited_all {codes} {terms} {misses} {w} {all} {n} {before} {after} is so_far = record {
-  grown = so_far.grown;
-  listed = λ few. subst (λ (m : ℕ). Visited codes terms misses w all m after) (is few) so_far.visited;
-}

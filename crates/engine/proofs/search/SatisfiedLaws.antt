@@ -2,7 +2,7 @@
 -- Assumes nothing.
 use Prim.Native.Nat.{ℕ, ◌≤◌, ◌<◌}
 use mathlib.Core.Path.{◌≡◌, refl, sym, ap, ◌∙◌, subst}
-use mathlib.Core.Logic.{◌⊎◌, inl, inr, ⊎_elim}
+use mathlib.Core.Logic.{inl, inr, ⊎_elim}
 use mathlib.Core.Bool.{Bool, true, false, not, cond}
 use mathlib.Core.List.{List}
 use native.Mathlib.Omega.{arith}
@@ -15,7 +15,7 @@ use Rattle.expansion.proofs.Cuts.{Mask, Problem, Within, Implied, Refuted, refut
 use Rattle.expansion.proofs.Node.{Node, grown_refl}
 use Rattle.expansion.proofs.ClauseCuts.{Every, Some, Rests, matrix_at, every_map, some_map, dead_row}
 use Rattle.search_cells.specs.Cells.{cells}
-use Rattle.search_sets.specs.Private.Masks.{set_at, masks, conflict, SetsKept}
+use Rattle.search_sets.specs.Private.Masks.{set_at, masks, conflict}
 use Rattle.codes.specs.Codes.{row_position}
 use Rattle.codes.specs.Private.Clauses.{position, code_true, clause_of, code_clauses, code_goal, Coded}
 use Rattle.codes.proofs.CodeLaws.{code_local, clause_coded, row_position_is}

@@ -6,7 +6,6 @@ use mathlib.Core.Bool.{Bool, true, false, not}
 use mathlib.Core.List.{List, [], ◌∷◌, ◌++◌}
 use native.Mathlib.Numerals.{add-one}
 use native.Mathlib.Omega.{arith}
-use native.Mathlib.Decide.{dec_lt}
 use lib.ListN.{length, get_or, set, take, drop, drop_of_length-le}
 use lib.Seq.{drop-cons}
 use Rattle.formula.specs.Formula.{max_unknowns}
@@ -19,10 +18,12 @@ use Rattle.search_evaluation.specs.Evaluation.{look_at, satisfied_at}
 use Rattle.search_evaluation.proofs.LiteralLaws.{IsLiteral, satisfied_is_at}
 use Rattle.search_sets.specs.Sets.{sets_size, united, emptied}
 use borrow.Rule.Slice.PartMut.{put_mid, post_of}
-use Rattle.search_sets.specs.Private.Masks.{words, set_at, SetGrown, SetsKept, United}
+use Rattle.search_sets.specs.Private.Masks.{words, SetGrown, SetsKept, United}
 use Rattle.search_sets.proofs.MaskLaws.{store_elsewhere, store_behind, kept_trans, kept_grown, set_grown_refl, set_grown_trans}
 use Rattle.search_sets.proofs.SetLaws.{unite_unites, empty_keeps}
-use Rattle.engine.specs.Private.Satisfied.{given_place, IsGiven, TakenIn, TrueBy, RowKnown, RowSatisfied}
+use Rattle.engine.specs.declared.search.satisfied_rows.Truth.{Truth}
+use Rattle.engine.specs.declared.search.satisfied_rows.Truth.TheVariants.{Missing, Given, At}
+use Rattle.engine.specs.Private.Satisfied.{IsGiven, TakenIn, TrueBy, RowKnown, RowSatisfied}
 use Rattle.engine.specs.Private.Satisfied.{AllSatisfied, Checked, RowTold, RowLooked, RowReasons, TakesIn}
 use Rattle.engine.specs.Private.Satisfied.{FalseFound}
 
@@ -99,62 +100,65 @@ module _ (kinds codes w : List ℕ) (i : ℕ) (s : List ℕ) where
   abbrev Paid : List ℕ → ℕ → Type 0
   Paid t c = (satisfied_at w i c ≡ true) × (IsGiven kinds (row_position c) ⊎ TakenIn s t (row_position c))
 
-  abbrev Owed : List ℕ → ℕ → Type 0
-  Owed t best = (best ≡ given_place) ⊎ ((best < max_unknowns) × TakenIn s t best)
+  abbrev Owed : List ℕ → Truth → Type 0
+  Owed t Missing = ⊥
+  Owed t Given = Unit {0}
+  Owed t (At p) = TakenIn s t p
+
+  abbrev Inside : Truth → Type 0
+  Inside Missing = Unit {0}
+  Inside Given = Unit {0}
+  Inside (At p) = p < max_unknowns
 
   -- The codes before e are read: if those from e on are handled, all are, whatever else is taken in.
-  pub record Blaming (e best : ℕ) (t : List ℕ) : Type 0 where
-    pub most : best ≤ given_place
+  pub record Blaming (e : ℕ) (best : Truth) (t : List ℕ) : Type 0 where
+    pub inside : Inside best
     pub grown : SetGrown max_unknowns s t
     pub rest : (u : List ℕ) → TakenIn t u max_unknowns → Handled (Paid u) (Owed u best) (drop e codes) → Handled (Paid u) ⊥ codes
 
-  owed_none : (u : List ℕ) → Owed u max_unknowns → ⊥
-  owed_none u (inl e) = omega arith
-  owed_none u (inr o) = let z : max_unknowns < max_unknowns = o.0 in omega arith
-
-  pub blaming_start : Blaming 0 max_unknowns s
+  pub blaming_start : Blaming 0 Missing s
   blaming_start = record {
-    most = omega arith;
+    inside = tt;
     grown = set_grown_refl;
-    rest = λ u larger h. handled_map (Paid u) (Owed u max_unknowns) ⊥ (owed_none u) codes h;
+    rest = λ u larger h. h;
   }
 
-  -- a clause's end, at which the set of its best position is taken in
-  pub blaming_clause : (e best : ℕ) (t u : List ℕ) → e < length codes → get_or codes e 0 ≡ 0 → (best ≡ max_unknowns → ⊥) → Blaming e best t → TakesIn best t u
-      → Blaming (e + 1) max_unknowns u
-  blaming_clause e best t u h end other b taken = record {
-    most = omega arith;
-    grown = set_grown_trans b.grown taken.grown;
+  -- a clause's end, where the best pays
+  paying : (e : ℕ) (best : Truth) (t u : List ℕ) → e < length codes → get_or codes e 0 ≡ 0 → Blaming e best t → SetGrown max_unknowns t u
+      → ((x : List ℕ) → TakenIn u x max_unknowns → Owed x best) → Blaming (e + 1) Missing u
+  paying e best t u h end b more owes = record {
+    inside = tt;
+    grown = set_grown_trans b.grown more;
     rest = λ x larger handled.
-        b.rest x (λ l q. larger l (taken.grown.keeps l q))
+        b.rest x (λ l q. larger l (more.keeps l q))
         (subst (λ (cs : List ℕ). Handled (Paid x) (Owed x best) cs) (sym (drop-cons codes e 0 h))
         (handled_end (Paid x) (Owed x best) (get_or codes e 0) (drop (suc e) codes) end (owes x larger)
-        (handled_map (Paid x) (Owed x max_unknowns) ⊥ (owed_none x) (drop (suc e) codes)
-        (subst (λ (n : ℕ). Handled (Paid x) (Owed x max_unknowns) (drop n codes)) (add-one e) handled))));
+        (subst (λ (n : ℕ). Handled (Paid x) ⊥ (drop n codes)) (add-one e) handled)));
   }
-    where
-      owes : (x : List ℕ) → TakenIn u x max_unknowns → Owed x best
-      owes x larger =
-          ⊎_elim
-          (λ below. inr (below, λ l q. larger l (taken.takes below l (b.grown.others best other l ∙ q))))
-          (λ same. inl same)
-          (below_or_given best b.most other)
-        where
-          below_or_given : (n : ℕ) → n ≤ given_place → (n ≡ max_unknowns → ⊥) → (n < max_unknowns) ⊎ (n ≡ given_place)
-          below_or_given n le ne = by (dec_lt n max_unknowns)
-            where
-              by : Dec (n < max_unknowns) → (n < max_unknowns) ⊎ (n ≡ given_place)
-              by (yes below) = inl below
-              by (no above) = inr (omega arith)
+
+  -- by a given value, or by a position whose set is taken in
+  pub blaming_given : (e : ℕ) (best : Truth) (t : List ℕ) → e < length codes → get_or codes e 0 ≡ 0 → best ≡ Given → Blaming e best t
+      → Blaming (e + 1) Missing t
+  blaming_given e best t h end is b = paying e best t t h end b set_grown_refl (λ x larger. subst (Owed x) (sym is) tt)
+
+  pub blaming_at : (e : ℕ) (best : Truth) (p : ℕ) (t u : List ℕ) → e < length codes → get_or codes e 0 ≡ 0 → best ≡ At p → Blaming e best t → TakesIn p t u
+      → Blaming (e + 1) Missing u
+  blaming_at e best p t u h end is b taken =
+      let below : p < max_unknowns = subst Inside is b.inside in
+      paying e best t u h end b taken.grown
+      (λ x larger. subst (Owed x) (sym is) (λ l q. larger l (taken.takes l (b.grown.others p (λ e. omega arith) l ∙ q))))
+
+  pub best_inside : (e : ℕ) (best : Truth) (p : ℕ) (t : List ℕ) → best ≡ At p → Blaming e best t → p < max_unknowns
+  best_inside e best p t is b = subst Inside is b.inside
 
   -- a literal, which is true in the row if it is the best from then on
-  pub blaming_literal : (e best c d : ℕ) (t : List ℕ) → e < length codes → c ≡ get_or codes e 0 → (c ≡ 0 → ⊥)
-      → ((d ≡ best) ⊎ ((satisfied_at w i c ≡ true) × (((d ≡ given_place) × IsGiven kinds (row_position c)) ⊎ (d ≡ row_position c))))
+  pub blaming_literal : (e : ℕ) (best : Truth) (c : ℕ) (d : Truth) (t : List ℕ) → e < length codes → c ≡ get_or codes e 0 → (c ≡ 0 → ⊥)
+      → ((d ≡ best) ⊎ ((satisfied_at w i c ≡ true) × (((d ≡ Given) × IsGiven kinds (row_position c)) ⊎ (d ≡ At (row_position c)))))
       → Blaming e best t → Blaming (e + 1) d t
   blaming_literal e best c d t h at other found b = record {
-    most = ⊎_elim
-        (λ q. let z : best ≤ given_place = b.most in omega arith)
-        (λ q. ⊎_elim (λ g. let z : d ≡ given_place = g.0 in omega arith) (λ p. let z : d ≡ row_position c = p in omega arith) q.1)
+    inside = ⊎_elim
+        (λ q. subst Inside (sym q) b.inside)
+        (λ q. ⊎_elim (λ g. subst Inside (sym g.0) tt) (λ p. subst Inside (sym p) position_inside) q.1)
         found;
     grown = b.grown;
     rest = λ x larger handled.
@@ -165,15 +169,14 @@ module _ (kinds codes w : List ℕ) (i : ℕ) (s : List ℕ) where
         (subst (λ (n : ℕ). Handled (Paid x) (Owed x d) (drop n codes)) (add-one e) handled))));
   }
     where
-      by_set : (x : List ℕ) → d ≡ row_position c → Owed x d → TakenIn s x (row_position c)
-      by_set x p (inl g) = absurd (let z : d ≡ row_position c = p in omega arith)
-      by_set x p (inr o) = subst (λ (y : ℕ). TakenIn s x y) p o.1
+      position_inside : row_position c < max_unknowns
+      position_inside = omega arith
 
       paid : (x : List ℕ) → Owed x d → Owed x best ⊎ Paid x c
       paid x o =
           ⊎_elim
-          (λ q. inl (subst (λ (y : ℕ). Owed x y) q o))
-          (λ q. inr (q.0, ⊎_elim (λ g. inl g.1) (λ p. inr (by_set x p o)) q.1))
+          (λ q. inl (subst (Owed x) q o))
+          (λ q. inr (q.0, ⊎_elim (λ g. inl g.1) (λ p. inr (subst (Owed x) p o)) q.1))
           found
 
   -- with codes of clauses
@@ -182,7 +185,7 @@ module _ (kinds codes w : List ℕ) (i : ℕ) (s : List ℕ) where
       let same = row_position_is c q.0.0 q.0.1 in
       (satisfied_is_at w i c q.0 q.1.0, subst (λ (p : ℕ). IsGiven kinds p ⊎ TakenIn s t p) same q.1.1)
 
-  pub blaming_end : (e best : ℕ) (t : List ℕ) → length codes ≤ e → Blaming e best t → RowReasons kinds codes w i s t true
+  pub blaming_end : (e : ℕ) (best : Truth) (t : List ℕ) → length codes ≤ e → Blaming e best t → RowReasons kinds codes w i s t true
   blaming_end e best t past b = record {
     grown = b.grown;
     satisfied = λ yes_true coded ended.
@@ -196,18 +199,12 @@ module _ (kinds codes w : List ℕ) (i : ℕ) (s : List ℕ) where
         (subst (λ (cs : List ℕ). Handled (Paid t) (Owed t best) cs) (sym (drop_of_length-le codes past)) tt)))));
   }
 
-  pub blaming_left : (e best : ℕ) (t : List ℕ) → Blaming e best t → RowReasons kinds codes w i s t false
-  blaming_left e best t b = record { grown = b.grown; satisfied = λ q. absurd (never_both q refl) }
-
 -- ---- sets
 
 pub takes_set : (best : ℕ) (s : List ℕ) {t : List ℕ} → length s ≡ sets_size → best < max_unknowns → t ≡ united s max_unknowns best → TakesIn best s t
 takes_set best s size below e =
     let u = subst (λ (x : List ℕ). United max_unknowns best s x) (sym e) (unite_unites s size max_unknowns best (omega arith) (omega arith)) in
-    record { grown = u.grown; takes = λ h. u.takes }
-
-pub takes_none : (best : ℕ) (s : List ℕ) → (best < max_unknowns → ⊥) → TakesIn best s s
-takes_none best s above = record { grown = set_grown_refl; takes = λ below. absurd (above below) }
+    record { grown = u.grown; takes = u.takes }
 
 pub empties : (s : List ℕ) {t : List ℕ} → length s ≡ sets_size → t ≡ emptied s max_unknowns → SetsKept s t
 empties s size e = subst (λ (x : List ℕ). SetsKept s x) (sym e) (empty_keeps s size max_unknowns (omega arith) (omega arith))

@@ -12,11 +12,11 @@ use Rattle.formula.specs.Formula.{max_unknowns}
 use Rattle.expansion.proofs.Cuts.{Problem, Mask, Agree, Refuted, models_agree}
 use Rattle.expansion.proofs.Booleans.{true_or_false, never_both, never_unlike}
 use Rattle.expansion.proofs.Node.{Node, Won}
-use Rattle.expansion.proofs.ClauseCuts.{Some, some_map}
+use Rattle.expansion.proofs.ClauseCuts.{some_map}
 use Rattle.codes.specs.Codes.{row_position}
 use Rattle.codes.specs.Private.Clauses.{position, clause_of, Coded}
 use Rattle.codes.proofs.CodeLaws.{code_local, clause_coded, row_position_is}
-use Rattle.engine.specs.Private.Terms.{own, GivenTrue, Opened}
+use Rattle.engine.specs.Private.Terms.{GivenTrue, Opened}
 use Rattle.engine.proofs.search.SatisfiedRows.{some_with}
 use Rattle.engine.proofs.search.TermLaws.{own_of}
 use Rattle.search_cells.specs.Cells.{cells, wants}

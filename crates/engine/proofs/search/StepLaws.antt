@@ -15,7 +15,7 @@ use Rattle.expansion.proofs.Steps.{node_same}
 use Rattle.search_cells.specs.Cells.{cells}
 use Rattle.search_cells.specs.Private.Changes.{SameWants}
 use Rattle.search_sets.specs.Private.Masks.{set_at, masks, SetGrown, SetsKept}
-use Rattle.engine.specs.Private.Steps.{Propagated, Propagates, Steps}
+use Rattle.engine.specs.Private.Steps.{Propagated, Propagates}
 
 -- ---- masks
 

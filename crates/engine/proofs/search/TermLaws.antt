@@ -3,29 +3,30 @@ use Prim.Native.Nat.{ℕ, ◌+◌, ◌≤◌, ◌<◌}
 use mathlib.Core.Path.{◌≡◌, refl, sym, ◌∙◌, subst}
 use mathlib.Core.Logic.{◌⊎◌, inl, inr, ⊎_elim}
 use mathlib.Core.Bool.{Bool, true, false}
-use mathlib.Core.List.{List}
+use mathlib.Core.List.{List, [], ◌∷◌}
 use native.Mathlib.Omega.{arith}
 use native.Mathlib.Decide.{ℕ_discrete}
-use lib.Dec.{eqb}
 use lib.ListN.{length, get_or, drop}
+use Rattle.std.proofs.Common.{Option, IfSome}
+use Rattle.std.proofs.Common.{Some as One}
 use Rattle.formula.specs.Formula.{max_unknowns}
 use Rattle.expansion.proofs.Booleans.{never_both}
 use Rattle.expansion.proofs.ClauseCuts.{Every, Some, every_map, some_map}
 use Rattle.codes.specs.Codes.{row_position}
-use Rattle.codes.specs.Private.Clauses.{position, clause_of, code_clauses, Coded}
+use Rattle.codes.specs.Private.Clauses.{position, clause_of, code_clauses}
 use Rattle.codes.proofs.CodeLaws.{row_position_is}
 use Rattle.search_evaluation.specs.Evaluation.{satisfied_at}
 use Rattle.search_evaluation.proofs.LiteralLaws.{satisfied_is_at}
-use Rattle.search_sets.specs.Private.Masks.{set_at, SetGrown, SetsKept}
+use Rattle.search_sets.specs.Private.Masks.{SetGrown, SetsKept}
 use Rattle.search_sets.proofs.MaskLaws.{kept_trans, kept_grown, set_grown_refl, set_grown_trans}
-use Rattle.engine.specs.Private.TermTables.{others, is_open, name_of}
+use Rattle.engine.specs.Private.TermTables.{is_open, name_of}
 use Rattle.engine.specs.Private.Terms.{own, GivenTrue}
 use Rattle.engine.proofs.search.ClauseLaws.{some_here, some_later}
 use Rattle.engine.proofs.search.OpenLaws.{row_covered}
-use Rattle.engine.specs.Private.Satisfied.{IsGiven, IsOwn, TakenIn, TrueBy, RowKnown, RowSatisfied}
+use Rattle.engine.specs.Private.Satisfied.{IsGiven, IsOwn, TakenIn, TrueBy, RowKnown}
 use Rattle.engine.specs.Private.Satisfied.{OwnMet, TermMet, TermPassed, TermsMet, OwnTrue, TakesIn}
 use Rattle.engine.specs.Private.Satisfied.{RowTold, RowLooked}
-use Rattle.engine.proofs.search.SatisfiedRows.{coded_every, every_some_with, known_coded, all_satisfied_row, row_satisfied_before}
+use Rattle.engine.proofs.search.SatisfiedRows.{coded_every, every_some_with, all_satisfied_row, row_satisfied_before}
 
 -- ---- one literal
 
@@ -41,40 +42,46 @@ own_of kinds c h = h
 
 module _ (kinds codes w : List ℕ) (i start : ℕ) where
   -- The earliest so far of the codes up to e; what the codes from e on have, the clause has.
-  pub record Earliest (e best : ℕ) : Type 0 where
-    pub found : (best ≡ max_unknowns) ⊎ OwnTrue kinds codes w i start best
+  pub record Earliest (e : ℕ) (best : Option ℕ) : Type 0 where
+    pub found : IfSome best (OwnTrue kinds codes w i start)
     pub rest : (p : ℕ) → OwnTrue kinds codes w i e p → OwnTrue kinds codes w i start p
 
-  pub earliest_start : Earliest start max_unknowns
-  earliest_start = record { found = inl refl; rest = λ p h. h }
-
   -- one code more
-  pub earliest_next : (e best c d : ℕ) → e < length codes → c ≡ get_or codes e 0 → (c ≡ 0 → ⊥)
-      → ((d ≡ best) ⊎ ((d ≡ row_position c) × (own kinds c ≡ true) × (satisfied_at w i c ≡ true))) → Earliest e best → Earliest (e + 1) d
+  pub earliest_next : (e : ℕ) (best : Option ℕ) (c : ℕ) (d : Option ℕ) → e < length codes → c ≡ get_or codes e 0 → (c ≡ 0 → ⊥)
+      → ((d ≡ best) ⊎ ((d ≡ One (row_position c)) × (own kinds c ≡ true) × (satisfied_at w i c ≡ true))) → Earliest e best → Earliest (e + 1) d
   earliest_next e best c d inside is some told so_far = record {
     found = ⊎_elim
-        (λ same. subst (λ (p : ℕ). (p ≡ max_unknowns) ⊎ OwnTrue kinds codes w i start p) (sym same) so_far.found)
-        (λ here. inr (some_here codes e c inside is (λ x. (d ≡ row_position x) × (own kinds x ≡ true) × (satisfied_at w i x ≡ true)) some (so_far.rest d)
-        here))
+        (λ same. subst (λ (o : Option ℕ). IfSome o (OwnTrue kinds codes w i start)) (sym same) so_far.found)
+        (λ here. subst (λ (o : Option ℕ). IfSome o (OwnTrue kinds codes w i start)) (sym here.0)
+        (some_here codes e c inside is (λ x. (row_position c ≡ row_position x) × (own kinds x ≡ true) × (satisfied_at w i x ≡ true)) some
+        (so_far.rest (row_position c)) (refl, here.1, here.2)))
         told;
     rest = λ p. some_later codes e c inside is (λ x. (p ≡ row_position x) × (own kinds x ≡ true) × (satisfied_at w i x ≡ true)) some (so_far.rest p);
   }
 
+-- where there is one, it is inside the row
+pub own_inside : (kinds codes w : List ℕ) (i start p : ℕ) → OwnTrue kinds codes w i start p → p < max_unknowns
+own_inside kinds codes w i start p found = go (clause_of (drop start codes)) found
+  where
+    go : (cs : List ℕ) → Some (λ c. (p ≡ row_position c) × (own kinds c ≡ true) × (satisfied_at w i c ≡ true)) cs → p < max_unknowns
+    go [] f = elim f [ ]
+    go (c ∷ cs) (inl q) = let e : p ≡ row_position c = q.0 in omega arith
+    go (c ∷ cs) (inr f) = go cs f
+
 -- the set of its position is taken in
-pub term_met : (kinds codes w : List ℕ) (i start best : ℕ) (s t : List ℕ) → (best ≡ max_unknowns) ⊎ OwnTrue kinds codes w i start best →
-    (best ≡ max_unknowns → ⊥)
-    → TakesIn best s t → TermMet kinds codes w i start s t true
-term_met kinds codes w i start best s t found other taken = record {
+pub term_met : (kinds codes w : List ℕ) (i start best : ℕ) (s t : List ℕ) → OwnTrue kinds codes w i start best → TakesIn best s t
+    → TermMet kinds codes w i start s t true
+term_met kinds codes w i start best s t found taken = record {
   grown = taken.grown;
-  met = λ yes_true. ⊎_elim (λ e. absurd (other e)) (λ here. some_map (λ c. (best ≡ row_position c) × (own kinds c ≡ true) × (satisfied_at w i c ≡ true))
-      (OwnMet kinds w i s t) met_there (clause_of (drop start codes)) here) found;
+  met = λ yes_true. some_map (λ c. (best ≡ row_position c) × (own kinds c ≡ true) × (satisfied_at w i c ≡ true))
+      (OwnMet kinds w i s t) met_there (clause_of (drop start codes)) found;
 }
   where
     met_there : (c : ℕ) → (best ≡ row_position c) × (own kinds c ≡ true) × (satisfied_at w i c ≡ true) → OwnMet kinds w i s t c
     met_there c q = record {
       owned = q.1;
       satisfied = q.2;
-      taken = subst (λ (p : ℕ). TakenIn s t p) q.0 (taken.takes (let z : best ≡ row_position c = q.0 in omega arith));
+      taken = subst (λ (p : ℕ). TakenIn s t p) q.0 taken.takes;
     }
 
 pub term_unmet : (kinds codes w : List ℕ) (i start : ℕ) (s : List ℕ) → TermMet kinds codes w i start s s false
@@ -98,9 +105,6 @@ module _ (kinds codes opened w : List ℕ) (i : ℕ) (s : List ℕ) where
   pub record Meeting (t : ℕ) (now : List ℕ) : Type 0 where
     pub grown : SetGrown max_unknowns s now
     pub met : (p : ℕ) → p < t → is_open opened p i ≡ true → Some (OwnMet kinds w i s now) (clause_of (drop (name_of opened p) codes))
-
-  pub meeting_start : Meeting 0 s
-  meeting_start = record { grown = set_grown_refl; met = λ p lt o. absurd (omega arith) }
 
   module _ (t : ℕ) (now : List ℕ) (m : Meeting t now) where
     below_or_here : (p : ℕ) → p < t + 1 → (p < t) ⊎ (p ≡ t)
@@ -133,19 +137,6 @@ module _ (kinds codes opened w : List ℕ) (i : ℕ) (s : List ℕ) where
           satisfied = q.satisfied;
           taken = λ l h. q.taken l (m.grown.others (row_position c) (λ e₁. omega arith) l ∙ h);
         }
-
-    pub meeting_failed : (u : List ℕ) {r : Bool} → TermPassed kinds codes opened w i t now u r → TermsMet kinds codes opened w i s u false
-    meeting_failed u one = record {
-      grown = set_grown_trans m.grown one.grown;
-      met = λ e. absurd (never_both e refl);
-      none = λ e. absurd (never_both e refl);
-    }
-
-  pub meeting_left : (now : List ℕ) (t : ℕ) → Meeting t now → TermsMet kinds codes opened w i s now false
-  meeting_left now t m = record { grown = m.grown; met = λ e. absurd (never_both e refl); none = λ e. absurd (never_both e refl) }
-
-  pub meeting_end : (now : List ℕ) (t : ℕ) → others ≤ t → Meeting t now → is_open opened others i ≡ false → TermsMet kinds codes opened w i s now true
-  meeting_end now t past m shut = record { grown = m.grown; met = λ e p lt o. m.met p (omega arith) o; none = λ e. shut }
 
 -- ---- the row
 

@@ -1,7 +1,7 @@
 -- What the functions below `run` promise each other of the return counts: how a table of counts stands for the rows of a table, and what a
 -- side's step of a round makes of it.
 -- Assumes nothing.
-use Rattle.std.specs.Prelude.{ℕ, ◌+◌, ◌^◌, ◌<◌, ◌≡◌, Bool, false, cond, List, [], ◌++◌, map, eqb, ℤ, length, drop}
+use Rattle.std.specs.Prelude.{ℕ, ◌+◌, ◌^◌, ◌<◌, ◌≡◌, Bool, false, cond, List, [], ◌++◌, map, ℤ, length, drop}
 use Rattle.std.proofs.Math.Option.{Option, none, some}
 use Rattle.formula.specs.Formula.{work_size, Kind, existential, universal, prefix, clauses}
 use Rattle.formula.specs.Meaning.{bit, matrix}
@@ -50,10 +50,6 @@ half_since cleared (grows u) n = cond cleared 0 n
 
 abbrev pub half_came : Bool → Half → Option (List Row) → (Row → ℕ) → Row → ℕ
 half_came cleared h s came x = half_since cleared h (came x) + bit (among x (rows_found s))
-
--- As many rows stood when a step's search was counted as the step kept; without room it kept all.
-abbrev pub stood : ℕ → ℕ → ℕ → ℕ
-stood end kept count = cond (eqb end 2) kept count
 
 -- The existential side's counts.
 abbrev pub Tallies : List ℕ → List ℤ → List ℕ → List ℕ → ℕ → List ℕ → List ℕ → ℕ → ℕ → List ℕ → List ℕ → List ℕ → Type 0

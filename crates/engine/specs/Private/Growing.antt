@@ -1,12 +1,14 @@
 -- What the functions below `run` promise each other: how a table's bytes stand for a table of the run, and what a side's step of a round
 -- makes of it.
 -- Assumes nothing.
-use Rattle.std.specs.Prelude.{ℕ, zero, suc, ◌*◌, ◌-◌, ◌≤◌, ◌<◌, ◌≡◌, Bool, true, false, cond, List, [], ℤ, length, get_or, replicate}
+use Rattle.std.specs.Prelude.{ℕ, ◌*◌, ◌-◌, ◌≤◌, ◌<◌, ◌≡◌, Bool, true, false, cond, List, [], ℤ, length, get_or, replicate, Result, Ok, Err}
+use Rattle.std.specs.Prelude.{Option as CodeOption, None, Some}
 use Rattle.std.proofs.Math.Option.{Option, none, some}
+use Rattle.cause.specs.declared.Cause.{Cause}
+use Rattle.cause.specs.Cause.{told}
 use Rattle.formula.specs.Formula.{work_size, Kind, existential, universal, prefix, clauses}
 use Rattle.formula.specs.Meaning.{matrix}
 use Rattle.formula.specs.Causes.{count, checked, sizes}
-use Rattle.formula.specs.declared.Check.TheVariants.{Accepted}
 use Rattle.preference.specs.Preference.{prefer}
 use Rattle.rows.specs.Table.{room, table_fits, zeroed}
 use Rattle.expansion.specs.OtherSide.{side_of, other}
@@ -14,22 +16,20 @@ use Rattle.expansion.specs.Play.{Row}
 use Rattle.expansion.specs.Model.{search}
 use Rattle.engine.specs.Private.Prepared.{Prepared, KnownLeads}
 use Rattle.engine.specs.declared.search.Search.{Search}
-use Rattle.engine.specs.declared.search.Search.TheVariants.{Found as ModelFound, NoModel, Refused as SearchRefused}
+use Rattle.engine.specs.declared.search.Search.TheVariants.{Found as ModelFound, NoModel}
 use Rattle.engine.specs.declared.run.Answer.{Answer}
 use Rattle.engine.specs.declared.run.Answer.TheVariants.{False, True, Spent, NoRoomUniversal, NoRoomExistential, Refused}
-use Rattle.engine.specs.declared.run.Checked.{Checked}
 use Rattle.engine.specs.declared.run.End.{End}
 use Rattle.engine.specs.declared.run.Outcome.{Outcome}
 use Rattle.engine.specs.declared.run.Step.{Step}
-use Rattle.growth.specs.declared.Growth.{Growth}
-use Rattle.growth.specs.declared.Growth.TheVariants.{Grown, NoRoom}
+use Rattle.engine.specs.declared.run.Step.TheVariants.{NoModel as WithoutModel, NoRoom as WithoutRoom, Grown as GrownTo}
 use Rattle.opening.specs.Start.{equal_from_start, first_bits}
 use Rattle.rounds.specs.Run.{Table, rows, grown, if_fits, clears, highest, Outcome as RunOutcome}
 use Rattle.engine.specs.Outcome.{Given, lent, reached, tables_fit, tables_counted, cause, named, row_bytes, mark_numbers}
 
 -- None of the causes 1 to 3 applies.
 abbrev pub Passes : List ℕ → List ℤ → Type 0
-Passes kinds literals = checked kinds literals ≡ Accepted (sizes kinds literals)
+Passes kinds literals = checked kinds literals ≡ Ok (sizes kinds literals)
 
 -- What holds of the formula that tables were made of (search), where the last row below `known` of a side's own leads its models over the others' rows.
 abbrev pub Over : List ℕ → List ℕ → List ℕ → List ℕ → List ℕ → List ℕ → ℕ → List ℕ → ℕ → Bool → (List ℤ → Type 0) → Type 0
@@ -37,10 +37,10 @@ Over kinds codes index terms preferences own known others other_count side P =
     (literals : List ℤ) → Prepared kinds literals codes index terms → KnownLeads kinds literals preferences own known others other_count side → P literals
 
 -- The model was found.
-abbrev pub is_found : Search → Bool
-is_found ModelFound = true
-is_found NoModel = false
-is_found (SearchRefused n) = false
+abbrev pub is_found : Result Search Cause → Bool
+is_found (Ok ModelFound) = true
+is_found (Ok NoModel) = false
+is_found (Err cause) = false
 
 -- The lent bytes hold the rows of a side's table from the start, and what was found behind them ..
 pub record HoldsRows (kinds : List ℕ) (side : Kind) (t : Table) (found row_part : List ℕ) : Type 0 where
@@ -73,10 +73,10 @@ half_table t no_model = t
 half_table t no_room = t
 half_table t (grows u) = u
 
-abbrev pub half_end : Half → ℕ
-half_end no_model = 0
-half_end no_room = 1
-half_end (grows u) = 2
+abbrev pub half_end : Half → Step
+half_end no_model = WithoutModel
+half_end no_room = WithoutRoom
+half_end (grows u) = GrownTo (length u)
 
 -- Step of a side over the other's rows, in the terms of the lent bytes.
 abbrev pub half_of : List ℕ → List ℤ → List ℕ → Kind → ℕ → ℕ → Table → Table → Half
@@ -84,8 +84,7 @@ half_of kinds literals preferences side place r from t =
     half place r t (search (prefer preferences) side (prefix kinds) (matrix (clauses literals)) (rows from))
 
 pub record Extended (kinds : List ℕ) (side : Kind) (t : Table) (h : Half) (found found_marks : List ℕ) (result : Step) (row_part mark_part work : List ℕ) : Type 0 where
-  pub ended : result.end ≡ half_end h
-  pub counted : result.count ≡ length (half_table t h)
+  pub ended : result ≡ half_end h
   pub holds : Holds kinds side (half_table t h) found found_marks row_part mark_part
   pub work_long : length work ≡ work_size
 
@@ -123,21 +122,23 @@ ExtendsUniversal kinds literals preferences others other_count row_part mark_par
     found found_marks result row_part' mark_part' work'
 
 -- A step that has a model, by what it adds.
-abbrev pub step_of : Growth → ℕ → Step
-step_of (Grown end) n = record { end = 2; count = end }
-step_of NoRoom n = record { end = 1; count = n }
+abbrev pub step_of : CodeOption ℕ → Step
+step_of (Some end) = GrownTo end
+step_of None = WithoutRoom
 
 abbrev pub said : Answer → ℕ → ℕ → ℕ → End
 said a r n k = record { answer = a; round = r; universal = n; existential = k }
 
--- The answer where a side's step ends the run: it has no model, or no room.
-abbrev pub existential_stop : ℕ → Answer
-existential_stop zero = False
-existential_stop (suc end) = NoRoomExistential
+-- The answer where a side's step ends the run: it has no model, or no room. Spent, where the run goes on.
+abbrev pub existential_stop : Step → Answer
+existential_stop WithoutModel = False
+existential_stop WithoutRoom = NoRoomExistential
+existential_stop (GrownTo end) = Spent
 
-abbrev pub universal_stop : ℕ → Answer
-universal_stop zero = True
-universal_stop (suc end) = NoRoomUniversal
+abbrev pub universal_stop : Step → Answer
+universal_stop WithoutModel = True
+universal_stop WithoutRoom = NoRoomUniversal
+universal_stop (GrownTo end) = Spent
 
 -- The end of a run with the first bits of a table's last row, as many as the prefix has unknowns of a kind in front.
 abbrev pub opened_from : End → List ℕ → ℕ → List ℕ → ℕ → Outcome
@@ -193,10 +194,10 @@ pub record Ready (kinds : List ℕ) (literals : List ℤ) (a_rows a_marks a_coun
   pub work_long : length work ≡ work_size
   pub counted : universals ≡ count universal (prefix kinds)
 
--- The first cause that applies, or 0 where all is ready for a run.
-pub record FirstCause (g : Given) (result : Checked) : Type 0 where
-  pub first : result.cause ≡ cause g
-  pub ready : result.cause ≡ 0
+-- The first cause that applies, or where none does and all is ready for a run the number of the universal unknowns.
+pub record FirstCause (g : Given) (result : Result ℕ Cause) : Type 0 where
+  pub first : told result ≡ cause g
+  pub ready : (universals : ℕ) → result ≡ Ok universals
       → Ready g.kinds g.literals g.found.universal_rows g.found.universal_marks g.found.universal_counts g.found.existential_rows
-      g.found.existential_marks g.found.existential_counts g.found.work result.universals
-  pub some_limit : result.cause ≡ 0 → 1 ≤ g.limit
+      g.found.existential_marks g.found.existential_counts g.found.work universals
+  pub some_limit : (universals : ℕ) → result ≡ Ok universals → 1 ≤ g.limit

@@ -1,10 +1,11 @@
 -- A search over tables that were made of the formula before: what the tables hold, the causes, and what is promised of `prepare` and `first_model_over`.
 -- Assumes nothing.
-use Rattle.std.specs.Prelude.{ℕ, ◌-◌, ◌<◌, ◌≡◌, Bool, not, cond, ◌&&◌, ◌||◌, List, eqb, ltb, ℤ, length, take}
+use Rattle.std.specs.Prelude.{ℕ, ◌-◌, ◌<◌, ◌≡◌, Bool, not, cond, ◌&&◌, ◌||◌, List, eqb, ltb, ℤ, length, take, Result, Ok, Err}
+use Rattle.cause.specs.declared.Cause.{Cause}
+use Rattle.cause.specs.Cause.{caused}
 use Rattle.formula.specs.Formula.{max_entries, work_size, Kind, prefix, clauses}
 use Rattle.formula.specs.Meaning.{matrix}
 use Rattle.formula.specs.Causes.{any, cause_1, checked, sizes, count}
-use Rattle.formula.specs.declared.Check.TheVariants.{Accepted}
 use Rattle.preference.specs.Preference.{prefer}
 use Rattle.rows.specs.Row.{row_of}
 use Rattle.rows.specs.Table.{row_at, room, table_fits}
@@ -19,12 +20,11 @@ use Rattle.index.specs.Index.{index_of, filled as index_filled}
 pub use Rattle.engine.specs.Private.TermTables.{table_size}
 use Rattle.engine.specs.Private.Terms.{Listed, ListedIn}
 use Rattle.engine.specs.declared.search.Search.{Search}
-use Rattle.engine.specs.declared.search.Search.TheVariants.{Refused}
 use Rattle.engine.specs.Search.{lent_rows, Searched}
 
 -- The tables of an accepted formula: the codes of its literals, the index of these, and a table in which their clauses are listed with their terms.
 pub record Prepared (kinds : List ℕ) (literals : List ℤ) (codes index terms : List ℕ) : Type 0 where
-  pub accepted : checked kinds literals ≡ Accepted (sizes kinds literals)
+  pub accepted : checked kinds literals ≡ Ok (sizes kinds literals)
   pub coded : codes ≡ encoding literals
   pub listed : index ≡ index_of codes
   pub terms_sized : length terms ≡ table_size
@@ -37,7 +37,7 @@ pub record Prepares (kinds : List ℕ) (literals : List ℤ) (codes index terms 
   pub coded : codes_then ≡ codes_filled literals codes
   pub listed : index_then ≡ index_filled (take used codes_then) index
   pub terms_listed : ListedIn kinds (take used codes_then) terms_then
-  pub prepared : checked kinds literals ≡ Accepted (sizes kinds literals) → length codes ≡ max_entries → length index ≡ index_size → length terms ≡ table_size
+  pub prepared : checked kinds literals ≡ Ok (sizes kinds literals) → length codes ≡ max_entries → length index ≡ index_size → length terms ≡ table_size
       → Prepared kinds literals (take used codes_then) index_then terms_then
 
 -- A number that is no code: 1, or one above the last.
@@ -76,8 +76,8 @@ KnownLeads kinds literals preferences own known rows lent universal? =
 -- All that `first_model_over` promises: over an accepted formula's tables and a known row that leads what `first_model` promises of the formula, and over
 -- any tables that a cause is returned and changes nothing. What tables hold that are no formula's, or a row that does not lead, is not found out, and of an
 -- answer over them nothing is promised.
-pub record SearchedOver (kinds codes index terms preferences own : List ℕ) (known : ℕ) (rows : List ℕ) (lent : ℕ) (universal? : Bool) (work : List ℕ) (result : Search) (work_then : List ℕ) : Type 0 where
+pub record SearchedOver (kinds codes index terms preferences own : List ℕ) (known : ℕ) (rows : List ℕ) (lent : ℕ) (universal? : Bool) (work : List ℕ) (result : Result Search Cause) (work_then : List ℕ) : Type 0 where
   pub prepared : (literals : List ℤ) → Prepared kinds literals codes index terms → KnownLeads kinds literals preferences own known rows lent universal?
       → Searched kinds literals preferences rows lent universal? work result work_then
   pub refused : (cause_over kinds codes index rows lent universal? work ≡ 0 → ⊥)
-      → (result ≡ Refused (cause_over kinds codes index rows lent universal? work)) × (work_then ≡ work)
+      → (result ≡ Err (caused (cause_over kinds codes index rows lent universal? work))) × (work_then ≡ work)

@@ -1,7 +1,7 @@
 -- A reason for the conflict of a row: positions whose values leave the row without a model. The clauses are codes, the row's values stand in a
 -- table of cells w, and the table of sets s has for each position the decisions by which its value was reached.
 -- Assumes nothing.
-use Rattle.std.specs.Prelude.{ℕ, ◌+◌, ◌*◌, ◌≤◌, ◌<◌, ◌≡◌, Bool, true, false, List, get_or}
+use Rattle.std.specs.Prelude.{ℕ, ◌+◌, ◌*◌, ◌<◌, ◌≡◌, Bool, true, false, List, get_or}
 use Rattle.formula.specs.Formula.{max_unknowns}
 use Rattle.expansion.specs.Private.Problem.{Mask}
 use Rattle.expansion.specs.Private.Matrix.{matrix_at}

@@ -100,10 +100,6 @@ pub record RowReasons (kinds codes w : List ℕ) (i : ℕ) (s t : List ℕ) (r :
   pub grown : SetGrown max_unknowns s t
   pub satisfied : r ≡ true → AllSatisfied kinds codes w i s t
 
--- In place of a position: the value is given.
-abbrev pub given_place : ℕ
-given_place = max_unknowns + 1
-
 -- Where the hints stand behind the sets: the open terms of each row, the terms of each code, and those that are met.
 abbrev pub open_at : ℕ
 open_at = 2 * set_places + max_rows + 8
@@ -117,4 +113,4 @@ true_at = holds_at + (last_code + 1)
 -- The set behind the positions takes in that of a position.
 pub record TakesIn (best : ℕ) (s t : List ℕ) : Type 0 where
   pub grown : SetGrown max_unknowns s t
-  pub takes : best < max_unknowns → TakenIn s t best
+  pub takes : TakenIn s t best

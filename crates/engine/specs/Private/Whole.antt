@@ -1,7 +1,9 @@
 -- The search as a whole, for the contracts of its private functions: what it may rest on once the causes are tested, what the table's search
 -- leaves, and what is found. Assumes nothing.
-use Rattle.std.specs.Prelude.{ℕ, zero, suc, ◌+◌, ◌≤◌, ◌<◌, ◌≡◌, Bool, true, false, List, ℤ, length, get_or, take, replicate}
+use Rattle.std.specs.Prelude.{ℕ, zero, suc, ◌+◌, ◌≤◌, ◌<◌, ◌≡◌, Bool, true, false, List, ℤ, length, get_or, take, replicate, Result, Ok, Err}
 use Rattle.std.proofs.Math.Option.{Option, none, some}
+use Rattle.cause.specs.declared.Cause.{Cause}
+use Rattle.cause.specs.Cause.{caused}
 use Rattle.formula.specs.Formula.{max_unknowns, max_rows, max_entries, work_size, Kind, existential, universal, prefix, clauses}
 use Rattle.formula.specs.Meaning.{matrix}
 use Rattle.preference.specs.Preference.{prefer}
@@ -12,7 +14,6 @@ use Rattle.expansion.specs.OtherSide.{other}
 use Rattle.expansion.specs.Play.{Row}
 use Rattle.expansion.specs.Model.{search}
 use Rattle.engine.specs.declared.search.Search.{Search}
-use Rattle.engine.specs.declared.search.Search.TheVariants.{Refused}
 use Rattle.engine.specs.Search.{answer, left}
 use Rattle.engine.specs.Private.Prepared.{later_cause, LastLeads}
 use Rattle.codes.specs.Private.Clauses.{Coded, Encoded}
@@ -102,9 +103,9 @@ pub record Accepting (kinds codes index : List ℕ) (others side : ℕ) : Type 0
   pub side_fits : side ≤ 1
 
 -- What is answered over tables that fit, and what is left.
-pub record Answered (kinds codes index terms preferences own : List ℕ) (known : ℕ) (rows : List ℕ) (lent others side : ℕ) (w u : List ℕ) (r : Search) : Type 0 where
-  pub refused : (later_cause rows lent others w ≡ 0 → ⊥) → (r ≡ Refused (later_cause rows lent others w)) × (u ≡ w)
+pub record Answered (kinds codes index terms preferences own : List ℕ) (known : ℕ) (rows : List ℕ) (lent others side : ℕ) (w u : List ℕ) (r : Result Search Cause) : Type 0 where
+  pub refused : (later_cause rows lent others w ≡ 0 → ⊥) → (r ≡ Err (caused (later_cause rows lent others w))) × (u ≡ w)
   pub answered : later_cause rows lent others w ≡ 0 → (literals : List ℤ) → TablesOf kinds literals codes index terms
       → LastLeads kinds literals preferences own known (side_kind side) (rows_of others lent rows)
-      → (r ≡ answer (search (prefer preferences) (side_kind side) (prefix kinds) (matrix (clauses literals)) (rows_of others lent rows)))
+      → (r ≡ Ok (answer (search (prefer preferences) (side_kind side) (prefix kinds) (matrix (clauses literals)) (rows_of others lent rows))))
       × (u ≡ left (search (prefer preferences) (side_kind side) (prefix kinds) (matrix (clauses literals)) (rows_of others lent rows)))

@@ -16,15 +16,13 @@ pub(crate) fn read(kinds: &[u8], own: &[u8], known: usize, side: u8, block: &mut
         return 0;
     }
     let row = known - 1;
-    let mut k = 0;
-    while k < kinds.len() {
-        if kinds[k] != side {
+    for (k, kind) in kinds.iter().enumerate() {
+        if *kind != side {
             return k;
         }
-        block[k] = byte(rows::bit(own, row, k));
-        k += 1;
+        block[k] = u8::from(rows::bit(own, row, k));
     }
-    k
+    kinds.len()
 }
 
 // Whether no model has the value at the own position k of row i: it is the wanted one and not the remembered one, and before k the row has what is
@@ -42,26 +40,17 @@ pub(crate) fn rules_out(block: &[u8], work: &[u8], i: usize, k: usize, value: bo
     if has(block[k], cell::wanted(work, i, k)) {
         return false;
     }
-    let mut j = 0;
-    while j < k {
+    for j in 0..k {
         if has(block[j], cell::value(work, i, j)) {} else {
             return false;
         }
-        j += 1;
     }
     true
-}
-
-// A value as a byte.
-fn byte(value: bool) -> u8
-    ensures { eqb result 1 ≡ value }
-{
-    if value { 1 } else { 0 }
 }
 
 // Whether a byte says a value.
 fn has(byte: u8, value: bool) -> bool
     ensures { result ≡ beq (eqb byte 1) value }
 {
-    if value { byte == 1 } else { byte != 1 }
+    (byte == 1) == value
 }

@@ -1,5 +1,5 @@
-// Numbers of small tables as indices, and the least and the greatest of two numbers.
-ghost use Rattle.std.specs.Prelude.{◌≡◌, ◌⊎◌, ◌≤◌};
+// Numbers of small tables as indices, the least of two numbers, and the lowest bit of a word.
+ghost use Rattle.std.specs.Prelude.{◌≡◌, ◌⊎◌, ◌≤◌, ◌<◌};
 
 pub(crate) fn wide8(x: u8) -> usize
     ensures { result ≡ x }
@@ -19,8 +19,9 @@ pub(crate) fn least(a: usize, b: usize) -> usize
     if a < b { a } else { b }
 }
 
-pub(crate) fn greatest(a: usize, b: usize) -> usize
-    ensures { (a ≤ result) × (b ≤ result) }
+// The lowest bit of a word; 64 if there is none.
+pub(crate) fn lowest(word: u64) -> usize
+    ensures { (result ≤ 64) × (0 < word → result < 64) }
 {
-    if a < b { b } else { a }
+    u64::trailing_zeros(word) as usize
 }

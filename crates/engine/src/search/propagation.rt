@@ -11,8 +11,7 @@ ghost use Rattle.search_sets.specs.Private.Masks.{SetsKept};
 ghost use Rattle.search_evaluation.specs.Private.Looked.{Looked};
 ghost use Rattle.engine.specs.Private.Steps.{Propagates, Indexed, Lent, Starts};
 
-use super::clauses::literal_position;
-use super::numbers::{greatest, least, wide16};
+use super::clauses::{list_of, literal_position};
 use super::sets_table::{CHANGED, CHANGED_ROWS, CONFLICT};
 use super::{cell, reasons, sets_table};
 use formula::Formula;
@@ -38,7 +37,7 @@ pub(crate) fn propagate_all(
 {
     let mut short = [0u16; Formula::CLAUSES];
     let count = list_short(kinds, codes, index, &mut short);
-    propagate_rows(differences, codes, work, sets, index, &short, count)
+    propagate_rows(differences, codes, work, sets, index, &short[..count])
 }
 
 // Lists the clauses with at most one existential literal: no other can be unit or false by a row alone. Returns how many there are.
@@ -46,41 +45,34 @@ fn list_short(kinds: &[u8], codes: &[u16], index: &[u16], short: &mut [u16]) -> 
     requires { length index.now ≡ index_size }
     ensures { (result ≤ length short.new) × (Starts codes.now index.now (get_or index.now 1 0) (get_or index.now (code_count + 1) 0) → Starts codes.now short.new 0 result) }
 {
-    let end = list_end(index, ANY);
+    let list = list_of(index, ANY);
     let mut count = 0;
-    let mut at = wide16(index[ANY]);
-    while at < end {
+    for start in list {
         if count < short.len() {} else {
             return count;
         }
-        let start = index[at];
-        short[count] = start; // stays if it is counted
-        count += is_short(kinds, codes, wide16(start));
-        at += 1;
+        short[count] = *start; // stays if it is counted
+        count += usize::from(is_short(kinds, codes, usize::from(*start)));
     }
     count
 }
 
-// 1 if the clause at `start` has at most one existential literal, else 0.
-fn is_short(kinds: &[u8], codes: &[u16], start: usize) -> usize
-    ensures { result ≤ 1 }
-{
+// Whether the clause at `start` has at most one existential literal.
+fn is_short(kinds: &[u8], codes: &[u16], start: usize) -> bool {
     let mut one = false;
-    let mut e = start;
-    while e < codes.len() {
-        let c = wide16(codes[e]);
-        e += 1;
+    for e in start..codes.len() {
+        let c = usize::from(codes[e]);
         if c == 0 {
-            return 1;
+            return true;
         }
         if is_existential(kinds, c) {
             if one {
-                return 0;
+                return false;
             }
             one = true;
         }
     }
-    1
+    true
 }
 
 fn is_existential(kinds: &[u8], c: usize) -> bool {
@@ -94,7 +86,7 @@ fn is_existential(kinds: &[u8], c: usize) -> bool {
     false
 }
 
-// Looks at the first `count` clauses of `short` in every row, and at what follows.
+// Looks at the clauses of `short` in every row, and at what follows.
 fn propagate_rows(
     differences: &[u8],
     codes: &[u16],
@@ -102,15 +94,12 @@ fn propagate_rows(
     sets: &mut [u64],
     index: &[u16],
     short: &[u16],
-    count: usize,
 ) -> bool
-    requires lent { Lent 0 differences.now codes.now work.old sets.old index.now }
-    requires count_in_bounds { count ≤ length short.now }
-    ensures { Indexed 0 codes.now index.now × Starts codes.now short.now 0 count → Propagates 0 differences.now codes.now 0 (length differences.now) 1 work.old work.new sets.old sets.new result }
+    requires { Lent 0 differences.now codes.now work.old sets.old index.now }
+    ensures { Indexed 0 codes.now index.now × Starts codes.now short.now 0 (length short.now) → Propagates 0 differences.now codes.now 0 (length differences.now) 1 work.old work.new sets.old sets.new result }
 {
     search_sets::empty(sets, CHANGED);
-    let mut i = 0;
-    while i < differences.len() {
+    for i in 0..differences.len() {
         if propagate_list(
             differences,
             codes,
@@ -118,8 +107,6 @@ fn propagate_rows(
             sets,
             index,
             short,
-            0,
-            count,
             1,
             0,
             differences.len(),
@@ -128,7 +115,6 @@ fn propagate_rows(
         ) {} else {
             return false;
         }
-        i += 1;
     }
     propagate(
         differences,
@@ -177,14 +163,12 @@ fn propagate(
     requires hi_in_bounds { hi ≤ length differences.now }
     ensures { Indexed 0 codes.now index.now → Propagates 0 differences.now codes.now lo hi level work.old work.new sets.old sets.new result }
 {
-    let mut left = CELLS;
-    while left > 0 {
-        let k = sets_table::take_lowest(sets, CHANGED);
-        if k < CONFLICT {} else {
+    for _ in 0..CELLS {
+        let Some(k) = sets_table::take_lowest(sets, CHANGED) else {
             return true;
-        }
-        let from = greatest(sets[CHANGED_ROWS + 2 * k] as usize, lo);
-        let to = least(sets[CHANGED_ROWS + 2 * k + 1] as usize, hi);
+        };
+        let from = (sets[CHANGED_ROWS + 2 * k] as usize).max(lo);
+        let to = (sets[CHANGED_ROWS + 2 * k + 1] as usize).min(hi);
         if propagate_occurrences(
             differences,
             codes,
@@ -200,7 +184,6 @@ fn propagate(
         ) {} else {
             return false;
         }
-        left -= 1;
     }
     true
 }
@@ -223,21 +206,16 @@ fn propagate_occurrences(
     requires hi_in_bounds { (hi ≤ length differences.now) × (k < max_unknowns) × (lo ≤ from) × (to ≤ hi) }
     ensures { Indexed 0 codes.now index.now → Propagates 0 differences.now codes.now lo hi level work.old work.new sets.old sets.new result }
 {
-    let mut i = from;
-    while i < to {
+    for i in from..to {
         if search_evaluation::level(work, i, k) == level {
-            let c = falsified(cell::value(work, i, k), k);
-            let begin = wide16(index[c]);
-            let end = list_end(index, c);
+            let list = list_of(index, falsified(cell::value(work, i, k), k));
             if propagate_list(
                 differences,
                 codes,
                 work,
                 sets,
                 index,
-                index,
-                begin,
-                end,
+                list,
                 level,
                 lo,
                 hi,
@@ -247,7 +225,6 @@ fn propagate_occurrences(
                 return false;
             }
         }
-        i += 1;
     }
     true
 }
@@ -260,15 +237,7 @@ fn falsified(value: bool, k: usize) -> usize
     if value { 2 * k + 3 } else { 2 * k + 2 }
 }
 
-// Where the index's list of the code c ends.
-fn list_end(index: &[u16], c: usize) -> usize
-    requires { (length index.now ≡ index_size) × (c ≤ last_code) }
-    ensures { (result ≤ length index.now) × (result ≤ get_or index.now (code_count + c) 0) }
-{
-    least(wide16(index[index::CODES + c]), index.len())
-}
-
-// Looks at the clauses of the list from `begin` to `end` in row i, but for those that repeat the row before it.
+// Looks at the clauses of the list in row i, but for those that repeat the row before it.
 fn propagate_list(
     differences: &[u8],
     codes: &[u16],
@@ -276,8 +245,6 @@ fn propagate_list(
     sets: &mut [u64],
     index: &[u16],
     list: &[u16],
-    begin: usize,
-    end: usize,
     level: u8,
     lo: usize,
     hi: usize,
@@ -285,14 +252,12 @@ fn propagate_list(
     i: usize,
 ) -> bool
     requires lent { Lent 0 differences.now codes.now work.old sets.old index.now }
-    requires end_in_bounds { end ≤ length list.now }
     requires lo_le_i { (lo ≤ i) × (i < hi) × (hi ≤ length differences.now) }
-    ensures { Starts codes.now list.now begin end → Propagates 0 differences.now codes.now lo hi level work.old work.new sets.old sets.new result }
+    ensures { Starts codes.now list.now 0 (length list.now) → Propagates 0 differences.now codes.now lo hi level work.old work.new sets.old sets.new result }
 {
     let agreement = search_groups::agreement(differences, from, i);
-    let mut at = begin;
-    while at < end {
-        let start = wide16(list[at]);
+    for place in list {
+        let start = usize::from(*place);
         if search_groups::repeats(codes, start, agreement) {} else {
             if propagate_clause(
                 differences,
@@ -309,7 +274,6 @@ fn propagate_list(
                 return false;
             }
         }
-        at += 1;
     }
     true
 }
@@ -393,8 +357,8 @@ fn note(sets: &mut [u64], k: usize, lo: usize, hi: usize)
     let mut from = lo;
     let mut to = hi;
     if search_sets::has(sets, CHANGED, k) {
-        from = least(sets[at] as usize, lo);
-        to = greatest(sets[at + 1] as usize, hi);
+        from = (sets[at] as usize).min(lo);
+        to = (sets[at + 1] as usize).max(hi);
     }
     search_sets::add(sets, CHANGED, k);
     sets[at] = from as u64;

@@ -6,7 +6,6 @@ ghost use Rattle.search_sets.specs.Sets.{sets_size};
 ghost use Rattle.engine.specs.Private.Held.{Same};
 ghost use Rattle.engine.specs.Private.Steps.{Shortened};
 
-use super::numbers::wide8;
 use super::sets_table::{CONFLICT, CONFLICTS, QUIET, SPENT, WAIT};
 use super::shortening;
 
@@ -78,7 +77,7 @@ fn depth(level: u8) -> usize
     if level == 0 {
         return 0;
     }
-    wide8(level) - 1
+    usize::from(level) - 1
 }
 
 // Notes what a look gave: the next one comes sooner if it found a reason, later if it found none.

@@ -4,7 +4,7 @@
 // Every public function is total. Promised is that a row that is found satisfied is satisfied by the decisions of the set at CONFLICT, if the open terms that are
 // lent are the row's, and that a clause that is found false is false; the sets of the positions stay. Which rows and clauses are looked at is not
 // promised: nothing rests on hints.
-ghost use Rattle.std.specs.Prelude.{◌≡◌, ◌≤◌, ◌<◌, ◌⊎◌, true, length};
+ghost use Rattle.std.specs.Prelude.{◌≡◌, ◌≤◌, ◌<◌, ◌⊎◌, true, length, IfSome, Some};
 ghost use Rattle.formula.specs.Formula.{max_unknowns, max_rows};
 ghost use Rattle.engine.specs.Private.TermTables.{others, open_size, is_open, name_of};
 ghost use Rattle.engine.specs.Private.Terms.{own};
@@ -13,18 +13,24 @@ ghost use Rattle.codes.specs.Private.Clauses.{Begins};
 ghost use Rattle.search_sets.specs.Sets.{sets_size};
 ghost use Rattle.search_sets.specs.Private.Masks.{SetsKept};
 ghost use Rattle.search_evaluation.specs.Evaluation.{look_at, satisfied_at};
-ghost use Rattle.engine.specs.Private.Satisfied.{given_place, IsGiven, IsOwn, OwnTrue, Checked, RowTold, RowLooked, RowReasons, TermsMet, TermPassed, TermMet, TakesIn, FalseFound};
+ghost use Rattle.engine.specs.declared.search.satisfied_rows.Truth.TheVariants.{Given, At};
+ghost use Rattle.engine.specs.Private.Satisfied.{IsGiven, IsOwn, OwnTrue, Checked, RowTold, RowLooked, RowReasons, TermsMet, TermPassed, TermMet, TakesIn, FalseFound};
 
-use super::clauses::{begins, position};
-use super::numbers::wide16;
+use super::clauses::{begins, list_of, position};
+use super::numbers::lowest;
 use super::sets_table::{CONFLICT, HOLDS, LAST_CONFLICT, OPEN, TRUE, WATCHED};
 use super::term_table;
 use super::term_table::OTHERS;
 use codes::LAST_CODE;
 use formula::Formula;
 
-// In place of a position: the value is given.
-const GIVEN: usize = CONFLICT + 1;
+// What makes a clause true, of the literals that were read: nothing, a given value, or that of the own position which was set at the lowest level.
+#[derive(Clone, Copy)]
+enum Truth {
+    Missing,
+    Given,
+    At(usize),
+}
 
 // In a word of a row's open terms: the bit of the clauses of no term.
 const NO_TERM: u64 = 9_223_372_036_854_775_808;
@@ -145,12 +151,10 @@ fn note_true(kinds: &[u8], work: &[u8], sets: &mut [u64], k: usize, i: usize) ->
 fn decided_before(kinds: &[u8], k: usize) -> usize
     ensures { result ≤ k }
 {
-    let mut p = k;
-    while p > 0 {
-        if is_given(kinds, p - 1) {} else {
-            return p;
+    for p in (0..k).rev() {
+        if is_given(kinds, p) {} else {
+            return p + 1;
         }
-        p -= 1;
     }
     0
 }
@@ -180,13 +184,11 @@ fn check_rows(
     requires { (length sets.old ≡ sets_size) × (length opened.now ≡ open_size) × (hi ≤ max_rows) }
     ensures { Checked kinds.now codes.now opened.now work.now lo hi sets.old sets.new result }
 {
-    let mut i = lo;
-    while i < hi {
+    for i in lo..hi {
         if row_satisfied(kinds, codes, work, sets, opened, met, i) {
             sets[LAST_CONFLICT] = i as u64 + 1;
             return false;
         }
-        i += 1;
     }
     true
 }
@@ -245,12 +247,10 @@ fn terms_met(
     requires { (length sets.old ≡ sets_size) × (length opened.now ≡ open_size) × (i < max_rows) }
     ensures { TermsMet kinds.now codes.now opened.now work.now i sets.old sets.new result }
 {
-    let mut t = 0;
-    while t < OTHERS {
+    for t in 0..OTHERS {
         if is_passed(kinds, codes, work, sets, opened, i, t) {} else {
             return false;
         }
-        t += 1;
     }
     if is_open(opened, OTHERS, i) {
         return false;
@@ -305,23 +305,22 @@ fn is_met(
     requires { length sets.old ≡ sets_size }
     ensures { TermMet kinds.now codes.now work.now i start sets.old sets.new result }
 {
-    let best = earliest_own(kinds, codes, work, i, start);
-    if best == CONFLICT {
-        return false;
+    match earliest_own(kinds, codes, work, i, start) {
+        Some(best) => {
+            take_in(sets, best);
+            true
+        }
+        None => false,
     }
-    take_in(sets, best);
-    true
 }
 
-// Of the own literals of the clause at `start` that are true in row i the position that was set at the lowest level; CONFLICT if there is none.
-fn earliest_own(kinds: &[u8], codes: &[u16], work: &[u8], i: usize, start: usize) -> usize
-    ensures { (result ≡ max_unknowns) ⊎ OwnTrue kinds.now codes.now work.now i start result }
+// Of the own literals of the clause at `start` that are true in row i the position that was set at the lowest level.
+fn earliest_own(kinds: &[u8], codes: &[u16], work: &[u8], i: usize, start: usize) -> Option<usize>
+    ensures { IfSome result (λ p. OwnTrue kinds.now codes.now work.now i start p) }
 {
-    let mut best = CONFLICT;
-    let mut e = start;
-    while e < codes.len() {
-        let c = wide16(codes[e]);
-        e += 1;
+    let mut best = None;
+    for e in start..codes.len() {
+        let c = usize::from(codes[e]);
         if c == 0 {
             return best;
         }
@@ -331,8 +330,8 @@ fn earliest_own(kinds: &[u8], codes: &[u16], work: &[u8], i: usize, start: usize
 }
 
 // The best position so far, or that of the literal of code c if it is own, true in row i and was set at a lower level.
-fn earlier_own(kinds: &[u8], work: &[u8], i: usize, best: usize, c: usize) -> usize
-    ensures { (result ≡ best) ⊎ ((result ≡ row_position c) × (own kinds.now c ≡ true) × (satisfied_at work.now i c ≡ true)) }
+fn earlier_own(kinds: &[u8], work: &[u8], i: usize, best: Option<usize>, c: usize) -> Option<usize>
+    ensures { (result ≡ best) ⊎ ((result ≡ Some (row_position c)) × (own kinds.now c ≡ true) × (satisfied_at work.now i c ≡ true)) }
 {
     let p = position(c);
     if is_own(kinds, p) {} else {
@@ -341,7 +340,10 @@ fn earlier_own(kinds: &[u8], work: &[u8], i: usize, best: usize, c: usize) -> us
     if search_evaluation::satisfied(work, i, c) {} else {
         return best;
     }
-    earlier(work, i, best, p)
+    match best {
+        Some(k) => Some(earlier(work, i, k, p)),
+        None => Some(p),
+    }
 }
 
 // The same by the clause that it watches, or another that is not satisfied.
@@ -391,30 +393,29 @@ fn watched(sets: &[u64], i: usize) -> usize
 fn other_unsatisfied(codes: &[u16], work: &[u8], sets: &[u64], i: usize) -> usize
     requires { (length sets.now ≡ sets_size) × (i < max_rows) }
 {
-    let near = near_unsatisfied(codes, work, sets, i);
-    if near < codes.len() {
+    if let Some(near) = near_unsatisfied(codes, work, sets, i) {
         return near;
     }
     search_evaluation::next_unsatisfied(codes, work, i, watched(sets, i))
 }
 
-// That of the row before or behind; the number of entries if both are satisfied in row i.
-fn near_unsatisfied(codes: &[u16], work: &[u8], sets: &[u64], i: usize) -> usize
+// That of the row before or behind; none if both are satisfied in row i.
+fn near_unsatisfied(codes: &[u16], work: &[u8], sets: &[u64], i: usize) -> Option<usize>
     requires { (length sets.now ≡ sets_size) × (i < max_rows) }
 {
     if i > 0 {
         let before = watched(sets, i - 1);
         if search_evaluation::unsatisfied(codes, work, i, before) {
-            return before;
+            return Some(before);
         }
     }
     if i + 1 < Formula::ROWS {
         let behind = watched(sets, i + 1);
         if search_evaluation::unsatisfied(codes, work, i, behind) {
-            return behind;
+            return Some(behind);
         }
     }
-    codes.len()
+    None
 }
 
 // Where all cells of row i are set, the start of a clause that may be false there: that of the row before or behind, one with a literal of a term
@@ -430,74 +431,67 @@ fn likely(
 ) -> usize
     requires { (length sets.now ≡ sets_size) × (length opened.now ≡ open_size) × (i < max_rows) }
 {
-    let near = near_unsatisfied(codes, work, sets, i);
-    if near < codes.len() {
+    if let Some(near) = near_unsatisfied(codes, work, sets, i) {
         return near;
     }
-    let t = unmet_term(sets, kinds, i);
-    if t < OTHERS {
-        let c = own_code(kinds, codes, first(opened, t));
-        let listed = unsatisfied_with(codes, work, index, i, c);
-        if listed < codes.len() {
-            return listed;
+    if let Some(t) = unmet_term(sets, kinds, i) {
+        if let Some(c) = own_code(kinds, codes, first(opened, t)) {
+            if let Some(listed) = unsatisfied_with(codes, work, index, i, c) {
+                return listed;
+            }
         }
     }
     search_evaluation::next_unsatisfied(codes, work, i, watched(sets, i))
 }
 
-// A term that is open in row i and has no true literal by all decisions; no term if there is none.
-fn unmet_term(sets: &[u64], kinds: &[u8], i: usize) -> usize
+// A term that is open in row i and has no true literal by all decisions.
+fn unmet_term(sets: &[u64], kinds: &[u8], i: usize) -> Option<usize>
     requires { (length sets.now ≡ sets_size) × (i < max_rows) }
+    ensures { IfSome result (λ t. t < others) }
 {
     if kinds.len() <= Formula::UNKNOWNS {} else {
-        return OTHERS;
+        return None;
     }
     let met = sets[TRUE + decided_before(kinds, kinds.len())];
-    lowest(sets[OPEN + i] & !met)
+    let t = lowest(sets[OPEN + i] & !met);
+    if t < OTHERS { Some(t) } else { None }
 }
 
-// The lowest bit of a word; 64 if there is none.
-fn lowest(word: u64) -> usize {
-    u64::trailing_zeros(word) as usize
-}
-
-// The first own literal of the clause at `start`; 0 if there is none.
-fn own_code(kinds: &[u8], codes: &[u16], start: usize) -> usize {
-    let mut e = start;
-    while e < codes.len() {
-        let c = wide16(codes[e]);
-        e += 1;
+// The first own literal of the clause at `start`.
+fn own_code(kinds: &[u8], codes: &[u16], start: usize) -> Option<usize> {
+    for e in start..codes.len() {
+        let c = usize::from(codes[e]);
         if c == 0 {
-            return 0;
+            return None;
         }
         if is_own(kinds, position(c)) {
-            return c;
+            return Some(c);
         }
     }
-    0
+    None
 }
 
-// The start of a clause with the code c that has no true literal in row i, found through the index; the number of entries if there is none.
-fn unsatisfied_with(codes: &[u16], work: &[u8], index: &[u16], i: usize, c: usize) -> usize {
+// The start of a clause with the code c that has no true literal in row i, found through the index.
+fn unsatisfied_with(
+    codes: &[u16],
+    work: &[u8],
+    index: &[u16],
+    i: usize,
+    c: usize,
+) -> Option<usize> {
     if index.len() != index::SIZE {
-        return codes.len();
+        return None;
     }
     if c > LAST_CODE {
-        return codes.len();
+        return None;
     }
-    let end = wide16(index[index::CODES + c]);
-    let mut at = wide16(index[c]);
-    while at < end {
-        if at < index.len() {} else {
-            return codes.len();
-        }
-        let start = wide16(index[at]);
+    for place in list_of(index, c) {
+        let start = usize::from(*place);
         if search_evaluation::unsatisfied(codes, work, i, start) {
-            return start;
+            return Some(start);
         }
-        at += 1;
     }
-    codes.len()
+    None
 }
 
 // Whether a clause begins at `start`, and all its literals are false in row i.
@@ -516,17 +510,16 @@ fn add_reasons(kinds: &[u8], codes: &[u16], work: &[u8], sets: &mut [u64], i: us
     requires { length sets.old ≡ sets_size }
     ensures { RowReasons kinds.now codes.now work.now i sets.old sets.new result }
 {
-    let mut best = CONFLICT;
-    let mut e = 0;
-    while e < codes.len() {
-        let c = wide16(codes[e]);
-        e += 1;
+    let mut best = Truth::Missing;
+    for code in codes {
+        let c = usize::from(*code);
         if c == 0 {
-            if best == CONFLICT {
-                return false;
+            match best {
+                Truth::Missing => return false,
+                Truth::Given => {}
+                Truth::At(p) => take_in(sets, p),
             }
-            take_in(sets, best);
-            best = CONFLICT;
+            best = Truth::Missing;
         } else {
             best = better(kinds, work, i, best, c);
         }
@@ -534,22 +527,19 @@ fn add_reasons(kinds: &[u8], codes: &[u16], work: &[u8], sets: &mut [u64], i: us
     true
 }
 
-// The set at CONFLICT takes in that of the position `best`; what is given needs none.
+// The set at CONFLICT takes in that of the position `best`.
 fn take_in(sets: &mut [u64], best: usize)
-    requires { length sets.old ≡ sets_size }
+    requires { (length sets.old ≡ sets_size) × (best < max_unknowns) }
     ensures { TakesIn best sets.old sets.new }
 {
-    if best < CONFLICT {
-        search_sets::unite(sets, CONFLICT, best);
-    }
+    search_sets::unite(sets, CONFLICT, best);
 }
 
-// The best position so far, or that of the literal of code c if it is true in row i and was set at a lower level; GIVEN if its value is given.
-fn better(kinds: &[u8], work: &[u8], i: usize, best: usize, c: usize) -> usize
-    requires { best ≤ given_place }
-    ensures { (result ≡ best) ⊎ ((satisfied_at work.now i c ≡ true) × (((result ≡ given_place) × IsGiven kinds.now (row_position c)) ⊎ (result ≡ row_position c))) }
+// The best so far, or the literal of code c if it is true in row i, and given or set at a lower level.
+fn better(kinds: &[u8], work: &[u8], i: usize, best: Truth, c: usize) -> Truth
+    ensures { (result ≡ best) ⊎ ((satisfied_at work.now i c ≡ true) × (((result ≡ Given) × IsGiven kinds.now (row_position c)) ⊎ (result ≡ At (row_position c)))) }
 {
-    if best == GIVEN {
+    if let Truth::Given = best {
         return best;
     }
     if search_evaluation::satisfied(work, i, c) {} else {
@@ -557,18 +547,18 @@ fn better(kinds: &[u8], work: &[u8], i: usize, best: usize, c: usize) -> usize
     }
     let p = position(c);
     if is_given(kinds, p) {
-        return GIVEN;
+        return Truth::Given;
     }
-    earlier(work, i, best, p)
+    match best {
+        Truth::At(k) => Truth::At(earlier(work, i, k, p)),
+        _ => Truth::At(p),
+    }
 }
 
-// Of two positions the one that was set at the lower level; CONFLICT is none.
+// Of two positions the one that was set at the lower level.
 fn earlier(work: &[u8], i: usize, k: usize, l: usize) -> usize
     ensures { (result ≡ l) ⊎ (result ≡ k) }
 {
-    if k == CONFLICT {
-        return l;
-    }
     if search_evaluation::level(work, i, k) <= search_evaluation::level(work, i, l) {
         return k;
     }

@@ -18,12 +18,13 @@
 //   1038 .. 1166 TRUE, word k + 1: the terms that are met by the decisions up to position k; word 0: none
 //
 // What stands behind the sets is a hint: nothing rests on it, and no promise is made of it but that the sets stay.
-ghost use Rattle.std.specs.Prelude.{◌≡◌, ◌≤◌, ◌<◌, length};
+ghost use Rattle.std.specs.Prelude.{◌≡◌, ◌≤◌, ◌<◌, length, IfSome};
 ghost use Rattle.formula.specs.Formula.{max_unknowns, max_rows};
 ghost use Rattle.search_sets.specs.Sets.{set_places, sets_size};
 ghost use Rattle.search_sets.specs.Private.Masks.{SetsKept};
 ghost use Rattle.engine.specs.Private.Held.{Same};
 
+use super::numbers::lowest;
 use codes::LAST_CODE;
 use formula::Formula;
 
@@ -92,20 +93,21 @@ pub(crate) fn conflict_between(sets: &[u64], lo: usize, mid: usize) -> bool
     false
 }
 
-// Takes out the lowest position of the set at `of`, behind those of the positions, and returns it; CONFLICT if there is none.
-pub(crate) fn take_lowest(sets: &mut [u64], of: usize) -> usize
+// Takes out the lowest position of the set at `of`, behind those of the positions, and returns it.
+pub(crate) fn take_lowest(sets: &mut [u64], of: usize) -> Option<usize>
     requires { (length sets.old ≡ sets_size) × (max_unknowns ≤ of) × (of < set_places) }
-    ensures { SetsKept sets.old sets.new }
+    ensures kept { SetsKept sets.old sets.new }
+    ensures inside { IfSome result (λ k. k < max_unknowns) }
 {
     let low = sets[2 * of];
     if low != 0 {
         sets[2 * of] = low & (low - 1);
-        return u64::trailing_zeros(low) as usize;
+        return Some(lowest(low));
     }
     let high = sets[2 * of + 1];
     if high != 0 {
         sets[2 * of + 1] = high & (high - 1);
-        return 64 + u64::trailing_zeros(high) as usize;
+        return Some(64 + lowest(high));
     }
-    CONFLICT
+    None
 }

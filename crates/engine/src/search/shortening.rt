@@ -4,9 +4,8 @@
 // decision of its set round (unit propagation and backjumping). A number of steps bounds the work.
 // Promised is that a set that is found is a reason, for whatever is lent. When one is found is not: what is tried, and when it is given up, is
 // a hint, and so is the index. Which set the search goes on with is left to it.
-ghost use Rattle.std.specs.Prelude.{◌≡◌, ◌⊎◌, true, false, List, ℕ, ◌+◌, ◌≤◌, ◌<◌, length, get_or};
+ghost use Rattle.std.specs.Prelude.{◌≡◌, ◌⊎◌, true, false, List, ℕ, ◌+◌, ◌≤◌, ◌<◌, length, IfSome};
 ghost use Rattle.formula.specs.Formula.{max_unknowns, max_rows, work_size};
-ghost use Rattle.rows.specs.Row.{weight};
 ghost use Rattle.codes.specs.Codes.{last_code, row_position};
 ghost use Rattle.codes.specs.Private.Clauses.{Begins, Coded};
 ghost use Rattle.index.specs.Index.{index_size};
@@ -18,7 +17,6 @@ ghost use Rattle.engine.specs.Private.Held.{IsFalse, FalseBut, LineSet, LineOpen
 
 use super::cell;
 use super::clauses::{begins, position};
-use super::numbers::{least, wide8, wide16};
 use super::sets_table::{CONFLICT, DECISIONS, DEPTH, HIGH, LOW, QUEUE, QUEUED};
 use codes::LAST_CODE;
 use formula::Formula;
@@ -45,6 +43,14 @@ struct End {
     left: usize,
 }
 
+// What a look at a clause shows: its literals are all false, or all but one, an open one of that code.
+#[derive(Clone, Copy)]
+enum Look {
+    Neither,
+    False,
+    Unit(usize),
+}
+
 // A reason for the conflict of row i among the decisions before position k, in at most that many steps. What the row was given, or reached by
 // no decision, is what has a value and an empty set.
 pub(crate) fn shorter(
@@ -58,7 +64,7 @@ pub(crate) fn shorter(
 ) -> Reason
     ensures { Shorter codes.now work.now sets.now i k result.found result.low result.high }
 {
-    if sizes_fit(index.len(), work.len(), sets.len(), i, k) {} else {
+    if !sizes_fit(index.len(), work.len(), sets.len(), i, k) {
         return Reason {
             found: false,
             low: 0,
@@ -74,19 +80,11 @@ pub(crate) fn shorter(
 fn sizes_fit(index: usize, area: usize, sets: usize, i: usize, k: usize) -> bool
     ensures { result ≡ true → (index ≡ index_size) × (area ≡ work_size) × (sets ≡ sets_size) × (i < max_rows) × (k ≤ max_unknowns) }
 {
-    if index != index::SIZE {
-        return false;
-    }
-    if area != Formula::WORK {
-        return false;
-    }
-    if sets != search_sets::WORDS {
-        return false;
-    }
-    if i < Formula::ROWS {
-        return k <= Formula::UNKNOWNS;
-    }
-    false
+    index == index::SIZE
+        && area == Formula::WORK
+        && sets == search_sets::WORDS
+        && i < Formula::ROWS
+        && k <= Formula::UNKNOWNS
 }
 
 // The decisions before the first of the positions up to k that do, by halves: a search that fails says that more are wanted.
@@ -159,16 +157,13 @@ fn probe(
 {
     begin(work, sets, line, own, i, k);
     let mut going = propagate_all(codes, index, line, own);
-    let mut left = steps;
-    while left > 0 {
-        left -= 1;
-        let p = next(index, line, own, going);
-        if p < Formula::UNKNOWNS {} else {
+    for left in (0..steps).rev() {
+        let Some(p) = next(index, line, own, going) else {
             return End {
                 refuted: is_reason(own, going, k),
                 left,
             };
-        }
+        };
         going = step(codes, index, work, line, own, i, going, p);
     }
     End {
@@ -179,28 +174,15 @@ fn probe(
 
 // Opens all positions, and then sets those that are given and those that were decided before position k.
 fn begin(work: &[u8], sets: &[u64], line: &mut [u16], own: &mut [u64], i: usize, k: usize)
-    requires { (length work.now ≡ work_size) × (length sets.now ≡ sets_size) × (length line.old ≡ max_unknowns) × (length own.old ≡ sets_size) × (i < max_rows) }
+    requires { (length work.now ≡ work_size) × (length sets.now ≡ sets_size) × (length line.old ≡ max_unknowns) × (length own.old ≡ sets_size)
+        × (i < max_rows) }
     ensures { (codes : List ℕ) → Held codes work.now sets.now i line.new own.new }
 {
     own[QUEUED] = 0;
     own[DEPTH] = 0;
-    clear(line);
-    let mut p = 0;
-    while p < Formula::UNKNOWNS {
+    line.fill(0);
+    for p in 0..Formula::UNKNOWNS {
         assume(work, sets, line, own, i, k, p);
-        p += 1;
-    }
-}
-
-// Opens all positions.
-fn clear(line: &mut [u16])
-    requires { length line.old ≡ max_unknowns }
-    ensures { (j : ℕ) → j < max_unknowns → get_or line.new j 0 ≡ 0 }
-{
-    let mut p = 0;
-    while p < Formula::UNKNOWNS {
-        line[p] = 0;
-        p += 1;
     }
 }
 
@@ -213,7 +195,8 @@ fn assume(
     k: usize,
     p: usize,
 )
-    requires { (length work.now ≡ work_size) × (length sets.now ≡ sets_size) × (length line.old ≡ max_unknowns) × (length own.old ≡ sets_size) × (i < max_rows) × (p < max_unknowns) }
+    requires { (length work.now ≡ work_size) × (length sets.now ≡ sets_size) × (length line.old ≡ max_unknowns) × (length own.old ≡ sets_size)
+        × (i < max_rows) × (p < max_unknowns) }
     ensures { (codes : List ℕ) → Held codes work.now sets.now i line.old own.old → Held codes work.now sets.now i line.new own.new }
 {
     if is_fixed(work, sets, i, p) {
@@ -221,10 +204,8 @@ fn assume(
         set(line, p, 1, cell::value(work, i, p));
         return;
     }
-    if p < k {
-        if is_decided(work, i, p) {
-            put(work, line, own, i, p, 1);
-        }
+    if p < k && is_decided(work, i, p) {
+        put(work, line, own, i, p, 1);
     }
 }
 
@@ -232,19 +213,13 @@ fn is_fixed(work: &[u8], sets: &[u64], i: usize, p: usize) -> bool
     requires { (length work.now ≡ work_size) × (length sets.now ≡ sets_size) × (i < max_rows) × (p < max_unknowns) }
     ensures { result ≡ true → Fixed work.now sets.now i p }
 {
-    if sets[2 * p] != 0 {
-        return false;
-    }
-    if sets[2 * p + 1] != 0 {
-        return false;
-    }
-    0 < search_evaluation::level(work, i, p)
+    sets[2 * p] == 0 && sets[2 * p + 1] == 0 && 0 < search_evaluation::level(work, i, p)
 }
 
 fn is_decided(work: &[u8], i: usize, p: usize) -> bool
     requires { p < max_unknowns }
 {
-    wide8(search_evaluation::level(work, i, p)) == p + 2
+    usize::from(search_evaluation::level(work, i, p)) == p + 2
 }
 
 // Position p gets the row's value, as a decision.
@@ -262,11 +237,7 @@ fn propagate_all(codes: &[u16], index: &[u16], line: &mut [u16], own: &mut [u64]
     requires { (length index.now ≡ index_size) × (length line.old ≡ max_unknowns) × (length own.old ≡ sets_size) }
     ensures { Moves codes.now line.old line.new own.old own.new result }
 {
-    if propagate_occurrences(codes, index, line, own, 1, ANY) {
-        propagate(codes, index, line, own, 1)
-    } else {
-        false
-    }
+    propagate_occurrences(codes, index, line, own, 1, ANY) && propagate(codes, index, line, own, 1)
 }
 
 // Looks at the clauses of the positions in the queue, and of those that follow.
@@ -274,14 +245,12 @@ fn propagate(codes: &[u16], index: &[u16], line: &mut [u16], own: &mut [u64], le
     requires { (length index.now ≡ index_size) × (length line.old ≡ max_unknowns) × (length own.old ≡ sets_size) }
     ensures { Moves codes.now line.old line.new own.old own.new result }
 {
-    let mut h = 0;
-    while h < Formula::UNKNOWNS {
-        if (h as u64) < own[QUEUED] {} else {
+    for h in 0..Formula::UNKNOWNS {
+        if own[QUEUED] <= h as u64 {
             return true;
         }
         let p = own[QUEUE + h] as usize % Formula::UNKNOWNS;
-        h += 1;
-        if propagate_occurrences(codes, index, line, own, level, falsified(line, p)) {} else {
+        if !propagate_occurrences(codes, index, line, own, level, falsified(line, p)) {
             return false;
         }
     }
@@ -312,12 +281,9 @@ fn propagate_occurrences(
     requires { (length index.now ≡ index_size) × (length line.old ≡ max_unknowns) × (length own.old ≡ sets_size) × (c ≤ last_code) }
     ensures { Moves codes.now line.old line.new own.old own.new result }
 {
-    let end = least(wide16(index[index::CODES + c]), index.len());
-    let mut at = wide16(index[c]);
-    while at < end {
-        let start = wide16(index[at]);
-        at += 1;
-        if propagate_clause(codes, line, own, level, start) {} else {
+    let end = usize::from(index[index::CODES + c]).min(index.len());
+    for at in usize::from(index[c])..end {
+        if !propagate_clause(codes, line, own, level, usize::from(index[at])) {
             return false;
         }
     }
@@ -335,60 +301,62 @@ fn propagate_clause(
     requires { (length line.old ≡ max_unknowns) × (length own.old ≡ sets_size) }
     ensures { Moves codes.now line.old line.new own.old own.new result }
 {
-    if begins(codes, start) {} else {
+    if !begins(codes, start) {
         return true;
     }
-    let c = shown(codes, line, start);
-    if is_false_but(codes, line, start, c) {} else {
-        return true;
+    match shown(codes, line, start) {
+        Look::Neither => true,
+        Look::False => {
+            if !is_false_but(codes, line, start, 0) {
+                return true;
+            }
+            search_sets::empty(own, CONFLICT);
+            search_sets::add_reasons(codes, own, start, CONFLICT);
+            false
+        }
+        Look::Unit(c) => {
+            if is_false_but(codes, line, start, c) {
+                assign(codes, line, own, level, start, c);
+            }
+            true
+        }
     }
-    if c == 0 {
-        search_sets::empty(own, CONFLICT);
-        search_sets::add_reasons(codes, own, start, CONFLICT);
-        return false;
-    }
-    assign(codes, line, own, level, start, c);
-    true
 }
 
-// What the clause at `start` shows: 0 if its literals are all false, the code of its one open literal if all others are false, else 1. A hint.
-fn shown(codes: &[u16], line: &[u16], start: usize) -> usize
+// What the clause at `start` shows. A hint.
+fn shown(codes: &[u16], line: &[u16], start: usize) -> Look
     requires { length line.now ≡ max_unknowns }
 {
-    let mut unit = 0;
-    let mut e = start;
-    while e < codes.len() {
-        let c = wide16(codes[e]);
-        e += 1;
+    let mut shows = Look::False;
+    for e in start..codes.len() {
+        let c = usize::from(codes[e]);
         if c == 0 {
-            return unit;
+            return shows;
         }
-        let x = wide16(line[position(c)]);
+        let x = usize::from(line[position(c)]);
         if x == 0 {
-            if unit != 0 {
-                return 1; // a second open literal
+            if matches!(shows, Look::Unit(_)) {
+                return Look::Neither; // a second open literal
             }
-            unit = c;
+            shows = Look::Unit(c);
         } else if x % 2 != c % 2 {
-            return 1; // a true literal
+            return Look::Neither; // a true literal
         }
     }
-    1
+    Look::Neither
 }
 
-// Whether the clause at `start` has its end, and its literals are all false but those of code `but`.
+// Whether the clause at `start` has its end, and its literals are all false but those of code `but`; no literal has code 0.
 fn is_false_but(codes: &[u16], line: &[u16], start: usize, but: usize) -> bool
     requires { length line.now ≡ max_unknowns }
     ensures { result ≡ true → FalseBut codes.now line.now start but }
 {
-    let mut e = start;
-    while e < codes.len() {
-        let c = wide16(codes[e]);
-        e += 1;
+    for e in start..codes.len() {
+        let c = usize::from(codes[e]);
         if c == 0 {
             return true;
         }
-        if is_false_or(line, c, but) {} else {
+        if !is_false_or(line, c, but) {
             return false;
         }
     }
@@ -403,11 +371,8 @@ fn is_false_or(line: &[u16], c: usize, but: usize) -> bool
     if c == but {
         return true;
     }
-    let x = wide16(line[position(c)]);
-    if x == 0 {
-        return false;
-    }
-    x % 2 == c % 2
+    let x = usize::from(line[position(c)]);
+    x != 0 && x % 2 == c % 2
 }
 
 // Sets the one open literal, of code c, of the clause at `start`.
@@ -436,13 +401,7 @@ fn set(line: &mut [u16], p: usize, level: u16, value: bool)
     requires { (length line.old ≡ max_unknowns) × (p < max_unknowns) }
     ensures { LineSet p value line.old line.new }
 {
-    line[p] = 2 * (level % 256) + bit(value);
-}
-
-fn bit(value: bool) -> u16
-    ensures { (result ≡ weight value) × (result ≤ 1) }
-{
-    if value { 1 } else { 0 }
+    line[p] = 2 * (level % 256) + u16::from(value);
 }
 
 // Opens the positions whose level is over the bound.
@@ -450,10 +409,8 @@ fn open_above(line: &mut [u16], bound: u16)
     requires { length line.old ≡ max_unknowns }
     ensures { LineOpened line.old line.new }
 {
-    let mut p = 0;
-    while p < Formula::UNKNOWNS {
-        line[p] = within(line[p], bound);
-        p += 1;
+    for x in line.iter_mut() {
+        *x = within(*x, bound);
     }
 }
 
@@ -484,11 +441,11 @@ fn enqueue_alone(own: &mut [u64], p: usize)
     enqueue(own, p);
 }
 
-// The position of the next step: the last open one that a clause names, or after a conflict the last decision that it was reached by. The
-// number of positions if there is none.
-fn next(index: &[u16], line: &[u16], own: &mut [u64], going: bool) -> usize
+// The position of the next step: the last open one that a clause names, or after a conflict the last decision that it was reached by.
+fn next(index: &[u16], line: &[u16], own: &mut [u64], going: bool) -> Option<usize>
     requires { (length index.now ≡ index_size) × (length line.now ≡ max_unknowns) × (length own.old ≡ sets_size) }
-    ensures { Same own.old own.new }
+    ensures inside { IfSome result (λ p. p < max_unknowns) }
+    ensures same { Same own.old own.new }
 {
     if going {
         open_position(index, line)
@@ -497,19 +454,16 @@ fn next(index: &[u16], line: &[u16], own: &mut [u64], going: bool) -> usize
     }
 }
 
-fn open_position(index: &[u16], line: &[u16]) -> usize
+fn open_position(index: &[u16], line: &[u16]) -> Option<usize>
     requires { (length index.now ≡ index_size) × (length line.now ≡ max_unknowns) }
+    ensures { IfSome result (λ p. p < max_unknowns) }
 {
-    let mut p = Formula::UNKNOWNS;
-    while p > 0 {
-        p -= 1;
-        if line[p] == 0 {
-            if is_named(index, p) {
-                return p;
-            }
+    for p in (0..Formula::UNKNOWNS).rev() {
+        if line[p] == 0 && is_named(index, p) {
+            return Some(p);
         }
     }
-    Formula::UNKNOWNS
+    None
 }
 
 // Whether a clause has a literal of position p.
@@ -517,27 +471,24 @@ fn is_named(index: &[u16], p: usize) -> bool
     requires { (length index.now ≡ index_size) × (p < max_unknowns) }
 {
     let c = 2 * p + 2;
-    if index[c] < index[index::CODES + c] {
-        return true;
-    }
-    index[c + 1] < index[index::CODES + c + 1]
+    index[c] < index[index::CODES + c] || index[c + 1] < index[index::CODES + c + 1]
 }
 
 // Takes back the decisions up to the last one that CONFLICT has.
-fn backjump_target(own: &mut [u64]) -> usize
+fn backjump_target(own: &mut [u64]) -> Option<usize>
     requires { length own.old ≡ sets_size }
-    ensures { Same own.old own.new }
+    ensures inside { IfSome result (λ p. p < max_unknowns) }
+    ensures same { Same own.old own.new }
 {
-    let mut d = own[DEPTH] as usize % (Formula::UNKNOWNS + 1);
-    while d > 0 {
-        d -= 1;
+    let depth = own[DEPTH] as usize % (Formula::UNKNOWNS + 1);
+    for d in (0..depth).rev() {
         let p = own[DECISIONS + d] as usize % Formula::UNKNOWNS;
         if search_sets::has(own, CONFLICT, p) {
             own[DEPTH] = d as u64;
-            return p;
+            return Some(p);
         }
     }
-    Formula::UNKNOWNS
+    None
 }
 
 // Whether, after a conflict, CONFLICT has decisions before position k alone.
@@ -548,12 +499,10 @@ fn is_reason(own: &[u64], going: bool, k: usize) -> bool
     if going {
         return false;
     }
-    let mut l = k;
-    while l < Formula::UNKNOWNS {
+    for l in k..Formula::UNKNOWNS {
         if search_sets::has(own, CONFLICT, l) {
             return false;
         }
-        l += 1;
     }
     true
 }
@@ -569,7 +518,8 @@ fn step(
     going: bool,
     p: usize,
 ) -> bool
-    requires { (length index.now ≡ index_size) × (length work.now ≡ work_size) × (length line.old ≡ max_unknowns) × (length own.old ≡ sets_size) × (i < max_rows) × (p < max_unknowns) }
+    requires { (length index.now ≡ index_size) × (length work.now ≡ work_size) × (length line.old ≡ max_unknowns) × (length own.old ≡ sets_size)
+        × (i < max_rows) × (p < max_unknowns) }
     ensures { StepsOn codes.now work.now i line.old line.new own.old own.new going result }
 {
     if going {
@@ -588,7 +538,8 @@ fn decide(
     i: usize,
     p: usize,
 ) -> bool
-    requires { (length index.now ≡ index_size) × (length work.now ≡ work_size) × (length line.old ≡ max_unknowns) × (length own.old ≡ sets_size) × (i < max_rows) × (p < max_unknowns) }
+    requires { (length index.now ≡ index_size) × (length work.now ≡ work_size) × (length line.old ≡ max_unknowns) × (length own.old ≡ sets_size)
+        × (i < max_rows) × (p < max_unknowns) }
     ensures { StepsOn codes.now work.now i line.old line.new own.old own.new true result }
 {
     let level = new_level(own, p);
@@ -618,7 +569,8 @@ fn flip(
     i: usize,
     p: usize,
 ) -> bool
-    requires { (length index.now ≡ index_size) × (length work.now ≡ work_size) × (length line.old ≡ max_unknowns) × (length own.old ≡ sets_size) × (i < max_rows) × (p < max_unknowns) }
+    requires { (length index.now ≡ index_size) × (length work.now ≡ work_size) × (length line.old ≡ max_unknowns) × (length own.old ≡ sets_size)
+        × (i < max_rows) × (p < max_unknowns) }
     ensures { StepsOn codes.now work.now i line.old line.new own.old own.new false result }
 {
     let level = (own[DEPTH] % LEVELS) as u16 + 1;
@@ -635,10 +587,8 @@ fn inherit(own: &mut [u64], p: usize)
     ensures { Inherited p own.old own.new }
 {
     search_sets::empty(own, p);
-    let mut l = 0;
-    while l < Formula::UNKNOWNS {
+    for l in 0..Formula::UNKNOWNS {
         take(own, p, l);
-        l += 1;
     }
 }
 

@@ -3,7 +3,6 @@ ghost use Rattle.std.specs.Prelude.{◌≡◌};
 ghost use Rattle.formula.specs.Causes.{any};
 ghost use Rattle.engine.specs.Private.Prepared.{no_code, tables_fit};
 
-use super::numbers::wide16;
 use formula::Formula;
 
 pub(crate) fn fit(codes: &[u16], places: usize) -> bool
@@ -26,12 +25,10 @@ fn has_other(codes: &[u16]) -> bool
     ensures { result ≡ any no_code codes.now }
 {
     let mut found = false;
-    let mut i = 0;
-    while i < codes.len() {
-        if is_other(codes[i]) {
+    for code in codes {
+        if is_other(*code) {
             found = true;
         }
-        i += 1;
     }
     found
 }
@@ -39,7 +36,7 @@ fn has_other(codes: &[u16]) -> bool
 fn is_other(code: u16) -> bool
     ensures { result ≡ no_code code }
 {
-    let c = wide16(code);
+    let c = usize::from(code);
     if c == 1 {
         return true;
     }

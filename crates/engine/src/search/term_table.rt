@@ -17,8 +17,7 @@ ghost use Rattle.engine.specs.Private.TermTables.{others, row_words, table_size,
 ghost use Rattle.engine.specs.Private.Terms.{own, OwnWithin, HasTerm, Listed, ListedIn, SizesFit, OpenedIn};
 ghost use Rattle.engine.specs.Private.TermSteps.{Past, EntryMade, Closed, Named, Joined, Told, RowsLooked, Remaining, WordFilled, Filled};
 
-use super::clauses::position;
-use super::numbers::{least, wide16};
+use super::clauses::{begins, position};
 use codes::LAST_CODE;
 use formula::Formula;
 
@@ -59,10 +58,7 @@ struct Values {
 pub(crate) fn list(kinds: &[u8], codes: &[u16], terms: &mut [u16])
     ensures { ListedIn kinds.now codes.now terms.new }
 {
-    if terms.len() != TABLE {
-        return;
-    }
-    if codes.len() <= Formula::ENTRIES {} else {
+    if terms.len() != TABLE || Formula::ENTRIES < codes.len() {
         return;
     }
     classify(kinds, codes, terms);
@@ -80,10 +76,10 @@ pub(crate) fn open(
 )
     ensures { OpenedIn kinds.now codes.now terms.now work.now count opened.new }
 {
-    if sizes_fit(kinds.len(), terms.len(), work.len(), count, opened.len()) {} else {
+    if !sizes_fit(kinds.len(), terms.len(), work.len(), count, opened.len()) {
         return;
     }
-    clear(opened);
+    opened.fill(0);
     let mut misses = [0u64; LAST_CODE + 1];
     fill(kinds, codes, terms, work, count, &mut misses, opened);
     name(terms, opened);
@@ -96,11 +92,9 @@ pub(crate) fn holds(kinds: &[u8], codes: &[u16], terms: &[u16], words: &mut [u64
     if terms.len() != TABLE {
         return;
     }
-    clear(words);
-    let mut t = 0;
-    while t < OTHERS {
-        hold(kinds, codes, words, wide16(terms[FIRSTS + t]), t);
-        t += 1;
+    words.fill(0);
+    for t in 0..OTHERS {
+        hold(kinds, codes, words, usize::from(terms[FIRSTS + t]), t);
     }
 }
 
@@ -111,11 +105,9 @@ pub(crate) fn by_row(opened: &[u64], count: usize, words: &mut [u64])
     if opened.len() != WORDS {
         return;
     }
-    clear(words);
-    let mut p = 0;
-    while p < NAMES {
+    words.fill(0);
+    for p in 0..NAMES {
         spread(opened[p], p / ACROSS, 64 * (p % ACROSS), count, words);
-        p += 1;
     }
 }
 
@@ -125,26 +117,14 @@ pub(crate) fn by_row(opened: &[u64], count: usize, words: &mut [u64])
 fn classify(kinds: &[u8], codes: &[u16], terms: &mut [u16])
     requires { (length terms.old ≡ table_size) × (length codes.now ≤ max_entries) }
 {
-    forget(terms);
-    let mut j = 0;
+    terms[FIRSTS..FIRSTS + OTHERS].fill(NONE);
     let mut start = 0;
-    while start < codes.len() {
-        if j < ROOM {} else {
+    for j in 0..ROOM {
+        if codes.len() <= start {
             return;
         }
         give(kinds, codes, terms, j, start);
-        j += 1;
         start = past(codes, start);
-    }
-}
-
-fn forget(terms: &mut [u16])
-    requires { length terms.old ≡ table_size }
-{
-    let mut t = 0;
-    while t < OTHERS {
-        terms[FIRSTS + t] = NONE;
-        t += 1;
     }
 }
 
@@ -165,43 +145,30 @@ fn term(kinds: &[u8], codes: &[u16], terms: &[u16], start: usize) -> usize
     if within(kinds, codes, start, codes.len()) {
         return OTHERS; // no own literal
     }
-    let mut t = 0;
-    while t < OTHERS {
-        let first = wide16(terms[FIRSTS + t]);
-        if codes.len() <= first {
+    for t in 0..OTHERS {
+        let first = usize::from(terms[FIRSTS + t]);
+        if codes.len() <= first || same(kinds, codes, first, start) {
             return t;
         }
-        if same(kinds, codes, first, start) {
-            return t;
-        }
-        t += 1;
     }
     OTHERS
 }
 
 fn same(kinds: &[u8], codes: &[u16], a: usize, b: usize) -> bool {
-    if within(kinds, codes, a, b) {
-        within(kinds, codes, b, a)
-    } else {
-        false
-    }
+    within(kinds, codes, a, b) && within(kinds, codes, b, a)
 }
 
 // Whether every own literal of the clause at a is one of the clause at b.
 fn within(kinds: &[u8], codes: &[u16], a: usize, b: usize) -> bool
     ensures { result ≡ true → OwnWithin kinds.now codes.now a b }
 {
-    let mut e = a;
-    while e < codes.len() {
-        let c = wide16(codes[e]);
-        e += 1;
+    for e in a..codes.len() {
+        let c = usize::from(codes[e]);
         if c == 0 {
             return true;
         }
-        if is_own(kinds, c) {
-            if names(codes, b, c) {} else {
-                return false;
-            }
+        if is_own(kinds, c) && !names(codes, b, c) {
+            return false;
         }
     }
     true
@@ -211,10 +178,8 @@ fn within(kinds: &[u8], codes: &[u16], a: usize, b: usize) -> bool
 fn names(codes: &[u16], start: usize, c: usize) -> bool
     ensures { result ≡ true → Some (λ d. d ≡ c) (clause_of (drop start codes.now)) }
 {
-    let mut e = start;
-    while e < codes.len() {
-        let d = wide16(codes[e]);
-        e += 1;
+    for e in start..codes.len() {
+        let d = usize::from(codes[e]);
         if d == 0 {
             return false;
         }
@@ -229,11 +194,7 @@ fn is_own(kinds: &[u8], c: usize) -> bool
     ensures { result ≡ own kinds.now c }
 {
     let k = position(c);
-    if k < kinds.len() {
-        kinds[k] == 1
-    } else {
-        false
-    }
+    k < kinds.len() && kinds[k] == 1
 }
 
 // Lists every clause's start, and its term if the clause that stands for it shows that. An empty clause among the others stands for those
@@ -242,10 +203,11 @@ fn enter_clauses(kinds: &[u8], codes: &[u16], terms: &mut [u16])
     requires { (length terms.old ≡ table_size) × (length codes.now ≤ max_entries) }
     ensures { Listed kinds.now codes.now terms.new }
 {
+    // Kept: (4) the step goes from clause to clause; by `for j in 0..ROOM` the count would be stored at two places, inside the loop and behind it.
     let mut j = 0;
     let mut start = 0;
     while start < codes.len() {
-        if j < ROOM {} else {
+        if j == ROOM {
             close(terms, ROOM - 1, codes.len());
             return;
         }
@@ -270,7 +232,7 @@ fn enter(kinds: &[u8], codes: &[u16], terms: &mut [u16], j: usize, start: usize)
     requires { (length terms.old ≡ table_size) × (j < max_clauses) × (start < max_entries) }
     ensures { EntryMade kinds.now codes.now j start terms.old terms.new }
 {
-    let t = shown(kinds, codes, terms, wide16(terms[ROOM + j]), start);
+    let t = shown(kinds, codes, terms, usize::from(terms[ROOM + j]), start);
     terms[j] = start as u16;
     terms[ROOM + j] = t as u16;
 }
@@ -281,26 +243,12 @@ fn shown(kinds: &[u8], codes: &[u16], terms: &[u16], t: usize, start: usize) -> 
     ensures { HasTerm kinds.now codes.now terms.now result start }
 {
     if t < OTHERS {
-        let first = wide16(terms[FIRSTS + t]);
-        if begins(codes, first) {
-            if within(kinds, codes, first, start) {
-                return t;
-            }
+        let first = usize::from(terms[FIRSTS + t]);
+        if first < codes.len() && begins(codes, first) && within(kinds, codes, first, start) {
+            return t;
         }
     }
     OTHERS
-}
-
-fn begins(codes: &[u16], start: usize) -> bool
-    ensures { result ≡ true → (start < length codes.now) × Begins codes.now start }
-{
-    if start < codes.len() {
-        if start == 0 {
-            return true;
-        }
-        return codes[start - 1] == 0;
-    }
-    false
 }
 
 // The entry behind the clause at start.
@@ -308,15 +256,12 @@ fn past(codes: &[u16], start: usize) -> usize
     requires { start < length codes.now }
     ensures { Past codes.now start result }
 {
-    let mut e = start;
-    while e < codes.len() {
-        let c = codes[e];
-        e += 1;
-        if c == 0 {
-            return e;
+    for e in start..codes.len() {
+        if codes[e] == 0 {
+            return e + 1;
         }
     }
-    e
+    codes.len()
 }
 
 // ---- the open rows
@@ -324,27 +269,11 @@ fn past(codes: &[u16], start: usize) -> usize
 fn sizes_fit(kinds: usize, terms: usize, area: usize, count: usize, opened: usize) -> bool
     ensures { (result ≡ true → SizesFit kinds terms area count opened) × (result ≡ false → SizesFit kinds terms area count opened → ⊥) }
 {
-    if terms != TABLE {
-        return false;
-    }
-    if area != Formula::WORK {
-        return false;
-    }
-    if opened != WORDS {
-        return false;
-    }
-    if kinds <= Formula::UNKNOWNS {
-        return count <= Formula::ROWS;
-    }
-    false
-}
-
-fn clear(words: &mut [u64]) {
-    let mut p = 0;
-    while p < words.len() {
-        words[p] = 0;
-        p += 1;
-    }
+    terms == TABLE
+        && area == Formula::WORK
+        && opened == WORDS
+        && kinds <= Formula::UNKNOWNS
+        && count <= Formula::ROWS
 }
 
 // The clauses that stand for the terms.
@@ -352,10 +281,8 @@ fn name(terms: &[u16], opened: &mut [u64])
     requires { (length terms.now ≡ table_size) × (length opened.old ≡ open_size) }
     ensures { Named terms.now others opened.old opened.new }
 {
-    let mut t = 0;
-    while t < OTHERS {
-        opened[NAMES + t] = wide16(terms[FIRSTS + t]) as u64;
-        t += 1;
+    for t in 0..OTHERS {
+        opened[NAMES + t] = u64::from(terms[FIRSTS + t]);
     }
 }
 
@@ -373,11 +300,9 @@ fn fill(
     requires misses_len { (length misses.old ≡ last_code + 1) × (length opened.old ≡ open_size) }
     ensures { Coded (length kinds.now) codes.now → Filled kinds.now codes.now terms.now work.now count opened.new }
 {
-    let mut w = 0;
-    while 64 * w < count {
+    for w in 0..count.div_ceil(64) {
         let all = look(kinds, work, misses, w, count);
         fill_word(codes, terms, misses, opened, w, all);
-        w += 1;
     }
 }
 
@@ -386,12 +311,10 @@ fn look(kinds: &[u8], work: &[u8], misses: &mut [u64], w: usize, count: usize) -
     requires { (length kinds.now ≤ max_unknowns) × (length work.now ≡ work_size) × (length misses.old ≡ last_code + 1) × (64 * w < count) × (count ≤ max_rows) }
     ensures { RowsLooked kinds.now work.now w count result misses.new }
 {
-    let rows = least(count - 64 * w, 64);
-    let mut k = 0;
-    while k < kinds.len() {
-        let column = column(kinds[k], work, k, 64 * w, rows);
+    let rows = (count - 64 * w).min(64);
+    for (k, kind) in kinds.iter().enumerate() {
+        let column = column(*kind, work, k, 64 * w, rows);
         put(misses, k, column.off, column.on);
-        k += 1;
     }
     ones(rows)
 }
@@ -410,16 +333,17 @@ fn column(kind: u8, work: &[u8], k: usize, from: usize, rows: usize) -> Values
     ensures { Told kind work.now k from rows result.on result.off }
 {
     if kind == 1 {
-        return Values { on: ALL, off: ALL };
+        return Values {
+            on: u64::MAX,
+            off: u64::MAX,
+        };
     }
     let mut on = 0u64;
     let mut off = 0u64;
-    let mut l = 0;
-    while l < rows {
-        let value = work[search_cells::FLAGS + (Formula::UNKNOWNS * (from + l) + k)] % 2;
-        on = on | ((value as u64) << l);
-        off = off | (((1 - value) as u64) << l);
-        l += 1;
+    for l in 0..rows {
+        let value = u64::from(work[search_cells::FLAGS + (Formula::UNKNOWNS * (from + l) + k)] % 2);
+        on |= value << l;
+        off |= (1 - value) << l;
     }
     Values { on, off }
 }
@@ -429,18 +353,16 @@ fn fill_word(codes: &[u16], terms: &[u16], misses: &[u64], opened: &mut [u64], w
     requires { (length terms.now ≡ table_size) × (length misses.now ≡ last_code + 1) × (length opened.old ≡ open_size) × (w < row_words) }
     ensures { WordFilled codes.now terms.now misses.now w all opened.old opened.new }
 {
-    let listed = least(wide16(terms[LISTED]), ROOM);
-    let mut j = 0; // the first clause
-    while j < listed {
-        let t = wide16(terms[ROOM + j]) % (OTHERS + 1);
+    let listed = usize::from(terms[LISTED]).min(ROOM);
+    for j in 0..listed {
+        let t = usize::from(terms[ROOM + j]) % (OTHERS + 1);
         let left = all & (all ^ opened[ACROSS * t + w]);
         unite(
             opened,
             t,
             w,
-            remaining(codes, misses, wide16(terms[j]), left),
+            remaining(codes, misses, usize::from(terms[j]), left),
         );
-        j += 1;
     }
 }
 
@@ -450,7 +372,7 @@ fn unite(opened: &mut [u64], t: usize, w: usize, rows: u64)
     ensures { Joined (row_words * t + w) rows opened.old opened.new }
 {
     let at = ACROSS * t + w;
-    opened[at] = opened[at] | rows;
+    opened[at] |= rows;
 }
 
 // Of the rows those in which the clause at start has no given literal that is true.
@@ -459,18 +381,16 @@ fn remaining(codes: &[u16], misses: &[u64], start: usize, rows: u64) -> u64
     ensures { Remaining codes.now misses.now start rows result }
 {
     let mut left = rows;
-    let mut e = start;
-    while e < codes.len() {
+    for e in start..codes.len() {
         if left == 0 {
             return left;
         }
-        let c = wide16(codes[e]);
-        e += 1;
+        let c = usize::from(codes[e]);
         if c == 0 {
             return left;
         }
         if c <= LAST_CODE {
-            left = left & misses[c];
+            left &= misses[c];
         }
     }
     left
@@ -481,21 +401,16 @@ fn ones(k: usize) -> u64
     requires { k ≤ 64 }
     ensures { (l : ℕ) → l < k → bit result l ≡ true }
 {
-    if k < 64 { (1u64 << k) - 1 } else { ALL }
+    if k < 64 { (1u64 << k) - 1 } else { u64::MAX }
 }
-
-// A word of ones.
-const ALL: u64 = 18_446_744_073_709_551_615;
 
 // ---- hints
 
 fn hold(kinds: &[u8], codes: &[u16], words: &mut [u64], start: usize, t: usize)
     requires { t < others }
 {
-    let mut e = start;
-    while e < codes.len() {
-        let c = wide16(codes[e]);
-        e += 1;
+    for e in start..codes.len() {
+        let c = usize::from(codes[e]);
         if c == 0 {
             return;
         }
@@ -510,7 +425,7 @@ fn join(words: &mut [u64], p: usize, t: usize)
     requires { t ≤ others }
 {
     if p < words.len() {
-        words[p] = words[p] | (1u64 << t);
+        words[p] |= 1u64 << t;
     }
 }
 
@@ -519,8 +434,8 @@ fn spread(rows: u64, t: usize, from: usize, count: usize, words: &mut [u64])
 {
     let mut left = rows;
     while left != 0 {
-        let i = from + u64::trailing_zeros(left) as usize;
-        left = left & (left - 1);
+        let i = from + left.trailing_zeros() as usize;
+        left &= left - 1;
         if i < count {
             join(words, i, t);
         }

@@ -1,10 +1,9 @@
 -- `fee::fee` meets its contract. Assumes nothing.
-use mathlib.Core.Path.{refl, ◌∙◌}
+use mathlib.Core.Path.{◌∙◌}
 use Rattle.fee.proofs.LoadLaws.{summable}
 use Rattle.fee.proofs.BandsRight.{built_in_loads, built_in_sum}
 use Rattle.fee.proofs.AnswerLaws.{charged_so}
 use Rattle.fee.proofs.FeesRight.{fees_right}
-use borrow.Author.Rules.{rules}
 use Rattle.fee.proofs.fee.Goals as goal
 
 pub sum-requires : goal.sum-requires

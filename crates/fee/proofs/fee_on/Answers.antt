@@ -1,7 +1,7 @@
 -- `fee::fee_on` meets its contract. Assumes nothing.
 use native.Mathlib.Omega.{arith}
+use Rattle.std.specs.Prelude.{Ok}
 use mathlib.Core.Path.{sym, ap, ◌∙◌}
-use Rattle.fee.specs.declared.Charge.TheVariants.{Cents}
 use Rattle.fee.specs.Rounding.{nearest_even}
 use Rattle.fee.specs.Fee.{risen, fee_on}
 use Rattle.fee.proofs.ChangeLaws.{changes_few}
@@ -23,4 +23,4 @@ unfolding fee_on
 returns c =
     let sum = c.args.sum in
     let passes = sym c.is_refused.ensures ∙ c.if-is_refused.false in
-    rw passes (ap Cents (c.rounded.ensures ∙ ap nearest_even (c.risen.ensures ∙ ap (risen sum) c.changes.ensures)))
+    rw passes (ap Ok (c.rounded.ensures ∙ ap nearest_even (c.risen.ensures ∙ ap (risen sum) c.changes.ensures)))

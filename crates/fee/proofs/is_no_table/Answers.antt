@@ -1,7 +1,6 @@
 -- `fee::is_no_table` meets its contract. Assumes nothing.
 use Rattle.fee.proofs.LoadLaws.{unlike, none, many, late, table}
 use native.Mathlib.Omega.{arith}
-use borrow.Author.Rules.{rules}
 use Rattle.fee.proofs.is_no_table.Goals as goal
 
 pub returns-then-firsts-prices : goal.returns-then-firsts-prices

@@ -1,11 +1,8 @@
 -- `fee::is_refused` meets its contract. Assumes nothing.
-use mathlib.Core.Path.{sym, ◌∙◌}
-use Rattle.fee.proofs.AnswerLaws.{without_1, with_1}
-use borrow.Author.Rules.{rules}
+use mathlib.Core.Path.{ap, ◌∙◌}
+use Rattle.std.specs.Result.{is_err}
+use Rattle.fee.proofs.AnswerLaws.{kinds_alone}
 use Rattle.fee.proofs.is_refused.Goals as goal
 
-pub returns-in-Accepted : goal.returns-in-Accepted
-returns-in-Accepted c = without_1 c.args.kinds.now (sym c.check.ensures.value ∙ c.in-Accepted.is)
-
-pub returns-in-Refused : goal.returns-in-Refused
-returns-in-Refused c = with_1 c.args.kinds.now (sym c.check.ensures.value ∙ c.in-Refused.is)
+pub returns : goal.returns
+returns c = c.is_err.ensures.value ∙ ap is_err c.check.ensures.value ∙ kinds_alone c.args.kinds.now

@@ -2,7 +2,6 @@
 use native.Mathlib.Omega.{arith}
 use Rattle.fee.proofs.SumLaws.{risen_fits}
 use mathlib.Core.Path.{refl}
-use borrow.Author.Rules.{rules}
 use Rattle.fee.proofs.risen.Goals as goal
 
 pub overflow_mul-result-2 : goal.overflow_mul-result-2

@@ -1,7 +1,6 @@
 -- `fee::rounded` meets its contract. Assumes nothing.
 use Prim.Native.Nat.{◌%◌}
 use native.Mathlib.Omega.{arith}
-use borrow.Author.Rules.{rules}
 use borrow.Author.Tests.{lt-ltb, le-ltb}
 use Rattle.fee.specs.Rounding.{nearest_even}
 use Rattle.fee.proofs.rounded.Goals as goal

@@ -1,7 +1,6 @@
 -- `forecast::copies` meets its contract. Assumes nothing.
 use mathlib.Core.Path.{sym, ◌∙◌}
 use Rattle.forecast.proofs.ToldLaws.{copies_told}
-use borrow.Author.Rules.{rules}
 use Rattle.forecast.proofs.copies.Goals as goal
 
 pub returns : goal.returns

@@ -1,67 +1,64 @@
 -- `forecast::forecast` meets its contract. Assumes nothing.
 use native.Mathlib.Omega.{arith}
-use mathlib.Core.Path.{refl, sym, ◌∙◌}
+use mathlib.Core.Path.{◌≡◌, refl, sym}
+use borrow.Author.Rules.{rules}
+use Rattle.std.specs.Prelude.{Err}
 use Rattle.formula.proofs.Accepted.{accepted}
 use Rattle.forecast.specs.Outcome.{given, fits}
-use Rattle.forecast.proofs.OutcomeLaws.{universals_most, formula_refused, tables_refused, tables_fit, answered}
-use borrow.Author.Rules.{rules}
+use Rattle.forecast.proofs.OutcomeLaws.{Fitting, universals_most, formula_refused, tables_refused, tables_fit, answered}
 use Rattle.forecast.proofs.forecast.Goals as goal
+use Rattle.forecast.proofs.forecast.Goals.{In_ok-universals, In_ok-check_tables}
+
+pub returns-in_err-universals : goal.returns-in_err-universals
+returns-in_err-universals c =
+    let g = c.args in
+    let cause = c.in_err-universals.field-0.0 in
+    let same : c.from_residual.result ≡ Err cause = search rules in
+    rw same (record {
+      proved = formula_refused (given g.kinds.now g.literals.now g.universal_rows.now g.universal g.existential_rows.now g.existential) cause
+          (sym c.in_err-universals.ensures.value);
+    })
 
 pub overflow_sub-existentials : goal.overflow_sub-existentials
 overflow_sub-existentials c =
-    let given = c.args in
-    universals_most given.kinds.now given.literals.now c.in-Accepted.formula (sym c.check.ensures.value ∙ c.in-Accepted.is)
+    universals_most c.args.kinds.now c.args.literals.now c.in_ok-universals.field-0 (sym c.in_ok-universals.ensures.value)
 
-pub returns-then-cause-ne0 : goal.returns-then-cause-ne0
-returns-then-cause-ne0 c =
-    let args = c.args in
-    let g = (given args.kinds.now args.literals.now args.universal_rows.now args.universal args.existential_rows.now args.existential) in record {
-      proved = tables_refused g c.in-Accepted.formula (sym c.check.ensures.value ∙ c.in-Accepted.is)
-          c.table_cause-cause.result c.table_cause-cause.ensures c.if-cause-ne0.true;
-    }
+pub returns-in_err-check_tables : goal.returns-in_err-check_tables
+returns-in_err-check_tables c =
+    let g = c.args in
+    let cause = c.in_err-check_tables.field-0.0 in
+    let same : c.from_residual-in_err-check_tables.result ≡ Err cause = search rules in
+    rw same (record {
+      proved = tables_refused (given g.kinds.now g.literals.now g.universal_rows.now g.universal g.existential_rows.now g.existential)
+          c.in_ok-universals.field-0 (sym c.in_ok-universals.ensures.value) _ c.check_tables.ensures cause c.in_err-check_tables.was;
+    })
+
+-- Past both tests the counts are within the tables.
+fitting : (c : In_ok-check_tables) → Fitting c.args.universal_rows.now c.args.universal c.args.existential_rows.now c.args.existential
+fitting c =
+    let g = c.args in
+    tables_fit (given g.kinds.now g.literals.now g.universal_rows.now g.universal g.existential_rows.now g.existential)
+    c.in_ok-universals.field-0 (sym c.in_ok-universals.ensures.value) _ c.check_tables.ensures _ c.in_ok-check_tables.was
 
 pub copies-requires : goal.copies-requires
 copies-requires c =
-    let check_call = c.check in
-    let args = c.args in
-    let g = (given args.kinds.now args.literals.now args.universal_rows.now args.universal args.existential_rows.now args.existential) in
-    let fit = tables_fit g c.in-Accepted.formula (sym check_call.ensures.value ∙ c.in-Accepted.is) c.table_cause-cause.result
-    c.table_cause-cause.ensures c.if-cause-ne0.false in
-    ((accepted args.kinds.now args.literals.now (sym check_call.ensures.value ∙ c.in-Accepted.is)).few_unknowns, fit.few_universal, fit.universal)
+    let fit = fitting (goal.at.copies-requires c).In_ok-check_tables in
+    ((accepted c.args.kinds.now c.args.literals.now (sym c.in_ok-universals.ensures.value)).few_unknowns, fit.few_universal, fit.universal)
 
-pub copies-requires-in-Accepted : goal.copies-requires-in-Accepted
-copies-requires-in-Accepted c =
-    let check_call = c.check in
-    let args = c.args in
-    let g = (given args.kinds.now args.literals.now args.universal_rows.now args.universal args.existential_rows.now args.existential) in
-    let fit = tables_fit g c.in-Accepted.formula (sym check_call.ensures.value ∙ c.in-Accepted.is) c.table_cause-cause.result
-    c.table_cause-cause.ensures c.if-cause-ne0.false in
-    ((accepted args.kinds.now args.literals.now (sym check_call.ensures.value ∙ c.in-Accepted.is)).few_unknowns, fit.few_existential, fit.existential)
+pub copies-requires-2 : goal.copies-requires-2
+copies-requires-2 c =
+    let fit = fitting (goal.at.copies-requires-2 c).In_ok-check_tables in
+    ((accepted c.args.kinds.now c.args.literals.now (sym c.in_ok-universals.ensures.value)).few_unknowns, fit.few_existential, fit.existential)
 
 pub overflow_sub-result : goal.overflow_sub-result
-overflow_sub-result c =
-    let table_cause_call = c.table_cause-cause in
-    let args = c.args in
-    let g = (given args.kinds.now args.literals.now args.universal_rows.now args.universal args.existential_rows.now args.existential) in
-    omega (
-      arith,
-      (tables_fit g c.in-Accepted.formula (sym c.check.ensures.value ∙ c.in-Accepted.is) table_cause_call.result
-          table_cause_call.ensures c.if-cause-ne0.false).existential,
-    )
+overflow_sub-result c = omega (arith, (fitting (goal.at.overflow_sub-result c).In_ok-check_tables).existential)
 
-pub returns-in-Refused : goal.returns-in-Refused
-returns-in-Refused c =
-    let args = c.args in record {
-      proved = formula_refused (given args.kinds.now args.literals.now args.universal_rows.now args.universal args.existential_rows.now
-          args.existential) c.in-Refused.cause (sym c.check.ensures.value ∙ c.in-Refused.is);
-    }
-
-pub returns-else-cause-ne0 : goal.returns-else-cause-ne0
+pub returns : goal.returns
 unfolding fits
-returns-else-cause-ne0 c =
-    let table_cause_call = c.table_cause-cause in
-    let args = c.args in
-    let g = (given args.kinds.now args.literals.now args.universal_rows.now args.universal args.existential_rows.now args.existential) in record {
-      proved = answered g c.in-Accepted.formula (sym c.check.ensures.value ∙ c.in-Accepted.is) table_cause_call.result table_cause_call.ensures
-          c.if-cause-ne0.false c.copies.result c.copies-in-Accepted.result _ c.copies.ensures c.copies-in-Accepted.ensures refl;
+returns c =
+    let g = c.args in
+    record {
+      proved = answered (given g.kinds.now g.literals.now g.universal_rows.now g.universal g.existential_rows.now g.existential)
+          c.in_ok-universals.field-0 (sym c.in_ok-universals.ensures.value) _ c.check_tables.ensures _ c.in_ok-check_tables.was
+          c.copies.result c.copies-2.result _ c.copies.ensures c.copies-2.ensures refl;
     }

@@ -1,10 +1,8 @@
 -- `gates::differ` meets its contract. Assumes nothing.
 use native.Mathlib.Omega.{arith}
 use mathlib.Core.Path.{◌∙◌}
-use lib.IntN.{pos}
-use lib.ListN.{get_or}
 use Rattle.gates.specs.Private.Steps.{parity_entries}
-use Rattle.gates.proofs.EntryLaws.{small_bits, small_at, length_four, none_of_four, four_inputs}
+use Rattle.gates.proofs.EntryLaws.{length_four, none_of_four, four_inputs}
 use Rattle.gates.proofs.SetLaws.{put_whole, put_short, put_none}
 use Rattle.gates.proofs.differ.Goals as goal
 
@@ -25,16 +23,6 @@ returns-then-entries-at c =
     let given = c.args in
     let both = put_short given.entries.now given.at _ 16 (length_four given.literal given.inputs.now c.if-inputs-ne2.false) (omega arith) in
     record { value = both.0; entries_after = both.1 }
-
-pub put_four-requires : goal.put_four-requires
-put_four-requires c =
-    let given = c.args in
-    let small = c.requires in (
-      small_bits given.literal small.0,
-      small_bits (get_or given.inputs.now 0 (pos 0)) (small_at given.inputs.now small.1 0),
-      small_bits (get_or given.inputs.now 1 (pos 0)) (small_at given.inputs.now small.1 1),
-      omega arith,
-    )
 
 pub returns : goal.returns
 returns c =

@@ -3,7 +3,6 @@ use mathlib.Core.Path.{sym, ap, ◌∙◌}
 use lib.ListN.{length}
 use Rattle.formula.proofs.Opposite.{nat_abs_other}
 use Rattle.gates.specs.Put.{place_behind, laid}
-use Rattle.gates.proofs.EntryLaws.{small_bits, opposite_small}
 use Rattle.gates.proofs.FunctionLaws.{own_lowest, input_lowest, and_entries, or_entries, xor_entries}
 use Rattle.gates.proofs.SetLaws.{put_none}
 use Rattle.gates.proofs.put.Goals as goal
@@ -20,27 +19,6 @@ returns-then-has_lowest c =
     let both = put_none given.entries.now given.at _ (input_lowest given.function given.literal given.inputs.now
     (sym c.has_lowest.ensures ∙ c.if-has_lowest.true)) in
     record { value = both.0; entries_after = both.1 }
-
-pub overflow_sub-literal : goal.overflow_sub-literal
-overflow_sub-literal c =
-    let given = c.args in
-    opposite_small given.literal (nat_abs_other given.literal c.ranges.literal
-    c.if-literal-eq-LOWEST.false)
-
-pub overflow_sub-literal-in-Or : goal.overflow_sub-literal-in-Or
-overflow_sub-literal-in-Or c =
-    let given = c.args in
-    opposite_small given.literal (nat_abs_other given.literal c.ranges.literal
-    c.if-literal-eq-LOWEST.false)
-
-pub differ-requires : goal.differ-requires
-differ-requires c =
-    let given = c.args in (
-      small_bits given.literal (nat_abs_other given.literal c.ranges.literal
-          c.if-literal-eq-LOWEST.false),
-      sym c.has_lowest.ensures ∙
-          c.if-has_lowest.false,
-    )
 
 pub returns-in-And : goal.returns-in-And
 returns-in-And c =

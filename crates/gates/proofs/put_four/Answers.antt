@@ -1,15 +1,6 @@
 -- `gates::put_four` meets its contract. Assumes nothing.
-use Rattle.gates.proofs.EntryLaws.{opposite_small, four_put}
+use Rattle.gates.proofs.EntryLaws.{four_put}
 use Rattle.gates.proofs.put_four.Goals as goal
-
-pub overflow_sub-not_g : goal.overflow_sub-not_g
-overflow_sub-not_g c = opposite_small c.args.g c.requires.0
-
-pub overflow_sub-not_s : goal.overflow_sub-not_s
-overflow_sub-not_s c = opposite_small c.args.s c.requires.1
-
-pub overflow_sub-not_t : goal.overflow_sub-not_t
-overflow_sub-not_t c = opposite_small c.args.t c.requires.2
 
 pub returns : goal.returns
 returns c =

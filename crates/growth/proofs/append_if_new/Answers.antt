@@ -7,7 +7,6 @@ use Rattle.rows.specs.Table.{room}
 use borrow.Author.Tests.{ltb-true}
 use native.Mathlib.Omega.{arith}
 use Rattle.growth.specs.Growth.{is_new, bytes, with_row, with_new_row}
-use borrow.Author.Rules.{rules}
 use Rattle.growth.proofs.append_if_new.Goals as goal
 
 pub returns-else-is_added : goal.returns-else-is_added

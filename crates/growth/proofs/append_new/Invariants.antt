@@ -1,10 +1,8 @@
 -- `growth::append_new` meets its contract. The loop's invariant: the tables are those with the new ones of the rows passed. Assumes nothing.
-use Prim.Native.Nat.{ℕ, ◌≤◌, ◌-◌}
-use mathlib.Core.Path.{◌≡◌, refl, sym, ap, ◌∙◌}
-use native.Mathlib.Omega.{arith}
+use Prim.Native.Nat.{◌≤◌, ◌-◌}
+use mathlib.Core.Path.{◌≡◌}
 use lib.ListN.{length}
-use Rattle.growth.specs.Growth.{Bytes, bytes, with_new_row, with_new_rows}
-use Rattle.growth.proofs.CountLaws.{with_new_rows_next, length_with_new_row}
+use Rattle.growth.specs.Growth.{bytes, with_new_rows}
 use Rattle.growth.proofs.append_new.Given as goal
 
 abbrev pub invariant-loop-j : goal.invariant-loop-j

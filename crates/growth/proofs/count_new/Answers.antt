@@ -2,9 +2,8 @@
 use mathlib.Core.Bool.{Bool, true, false}
 use Rattle.growth.proofs.CountLaws.{count_below_next}
 use native.Mathlib.Nat.{add-zero}
-use Prim.Native.Nat.{ℕ, ◌+◌, ◌≤◌, ◌-◌}
+use Prim.Native.Nat.{ℕ, ◌+◌}
 use mathlib.Core.Path.{◌≡◌, refl, sym, ap, ◌∙◌}
-use mathlib.Core.Logic.{⊎_elim}
 use native.Mathlib.Omega.{arith}
 use Rattle.growth.specs.Growth.{is_new, count_below}
 use Rattle.growth.proofs.count_new.Goals as goal

@@ -1,11 +1,6 @@
 -- `growth::count_new` meets its contract. The loop's invariant: the count is that of the rows passed. Assumes nothing.
-use mathlib.Core.Bool.{Bool, true, false}
-use Rattle.growth.proofs.CountLaws.{count_below_next}
-use native.Mathlib.Nat.{add-zero}
-use Prim.Native.Nat.{ℕ, ◌+◌, ◌≤◌, ◌-◌}
-use mathlib.Core.Path.{◌≡◌, refl, sym, ap, ◌∙◌}
-use mathlib.Core.Logic.{⊎_elim}
-use native.Mathlib.Omega.{arith}
+use Prim.Native.Nat.{ℕ, ◌≤◌, ◌-◌}
+use mathlib.Core.Path.{◌≡◌}
 use Rattle.growth.specs.Growth.{is_new, count_below}
 use Rattle.growth.proofs.count_new.Given as goal
 

@@ -3,7 +3,6 @@ use mathlib.Core.Path.{sym, ap, ◌∙◌}
 use mathlib.Core.Bool.{Bool, ◌&&◌}
 use lib.Dec.{ltb}
 use Rattle.rows.specs.Table.{room}
-use borrow.Author.Rules.{rules}
 use Rattle.growth.proofs.is_added.Goals as goal
 
 pub returns-then-is_new : goal.returns-then-is_new

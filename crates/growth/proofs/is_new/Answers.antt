@@ -5,7 +5,6 @@ use mathlib.Core.List.{List}
 use Rattle.rows.specs.Access.{first_place}
 use Rattle.growth.specs.Growth.{is_absent, is_new}
 use mathlib.Core.Path.{◌≡◌, sym, ap, ◌∙◌}
-use borrow.Author.Rules.{rules}
 use Rattle.growth.proofs.is_new.Goals as goal
 
 pub returns-then-is_absent : goal.returns-then-is_absent

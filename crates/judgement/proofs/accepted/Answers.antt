@@ -1,7 +1,6 @@
 -- `judgement::accepted` meets its contract. Assumes nothing.
 use Rattle.judgement.proofs.FindingLaws.{line_put, accepted_0, accepted_1}
 use Rattle.judgement.specs.Finding.{accepted_line}
-use borrow.Author.Rules.{rules}
 use Rattle.judgement.proofs.accepted.Goals as goal
 
 pub returns-then-claim-eq0 : goal.returns-then-claim-eq0

@@ -1,6 +1,5 @@
 -- The shared function, told the form of the text. Assumes nothing.
 use lib.ListN.{length}
-use borrow.Author.Rules.{rules}
 use Rattle.lines.specs.Lines.{Bytes}
 use Rattle.text.specs.Reading.{read}
 use Rattle.text.specs.declared.Form.TheVariants.{Clauses}

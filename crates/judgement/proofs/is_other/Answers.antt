@@ -1,5 +1,4 @@
 -- `judgement::is_other` meets its contract. Assumes nothing.
-use borrow.Author.Rules.{rules}
 use Rattle.judgement.proofs.FindingLaws.{no_sizes, other_unknowns, other_clauses, same_sizes}
 use Rattle.judgement.proofs.is_other.Goals as goal
 

@@ -1,24 +1,25 @@
 -- `judgement::on_claim` meets its contract, in each case of what the judge returned. Assumes nothing.
+use mathlib.Core.Path.{ap, ◌∙◌}
+use Rattle.std.specs.Prelude.{Ok, Err}
 use Rattle.judgement.proofs.FindingLaws.{claim_found}
 use Rattle.judge.specs.declared.Judgement.TheVariants as Judgement
-use borrow.Author.Rules.{rules}
 use Rattle.judgement.proofs.on_claim.Goals as goal
 
-pub returns-in-NotBorneOut : goal.returns-in-NotBorneOut
-returns-in-NotBorneOut c =
+pub returns-in-Ok-NotBorneOut : goal.returns-in-Ok-NotBorneOut
+returns-in-Ok-NotBorneOut c =
     let given = c.args in
-    claim_found given.kinds.now given.literals.now given.file.now given.work.now given.claim Judgement.NotBorneOut
-    c.rows-rows.ensures.result_value c.in-NotBorneOut.is c.judge.ensures
+    claim_found given.kinds.now given.literals.now given.file.now given.work.now given.claim (Ok Judgement.NotBorneOut)
+    c.rows-rows.ensures.result_value (c.in-Ok-NotBorneOut.is ∙ ap Ok c.in-Ok-NotBorneOut.field-0-is) c.judge.ensures
 
-pub returns-in-Accepted : goal.returns-in-Accepted
-returns-in-Accepted c =
+pub returns-in-Ok-Accepted : goal.returns-in-Ok-Accepted
+returns-in-Ok-Accepted c =
     let given = c.args in
-    claim_found given.kinds.now given.literals.now given.file.now given.work.now given.claim Judgement.Accepted
-    c.rows-rows.ensures.result_value c.in-Accepted.is c.judge.ensures
+    claim_found given.kinds.now given.literals.now given.file.now given.work.now given.claim (Ok Judgement.Accepted)
+    c.rows-rows.ensures.result_value (c.in-Ok-Accepted.is ∙ ap Ok c.in-Ok-Accepted.field-0-is) c.judge.ensures
 
-pub returns-in-Refused : goal.returns-in-Refused
-returns-in-Refused c =
+pub returns-in-Err : goal.returns-in-Err
+returns-in-Err c =
     let given = c.args in
-    let refused = Judgement.Refused c.in-Refused.cause in
-    claim_found given.kinds.now given.literals.now given.file.now given.work.now given.claim refused
-    c.rows-rows.ensures.result_value c.in-Refused.is c.judge.ensures
+    let found = claim_found given.kinds.now given.literals.now given.file.now given.work.now given.claim (Err c.in-Err.cause) c.rows-rows.ensures.result_value
+    c.in-Err.is c.judge.ensures in
+    rw (c.number.ensures) found

@@ -1,7 +1,6 @@
 -- `judgement::on_record` meets its contract. Assumes nothing.
 use mathlib.Core.Path.{sym, ◌∙◌}
 use Rattle.judgement.proofs.FindingLaws.{record_other, record_unclaimed, record_claimed}
-use borrow.Author.Rules.{rules}
 use Rattle.judgement.proofs.on_record.Goals as goal
 
 pub returns-then-is_other : goal.returns-then-is_other

@@ -1,5 +1,4 @@
 -- `judgement::print` meets its contract: the line of what is found. Assumes nothing.
-use borrow.Author.Rules.{rules}
 use Rattle.text.specs.Offered.{offered}
 use Rattle.text.specs.Form.{form_read}
 use Rattle.judgement.proofs.FindingLaws.{printed_so, put_as}

@@ -3,7 +3,6 @@ use mathlib.Core.Path.{refl}
 use Rattle.report.specs.Report.{ascii}
 use Rattle.judgement.specs.declared.Finding.TheVariants.{NotBorneOut, Accepted, OtherFormula, Refused}
 use Rattle.judgement.proofs.FindingLaws.{line_put, case_put}
-use borrow.Author.Rules.{rules}
 use Rattle.judgement.proofs.put_line.Goals as goal
 
 pub returns-in-NotBorneOut : goal.returns-in-NotBorneOut

@@ -1,6 +1,5 @@
 -- The next word is what stands between the spaces at i and the first space behind them. Assumes nothing.
 use Rattle.lines.proofs.Pieces.{next_word}
-use borrow.Author.Rules.{rules}
 use Rattle.lines.proofs.next.Goals as goal
 
 pub returns : goal.returns

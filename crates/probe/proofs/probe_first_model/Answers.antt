@@ -1,7 +1,6 @@
 -- `probe::probe_first_model` meets its contract. Assumes nothing.
 use mathlib.Core.Path.{ap, ◌∙◌}
 use Rattle.probe.specs.Numbers.{search_number}
-use borrow.Author.Rules.{rules}
 use Rattle.probe.proofs.probe_first_model.Goals as goal
 
 pub returns : goal.returns

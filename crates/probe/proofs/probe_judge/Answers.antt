@@ -1,7 +1,6 @@
 -- `probe::probe_judge` meets its contract. Assumes nothing.
 use mathlib.Core.Path.{ap, ◌∙◌}
 use Rattle.probe.specs.Numbers.{judge_number}
-use borrow.Author.Rules.{rules}
 use Rattle.probe.proofs.probe_judge.Goals as goal
 
 pub returns : goal.returns

@@ -1,7 +1,6 @@
 -- `probe::probe_preference` meets its contract. Assumes nothing.
 use mathlib.Core.Path.{sym, ap, ◌∙◌}
 use Rattle.probe.specs.Numbers.{value_number}
-use borrow.Author.Rules.{rules}
 use Rattle.probe.proofs.probe_preference.Goals as goal
 
 pub returns-then-preference : goal.returns-then-preference

@@ -1,7 +1,6 @@
 -- `probe::probe_row_length` meets its contract. Assumes nothing.
 use mathlib.Core.Path.{ap}
 use lib.ListN.{length}
-use borrow.Author.Rules.{rules}
 use Rattle.probe.proofs.probe_row_length.Goals as goal
 
 pub returns : goal.returns

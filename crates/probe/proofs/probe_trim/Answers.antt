@@ -1,5 +1,4 @@
 -- `probe::probe_trim` meets its contract. Assumes nothing.
-use borrow.Author.Rules.{rules}
 use mathlib.Core.Path.{ap, ◌∙◌}
 use Rattle.trimming.specs.Outcome.{used}
 use Rattle.probe.specs.Numbers.{trim_number}

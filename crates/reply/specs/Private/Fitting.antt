@@ -1,12 +1,13 @@
 -- How the rows that still fit the moves are found, bit by bit, and copied to a table of their own. Assumes nothing.
-use Rattle.std.specs.Prelude.{ℕ, zero, suc, ◌+◌, ◌≤◌, ◌<◌, ◌≡◌, Bool, true, false, ◌&&◌, cond, List, [], ◌∷◌, ltb, ℤ, length, drop}
+use Rattle.std.specs.Prelude.{ℕ, suc, ◌+◌, ◌≤◌, ◌<◌, ◌≡◌, Bool, true, false, ◌&&◌, List, [], ◌∷◌, ltb, ℤ, length, Result, Ok, Err}
+use Rattle.cause.specs.declared.Cause.{Cause}
 use Rattle.std.specs.Bool.{beq}
 use Rattle.formula.specs.Formula.{Kind, prefix}
 use Rattle.rows.specs.Row.{bit_of}
 use Rattle.rows.specs.Stray.{row_bits, stray}
 use Rattle.rows.specs.Table.{row_at, rows_of, room}
 use Rattle.judge.specs.declared.Judgement.{Judgement}
-use Rattle.judge.specs.declared.Judgement.TheVariants.{NotBorneOut, Accepted, Refused}
+use Rattle.judge.specs.declared.Judgement.TheVariants.{NotBorneOut, Accepted}
 use Rattle.case_rules.specs.Restricted.{IsAccepted, kinds_behind}
 use Rattle.case_rules.specs.Casebook.{offered}
 use Rattle.reply_rules.specs.Position.{fitting}
@@ -64,7 +65,7 @@ pub record Fitted (claim : Bool) (kinds : List ℕ) (vs : List Bool) (rows : Lis
   pub blank : Blank to kept
 
 -- The judge accepts.
-abbrev pub says_accepted : Judgement → Bool
-says_accepted NotBorneOut = false
-says_accepted Accepted = true
-says_accepted (Refused cause) = false
+abbrev pub says_accepted : Result Judgement Cause → Bool
+says_accepted (Ok NotBorneOut) = false
+says_accepted (Ok Accepted) = true
+says_accepted (Err cause) = false

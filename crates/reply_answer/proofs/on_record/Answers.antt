@@ -1,7 +1,6 @@
 -- `reply_answer::on_record` meets its contract. Assumes nothing.
 use mathlib.Core.Path.{◌∙◌}
 use Rattle.reply_answer.proofs.AnswerLaws.{record_unclaimed, record_claimed}
-use borrow.Author.Rules.{rules}
 use Rattle.reply_answer.proofs.on_record.Goals as goal
 
 pub returns-then-record-ne1 : goal.returns-then-record-ne1

@@ -2,7 +2,6 @@
 use mathlib.Core.Path.{ap}
 use Rattle.judgement.proofs.FindingLaws.{put_as}
 use Rattle.reply_answer.specs.Answer.{line_of}
-use borrow.Author.Rules.{rules}
 use Rattle.reply_answer.proofs.print.Goals as goal
 
 pub returns : goal.returns

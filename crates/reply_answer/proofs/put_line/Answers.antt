@@ -4,7 +4,6 @@ use Rattle.report.specs.Report.{ascii}
 use Rattle.judgement.proofs.FindingLaws.{line_put}
 use Rattle.reply_answer.specs.declared.Answer.TheVariants.{Replied, OthersTurn, Done, NotBorneOut, Refused}
 use Rattle.reply_answer.proofs.AnswerLaws.{case_put}
-use borrow.Author.Rules.{rules}
 use Rattle.reply_answer.proofs.put_line.Goals as goal
 
 pub returns-in-Replied : goal.returns-in-Replied

@@ -4,7 +4,6 @@ use mathlib.Core.Bool.{true, false}
 use Rattle.report.specs.Report.{ascii}
 use Rattle.judgement.proofs.FindingLaws.{line_put}
 use Rattle.reply_answer.proofs.AnswerLaws.{value_put}
-use borrow.Author.Rules.{rules}
 use Rattle.reply_answer.proofs.put_value.Goals as goal
 
 pub returns-then-value : goal.returns-then-value

@@ -1,7 +1,6 @@
 -- `restriction::is_kept_behind` meets its contract.
 -- Assumes nothing.
 use Prim.Native.Nat.{◌+◌}
-use borrow.Author.Rules.{rules}
 use mathlib.Core.Path.{sym, ◌∙◌}
 use lib.IntN.{pos}
 use lib.ListN.{get_or, drop}

@@ -1,17 +1,9 @@
 -- `restriction::stands` meets its contract. The loop's invariant: no literal passed says whether the clause is kept.
 -- Assumes nothing.
-use Prim.Native.Nat.{◌-◌}
-use native.Mathlib.Omega.{arith}
-use borrow.Author.Rules.{rules}
-use mathlib.Core.Path.{◌≡◌, refl, sym, ◌∙◌}
-use lib.ListN.{length, drop}
+use mathlib.Core.Path.{sym, ◌∙◌}
 use Rattle.restriction.specs.Outcome.{values_of}
-use Rattle.restriction.specs.Private.Walk.{stands as stands_so}
 use Rattle.restriction.proofs.StandLaws.{at_last, at_end, at_true, at_other}
 use Rattle.restriction.proofs.stands.Goals as goal
-
-pub loop-i-init : goal.loop-i-init
-loop-i-init c = refl
 
 pub returns-then-name-eq0 : goal.returns-then-name-eq0
 returns-then-name-eq0 c =
@@ -20,9 +12,6 @@ returns-then-name-eq0 c =
     let literals = c.args.literals.now in
     let below = c.loop-i-test.true in
     sym (turn.invariant ∙ at_end vs literals turn.i below (sym c.magnitude_at-name.ensures ∙ c.if-name-eq0.true))
-
-pub is_true-requires : goal.is_true-requires
-is_true-requires c = omega arith
 
 pub returns-then-is_true : goal.returns-then-is_true
 returns-then-is_true c =
@@ -36,12 +25,6 @@ returns-then-is_true c =
     sym
     (turn.invariant
     ∙ at_true vs literals turn.i below name.result sign.result name.ensures sign.ensures c.if-name-eq0.false true_there)
-
-pub overflow_add-i : goal.overflow_add-i
-overflow_add-i c = omega arith
-
-pub loop-i-smaller : goal.loop-i-smaller
-loop-i-smaller c = omega arith
 
 pub loop-i-preserved : goal.loop-i-preserved
 loop-i-preserved c =

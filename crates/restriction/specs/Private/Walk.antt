@@ -1,6 +1,6 @@
 -- The literals that are left, entry by entry as the code goes over them: what is left of each entry, by whether its clause is kept. For contracts of
 -- private functions; no public contract cites it. Assumes nothing.
-use Rattle.std.specs.Prelude.{ℕ, zero, suc, ◌≤◌, Bool, true, false, not, ◌&&◌, List, [], ◌∷◌, ◌++◌, leb, ℤ, pos, negsuc, nat_abs, get_or, set}
+use Rattle.std.specs.Prelude.{ℕ, zero, suc, ◌≤◌, Bool, true, false, not, List, [], ◌∷◌, ◌++◌, leb, ℤ, pos, negsuc, nat_abs, get_or, set}
 use Rattle.std.proofs.Math.Option.{Option, none, some}
 use Rattle.formula.specs.Formula.{max_unknowns, Clause, clauses}
 use Rattle.case_rules.specs.Restricted.{Standing, known, behind, Remains, is_true, is_false, stays, of_literal, of_clause}

@@ -1,12 +1,11 @@
 -- `search_cells::compare` meets its contract. The loop's invariant: the steps left give what all the steps give. Assumes nothing.
-use Prim.Native.Nat.{◌-◌, ◌≤◌}
+use Prim.Native.Nat.{◌+◌, ◌-◌}
 use mathlib.Core.Path.{◌≡◌, sym, ◌∙◌}
 use native.Mathlib.Omega.{arith}
-use borrow.Author.Rules.{rules}
 use borrow.Author.Tests.{ne_eqb}
 use lib.ListN.{length, length-set}
-use Rattle.formula.specs.Formula.{work_size, max_rows, max_unknowns}
-use Rattle.search_cells.specs.Steps.{steps, with_split, rows_compared}
+use Rattle.formula.specs.Formula.{max_rows}
+use Rattle.search_cells.specs.Steps.{with_split, rows_compared}
 use Rattle.search_cells.proofs.StepLaws.{fitting_sizes, steps_all, steps_none, steps_next}
 use Rattle.search_cells.proofs.DifferenceLaws.{first_difference_found, rows_compared_inside}
 use Rattle.search_cells.proofs.compare.Goals as goal
@@ -37,51 +36,32 @@ loop-i-init c =
           given.differences.now,
     )
 
-pub overflow_add-i : goal.overflow_add-i
-overflow_add-i c = omega arith
-
-pub first_difference-requires : goal.first_difference-requires
-first_difference-requires c = omega arith
-
 pub overflow_cast-differences : goal.overflow_cast-differences
 overflow_cast-differences c =
     let given = c.args in
-    omega (arith, c.first_difference.ensures, (first_difference_found given.kinds.now given.side given.work.now c.loop-i.i).most)
-
-pub overflow_add-differences : goal.overflow_add-differences
-overflow_add-differences c = omega arith
-
-pub bounds-differences-i : goal.bounds-differences-i
-bounds-differences-i c = omega arith
-
-pub overflow_add-i-in-loop-i : goal.overflow_add-i-in-loop-i
-overflow_add-i-in-loop-i c = omega arith
-
-pub loop-i-smaller : goal.loop-i-smaller
-loop-i-smaller c = omega arith
+    omega (arith, c.first_difference.ensures, (first_difference_found given.kinds.now given.side given.work.now (c.loop-i.i - 1)).most)
 
 pub loop-i-preserved : goal.loop-i-preserved
 loop-i-preserved c =
     let given = c.args in
-    let loop = c.loop-i in (
+    let loop = c.loop-i in
+    let here : loop.i - 1 + 1 ≡ loop.i = omega arith in
+    let next : loop.i + 1 - 1 ≡ loop.i = omega arith in (
       loop.invariant.0,
       loop.invariant.1,
       loop.invariant.2,
       omega arith,
       simp length-set (omega arith),
       loop.invariant.5
-          ∙ steps_next (with_split given.kinds.now given.side given.work.now) (given.count - 1) loop.i loop.differences (omega arith)
-          ∙ rw c.first_difference.ensures,
+          ∙ rw (next, c.first_difference.ensures)
+          (rw here at (steps_next (with_split given.kinds.now given.side given.work.now) (given.count - 1) (loop.i - 1) loop.differences (omega arith))),
     )
-
-pub shape_of-differences : goal.shape_of-differences
-shape_of-differences c = omega arith
 
 pub returns : goal.returns
 returns c =
     let given = c.args in
     let loop = c.loop-i in
-    sym (steps_none (with_split given.kinds.now given.side given.work.now) (given.count - 1) loop.i loop.differences (omega arith))
+    sym (steps_none (with_split given.kinds.now given.side given.work.now) (given.count - 1) (loop.i - 1) loop.differences (omega arith))
     ∙ sym loop.invariant.5
     ∙ sym (rows_compared_inside given.kinds.now given.work.now given.count given.side given.differences.now loop.invariant.0 loop.invariant.1
     loop.invariant.2 c.if-differences-ne-ROWS.false)

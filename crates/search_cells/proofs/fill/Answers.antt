@@ -1,11 +1,8 @@
 -- `search_cells::fill` meets its contract. The loop's invariant: the steps left give what all the steps give. Assumes nothing.
-use Prim.Native.Nat.{◌-◌, ◌≤◌}
-use mathlib.Core.Path.{◌≡◌, sym, ◌∙◌}
+use mathlib.Core.Path.{sym, ◌∙◌}
 use native.Mathlib.Omega.{arith}
-use borrow.Author.Rules.{rules}
 use lib.ListN.{length}
-use Rattle.formula.specs.Formula.{work_size, max_rows, max_unknowns}
-use Rattle.search_cells.specs.Steps.{steps, rows_filled}
+use Rattle.search_cells.specs.Steps.{rows_filled}
 use Rattle.search_cells.proofs.StepLaws.{fitting_sizes, steps_all, steps_none, steps_next}
 use Rattle.search_cells.proofs.FillLaws.{row_step, rows_filled_inside}
 use Rattle.search_cells.proofs.fill.Goals as goal
@@ -17,20 +14,15 @@ returns-else-is_table c = rw (sym c.is_table.ensures ∙ c.if-is_table.false)
 pub loop-row-init : goal.loop-row-init
 loop-row-init c =
     let given = c.args in
-    let sizes = fitting_sizes (length given.work.now) (length given.kinds.now) (length given.place.now) (sym c.is_table.ensures ∙ c.if-is_table.true) in
-    (sizes.0, sizes.1, sizes.2, omega arith, sizes.0, steps_all (row_step given.kinds.now given.rows.now given.place.now given.side) (length given.place.now) given.work.now)
-
-pub bounds-place-row : goal.bounds-place-row
-bounds-place-row c = omega arith
-
-pub fill_row-requires : goal.fill_row-requires
-fill_row-requires c = omega (arith, c.wide.ensures, c.shared_slice_known-in-loop-row-1.given c.loop-row.row)
-
-pub overflow_add-row : goal.overflow_add-row
-overflow_add-row c = omega arith
-
-pub loop-row-smaller : goal.loop-row-smaller
-loop-row-smaller c = omega arith
+    let sizes = fitting_sizes (length given.work.now) (length given.kinds.now) (length given.place.now) (sym c.is_table.ensures ∙ c.if-is_table.true) in (
+      sizes.0,
+      sizes.1,
+      sizes.2,
+      omega arith,
+      sizes.0,
+      steps_all (row_step given.kinds.now given.rows.now given.place.now given.side) (length given.place.now)
+          given.work.now,
+    )
 
 pub loop-row-preserved : goal.loop-row-preserved
 loop-row-preserved c =
@@ -43,11 +35,8 @@ loop-row-preserved c =
       omega arith,
       loop.invariant.5
           ∙ steps_next (row_step given.kinds.now given.rows.now given.place.now given.side) (length given.place.now) loop.row loop.work (omega arith)
-          ∙ rw (c.fill_row.ensures, c.wide.ensures),
+          ∙ rw (c.fill_row.ensures, c.from.ensures),
     )
-
-pub shape_of-work : goal.shape_of-work
-shape_of-work c = omega arith
 
 pub returns : goal.returns
 returns c =

@@ -1,13 +1,11 @@
 -- `search_cells::pack` meets its contract. The loop's invariant: the rows passed are packed, and all behind them is as it was. Assumes nothing.
-use Prim.Native.Nat.{◌-◌, ◌*◌, ◌≤◌}
+use Prim.Native.Nat.{◌*◌}
 use mathlib.Core.Path.{◌≡◌, refl, sym, ◌∙◌}
 use native.Mathlib.Omega.{arith}
-use borrow.Author.Rules.{rules}
 use lib.ListN.{length}
-use Rattle.formula.specs.Formula.{work_size, max_rows, max_unknowns}
 use Rattle.search_cells.specs.Steps.{packed}
 use Rattle.search_cells.proofs.StepLaws.{fitting_sizes}
-use Rattle.search_cells.proofs.PackLaws.{part_cleared, rows_packed, rows_packed_more, rows_packed_whole, packed_inside}
+use Rattle.search_cells.proofs.PackLaws.{part_cleared, rows_packed_more, rows_packed_whole, packed_inside}
 use Rattle.search_cells.proofs.pack.Goals as goal
 
 pub returns-else-is_table : goal.returns-else-is_table
@@ -21,18 +19,6 @@ loop-row-init c =
     (sym c.is_table.ensures ∙ c.if-is_table.true) in
     (sizes.0, sizes.1, sizes.2, omega arith, sizes.0, refl)
 
-pub bounds-place-row : goal.bounds-place-row
-bounds-place-row c = omega arith
-
-pub pack_row-requires : goal.pack_row-requires
-pack_row-requires c = omega (arith, c.wide.ensures, c.shared_slice_known-in-loop-row-1.given c.loop-row.row)
-
-pub overflow_add-row : goal.overflow_add-row
-overflow_add-row c = omega arith
-
-pub loop-row-smaller : goal.loop-row-smaller
-loop-row-smaller c = omega arith
-
 pub loop-row-preserved : goal.loop-row-preserved
 loop-row-preserved c =
     let given = c.args in
@@ -44,23 +30,8 @@ loop-row-preserved c =
       omega arith,
       rows_packed_more given.kinds.now given.place.now given.side given.work.now loop.invariant.0 loop.row loop.work _ (omega arith)
           loop.invariant.5
-          (rw c.wide.ensures at c.pack_row.ensures),
+          (rw c.from.ensures at c.pack_row.ensures),
     )
-
-pub overflow_mul-place : goal.overflow_mul-place
-overflow_mul-place c = omega arith
-
-pub slice_bounds-clear-count : goal.slice_bounds-clear-count
-slice_bounds-clear-count c = omega arith
-
-pub slice_bounds-clear-start : goal.slice_bounds-clear-start
-slice_bounds-clear-start c = omega arith
-
-pub slice_bounds-clear-end : goal.slice_bounds-clear-end
-slice_bounds-clear-end c = omega arith
-
-pub shape_of-work : goal.shape_of-work
-shape_of-work c = omega arith
 
 pub returns : goal.returns
 returns c =

@@ -1,13 +1,9 @@
 -- `search_cells::pack` meets its contract. The loop's invariant: the rows passed are packed, and all behind them is as it was. Assumes nothing.
-use Prim.Native.Nat.{◌-◌, ◌*◌, ◌≤◌}
-use mathlib.Core.Path.{◌≡◌, refl, sym, ◌∙◌}
-use native.Mathlib.Omega.{arith}
-use borrow.Author.Rules.{rules}
+use Prim.Native.Nat.{◌≤◌}
+use mathlib.Core.Path.{◌≡◌}
 use lib.ListN.{length}
 use Rattle.formula.specs.Formula.{work_size, max_rows, max_unknowns}
-use Rattle.search_cells.specs.Steps.{packed}
-use Rattle.search_cells.proofs.StepLaws.{fitting_sizes}
-use Rattle.search_cells.proofs.PackLaws.{part_cleared, rows_packed, rows_packed_more, rows_packed_whole, packed_inside}
+use Rattle.search_cells.proofs.PackLaws.{rows_packed}
 use Rattle.search_cells.proofs.pack.Given as goal
 
 abbrev pub invariant-loop-row : goal.invariant-loop-row
@@ -18,6 +14,3 @@ invariant-loop-row l =
     × (l.row ≤ length l.place)
     × (length l.work ≡ work_size)
     × (l.work ≡ rows_packed l.kinds l.place l.side l.initial.work l.row)
-
-abbrev pub decreases-loop-row : goal.decreases-loop-row
-decreases-loop-row l = length l.place - l.row

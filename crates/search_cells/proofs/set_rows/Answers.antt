@@ -1,11 +1,9 @@
 -- `search_cells::set_rows` meets its contract. The loop's invariant: the steps left give what all the steps give. Assumes nothing.
-use Prim.Native.Nat.{◌-◌, ◌≤◌}
-use mathlib.Core.Path.{◌≡◌, refl, sym, ◌∙◌}
+use mathlib.Core.Path.{refl, sym, ◌∙◌}
 use native.Mathlib.Omega.{arith}
-use borrow.Author.Rules.{rules}
 use lib.ListN.{length}
-use Rattle.formula.specs.Formula.{work_size, max_rows, max_unknowns}
-use Rattle.search_cells.specs.Steps.{steps, with_cell, rows_set}
+use Rattle.formula.specs.Formula.{max_unknowns}
+use Rattle.search_cells.specs.Steps.{with_cell, rows_set}
 use Rattle.search_cells.proofs.StepLaws.{fitting_sizes, steps_none, steps_next}
 use Rattle.search_cells.proofs.SetLaws.{rows_set_inside}
 use borrow.Author.Tests.{le-ltb}
@@ -24,15 +22,6 @@ loop-i-init c =
     let sizes = fitting_sizes (length c.args.work.now) 0 c.args.hi (sym c.is_table.ensures ∙ c.if-is_table.true) in
     (sizes.2, sizes.0, sizes.0, refl)
 
-pub set-requires : goal.set-requires
-set-requires c = omega arith
-
-pub overflow_add-i : goal.overflow_add-i
-overflow_add-i c = omega arith
-
-pub loop-i-smaller : goal.loop-i-smaller
-loop-i-smaller c = omega arith
-
 pub loop-i-preserved : goal.loop-i-preserved
 loop-i-preserved c =
     let given = c.args in
@@ -44,9 +33,6 @@ loop-i-preserved c =
           ∙ steps_next (λ j. with_cell j given.k given.level given.value) given.hi loop.i loop.work (omega arith)
           ∙ rw c.set.ensures,
     )
-
-pub shape_of-work : goal.shape_of-work
-shape_of-work c = omega arith
 
 pub returns : goal.returns
 returns c =

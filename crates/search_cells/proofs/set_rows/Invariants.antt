@@ -1,14 +1,9 @@
 -- `search_cells::set_rows` meets its contract. The loop's invariant: the steps left give what all the steps give. Assumes nothing.
 use Prim.Native.Nat.{◌-◌, ◌≤◌}
-use mathlib.Core.Path.{◌≡◌, refl, sym, ◌∙◌}
-use native.Mathlib.Omega.{arith}
-use borrow.Author.Rules.{rules}
+use mathlib.Core.Path.{◌≡◌}
 use lib.ListN.{length}
-use Rattle.formula.specs.Formula.{work_size, max_rows, max_unknowns}
-use Rattle.search_cells.specs.Steps.{steps, with_cell, rows_set}
-use Rattle.search_cells.proofs.StepLaws.{fitting_sizes, steps_none, steps_next}
-use Rattle.search_cells.proofs.SetLaws.{rows_set_inside}
-use borrow.Author.Tests.{le-ltb}
+use Rattle.formula.specs.Formula.{work_size, max_rows}
+use Rattle.search_cells.specs.Steps.{steps, with_cell}
 use Rattle.search_cells.proofs.set_rows.Given as goal
 
 abbrev pub invariant-loop-i : goal.invariant-loop-i
@@ -17,6 +12,3 @@ invariant-loop-i l =
     × (length l.initial.work ≡ work_size)
     × (length l.work ≡ work_size)
     × (steps (λ j. with_cell j l.k l.level l.value) (l.hi - l.lo) l.lo l.initial.work ≡ steps (λ j. with_cell j l.k l.level l.value) (l.hi - l.i) l.i l.work)
-
-abbrev pub decreases-loop-i : goal.decreases-loop-i
-decreases-loop-i l = l.hi - l.i

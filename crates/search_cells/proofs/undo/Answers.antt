@@ -1,11 +1,10 @@
 -- `search_cells::undo` meets its contract. The loop's invariant: the steps left give what all the steps give. Assumes nothing.
-use Prim.Native.Nat.{◌-◌, ◌*◌, ◌≤◌}
-use mathlib.Core.Path.{◌≡◌, refl, sym, ◌∙◌}
+use Prim.Native.Nat.{◌*◌}
+use mathlib.Core.Path.{refl, sym, ◌∙◌}
 use native.Mathlib.Omega.{arith}
-use borrow.Author.Rules.{rules}
 use lib.ListN.{length, length-set}
-use Rattle.formula.specs.Formula.{work_size, max_rows, max_unknowns}
-use Rattle.search_cells.specs.Steps.{steps, with_bounded, rows_opened}
+use Rattle.formula.specs.Formula.{max_unknowns}
+use Rattle.search_cells.specs.Steps.{with_bounded, rows_opened}
 use Rattle.search_cells.proofs.StepLaws.{fitting_sizes, steps_none, steps_next}
 use Rattle.search_cells.proofs.OpenLaws.{rows_opened_inside}
 use Rattle.search_cells.proofs.undo.Goals as goal
@@ -21,28 +20,10 @@ returns-then-hi-lo c =
     rw (sym c.is_table.ensures ∙ c.if-is_table.true)
     (sym (steps_none (with_bounded given.bound) (max_unknowns * given.hi) (max_unknowns * given.lo) given.work.now (omega arith)))
 
-pub overflow_mul-at : goal.overflow_mul-at
-overflow_mul-at c = omega (arith, fitting_sizes (length c.args.work.now) 0 c.args.hi (sym c.is_table.ensures ∙ c.if-is_table.true))
-
 pub loop-at-init : goal.loop-at-init
 loop-at-init c =
     let sizes = fitting_sizes (length c.args.work.now) 0 c.args.hi (sym c.is_table.ensures ∙ c.if-is_table.true) in
     (sizes.2, sizes.0, sizes.0, refl)
-
-pub overflow_mul-hi : goal.overflow_mul-hi
-overflow_mul-hi c = omega arith
-
-pub bounds-work-at : goal.bounds-work-at
-bounds-work-at c = omega arith
-
-pub bounds-work-at-in-loop-at : goal.bounds-work-at-in-loop-at
-bounds-work-at-in-loop-at c = omega arith
-
-pub overflow_add-at : goal.overflow_add-at
-overflow_add-at c = omega arith
-
-pub loop-at-smaller : goal.loop-at-smaller
-loop-at-smaller c = omega arith
 
 pub loop-at-preserved : goal.loop-at-preserved
 loop-at-preserved c =
@@ -56,9 +37,6 @@ loop-at-preserved c =
           ∙ rw c.within.ensures,
     )
 
-pub shape_of-work : goal.shape_of-work
-shape_of-work c = omega arith
-
 pub returns : goal.returns
 returns c =
     let given = c.args in
@@ -66,3 +44,9 @@ returns c =
     sym (steps_none (with_bounded given.bound) (max_unknowns * given.hi) loop.at loop.work (omega arith))
     ∙ sym loop.invariant.3
     ∙ sym (rows_opened_inside given.lo given.hi given.bound given.work.now loop.invariant.1 loop.invariant.0)
+
+pub overflow_step-at : goal.overflow_step-at
+overflow_step-at c = omega (arith, fitting_sizes (length c.args.work.now) 0 c.args.hi (sym c.is_table.ensures ∙ c.if-is_table.true))
+
+pub overflow_mul-at-end : goal.overflow_mul-at-end
+overflow_mul-at-end c = omega (arith, fitting_sizes (length c.args.work.now) 0 c.args.hi (sym c.is_table.ensures ∙ c.if-is_table.true))

@@ -2,7 +2,6 @@
 use mathlib.Core.Path.{sym}
 use native.Mathlib.Omega.{arith}
 use Rattle.search_cells.proofs.CellLaws.{value_at}
-use borrow.Author.Rules.{rules}
 use Rattle.search_cells.proofs.value.Goals as goal
 
 pub returns : goal.returns

@@ -2,7 +2,6 @@
 use mathlib.Core.Path.{sym, ap, ◌∙◌}
 use mathlib.Core.Bool.{Bool, ◌&&◌}
 use Rattle.search_evaluation.specs.Evaluation.{is_true, is_satisfied}
-use borrow.Author.Rules.{rules}
 use Rattle.search_evaluation.proofs.is_satisfied.Goals as goal
 
 pub returns-then-is_set : goal.returns-then-is_set

@@ -1,6 +1,5 @@
 -- `search_evaluation::is_set` meets its contract. Assumes nothing.
 use Rattle.search_evaluation.proofs.CellReads.{set_by}
-use borrow.Author.Rules.{rules}
 use Rattle.search_evaluation.proofs.is_set.Goals as goal
 
 pub returns : goal.returns

@@ -6,7 +6,6 @@ use mathlib.Core.Bool.{not}
 use borrow.Author.Tests.{eq-eqb, ne_eqb}
 use Rattle.search_evaluation.specs.Evaluation.{is_true}
 use Rattle.search_evaluation.proofs.CellReads.{value_by}
-use borrow.Author.Rules.{rules}
 use Rattle.search_evaluation.proofs.is_true.Goals as goal
 
 pub returns-then-c-eq0 : goal.returns-then-c-eq0

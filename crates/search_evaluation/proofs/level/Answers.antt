@@ -20,21 +20,6 @@ returns-then-k-ge-UNKNOWNS c = rw (
       (omega arith),
 )
 
-pub overflow_mul-result : goal.overflow_mul-result
-overflow_mul-result c =
-    let given = c.args in
-    let row = row_given given.work.now given.i (sym c.has_row.ensures ∙ c.if-has_row.true) in omega arith
-
-pub overflow_add-result : goal.overflow_add-result
-overflow_add-result c =
-    let given = c.args in
-    let row = row_given given.work.now given.i (sym c.has_row.ensures ∙ c.if-has_row.true) in omega arith
-
-pub bounds-work-i : goal.bounds-work-i
-bounds-work-i c =
-    let given = c.args in
-    let row = row_given given.work.now given.i (sym c.has_row.ensures ∙ c.if-has_row.true) in omega arith
-
 pub returns : goal.returns
 unfolding level_in
 returns c =

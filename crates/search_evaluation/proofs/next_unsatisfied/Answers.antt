@@ -1,18 +1,11 @@
 -- `search_evaluation::next_unsatisfied` meets its contract. Assumes nothing.
 use mathlib.Core.Path.{sym, ◌∙◌}
-use native.Mathlib.Omega.{arith}
 use Rattle.search_evaluation.specs.Evaluation.{next_unsatisfied_at}
-use Rattle.search_evaluation.proofs.CellReads.{row_given}
 use Rattle.search_evaluation.proofs.next_unsatisfied.Goals as goal
 
 pub returns-else-has_row : goal.returns-else-has_row
 unfolding next_unsatisfied_at
 returns-else-has_row c = rw (sym c.has_row.ensures ∙ c.if-has_row.false)
-
-pub next_unsatisfied_on-requires : goal.next_unsatisfied_on-requires
-next_unsatisfied_on-requires c =
-    let given = c.args in
-    let row = row_given given.work.now given.i (sym c.has_row.ensures ∙ c.if-has_row.true) in (omega arith, omega arith)
 
 pub returns : goal.returns
 unfolding next_unsatisfied_at

@@ -1,11 +1,9 @@
 -- `search_groups::first_open` meets its contract. The loop's invariant: the first open position is that from `at` on. Assumes nothing.
-use Prim.Native.Nat.{◌-◌}
-use mathlib.Core.Bool.{true, false}
+use mathlib.Core.Bool.{false}
 use mathlib.Core.Path.{◌≡◌, sym, ◌∙◌}
 use native.Mathlib.Omega.{arith}
-use Rattle.search_cells.specs.Steps.{first_from}
 use Rattle.search_cells.proofs.DifferenceLaws.{first_from_step, first_from_end}
-use Rattle.search_groups.specs.Groups.{is_open, open_position}
+use Rattle.search_groups.specs.Groups.{is_open}
 use Rattle.search_groups.proofs.ScanLaws.{open_position_none, open_position_is}
 use Rattle.search_groups.proofs.first_open.Goals as goal
 
@@ -22,37 +20,23 @@ pub returns-then-lo-ge-ROWS : goal.returns-then-lo-ge-ROWS
 returns-then-lo-ge-ROWS c = open_position_none _ _ _ _ _ _ (λ area few within row. omega arith)
 
 pub loop-at-init : goal.loop-at-init
-loop-at-init c = open_position_is _ _ _ _ _ _ (omega arith) (omega arith) (omega arith) (omega arith)
-
-pub is_open-requires : goal.is_open-requires
-is_open-requires c = (omega arith, omega arith, omega arith, omega arith)
-
-pub returns-then-is_open : goal.returns-then-is_open
-returns-then-is_open c =
-    let loop = c.loop-at in
-    let given = c.args in
-    sym
-    (loop.invariant
-    ∙ first_from_step (is_open given.kinds.now given.work.now given.side given.lo) loop.at given.until true (omega arith)
-    (sym c.is_open.ensures ∙ c.if-is_open.true))
-
-pub overflow_add-at : goal.overflow_add-at
-overflow_add-at c = omega arith
-
-pub loop-at-smaller : goal.loop-at-smaller
-loop-at-smaller c = omega arith
+loop-at-init c = (omega arith, open_position_is _ _ _ _ _ _ (omega arith) (omega arith) (omega arith) (omega arith))
 
 pub loop-at-preserved : goal.loop-at-preserved
 loop-at-preserved c =
     let loop = c.loop-at in
-    let given = c.args in
-    loop.invariant
-    ∙ first_from_step (is_open given.kinds.now given.work.now given.side given.lo) loop.at given.until false (omega arith)
-    (sym c.is_open.ensures ∙ c.if-is_open.false)
+    let given = c.args in (
+      omega arith,
+      loop.invariant.1
+          ∙ first_from_step (is_open given.kinds.now given.work.now given.side given.lo) loop.at given.until false (omega arith)
+          (sym c.is_open.ensures ∙ c.if-is_open.false),
+    )
 
 pub returns : goal.returns
 returns c =
     let given = c.args in
+    let end : c.loop-at.at ≡ c.max.result = omega arith in
     sym
-    (c.loop-at.invariant
-    ∙ first_from_end (is_open given.kinds.now given.work.now given.side given.lo) c.loop-at.at given.until (omega arith))
+    (c.loop-at.invariant.1
+    ∙ first_from_end (is_open given.kinds.now given.work.now given.side given.lo) c.loop-at.at given.until (omega arith)
+    ∙ end)

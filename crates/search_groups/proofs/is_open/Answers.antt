@@ -1,6 +1,5 @@
 -- `search_groups::is_open` meets its contract. Assumes nothing.
 use native.Mathlib.Omega.{arith}
-use borrow.Author.Rules.{rules}
 use Rattle.search_groups.proofs.ScanLaws.{is_open_own, is_open_other}
 use Rattle.search_groups.proofs.is_open.Goals as goal
 

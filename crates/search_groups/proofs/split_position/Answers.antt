@@ -2,10 +2,8 @@
 use Prim.Native.Nat.{min}
 use mathlib.Core.Path.{◌≡◌, sym, ◌∙◌}
 use native.Mathlib.Omega.{arith}
-use mir.Facts.{Fits-8_64}
 use lib.ListN.{get_or}
 use Rattle.search_groups.proofs.ScanLaws.{split_position_is, split_position_none, parts_nowhere, parts_there}
-use borrow.Author.Rules.{rules}
 use Rattle.search_groups.proofs.split_position.Goals as goal
 
 pub returns-then-differences-mid : goal.returns-then-differences-mid
@@ -16,17 +14,8 @@ returns-then-mid-lo c =
     let given = c.args in
     sym (split_position_is _ _ _ _ (omega arith) ∙ parts_nowhere given.differences.now given.lo given.mid given.n (omega arith))
 
-pub overflow_cast-at : goal.overflow_cast-at
-overflow_cast-at c = Fits-8_64 (c.shared_slice_known-1.given _)
-
-pub returns-then-at-n : goal.returns-then-at-n
-returns-then-at-n c =
+pub returns : goal.returns
+returns c =
     let given = c.args in
-    let least : min (get_or given.differences.now given.mid 0) given.n ≡ get_or given.differences.now given.mid 0 = omega arith in
-    sym (split_position_is _ _ _ _ (omega arith) ∙ parts_there given.differences.now given.lo given.mid given.n (omega arith) ∙ least)
-
-pub returns-else-at-n : goal.returns-else-at-n
-returns-else-at-n c =
-    let given = c.args in
-    let least : min (get_or given.differences.now given.mid 0) given.n ≡ given.n = omega arith in
+    let least : min (get_or given.differences.now given.mid 0) given.n ≡ c.min.result = omega arith in
     sym (split_position_is _ _ _ _ (omega arith) ∙ parts_there given.differences.now given.lo given.mid given.n (omega arith) ∙ least)

@@ -1,8 +1,6 @@
 -- `search_numbering::fill` meets its contract. Assumes nothing.
 use mathlib.Core.Path.{sym, ◌∙◌}
-use lib.ListN.{length}
-use borrow.Author.Rules.{rules}
-use Rattle.search_numbering.proofs.FillSteps.{sized_bounds, filled_sized, filled_unsized}
+use Rattle.search_numbering.proofs.FillSteps.{filled_sized, filled_unsized}
 use Rattle.search_numbering.proofs.fill.Goals as goal
 
 pub returns-else-is_sized : goal.returns-else-is_sized
@@ -10,12 +8,6 @@ returns-else-is_sized c =
     let a = c.args in
     filled_unsized a.kinds.now a.preferences.now a.place.now a.differences.now a.side a.work.now
     (sym c.is_sized.ensures ∙ c.if-is_sized.false)
-
-pub fill_positions-requires : goal.fill_positions-requires
-fill_positions-requires c =
-    let a = c.args in
-    sized_bounds (length a.kinds.now) (length a.place.now) (length a.differences.now) (length a.work.now)
-    (sym c.is_sized.ensures ∙ c.if-is_sized.true)
 
 pub returns : goal.returns
 returns c =

@@ -2,7 +2,6 @@
 use native.Mathlib.Omega.{arith}
 use Rattle.formula.specs.Formula.{max_rows}
 use Rattle.search_numbering.proofs.FillSteps.{zeros_at, number_behind, notes_fill}
-use borrow.Author.Rules.{rules}
 use Rattle.search_numbering.proofs.fill_at.Goals as goal
 
 pub group-requires : goal.group-requires

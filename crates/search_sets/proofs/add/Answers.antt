@@ -5,7 +5,6 @@ use lib.ListN.{length}
 use Rattle.formula.specs.Formula.{max_unknowns}
 use Rattle.search_sets.proofs.TestLaws.{numbers_within}
 use Rattle.search_sets.specs.Sets.{added}
-use borrow.Author.Rules.{rules}
 use Rattle.search_sets.proofs.add.Goals as goal
 
 pub returns-else-numbers_fit : goal.returns-else-numbers_fit

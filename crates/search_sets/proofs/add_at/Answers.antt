@@ -6,7 +6,6 @@ use lib.Bits.{bit_or}
 use lib.ListN.{get_or, set}
 use Rattle.search_sets.specs.Sets.{bit_added}
 use Rattle.search_sets.proofs.MaskLaws.{one_shifted}
-use borrow.Author.Rules.{rules}
 use Rattle.search_sets.proofs.add_at.Goals as goal
 
 pub returns : goal.returns

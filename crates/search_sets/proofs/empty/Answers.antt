@@ -4,7 +4,6 @@ use native.Mathlib.Omega.{arith}
 use lib.ListN.{length}
 use Rattle.search_sets.proofs.TestLaws.{place_there}
 use Rattle.search_sets.specs.Sets.{emptied}
-use borrow.Author.Rules.{rules}
 use Rattle.search_sets.proofs.empty.Goals as goal
 
 pub returns-else-has_place : goal.returns-else-has_place

@@ -4,7 +4,6 @@ use lib.ListN.{length}
 use Rattle.formula.specs.Formula.{max_unknowns}
 use Rattle.search_sets.proofs.TestLaws.{numbers_within}
 use Rattle.search_sets.specs.Sets.{has}
-use borrow.Author.Rules.{rules}
 use Rattle.search_sets.proofs.has.Goals as goal
 
 pub has_at-requires : goal.has_at-requires

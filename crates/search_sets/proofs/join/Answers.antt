@@ -1,6 +1,5 @@
 -- `search_sets::join` meets its contract. Assumes nothing.
 use Rattle.search_sets.specs.Sets.{words_joined}
-use borrow.Author.Rules.{rules}
 use Rattle.search_sets.proofs.join.Goals as goal
 
 pub returns : goal.returns

@@ -1,6 +1,5 @@
 -- `search_sets::meet` meets its contract. Assumes nothing.
 use Rattle.search_sets.specs.Sets.{words_met}
-use borrow.Author.Rules.{rules}
 use Rattle.search_sets.proofs.meet.Goals as goal
 
 pub returns : goal.returns

@@ -1,7 +1,6 @@
 -- `search_sets::numbers_fit` meets its contract. Assumes nothing.
 use mathlib.Core.Path.{sym, ◌∙◌}
 use Rattle.search_sets.specs.Sets.{numbers_fit}
-use borrow.Author.Rules.{rules}
 use Rattle.search_sets.proofs.numbers_fit.Goals as goal
 
 pub returns-then-has_place : goal.returns-then-has_place

@@ -1,17 +1,10 @@
 -- `search_sets::ones` meets its contract. Assumes nothing.
 use mathlib.Core.Path.{◌≡◌, ap, ◌∙◌}
 use Prim.Native.Nat.{ℕ, ◌-◌, ◌^◌, min}
-use lib.Pow.{pow_pos}
 use native.Mathlib.Omega.{arith}
 use Rattle.search_sets.proofs.MaskLaws.{one_shifted}
 use Rattle.search_sets.specs.Sets.{ones as ones_below}
 use Rattle.search_sets.proofs.ones.Goals as goal
-
-pub overflow_shl-result : goal.overflow_shl-result
-overflow_shl-result c = omega arith
-
-pub overflow_sub-result : goal.overflow_sub-result
-overflow_sub-result c = omega (arith, one_shifted c.args.k c.if-k-lt64.true, pow_pos c.args.k)
 
 pub returns-then-k-lt64 : goal.returns-then-k-lt64
 unfolding ones_below

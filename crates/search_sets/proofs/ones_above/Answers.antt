@@ -3,7 +3,6 @@ use mathlib.Core.Path.{◌≡◌, ap}
 use Prim.Native.Nat.{ℕ, ◌-◌, ◌^◌, min}
 use native.Mathlib.Omega.{arith}
 use Rattle.search_sets.specs.Sets.{ones as ones_below}
-use borrow.Author.Rules.{rules}
 use Rattle.search_sets.proofs.ones_above.Goals as goal
 
 pub returns-then-k-lt64 : goal.returns-then-k-lt64

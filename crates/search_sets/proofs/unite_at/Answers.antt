@@ -1,6 +1,5 @@
 -- `search_sets::unite_at` meets its contract. Assumes nothing.
 use Rattle.search_sets.specs.Sets.{set_joined}
-use borrow.Author.Rules.{rules}
 use Rattle.search_sets.proofs.unite_at.Goals as goal
 
 pub returns : goal.returns

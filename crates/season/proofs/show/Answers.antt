@@ -2,18 +2,18 @@
 use Rattle.season.specs.Text.{summary_lines}
 use Rattle.season.proofs.show.Goals as goal
 
-pub returns-in-Refused-clause-value : goal.returns-in-Refused-clause-value
+pub returns-in-Err-clause-value : goal.returns-in-Err-clause-value
 unfolding summary_lines
-returns-in-Refused-clause-value c = rw c.in-Refused.is (c.refusal.ensures.value)
+returns-in-Err-clause-value c = rw (c.in-Err.is, ← c.number.ensures) (c.refusal.ensures.value)
 
-pub returns-in-Refused-clause-out_after : goal.returns-in-Refused-clause-out_after
+pub returns-in-Err-clause-out_after : goal.returns-in-Err-clause-out_after
 unfolding summary_lines
-returns-in-Refused-clause-out_after c = rw c.in-Refused.is (c.refusal.ensures.out_after)
+returns-in-Err-clause-out_after c = rw (c.in-Err.is, ← c.number.ensures) (c.refusal.ensures.out_after)
 
-pub returns-in-Page-clause-value : goal.returns-in-Page-clause-value
+pub returns-in-Ok-clause-value : goal.returns-in-Ok-clause-value
 unfolding summary_lines
-returns-in-Page-clause-value c = rw c.in-Page.is (c.page.ensures.value)
+returns-in-Ok-clause-value c = rw c.in-Ok.is (c.page.ensures.value)
 
-pub returns-in-Page-clause-out_after : goal.returns-in-Page-clause-out_after
+pub returns-in-Ok-clause-out_after : goal.returns-in-Ok-clause-out_after
 unfolding summary_lines
-returns-in-Page-clause-out_after c = rw c.in-Page.is (c.page.ensures.out_after)
+returns-in-Ok-clause-out_after c = rw c.in-Ok.is (c.page.ensures.out_after)

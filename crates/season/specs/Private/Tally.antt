@@ -1,10 +1,12 @@
 -- What the private functions that add up promise; no public contract rests on it. Assumes nothing.
-use Rattle.std.specs.Prelude.{ℕ, ◌+◌, ◌*◌, ◌≤◌, Bool, false, cond, ◌||◌, eqb, leb, ltb}
+use Rattle.std.specs.Prelude.{ℕ, ◌+◌, ◌*◌, ◌≤◌, Bool, false, cond, ◌||◌, eqb, leb, ltb, Ok, Result}
+use Rattle.cause.specs.declared.Cause.{Cause}
+use Rattle.cause.specs.declared.Cause.TheVariants.{Studies, Answer, Fee}
+use Rattle.cause.specs.Cause.{refused_if}
+use Rattle.season.specs.declared.Sheet.{Sheet}
 use Rattle.season.specs.declared.tally.Tally.{Tally}
-use Rattle.season.specs.declared.Summary.{Summary}
-use Rattle.season.specs.declared.Summary.TheVariants.{Page}
 use Rattle.formula.specs.Meaning.{bit}
-use Rattle.season.specs.Season.{max_studies, max_answer, max_fee, refused_if}
+use Rattle.season.specs.Season.{max_studies, max_answer, max_fee}
 
 -- Nothing has been added.
 abbrev pub fresh : Tally
@@ -58,12 +60,12 @@ pub record Room (t : Tally) : Type 0 where
   pub fees : t.fees ≤ t.studies * 4294967295
 
 -- The page that a tally over a table of this length gives, or the first cause that applies.
-unfoldable pub closed : Tally → ℕ → Summary
+unfoldable pub closed : Tally → ℕ → Result Sheet Cause
 closed t length =
-    refused_if (ltb max_studies length) 23
-    (refused_if t.bad_answer 24
-    (refused_if t.bad_fee 25
-    (Page record {
+    refused_if (ltb max_studies length) Studies
+    (refused_if t.bad_answer Answer
+    (refused_if t.bad_fee Fee
+    (Ok record {
       studies = t.studies;
       answer_0 = t.answer_0;
       answer_1 = t.answer_1;

@@ -1,16 +1,11 @@
--- `study::any_setting` meets its contract. The loop's invariant: a setting passes the test if one from the place on does. Assumes nothing.
-use Prim.Native.Nat.{◌*◌, ◌-◌}
-use native.Mathlib.Omega.{arith}
-use mathlib.Core.Path.{◌≡◌, refl, sym, ap, ◌∙◌}
+-- `study::any_setting` meets its contract. The loop's invariant: what is told of the settings from the place on is told of all. Assumes nothing.
+use Prim.Native.Nat.{◌*◌}
+use mathlib.Core.Bool.{Bool}
 use lib.ListN.{drop}
-use Rattle.formula.specs.Causes.{any}
 use Rattle.study.specs.Study.{settings_of}
-use Rattle.study.specs.Private.Turns.{asked_of}
-use Rattle.study.proofs.SettingLaws.{any_here, any_next, any_past}
+use Rattle.study.specs.Private.Turns.{Tells}
 use Rattle.study.proofs.any_setting.Given as goal
 
 abbrev pub invariant-loop-at : goal.invariant-loop-at
-invariant-loop-at l = any (asked_of l.asked) (settings_of l.settings) ≡ any (asked_of l.asked) (settings_of (drop (4 * l.at) l.settings))
-
-abbrev pub decreases-loop-at : goal.decreases-loop-at
-decreases-loop-at l = l.count - l.at
+invariant-loop-at g l = (r : Bool) → Tells (goal.F-post g l.test) (settings_of (drop (4 * l.at) l.settings)) r → Tells (goal.F-post g l.test)
+    (settings_of l.settings) r

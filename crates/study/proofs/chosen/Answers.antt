@@ -1,5 +1,4 @@
 -- `study::chosen` meets its contract. Assumes nothing.
-use borrow.Author.Rules.{rules}
 use Rattle.study.proofs.TurnLaws.{lent_chosen, trimmed_chosen}
 use Rattle.study.proofs.chosen.Goals as goal
 

@@ -1,76 +1,27 @@
 -- `study::in_turn` meets its contract. The loop's invariant: the runs made so far gave no verdict, and the study goes on from this place, over the
 -- areas as they are. Assumes nothing.
-use Prim.Native.Nat.{◌-◌, ◌/◌}
-use native.Mathlib.Omega.{arith}
 use mathlib.Core.Path.{sym, ◌∙◌}
-use lib.ListN.{length}
 use Rattle.engine.specs.Outcome.{areas}
-use Rattle.study.proofs.TurnLaws.{Going, going_from_start, holds_here, turned, goes_on}
+use Rattle.study.proofs.TurnLaws.{going_from_start, holds_here, turned, goes_on}
 use Rattle.study.proofs.in_turn.Goals as goal
 
-pub loop-outcome-init : goal.loop-outcome-init
-loop-outcome-init c =
+pub loop-at-init : goal.loop-at-init
+loop-at-init c =
     let lent = c.args in
     let asked = c.requires in
-    going_from_start lent.kinds.now lent.literals.now lent.settings.now (areas lent.universal_rows.now lent.universal_marks.now lent.universal_counts.now lent.existential_rows.now lent.existential_marks.now lent.existential_counts.now lent.work.now) lent.table.now lent.entries (asked)
-
-pub setting_at-setting-requires : goal.setting_at-setting-requires
-setting_at-setting-requires c = c.loop-outcome.invariant.below
+    going_from_start lent.kinds.now lent.literals.now lent.settings.now (areas lent.universal_rows.now lent.universal_marks.now lent.universal_counts.now
+    lent.existential_rows.now lent.existential_marks.now lent.existential_counts.now lent.work.now) lent.table.now lent.entries (asked)
 
 pub with_setting-outcome-requires : goal.with_setting-outcome-requires
 with_setting-outcome-requires c =
     let setting_at_call = c.setting_at-setting in
-    let at_loop = c.loop-outcome in
+    let at_loop = c.loop-at in
     let lent = c.args in
     let asked = c.requires in
-    holds_here lent.kinds.now lent.literals.now lent.settings.now (areas lent.universal_rows.now lent.universal_marks.now lent.universal_counts.now lent.existential_rows.now lent.existential_marks.now lent.existential_counts.now lent.work.now) lent.table.now lent.entries (asked) _ at_loop.at at_loop.invariant
+    holds_here lent.kinds.now lent.literals.now lent.settings.now (areas lent.universal_rows.now lent.universal_marks.now lent.universal_counts.now
+    lent.existential_rows.now lent.existential_marks.now lent.existential_counts.now lent.work.now) lent.table.now lent.entries (asked) _ at_loop.at
+    at_loop.invariant
     setting_at_call.result setting_at_call.ensures
-
-pub overflow_add-next : goal.overflow_add-next
-overflow_add-next c =
-    omega (arith, c.loop-outcome.invariant.below, c.well_formed.1.1.1.1.0)
-
-pub shape_of-universal_rows-then-is_over : goal.shape_of-universal_rows-then-is_over
-shape_of-universal_rows-then-is_over c =
-    let with_setting_call = c.with_setting-outcome in
-    let at_loop = c.loop-outcome in
-    with_setting_call.auto.universal_rows ∙ at_loop.invariant.sizes.universal_rows
-
-pub shape_of-universal_marks-then-is_over : goal.shape_of-universal_marks-then-is_over
-shape_of-universal_marks-then-is_over c =
-    let with_setting_call = c.with_setting-outcome in
-    let at_loop = c.loop-outcome in
-    with_setting_call.auto.universal_marks ∙ at_loop.invariant.sizes.universal_marks
-
-pub shape_of-universal_counts-then-is_over : goal.shape_of-universal_counts-then-is_over
-shape_of-universal_counts-then-is_over c =
-    let with_setting_call = c.with_setting-outcome in
-    let at_loop = c.loop-outcome in
-    with_setting_call.auto.universal_counts ∙ at_loop.invariant.sizes.universal_counts
-
-pub shape_of-existential_rows-then-is_over : goal.shape_of-existential_rows-then-is_over
-shape_of-existential_rows-then-is_over c =
-    let with_setting_call = c.with_setting-outcome in
-    let at_loop = c.loop-outcome in
-    with_setting_call.auto.existential_rows ∙ at_loop.invariant.sizes.existential_rows
-
-pub shape_of-existential_marks-then-is_over : goal.shape_of-existential_marks-then-is_over
-shape_of-existential_marks-then-is_over c =
-    let with_setting_call = c.with_setting-outcome in
-    let at_loop = c.loop-outcome in
-    with_setting_call.auto.existential_marks ∙ at_loop.invariant.sizes.existential_marks
-
-pub shape_of-existential_counts-then-is_over : goal.shape_of-existential_counts-then-is_over
-shape_of-existential_counts-then-is_over c =
-    let with_setting_call = c.with_setting-outcome in
-    let at_loop = c.loop-outcome in
-    with_setting_call.auto.existential_counts ∙ at_loop.invariant.sizes.existential_counts
-
-pub shape_of-work-then-is_over : goal.shape_of-work-then-is_over
-shape_of-work-then-is_over c =
-    let with_setting_call = c.with_setting-outcome in
-    let at_loop = c.loop-outcome in
-    with_setting_call.auto.work ∙ at_loop.invariant.sizes.work
 
 pub returns-then-is_over : goal.returns-then-is_over
 returns-then-is_over c =
@@ -78,27 +29,27 @@ returns-then-is_over c =
     let is_over_call = c.is_over in
     let with_setting_call = c.with_setting-outcome in
     let setting_at_call = c.setting_at-setting in
-    let at_loop = c.loop-outcome in
+    let at_loop = c.loop-at in
     let lent = c.args in
     let asked = c.requires in
-    turned lent.kinds.now lent.literals.now lent.settings.now (areas lent.universal_rows.now lent.universal_marks.now lent.universal_counts.now lent.existential_rows.now lent.existential_marks.now lent.existential_counts.now lent.work.now) lent.table.now lent.entries (asked) _ at_loop.at at_loop.invariant
+    turned lent.kinds.now lent.literals.now lent.settings.now (areas lent.universal_rows.now lent.universal_marks.now lent.universal_counts.now
+    lent.existential_rows.now lent.existential_marks.now lent.existential_counts.now lent.work.now) lent.table.now lent.entries (asked) _ at_loop.at
+    at_loop.invariant
     setting_at_call.result setting_at_call.ensures with_setting_call.result _ with_setting_call.ensures (sym is_over_call.ensures ∙ if1_test.true)
 
-pub loop-outcome-smaller : goal.loop-outcome-smaller
-loop-outcome-smaller c =
-    omega (arith, c.loop-outcome.invariant.below)
-
-pub loop-outcome-preserved : goal.loop-outcome-preserved
-loop-outcome-preserved c =
+pub loop-at-preserved : goal.loop-at-preserved
+loop-at-preserved c =
     let if1_test = c.if-is_over in
     let is_over_call = c.is_over in
     let with_setting_call = c.with_setting-outcome in
     let setting_at_call = c.setting_at-setting in
-    let at_loop = c.loop-outcome in
+    let at_loop = c.loop-at in
     let lent = c.args in
     let asked = c.requires in
     let sizes = at_loop.invariant.sizes in
-    goes_on lent.kinds.now lent.literals.now lent.settings.now (areas lent.universal_rows.now lent.universal_marks.now lent.universal_counts.now lent.existential_rows.now lent.existential_marks.now lent.existential_counts.now lent.work.now) lent.table.now lent.entries (asked) _ at_loop.at at_loop.invariant
+    goes_on lent.kinds.now lent.literals.now lent.settings.now (areas lent.universal_rows.now lent.universal_marks.now lent.universal_counts.now
+    lent.existential_rows.now lent.existential_marks.now lent.existential_counts.now lent.work.now) lent.table.now lent.entries (asked) _ at_loop.at
+    at_loop.invariant
     setting_at_call.result setting_at_call.ensures with_setting_call.result _ with_setting_call.ensures (sym is_over_call.ensures ∙ if1_test.false)
     (record {
       universal_rows = with_setting_call.auto.universal_rows ∙ sizes.universal_rows;

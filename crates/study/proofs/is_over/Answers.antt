@@ -1,6 +1,5 @@
 -- `study::is_over` meets its contract. Assumes nothing.
 use mathlib.Core.Path.{ap}
-use borrow.Author.Rules.{rules}
 use Rattle.study.specs.Private.Turns.{is_end}
 use Rattle.study.proofs.TurnLaws.{over_if_last}
 use Rattle.study.proofs.is_over.Goals as goal

@@ -1,6 +1,5 @@
 -- `study::setting_at` meets its contract. Assumes nothing.
 use mathlib.Core.Path.{refl}
-use borrow.Author.Rules.{rules}
 use Rattle.study.proofs.SettingLaws.{read_setting}
 use Rattle.study.proofs.setting_at.Goals as goal
 

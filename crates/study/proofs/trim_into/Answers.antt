@@ -1,17 +1,8 @@
 -- `study::trim_into` meets its contract. Assumes nothing.
-use mathlib.Core.Path.{sym, ap, ◌∙◌}
-use borrow.Author.Rules.{rules}
+use mathlib.Core.Path.{ap, ◌∙◌}
 use Rattle.trimming.specs.Outcome.{used}
+use Rattle.study.proofs.TurnLaws.{entries_used}
 use Rattle.study.proofs.trim_into.Goals as goal
 
-pub returns-in-Entries : goal.returns-in-Entries
-returns-in-Entries c = record {
-  value = sym (ap used c.in-Entries.is) ∙ ap used c.trim.ensures.value;
-  table_after = c.trim.ensures.output_after;
-}
-
-pub returns-in-Refused : goal.returns-in-Refused
-returns-in-Refused c = record {
-  value = sym (ap used c.in-Refused.is) ∙ ap used c.trim.ensures.value;
-  table_after = c.trim.ensures.output_after;
-}
+pub returns-clause-value : goal.returns-clause-value
+returns-clause-value c = c.unwrap_or.ensures ∙ entries_used c.trim.result ∙ ap used c.trim.ensures.value

@@ -1,15 +1,13 @@
 -- What the runs in turn ask for and make. Cited by contracts of private functions alone.
 -- Assumes nothing.
-use Rattle.std.specs.Prelude.{ℕ, zero, suc, ◌*◌, ◌≤◌, ◌≡◌, Bool, true, false, not, cond, List, eqb, ℤ, length, take, drop}
+use Rattle.std.specs.Prelude.{ℕ, zero, suc, ◌*◌, ◌≤◌, ◌≡◌, ◌⊎◌, Bool, true, false, not, cond, List, [], ◌∷◌, eqb, ℤ, length, take, drop, Result, Ok, Err, ⊤}
 use Rattle.formula.specs.Causes.{any}
 use Rattle.trimming_rules.specs.Trimming.{trimmed}
 use Rattle.engine.specs.declared.run.Answer.{Answer}
 use Rattle.engine.specs.declared.run.Answer.TheVariants.{False, True, Spent, NoRoomUniversal, NoRoomExistential, Refused}
 use Rattle.engine.specs.Outcome.{Areas}
-use Rattle.study.specs.declared.Asked.{Asked}
-use Rattle.study.specs.declared.Asked.TheVariants.{Unknown, NoRound, Trims}
 use Rattle.study.specs.declared.Setting.{Setting}
-use Rattle.study.specs.Study.{setting_from, settings_of, unknown, no_round, trims, list_cause, cause}
+use Rattle.study.specs.Study.{setting_from, settings_of, trims, list_cause, cause}
 
 -- The setting at a place of a table.
 abbrev pub setting_at : List ℕ → ℕ → Setting
@@ -20,11 +18,14 @@ abbrev pub formula_from : ℕ → List ℤ → List ℤ → List ℤ
 formula_from zero literals trimmed_ones = literals
 formula_from (suc n) literals trimmed_ones = trimmed_ones
 
--- The tests of a list's settings.
-abbrev pub asked_of : Asked → Setting → Bool
-asked_of Unknown s = unknown s
-asked_of NoRound s = no_round s
-asked_of Trims s = trims s
+-- What a test tells of a list's settings: whether one of them passes it, told by the first that does or by all.
+unfoldable pub Tells : (Setting → Bool → Type 0) → List Setting → Bool → Type 0
+Tells told [] r = r ≡ false
+Tells told (s ∷ ss) r = (told s true × (r ≡ true)) ⊎ (told s false × Tells told ss r)
+
+-- A cause's number is refused with, 0 is none's.
+abbrev pub numbered : ℕ → Result ⊤ ℕ
+numbered n = cond (eqb n 0) (Ok tt) (Err n)
 
 -- A list without a cause, none of whose settings trims.
 unfoldable pub at_once : List ℕ → Bool

@@ -1,5 +1,4 @@
 -- `answer` meets its contract: it hands on what `answer_as` promises. Assumes nothing.
-use borrow.Author.Rules.{rules}
 use Rattle.study_answer.proofs.answer.Goals as goal
 
 pub returns : goal.returns

@@ -1,5 +1,4 @@
 -- `decide` meets its contract, from what `study` promises. Assumes nothing.
-use borrow.Author.Rules.{rules}
 use Rattle.study_answer.proofs.HouseLaws.{decided_so}
 use Rattle.study_answer.proofs.decide.Goals as goal
 

@@ -2,7 +2,7 @@
 use native.Mathlib.Omega.{arith}
 use mathlib.Core.Path.{ap, ◌∙◌}
 use mir.Syntax.{w32}
-use borrow.Author.Rules.{rules, Fits-under}
+use borrow.Author.Rules.{Fits-under}
 use Rattle.report.specs.Report.{put, put_count}
 use Rattle.study_answer.proofs.HouseLaws.{few_settings}
 use Rattle.study_answer.proofs.AnswerLaws.{answered_so, settles_so, lines_so}

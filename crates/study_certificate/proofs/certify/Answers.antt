@@ -1,5 +1,4 @@
 -- `certify` hands on what `certify_as` promises. Assumes nothing.
-use borrow.Author.Rules.{rules}
 use Rattle.study_certificate.proofs.certify.Goals as goal
 
 pub returns : goal.returns

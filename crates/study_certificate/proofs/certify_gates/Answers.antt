@@ -1,5 +1,4 @@
 -- `certify_gates` hands on what `certify_as` promises. Assumes nothing.
-use borrow.Author.Rules.{rules}
 use Rattle.study_certificate.proofs.certify_gates.Goals as goal
 
 pub returns : goal.returns

@@ -1,6 +1,5 @@
 -- `decided` meets its contract, from what the study promises. Assumes nothing.
 use Rattle.study_certificate.proofs.DeliveryLaws.{few_unknowns, ready_so, work_so, formula_delivered}
-use borrow.Author.Rules.{rules}
 use Rattle.study_certificate.proofs.decided.Goals as goal
 
 pub deliver-requires : goal.deliver-requires

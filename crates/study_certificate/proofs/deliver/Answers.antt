@@ -2,7 +2,6 @@
 use mathlib.Core.Path.{sym, ◌∙◌}
 use Rattle.certificate.proofs.AnyRun.{true_writes, false_writes}
 use Rattle.study_certificate.proofs.DeliveryLaws.{number_so, true_delivered, false_delivered, undecided_delivered}
-use borrow.Author.Rules.{rules}
 use Rattle.study_certificate.proofs.deliver.Goals as goal
 
 pub put_file-count-requires : goal.put_file-count-requires

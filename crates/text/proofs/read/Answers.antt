@@ -3,7 +3,6 @@ use lib.ListN.{length}
 use Rattle.text.specs.Reading.{read}
 use Rattle.text.proofs.ClosedRight.{closed_right}
 use Rattle.text.proofs.CausesRight.{text_causes_right}
-use borrow.Author.Rules.{rules}
 use Rattle.text.proofs.read.Goals as goal
 
 pub returns : goal.returns

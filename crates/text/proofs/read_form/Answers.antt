@@ -7,7 +7,6 @@ use Rattle.text.specs.Offered.{offered}
 use Rattle.text.proofs.ReadingLaws.{refused_whole}
 use Rattle.text.proofs.OfferedLaws.{past_stops, form_read_so}
 use Rattle.text.proofs.FormRight.{form_right}
-use borrow.Author.Rules.{rules}
 use Rattle.text.proofs.read_form.Goals as goal
 
 pub returns-then-buffer-count : goal.returns-then-buffer-count

@@ -3,7 +3,6 @@ use lib.ListN.{length}
 use Rattle.text.specs.Reading.{read_gates}
 use Rattle.text.proofs.GatesRight.{gates_right}
 use Rattle.text.proofs.CausesRight.{gates_causes_right}
-use borrow.Author.Rules.{rules}
 use Rattle.text.proofs.read_gates.Goals as goal
 
 pub returns : goal.returns

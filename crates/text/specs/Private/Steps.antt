@@ -1,8 +1,13 @@
 -- What private functions promise; the contract of `read` rests on none of it. Assumes nothing.
 use Rattle.std.specs.Prelude.{ℕ, zero, suc, ◌+◌, ◌≤◌, ◌<◌, ◌≡◌, Bool, true, false, cond, List, [], ◌∷◌, ◌++◌, ltb, ℤ, length, get_or, take, drop}
+use Rattle.std.specs.Prelude.{Result as Outcome, Ok, Err}
 use Rattle.formula.specs.Formula.{max_unknowns, max_clauses, max_entries}
 use Rattle.text.specs.declared.body.Counts.{Counts}
 use Rattle.text.specs.declared.opening.Opened.{Opened}
+use Rattle.text.specs.declared.opening.Problem.{Problem}
+use Rattle.text.specs.declared.Refusal.{Refusal}
+use Rattle.cause.specs.declared.Cause.{Cause}
+use Rattle.cause.specs.Cause.{number as number_of_cause}
 use Rattle.lines.specs.Lines.{Bytes, lines, words, rest, second, third, fourth}
 use Rattle.lines.specs.Numbers.{number}
 use Rattle.lines.specs.Places.{before}
@@ -11,7 +16,9 @@ use Rattle.named.specs.Named.{max_places, among, signed}
 use Rattle.named.specs.Names.{Distinct, UpTo, Known}
 use Rattle.named.specs.Closing.{insert, closed_names}
 pub use Rattle.text_closing.specs.Written.{free_in, placed_in}
-use Rattle.text.specs.Reading.{max_variables, name_cause, State, Step, went, unless, with_prefix, with_entries, bind_all, add_entries, literal_cause, entry, free_with, gate_cause, first_cause, inputs_cause, gate_of, clauses_of_gate, entries_of_gate, limit_cause, ending, max_items, output_range, problem_cause, Items, clause_list, gate_list, items_of, problem, after_comments, body, scan, Scan, whole, stopped}
+use Rattle.text.specs.Reading.{max_variables, name_cause, State, Step, went, unless, with_prefix, with_entries, bind_all, add_entries, literal_cause, entry}
+use Rattle.text.specs.Reading.{free_with, gate_cause, first_cause, inputs_cause, gate_of, clauses_of_gate, entries_of_gate, limit_cause, ending, max_items}
+use Rattle.text.specs.Reading.{output_range, problem_cause, Items, clause_list, gate_list, items_of, problem, after_comments, body, scan, Scan, whole, stopped}
 use Rattle.text.specs.Form.{p_words}
 
 -- The cause of a p line, whose shape is good or not.
@@ -23,27 +30,36 @@ abbrev pub items_at : Bool → Bool → ℕ → ℕ → Items
 items_at false minus v k = clause_list
 items_at true minus v k = gate_list (signed minus v) k
 
-pub record ProblemRead (gates : Bool) (line : Bytes) (cause variables clauses output : ℕ) (minus : Bool) : Type 0 where
-  pub right : cause ≡ problem_cause gates line
-  pub v : variables ≡ number (third (words line))
-  pub c : clauses ≡ number (fourth (words line))
-  pub small : cause ≡ 0 → variables ≤ max_variables
-  pub items : (k : ℕ) → items_at gates minus output k ≡ items_of gates (words line) k
-  pub named : cause ≡ 0 → gates ≡ true → output ≤ max_variables
+-- What the p line says, without a cause.
+pub record ProblemSo (gates : Bool) (line : Bytes) (p : Problem) : Type 0 where
+  pub right : 0 ≡ problem_cause gates line
+  pub v : p.variables ≡ number (third (words line))
+  pub c : p.clauses ≡ number (fourth (words line))
+  pub small : p.variables ≤ max_variables
+  pub items : (k : ℕ) → items_at gates p.negative p.output k ≡ items_of gates (words line) k
+  pub named : gates ≡ true → p.output ≤ max_variables
+
+abbrev pub ProblemRead : Bool → Bytes → Outcome Problem Cause → Type 0
+ProblemRead gates line (Ok p) = ProblemSo gates line p
+ProblemRead gates line (Err cause) = number_of_cause cause ≡ problem_cause gates line
 
 -- The state after the p line.
 unfoldable pub fresh : Opened → State
 fresh o = record { variables = o.variables; clauses = o.clauses; kinds = []; names = []; free = []; entries = []; clauses_read = 0; made = 0 }
 
 -- A text is read up to its p line, tables of these lengths being lent.
-pub record OpenedRead (gates : Bool) (text : Bytes) (kinds literals names : ℕ) (o : Opened) : Type 0 where
-  pub refusal : (o.cause ≡ 0 → ⊥) → scan gates text kinds literals names ≡ stopped o.cause o.line
-  pub right : o.cause ≡ 0 → scan gates text kinds literals names ≡ body (items_at gates o.negative o.output o.line) (fresh o) (o.line + 1) (lines (drop o.at text))
-  pub sizes : o.cause ≡ 0 → (kinds ≡ max_unknowns) × (literals ≡ max_entries) × (names ≡ max_unknowns)
-  pub within : o.cause ≡ 0 → o.at ≤ length text
-  pub line : o.cause ≡ 0 → o.line ≤ o.at
-  pub small : o.cause ≡ 0 → o.variables ≤ max_variables
-  pub named : o.cause ≡ 0 → gates ≡ true → o.output ≤ max_variables
+pub record OpenedSo (gates : Bool) (text : Bytes) (kinds literals names : ℕ) (o : Opened) : Type 0 where
+  pub right : scan gates text kinds literals names ≡ body (items_at gates o.negative o.output o.line) (fresh o) (o.line + 1) (lines (drop o.at text))
+  pub sizes : (kinds ≡ max_unknowns) × (literals ≡ max_entries) × (names ≡ max_unknowns)
+  pub within : o.at ≤ length text
+  pub line : o.line ≤ o.at
+  pub small : o.variables ≤ max_variables
+  pub named : gates ≡ true → o.output ≤ max_variables
+
+-- Or its lines up to there stop.
+abbrev pub OpenedRead : Bool → Bytes → ℕ → ℕ → ℕ → Outcome Opened Refusal → Type 0
+OpenedRead gates text kinds literals names (Ok o) = OpenedSo gates text kinds literals names o
+OpenedRead gates text kinds literals names (Err r) = scan gates text kinds literals names ≡ stopped (number_of_cause r.cause) r.line
 
 -- The table marks the names that are placed.
 pub record Marked (names P : List ℕ) : Type 0 where
@@ -90,7 +106,8 @@ pub record AddedAll (line : Bytes) (variables bound free m : ℕ) (N : List ℕ)
   pub kept : take bound N' ≡ take bound N
   pub marked : Marked (placed_in bound more N') P'
   pub right : (s : State) → s.variables ≡ variables → s.names ≡ take bound N
-      → unless cause (went (with_entries s (free_in bound more N') (take count L'))) ≡ add_entries (with_entries s (free_in bound free N) (take m L)) (words line)
+      → unless cause (went (with_entries s (free_in bound more N') (take count L'))) ≡ add_entries (with_entries s (free_in bound free N) (take m L))
+      (words line)
 
 -- The tables are as long as a formula may be, and what is used of them is within; no name is free before the first clause line.
 pub record Sized (c : Counts) (K N : List ℕ) (L : List ℤ) : Type 0 where
@@ -155,7 +172,8 @@ pub record ClausesPut (line : Bytes) (v made m : ℕ) (P : List ℕ) (L : List �
   pub room : entries ≤ max_entries
   pub limit : all ≤ max_clauses
   pub right : (names : List ℕ) → Marked names P → v ≡ number (second (words line))
-      → (cause ≡ first_cause (inputs_cause names (rest (rest (words line)))) (limit_cause (made + clauses_of_gate (gate_of (words line))) (m + length (entries_of_gate (gate_of (words line))))))
+      → (cause ≡ first_cause (inputs_cause names (rest (rest (words line)))) (limit_cause (made + clauses_of_gate (gate_of (words line)))
+      (m + length (entries_of_gate (gate_of (words line))))))
       × (cause ≡ 0 → (take entries L' ≡ take m L ++ entries_of_gate (gate_of (words line))) × (all ≡ made + clauses_of_gate (gate_of (words line))))
 
 -- The name v is bound behind n names.

@@ -1,5 +1,6 @@
 -- What private functions promise; no contract of a public one rests on it. Assumes nothing.
-use Rattle.std.specs.Prelude.{ℕ, ◌+◌, ◌≤◌, ◌≡◌, List, ℤ, pos, nat_abs, length, get_or, take, drop}
+use Rattle.std.specs.Prelude.{ℕ, ◌+◌, ◌≤◌, ◌≡◌, List, ℤ, pos, nat_abs, length, get_or, take, drop, Result, Ok, Err}
+use Rattle.cause.specs.declared.Cause.{Cause}
 use Rattle.formula.specs.Formula.{max_clauses}
 use Rattle.gates.specs.declared.Function.{Function}
 use Rattle.gates.specs.declared.Function.TheVariants.{And, Or, Xor}
@@ -8,6 +9,15 @@ use Rattle.lines.specs.Lines.{Bytes, words}
 use Rattle.named.specs.Named.{max_variables}
 use Rattle.named.specs.CircuitRight.{Fits}
 use Rattle.text_gates.specs.GateLine.{marked, literal_of, known_cause, known_causes, inputs_of, room_limit, PutSo}
+
+-- What is read: an input's literal, and how many inputs there are; 0 where there is a cause.
+abbrev pub literal_in : Result ℤ Cause → ℤ
+literal_in (Ok z) = z
+literal_in (Err cause) = pos 0
+
+abbrev pub count_in : Result ℕ Cause → ℕ
+count_in (Ok n) = n
+count_in (Err cause) = 0
 
 -- An input.
 pub record InputRead (P : List ℕ) (w : Bytes) (cause : ℕ) (literal : ℤ) : Type 0 where

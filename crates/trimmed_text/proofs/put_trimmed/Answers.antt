@@ -1,5 +1,4 @@
 -- `trimmed_text::put_trimmed` meets its contract. Assumes nothing.
-use borrow.Author.Rules.{rules}
 use lib.Seq.{length-take-le}
 use mathlib.Core.Path.{sym, ap, ◌∙◌}
 use Rattle.report.specs.Report.{put, put_count}

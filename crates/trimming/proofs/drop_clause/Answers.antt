@@ -1,7 +1,6 @@
 -- `trimming::drop_clause` meets its contract.
 -- Assumes nothing.
 use native.Mathlib.Omega.{arith}
-use borrow.Author.Rules.{rules}
 use mathlib.Core.Path.{◌∙◌}
 use Rattle.trimming.proofs.EndLaws.{end_inside, whole_dropped, end_forgotten}
 use Rattle.trimming.proofs.drop_clause.Goals as goal
@@ -13,7 +12,8 @@ pub offset_bounds-table-at : goal.offset_bounds-table-at
 offset_bounds-table-at c =
     let drop_entries_call = c.drop_entries-at in
     let pre = c.requires in
-    let h = end_inside pre drop_entries_call.new.table drop_entries_call.new.index drop_entries_call.ensures.table_after.0 drop_entries_call.ensures.table_after.1
+    let h = end_inside pre drop_entries_call.new.table drop_entries_call.new.index drop_entries_call.ensures.table_after.0
+    drop_entries_call.ensures.table_after.1
     drop_entries_call.result drop_entries_call.ensures.result_value in
     omega (arith, pre.few, drop_entries_call.auto.table)
 

@@ -1,12 +1,7 @@
 -- `trimming::drop_clauses` meets its contract. The loop's invariant: no other clauses are dropped, and the index is kept.
 -- Assumes nothing.
-use borrow.Author.Rules.{rules}
-use Prim.Native.Nat.{◌+◌, ◌≤◌, ◌<◌}
-use mathlib.Core.Path.{◌≡◌, refl, sym, ◌∙◌}
-use lib.ListN.{length}
-use Rattle.codes.specs.Codes.{last_code}
-use Rattle.index.specs.Occurrences.{listed}
-use Rattle.trimming.proofs.ThinLaws.{Thinning, thinning_begins, next_here, thinning_more, thinning_less, thinning_ends}
+use mathlib.Core.Path.{refl, sym, ◌∙◌}
+use Rattle.trimming.proofs.ThinLaws.{thinning_begins, next_here, thinning_more, thinning_less, thinning_ends}
 use Rattle.trimming.proofs.drop_clauses.Goals as goal
 
 pub loop-index-init : goal.loop-index-init

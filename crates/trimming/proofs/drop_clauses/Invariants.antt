@@ -1,12 +1,11 @@
 -- `trimming::drop_clauses` meets its contract. The loop's invariant: no other clauses are dropped, and the index is kept.
 -- Assumes nothing.
-use borrow.Author.Rules.{rules}
 use Prim.Native.Nat.{◌+◌, ◌≤◌, ◌<◌}
-use mathlib.Core.Path.{◌≡◌, refl, sym, ◌∙◌}
+use mathlib.Core.Path.{◌≡◌}
 use lib.ListN.{length}
 use Rattle.codes.specs.Codes.{last_code}
 use Rattle.index.specs.Occurrences.{listed}
-use Rattle.trimming.proofs.ThinLaws.{Thinning, thinning_begins, next_here, thinning_more, thinning_less, thinning_ends}
+use Rattle.trimming.proofs.ThinLaws.{Thinning}
 use Rattle.trimming.proofs.drop_clauses.Given as goal
 
 abbrev pub invariant-loop-index : goal.invariant-loop-index

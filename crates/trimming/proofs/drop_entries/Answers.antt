@@ -1,6 +1,5 @@
 -- `trimming::drop_entries` meets its contract.
 -- Assumes nothing.
-use borrow.Author.Rules.{rules}
 use mathlib.Core.Path.{refl}
 use Rattle.trimming.proofs.EndLaws.{dropping_begins}
 use Rattle.trimming.proofs.drop_entries.Goals as goal

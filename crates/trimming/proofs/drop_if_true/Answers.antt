@@ -1,6 +1,5 @@
 -- `trimming::drop_if_true` meets its contract.
 -- Assumes nothing.
-use borrow.Author.Rules.{rules}
 use mathlib.Core.Path.{sym, ◌∙◌}
 use Rattle.trimming.proofs.LoopLaws.{true_here, true_dropped_at, true_kept_at}
 use Rattle.trimming.proofs.drop_if_true.Goals as goal

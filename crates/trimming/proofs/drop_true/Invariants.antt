@@ -1,15 +1,11 @@
 -- `trimming::drop_true` meets its contract. The loop's invariant: the clauses passed are changed, and the others are not.
 -- Assumes nothing.
-use borrow.Author.Rules.{rules}
-use native.Mathlib.Omega.{arith}
 use Prim.Native.Nat.{◌-◌}
-use mathlib.Core.Path.{◌≡◌, refl, ◌∙◌}
-use lib.ListN.{length, drop}
-use Rattle.trimming_marks.specs.Marks.{first_clause}
+use mathlib.Core.Path.{◌≡◌}
+use lib.ListN.{length}
 use Rattle.trimming_rules.specs.Private.Rounds.{untrue}
-use Rattle.trimming.specs.Private.Table.{Indexed, true_from}
-use Rattle.trimming.proofs.TrueLaws.{untrue_local, true_dropped}
-use Rattle.trimming.proofs.PassLaws.{Passing, passing_begins, passing_more, passing_ends, goes_on}
+use Rattle.trimming.specs.Private.Table.{Indexed}
+use Rattle.trimming.proofs.PassLaws.{Passing}
 use Rattle.trimming.proofs.drop_true.Given as goal
 
 abbrev pub invariant-loop-start : goal.invariant-loop-start

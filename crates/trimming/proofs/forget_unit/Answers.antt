@@ -1,6 +1,5 @@
 -- `trimming::forget_unit` meets its contract.
 -- Assumes nothing.
-use borrow.Author.Rules.{rules}
 use mathlib.Core.Path.{refl}
 use Rattle.trimming.proofs.forget_unit.Goals as goal
 

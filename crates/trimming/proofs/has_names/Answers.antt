@@ -1,6 +1,5 @@
 -- `trimming::has_names` meets its contract.
 -- Assumes nothing.
-use borrow.Author.Rules.{rules}
 use mathlib.Core.Path.{ap₂}
 use lib.Dec.{ltb}
 use Rattle.trimming.proofs.has_names.Goals as goal

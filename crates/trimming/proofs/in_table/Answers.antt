@@ -1,6 +1,5 @@
 -- `trimming::in_table` meets its contract.
 -- Assumes nothing.
-use borrow.Author.Rules.{rules}
 use native.Mathlib.Omega.{arith}
 use mathlib.Core.Path.{refl, ◌∙◌, ap}
 use mathlib.Core.List.{◌++◌}

@@ -1,6 +1,5 @@
 -- `trimming::next` meets its contract.
 -- Assumes nothing.
-use borrow.Author.Rules.{rules}
 use mathlib.Core.Path.{sym, ◌∙◌}
 use Rattle.trimming.specs.Private.Table.{clauses_left}
 use Rattle.trimming.proofs.NamedLaws.{list_told}

@@ -1,6 +1,5 @@
 -- `trimming::opposite` meets its contract.
 -- Assumes nothing.
-use borrow.Author.Rules.{rules}
 use borrow.Author.Tests.{eq-eqb, ne_eqb}
 use Rattle.codes.specs.Codes.{opposite}
 use Rattle.trimming.proofs.opposite.Goals as goal

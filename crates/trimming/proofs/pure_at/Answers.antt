@@ -1,31 +1,18 @@
 -- `trimming::pure_at` meets its contract.
 -- Assumes nothing.
-use borrow.Author.Rules.{rules}
-use mathlib.Core.Path.{sym, ◌∙◌}
+use mathlib.Core.Path.{sym}
 use mathlib.Core.Bool.{true, false}
 use Rattle.trimming.proofs.PureLaws.{one_is}
 use Rattle.trimming.proofs.pure_at.Goals as goal
 
-pub returns-then-negative : goal.returns-then-negative
-returns-then-negative c =
-    let given = c.args in
-    one_is given.index.now given.position true true (sym c.has_names-positive.ensures ∙ c.if-positive.true)
-    (sym c.has_names-negative.ensures ∙ c.if-negative.true)
+pub returns-in-true-false : goal.returns-in-true-false
+returns-in-true-false c = one_is c.args.index.now c.args.position true false (sym c.in-true-false.ensures) (sym c.in-true-false.ensures')
 
-pub returns-else-negative : goal.returns-else-negative
-returns-else-negative c =
-    let given = c.args in
-    one_is given.index.now given.position true false (sym c.has_names-positive.ensures ∙ c.if-positive.true)
-    (sym c.has_names-negative.ensures ∙ c.if-negative.false)
+pub returns-in-false-true : goal.returns-in-false-true
+returns-in-false-true c = one_is c.args.index.now c.args.position false true (sym c.in-false-true.ensures) (sym c.in-false-true.ensures')
 
-pub returns-then-negative-2 : goal.returns-then-negative-2
-returns-then-negative-2 c =
-    let given = c.args in
-    one_is given.index.now given.position false true (sym c.has_names-positive.ensures ∙ c.if-positive.false)
-    (sym c.has_names-negative.ensures ∙ c.if-negative-2.true)
+pub returns-in_default : goal.returns-in_default
+returns-in_default c = one_is c.args.index.now c.args.position true true (sym c.in_default.ensures) (sym c.in_default.ensures')
 
-pub returns-else-negative-2 : goal.returns-else-negative-2
-returns-else-negative-2 c =
-    let given = c.args in
-    one_is given.index.now given.position false false (sym c.has_names-positive.ensures ∙ c.if-positive.false)
-    (sym c.has_names-negative.ensures ∙ c.if-negative-2.false)
+pub returns-in_default-2 : goal.returns-in_default-2
+returns-in_default-2 c = one_is c.args.index.now c.args.position false false (sym c.in_default.ensures) (sym c.in_default.ensures')

@@ -1,9 +1,7 @@
 -- `trimming::set_true` meets its contract.
 -- Assumes nothing.
-use borrow.Author.Rules.{rules}
 use native.Mathlib.Omega.{arith}
 use mathlib.Core.Path.{sym, ◌∙◌, ap}
-use Rattle.codes.specs.Codes.{opposite}
 use Rattle.trimming.proofs.CodeLaws.{opposite_bounds, opposite_other}
 use Rattle.index.specs.Occurrences.{listed}
 use Rattle.trimming.proofs.ThinLaws.{both_dropped}

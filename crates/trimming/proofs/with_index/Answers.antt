@@ -1,6 +1,5 @@
 -- `trimming::with_index` meets its contract.
 -- Assumes nothing.
-use borrow.Author.Rules.{rules}
 use native.Mathlib.Omega.{arith}
 use mathlib.Core.Path.{refl}
 use Rattle.trimming.proofs.LoopLaws.{first_index}

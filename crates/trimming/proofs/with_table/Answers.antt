@@ -1,6 +1,5 @@
 -- `trimming::with_table` meets its contract.
 -- Assumes nothing.
-use borrow.Author.Rules.{rules}
 use Rattle.trimming.proofs.with_table.Goals as goal
 
 pub over_table-requires : goal.over_table-requires

@@ -20,5 +20,4 @@ returns-then-name-kinds c = sym (ap (λ (y : ℕ). not (eqb y 0)) (kind_past c.a
 pub returns : goal.returns
 unfolding is_universal
 returns c =
-    let given = c.args in
-    sym (ap (λ (y : ℕ). not (eqb y 0)) (kind_named given.kinds.now (given.code / 2) (omega arith)))
+    rw c.from-name.ensures (sym (ap (λ (y : ℕ). not (eqb y 0)) (kind_named c.args.kinds.now (c.args.code / 2) (omega arith))))

@@ -9,7 +9,7 @@ use Rattle.trimming_marks.proofs.note_one.Goals as goal
 
 pub returns-then-code-lt-CODES : goal.returns-then-code-lt-CODES
 unfolding noted_one
-returns-then-code-lt-CODES c = rw (lt-ltb c.args.x (last_code + 1) (omega arith))
+returns-then-code-lt-CODES c = rw (c.from-code.ensures, lt-ltb c.args.x (last_code + 1) (omega arith))
 
 pub returns-else-code-lt-CODES : goal.returns-else-code-lt-CODES
 unfolding noted_one

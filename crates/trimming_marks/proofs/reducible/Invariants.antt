@@ -1,14 +1,10 @@
 -- `trimming_marks::reducible` meets its contract. The loop's invariant: `low` is what the entries passed give.
 -- Assumes nothing.
-use Prim.Native.Nat.{◌-◌}
 use mathlib.Core.Path.{◌≡◌}
-use lib.ListN.{length, drop}
+use lib.ListN.{drop}
 use Rattle.trimming_marks.specs.Marks.{first_clause, reducible_from}
 use Rattle.trimming_marks.proofs.reducible.Given as goal
 
 abbrev pub invariant-loop-i : goal.invariant-loop-i
 invariant-loop-i l =
     reducible_from l.kinds 2 (first_clause (drop l.start l.table)) ≡ reducible_from l.kinds l.low (first_clause (drop l.i l.table))
-
-abbrev pub decreases-loop-i : goal.decreases-loop-i
-decreases-loop-i l = length l.table - l.i

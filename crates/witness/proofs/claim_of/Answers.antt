@@ -3,7 +3,6 @@ use mathlib.Core.Path.{sym, ap, ◌∙◌}
 use mathlib.Core.Bool.{Bool}
 use lib.ListN.{get_or}
 use Rattle.witness.specs.File.{if_stands}
-use borrow.Author.Rules.{rules}
 use Rattle.witness.proofs.claim_of.Goals as goal
 
 pub returns-then-there : goal.returns-then-there

@@ -5,7 +5,6 @@ use mathlib.Core.Bool.{Bool}
 use native.Mathlib.Omega.{arith}
 use lib.ListN.{drop}
 use Rattle.witness.specs.File.{stands, has, if_stands, word, universal_at, universal_count, existential_at, existential_count}
-use borrow.Author.Rules.{rules}
 use Rattle.witness.proofs.layout_of.Goals as goal
 
 pub returns : goal.returns

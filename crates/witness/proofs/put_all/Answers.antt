@@ -8,7 +8,6 @@ use lib.ListN.{length}
 use Rattle.witness.specs.File.{stands, part, if_stands, two_bytes, rows_field}
 use Rattle.witness.specs.Private.Steps.{Put, head}
 use Rattle.witness.proofs.PutLaws.{length_part, length_head, length_rows_field, put_both}
-use borrow.Author.Rules.{rules}
 use Rattle.witness.proofs.put_all.Goals as goal
 
 pub put_head-a-requires : goal.put_head-a-requires

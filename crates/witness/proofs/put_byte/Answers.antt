@@ -7,7 +7,6 @@ use native.Mathlib.Omega.{arith}
 use lib.ListN.{length}
 use Rattle.witness.specs.File.{if_stands}
 use Rattle.witness.proofs.PutLaws.{put_there, put_absent, put_one}
-use borrow.Author.Rules.{rules}
 use Rattle.witness.proofs.put_byte.Goals as goal
 
 pub bounds-out-at : goal.bounds-out-at

@@ -8,7 +8,6 @@ use lib.ListN.{length}
 use Rattle.witness.specs.File.{stands, part, if_stands, two_bytes}
 use Rattle.witness.specs.Private.Steps.{Put}
 use Rattle.witness.proofs.PutLaws.{length_part, four, put_both}
-use borrow.Author.Rules.{rules}
 use Rattle.witness.proofs.put_head.Goals as goal
 
 pub put_byte-b-requires : goal.put_byte-b-requires

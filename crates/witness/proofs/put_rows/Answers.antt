@@ -9,7 +9,6 @@ use lib.Seq.{length-take-le}
 use Rattle.buffer.specs.Buffer.{appended, place_behind}
 use Rattle.witness.specs.File.{if_stands, two_bytes, rows_field}
 use Rattle.witness.proofs.PutLaws.{put_there, put_absent, put_both, put_appended}
-use borrow.Author.Rules.{rules}
 use Rattle.witness.proofs.put_rows.Goals as goal
 
 pub put_number-start-requires : goal.put_number-start-requires

@@ -5,7 +5,6 @@ use mathlib.Core.Bool.{Bool}
 use lib.ListN.{get_or, drop}
 use Rattle.witness.specs.File.{stands, if_stands, word, record_of}
 use Rattle.witness.proofs.RecordLaws.{same_record}
-use borrow.Author.Rules.{rules}
 use Rattle.witness.proofs.record_of.Goals as goal
 
 pub returns : goal.returns

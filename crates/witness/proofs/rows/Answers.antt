@@ -5,28 +5,22 @@ use mathlib.Core.Path.{◌≡◌, refl, sym, ap, ap₂, ◌∙◌}
 use mathlib.Core.Bool.{Bool, true, false}
 use native.Mathlib.Omega.{arith}
 use lib.ListN.{take, drop}
-use borrow.Author.Tests.{ne_eqb}
+use Rattle.std.specs.Result.{is_err}
 use Rattle.witness.specs.declared.Record.{Record}
 use Rattle.witness.specs.File.{stands, part, if_stands, has, record_of, file_cause, side_rows, rows_back, rows_start}
 use Rattle.witness.proofs.TestLaws.{pass, accepted}
+use Rattle.witness.proofs.NumberLaws.{no_cause, some_cause}
 use Rattle.witness.proofs.RowsLaws.{accepted_rows, accepted_start}
-use borrow.Author.Rules.{rules}
 use Rattle.witness.proofs.rows.Goals as goal
 
-pub record_of-record-requires : goal.record_of-record-requires
-record_of-record-requires c = c.layout_of-at.ensures
-
-pub file_cause-refusal-requires : goal.file_cause-refusal-requires
-file_cause-refusal-requires c = (c.layout_of-at.ensures.end, c.record_of-record.ensures)
-
-pub returns-then-refusal-gt0 : goal.returns-then-refusal-gt0
+pub returns-then-is_err : goal.returns-then-is_err
 unfolding rows_back rows_start
-returns-then-refusal-gt0 c =
+returns-then-is_err c =
     let given = c.args in
     let f = given.file.now in
-    let refused = ne_eqb (file_cause f) 0 (λ e. omega (arith, e, c.file_cause-refusal.ensures)) in record {
-      result_value = sym (pass (side_rows given.universal f) refused);
-      own = (refl, rw refused (omega arith));
+    let wrong = some_cause (file_cause f) tt (sym (ap is_err c.file_cause.ensures) ∙ sym c.is_err.ensures.value ∙ c.if-is_err.true) in record {
+      result_value = sym (pass (side_rows given.universal f) wrong);
+      own = (refl, rw wrong (omega arith));
     }
 
 pub rows_at-requires : goal.rows_at-requires
@@ -34,7 +28,7 @@ unfolding record_of
 rows_at-requires c =
     let record_of_call = c.record_of-record in
     let f = c.args.file.now in
-    let none : file_cause f ≡ 0 = omega (arith, c.file_cause-refusal.ensures) in
+    let none : file_cause f ≡ 0 = no_cause (file_cause f) tt (sym (ap is_err c.file_cause.ensures) ∙ sym c.is_err.ensures.value ∙ c.if-is_err.false) in
     let whole = (accepted f none).whole in
     let there : c.stands.result ≡ has 2 f = c.stands.ensures ∙ ap (λ (r : Record). stands 2 r.map) record_of_call.ensures in
     let width = ap₂ (λ (t : Bool) (r : Record). if_stands t (2 + 16 * r.universal)) there record_of_call.ensures in
@@ -47,7 +41,7 @@ returns-then-universal c =
     let f = given.file.now in
     let layout_of_call = c.layout_of-at in
     let record_of_call = c.record_of-record in
-    let none : file_cause f ≡ 0 = omega (arith, c.file_cause-refusal.ensures) in
+    let none : file_cause f ≡ 0 = no_cause (file_cause f) tt (sym (ap is_err c.file_cause.ensures) ∙ sym c.is_err.ensures.value ∙ c.if-is_err.false) in
     let asked = c.if-universal.true in
     let there : c.stands.result ≡ has 2 f = c.stands.ensures ∙ ap (λ (r : Record). stands 2 r.map) record_of_call.ensures in
     let bytes =
@@ -62,7 +56,7 @@ unfolding record_of
 rows_at-requires-2 c =
     let record_of_call = c.record_of-record in
     let f = c.args.file.now in
-    let none : file_cause f ≡ 0 = omega (arith, c.file_cause-refusal.ensures) in
+    let none : file_cause f ≡ 0 = no_cause (file_cause f) tt (sym (ap is_err c.file_cause.ensures) ∙ sym c.is_err.ensures.value ∙ c.if-is_err.false) in
     let whole = (accepted f none).whole in
     let there : c.stands-2.result ≡ has 3 f = c.stands-2.ensures ∙ ap (λ (r : Record). stands 3 r.map) record_of_call.ensures in
     let width = ap₂ (λ (t : Bool) (r : Record). if_stands t (2 + 16 * r.existential)) there record_of_call.ensures in
@@ -75,7 +69,7 @@ returns c =
     let f = given.file.now in
     let layout_of_call = c.layout_of-at in
     let record_of_call = c.record_of-record in
-    let none : file_cause f ≡ 0 = omega (arith, c.file_cause-refusal.ensures) in
+    let none : file_cause f ≡ 0 = no_cause (file_cause f) tt (sym (ap is_err c.file_cause.ensures) ∙ sym c.is_err.ensures.value ∙ c.if-is_err.false) in
     let asked = c.if-universal.false in
     let there : c.stands-2.result ≡ has 3 f = c.stands-2.ensures ∙ ap (λ (r : Record). stands 3 r.map) record_of_call.ensures in
     let bytes =

@@ -6,7 +6,6 @@ use mathlib.Core.List.{List}
 use native.Mathlib.Omega.{arith}
 use lib.ListN.{length, take, drop}
 use Rattle.witness.specs.File.{part, if_stands}
-use borrow.Author.Rules.{rules}
 use Rattle.witness.proofs.rows_at.Goals as goal
 
 pub slice_bounds-result-end : goal.slice_bounds-result-end

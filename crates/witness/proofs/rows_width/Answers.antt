@@ -3,7 +3,6 @@ use Prim.Native.Nat.{ℕ, ◌+◌, ◌*◌}
 use mathlib.Core.Path.{ap, ◌∙◌}
 use native.Mathlib.Omega.{arith}
 use Rattle.witness.specs.File.{if_stands}
-use borrow.Author.Rules.{rules}
 use Rattle.witness.proofs.rows_width.Goals as goal
 
 pub returns : goal.returns

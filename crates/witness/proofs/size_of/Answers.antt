@@ -4,7 +4,6 @@ use mathlib.Core.Path.{◌≡◌, ap, ◌∙◌}
 use mathlib.Core.Bool.{Bool}
 use native.Mathlib.Omega.{arith}
 use Rattle.witness.specs.File.{stands, if_stands}
-use borrow.Author.Rules.{rules}
 use Rattle.witness.proofs.size_of.Goals as goal
 
 pub returns : goal.returns

@@ -1,67 +1,64 @@
 -- `witness::write` meets its contract: the parts that are put make the file. Assumes nothing.
 use Prim.Native.Nat.{ℕ}
+use Rattle.std.specs.Prelude.{Ok}
+use Rattle.std.specs.Result.{is_err}
 use mathlib.Core.Path.{◌≡◌, sym, ap, ap₂, ◌∙◌}
 use mathlib.Core.List.{List, ◌++◌}
 use native.Mathlib.Omega.{arith}
 use lib.ListN.{length, drop}
-use borrow.Author.Tests.{eq-eqb, ne_eqb}
-use Rattle.witness.specs.declared.Record.{Record}
-use Rattle.witness.specs.declared.Written.{Written}
-use Rattle.witness.specs.declared.Written.TheVariants.{Length, Refused}
-use Rattle.witness.specs.File.{file, size, write_cause, writing, writing_number, length_written, written_length, out_after}
-use Rattle.witness.specs.RoundTrip.{RoundTrip}
+use borrow.Author.Tests.{eq-eqb}
+use Rattle.witness.specs.File.{file, size, write_cause, writing, writing_number, length_written, out_after}
 use Rattle.witness.specs.Private.Steps.{Fitting}
-use Rattle.witness.proofs.TestLaws.{stop, pass, write_taken}
+use Rattle.witness.proofs.TestLaws.{pass, stop, write_taken}
 use Rattle.witness.proofs.PutLaws.{fields_file, length_fields}
 use Rattle.witness.proofs.RoundTrip.{round_trip}
-use Rattle.witness.proofs.NumberLaws.{writing_numbered, writing_valued}
+use Rattle.witness.proofs.NumberLaws.{no_cause, some_cause, writing_numbered, writing_valued}
 use borrow.Author.Rules.{rules}
 use Rattle.witness.proofs.write.Goals as goal
 
-module _ (r : Record) (u e out : List ℕ) where
-  abbrev Promised : Written → List ℕ → Type 0
-  Promised w left =
-      (w ≡ writing r u e out)
-      × ((left ≡ out_after r u e out)
-      × ((writing_number w ≡ write_cause r u e (length out)) × ((length_written w ≡ written_length r u e out) × RoundTrip)))
+pub put_all-requires : goal.put_all-requires
+put_all-requires c =
+    let given = c.args in
+    let none = no_cause (write_cause given.«record» given.universal.now given.existential.now (length given.out.now)) tt
+    (sym (ap is_err (sym c.in_ok-write_cause.was ∙ c.write_cause.ensures))) in
+    (write_taken given.«record» given.universal.now given.existential.now (length given.out.now) none).fitting
 
-  so : (w : Written) (left : List ℕ) → w ≡ writing r u e out → left ≡ out_after r u e out → Promised w left
-  so w left same after =
-      (same, (after, (ap writing_number same ∙ writing_numbered r u e out, (ap length_written same ∙ writing_valued r u e out, round_trip))))
-
-pub returns-then-cause-ne0 : goal.returns-then-cause-ne0
+pub returns-in_err-write_cause : goal.returns-in_err-write_cause
 unfolding out_after
-returns-then-cause-ne0 c =
-    let at_entry_lem = c.args in
-    let write_cause_call = c.write_cause-cause in
-    let r = at_entry_lem.«record» in
-    let u = at_entry_lem.universal.now in
-    let e = at_entry_lem.existential.now in
-    let out = at_entry_lem.out.now in
-    let refused = ne_eqb (write_cause r u e (length out)) 0 (λ z. c.if-cause-ne0.true (write_cause_call.ensures ∙ z)) in
-    let both = so r u e out _ _ (ap Refused write_cause_call.ensures ∙ sym (pass (Length (size r)) refused))
-    (sym (pass (file r u e ++ drop (size r) out) refused)) in
-    record { value = both.0; out_after = both.1.0; numbered = both.1.1.0; valued = both.1.1.1.0; round_trip = both.1.1.1.1 }
-
-pub put_all-length-requires : goal.put_all-length-requires
-put_all-length-requires c =
-    let at_entry_lem = c.args in
-    (write_taken at_entry_lem.«record» at_entry_lem.universal.now at_entry_lem.existential.now (length at_entry_lem.out.now)
-    (sym c.write_cause-cause.ensures ∙ c.if-cause-ne0.false)).fitting
+returns-in_err-write_cause c =
+    let given = c.args in
+    let r = given.«record» in
+    let u = given.universal.now in
+    let e = given.existential.now in
+    let out = given.out.now in
+    let value : c.from_residual.result ≡ writing r u e out = search rules in
+    let refused = some_cause (write_cause r u e (length out)) tt (sym (ap is_err (sym c.in_err-write_cause.was ∙ c.write_cause.ensures))) in
+    record {
+      value = value;
+      out_after = sym (pass (file r u e ++ drop (size r) out) refused);
+      numbered = ap writing_number value ∙ writing_numbered r u e out;
+      valued = ap length_written value ∙ writing_valued r u e out;
+      round_trip = round_trip;
+    }
 
 pub returns : goal.returns
 unfolding out_after
 returns c =
-    let at_entry_lem = c.args in
-    let put_all_call = c.put_all-length in
-    let r = at_entry_lem.«record» in
-    let u = at_entry_lem.universal.now in
-    let e = at_entry_lem.existential.now in
-    let out = at_entry_lem.out.now in
-    let none = sym c.write_cause-cause.ensures ∙ c.if-cause-ne0.false in
+    let given = c.args in
+    let r = given.«record» in
+    let u = given.universal.now in
+    let e = given.existential.now in
+    let out = given.out.now in
+    let none = no_cause (write_cause r u e (length out)) tt (sym (ap is_err (sym c.in_ok-write_cause.was ∙ c.write_cause.ensures))) in
     let taken = eq-eqb (write_cause r u e (length out)) 0 none in
     let fitting : Fitting r u e (length out) = (write_taken r u e (length out) none).fitting in
-    let place : put_all_call.result ≡ size r = omega (arith, put_all_call.ensures.place, length_fields r u e (length out) fitting) in
-    let both = so r u e out _ _ (ap Length place ∙ sym (stop (Refused (write_cause r u e (length out))) taken))
-    (put_all_call.ensures.whole ∙ ap₂ (λ (l : List ℕ) (k : ℕ). l ++ drop k out) (fields_file r u e) place ∙ sym (stop out taken)) in
-    record { value = both.0; out_after = both.1.0; numbered = both.1.1.0; valued = both.1.1.1.0; round_trip = both.1.1.1.1 }
+    let place : c.put_all.result ≡ size r = omega (arith, c.put_all.ensures.place, length_fields r u e (length out) fitting) in
+    let value : Ok c.put_all.result ≡ writing r u e out = ap Ok place ∙ sym (stop _ taken) in
+    record {
+      value = value;
+      out_after =
+          c.put_all.ensures.whole ∙ ap₂ (λ (l : List ℕ) (k : ℕ). l ++ drop k out) (fields_file r u e) place ∙ sym (stop out taken);
+      numbered = ap writing_number value ∙ writing_numbered r u e out;
+      valued = ap length_written value ∙ writing_valued r u e out;
+      round_trip = round_trip;
+    }

@@ -1,6 +1,5 @@
 -- The fields of the side that settled a formula. Assumes nothing.
 use mathlib.Core.Path.{refl}
-use borrow.Author.Rules.{rules}
 use Rattle.witness_writing.proofs.record_of.Goals as goal
 
 pub returns-then-value : goal.returns-then-value

@@ -3,7 +3,6 @@ use mathlib.Core.Path.{refl}
 use mathlib.Core.List.{[]}
 use Rattle.witness_writing.proofs.WriteLaws.{nothing_put}
 use Rattle.witness_writing.proofs.WitnessRight.{witness_right, told_put}
-use borrow.Author.Rules.{rules}
 use Rattle.witness_writing.proofs.write.Goals as goal
 
 pub returns-in-True : goal.returns-in-True

@@ -2,7 +2,6 @@
 use mathlib.Core.Path.{sym, ◌∙◌}
 use Rattle.witness_writing.specs.WitnessFile.{file_of}
 use Rattle.witness_writing.proofs.WriteLaws.{nothing_put, fitting_file, no_file, each_fits, record_put}
-use borrow.Author.Rules.{rules}
 use Rattle.witness_writing.proofs.write_side.Goals as goal
 
 pub returns-else-fit : goal.returns-else-fit

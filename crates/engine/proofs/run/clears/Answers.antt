@@ -1,5 +1,4 @@
 -- `run::clears` meets its contract. Assumes nothing.
-use borrow.Author.Rules.{rules}
 use Rattle.engine.proofs.run.ClearingLaws.{never_clears, clears_divided}
 use Rattle.engine.proofs.run.clears.Goals as goal
 

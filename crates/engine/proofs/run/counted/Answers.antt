@@ -1,7 +1,6 @@
 -- `run::counted` meets its contract. Assumes nothing.
 use mathlib.Core.Path.{sym, ◌∙◌}
 use Rattle.engine.specs.Outcome.{tables_counted}
-use borrow.Author.Rules.{rules}
 use Rattle.engine.proofs.run.counted.Goals as goal
 
 pub returns-then-counts_fit : goal.returns-then-counts_fit

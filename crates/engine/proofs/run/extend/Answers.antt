@@ -1,21 +1,19 @@
 -- `run::extend` meets its contract. Assumes nothing.
 use mathlib.Core.Path.{ap, ◌∙◌}
-use Rattle.growth.specs.declared.Growth.{Growth}
 use Rattle.engine.specs.Private.Growing.{step_of}
 use Rattle.engine.proofs.run.ExtendLaws.{no_model_extended, model_extended}
 use Rattle.engine.proofs.run.CountingLaws.{packs}
-use borrow.Author.Rules.{rules}
 use Rattle.engine.proofs.run.extend.Goals as goal
 
-pub returns-else-finds : goal.returns-else-finds
-returns-else-finds c =
+pub returns-then-not-finds : goal.returns-then-not-finds
+returns-then-not-finds c =
     let finds_call = c.finds in
     let given = c.args in record {
       over = λ literals of led from t from_found found found_marks passes counted counted_t held held_t long.
           no_model_extended given.kinds.now literals given.preferences.now given.others.now given.other_count given.universal
           given.work.now from from_found passes counted held long
           given.mark given.rows.now given.marks.now given.count t found found_marks counted_t held_t
-          _ _ (finds_call.ensures.over literals of led) (finds_call.ensures.over_2 literals of led) c.if-finds.false;
+          _ _ (finds_call.ensures.over literals of led) (finds_call.ensures.over_2 literals of led) c.if-not-finds.true;
       over_2 = λ literals of led. packs given.kinds.now literals given.preferences.now given.others.now given.other_count given.universal
           given.work.now _ (finds_call.ensures.over_2 literals of led);
     }
@@ -29,8 +27,8 @@ returns c =
           model_extended given.kinds.now literals given.preferences.now given.others.now given.other_count given.universal given.work.now
           from from_found passes counted held long
           given.mark given.rows.now given.marks.now given.count t found found_marks counted_t held_t
-          _ _ (finds_call.ensures.over literals of led) (finds_call.ensures.over_2 literals of led) c.if-finds.true
-          _ _ _ (c.after_growth.ensures ∙ ap (λ (g : Growth). step_of g given.count) grow_call.ensures.value) grow_call.ensures.rows_after
+          _ _ (finds_call.ensures.over literals of led) (finds_call.ensures.over_2 literals of led) c.if-not-finds.false
+          _ _ _ (c.after_growth.ensures ∙ ap step_of grow_call.ensures.value) grow_call.ensures.rows_after
           grow_call.ensures.marks_after;
       over_2 = λ literals of led. packs given.kinds.now literals given.preferences.now given.others.now given.other_count given.universal
           given.work.now _ (finds_call.ensures.over_2 literals of led);

@@ -1,7 +1,6 @@
 -- `run::fits` meets its contract. Assumes nothing.
 use mathlib.Core.Path.{sym, ◌∙◌}
 use Rattle.engine.specs.Outcome.{tables_fit}
-use borrow.Author.Rules.{rules}
 use Rattle.engine.proofs.run.fits.Goals as goal
 
 pub returns-then-side_fits : goal.returns-then-side_fits

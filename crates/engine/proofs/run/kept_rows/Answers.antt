@@ -1,7 +1,6 @@
 -- `run::kept_rows` meets its contract. Assumes nothing.
 use mathlib.Core.Path.{sym, ap, ◌∙◌}
 use mathlib.Core.Bool.{Bool, cond}
-use borrow.Author.Rules.{rules}
 use Rattle.engine.proofs.run.kept_rows.Goals as goal
 
 pub returns-then-clears : goal.returns-then-clears

@@ -1,6 +1,5 @@
 -- `one_number` meets its contract: the sum fits, and the case's number is the definition's. Assumes nothing.
 use mathlib.Core.Path.{sym, ap}
-use borrow.Author.Rules.{rules}
 use Rattle.engine.specs.Numbers.{one_number}
 use Rattle.engine.proofs.run.one_number.Goals as goal
 

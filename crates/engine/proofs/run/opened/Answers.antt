@@ -1,5 +1,4 @@
 -- `run::opened` meets its contract. Assumes nothing.
-use borrow.Author.Rules.{rules}
 use Rattle.engine.proofs.run.OpeningLaws.{opened_met}
 use Rattle.engine.proofs.run.opened.Goals as goal
 

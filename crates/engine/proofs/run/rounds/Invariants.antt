@@ -1,44 +1,30 @@
 -- `run::rounds` meets its contract. The loop's invariant: for the tables as they were lent, the rounds made so far are finished, and the
--- tables and their counts hold what they made; and no length has changed. Assumes nothing.
-use Prim.Native.Nat.{ℕ, ◌-◌}
-use mathlib.Core.Path.{◌≡◌, refl, ◌∙◌}
+-- tables and their counts hold what they made. Assumes nothing.
+use Prim.Native.Nat.{ℕ}
+use mathlib.Core.Path.{◌≡◌}
 use mathlib.Core.List.{List}
-use native.Mathlib.Omega.{arith}
-use borrow.Author.Rules.{rules}
-use lib.ListN.{length, replicate, length-take, length-replicate}
-use Rattle.formula.specs.Formula.{max_entries}
+use lib.ListN.{replicate}
 use Rattle.preference.specs.Preference.{prefer}
 use Rattle.rows.specs.Access.{rows_written, marks_written}
-use Rattle.engine.specs.Private.Prepared.{index_size, table_size}
-use Rattle.engine.proofs.search.PreparedLaws.{used_within}
 use Rattle.growth.specs.Growth.{with_preferred}
 use Rattle.counts.specs.Counts.{filled}
 use Rattle.engine.specs.Outcome.{areas, given}
 use Rattle.engine.specs.Private.Growing.{Ready}
 use Rattle.engine.specs.Private.Counting.{CountsShow}
-use Rattle.engine.proofs.run.LoopLaws.{Going, fresh_going, number_in_marks, run_stopped, run_stopped_back, round_made, run_spent}
-use Rattle.engine.proofs.run.RoundCounts.{fresh_counts, counts_stopped, counts_stopped_back, counts_made, counts_spent}
-use Rattle.engine.proofs.run.FirstBlockLaws.{known_s, known_a}
+use Rattle.engine.proofs.run.LoopLaws.{Going}
 use Rattle.engine.proofs.run.rounds.Given as goal
 
 abbrev pub invariant-loop-made : goal.invariant-loop-made
 invariant-loop-made l =
-    ((a_found a_marks_found a_counts_found : List ℕ)
+    (a_found a_marks_found a_counts_found : List ℕ)
     → l.initial.universal_rows ≡ rows_written a_found a_marks_found 0 (with_preferred (prefer l.preferences) l.universals (replicate 16 0)) 0
     → l.initial.universal_marks ≡ marks_written a_found a_marks_found 0 (with_preferred (prefer l.preferences) l.universals (replicate 16 0)) 0 0
     → l.initial.universal_counts ≡ filled 0 1 0 a_counts_found
-    → Ready l.kinds l.literals a_found a_marks_found a_counts_found l.initial.existential_rows l.initial.existential_marks l.initial.existential_counts l.initial.work l.universals
-    → Going (given l.kinds l.literals l.preferences (areas a_found a_marks_found a_counts_found l.initial.existential_rows l.initial.existential_marks l.initial.existential_counts l.initial.work) l.limit
+    → Ready l.kinds l.literals a_found a_marks_found a_counts_found l.initial.existential_rows l.initial.existential_marks l.initial.existential_counts
+    l.initial.work l.universals
+    → Going (given l.kinds l.literals l.preferences (areas a_found a_marks_found a_counts_found l.initial.existential_rows l.initial.existential_marks
+    l.initial.existential_counts l.initial.work) l.limit
     l.clear_every) l.made l.universal l.existential l.universal_rows l.universal_marks l.existential_rows l.existential_marks l.work
-    × CountsShow (given l.kinds l.literals l.preferences (areas a_found a_marks_found a_counts_found l.initial.existential_rows l.initial.existential_marks l.initial.existential_counts l.initial.work)
-    l.limit l.clear_every) l.made l.universal_counts l.existential_counts)
-    × (length l.universal_rows ≡ length l.initial.universal_rows)
-    × (length l.universal_marks ≡ length l.initial.universal_marks)
-    × (length l.universal_counts ≡ length l.initial.universal_counts)
-    × (length l.existential_rows ≡ length l.initial.existential_rows)
-    × (length l.existential_marks ≡ length l.initial.existential_marks)
-    × (length l.existential_counts ≡ length l.initial.existential_counts)
-    × (length l.work ≡ length l.initial.work)
-
-abbrev pub decreases-loop-made : goal.decreases-loop-made
-decreases-loop-made l = l.limit - l.made
+    × CountsShow (given l.kinds l.literals l.preferences (areas a_found a_marks_found a_counts_found l.initial.existential_rows l.initial.existential_marks
+    l.initial.existential_counts l.initial.work)
+    l.limit l.clear_every) l.made l.universal_counts l.existential_counts

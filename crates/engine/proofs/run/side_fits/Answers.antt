@@ -1,7 +1,6 @@
 -- `run::side_fits` meets its contract. Assumes nothing.
 use Rattle.engine.specs.Outcome.{side_fits}
 use mathlib.Core.Path.{sym, ◌∙◌}
-use borrow.Author.Rules.{rules}
 use Rattle.engine.proofs.run.side_fits.Goals as goal
 
 pub returns-then-table_fits : goal.returns-then-table_fits

@@ -1,16 +1,8 @@
 -- The word without its minus sign. Assumes nothing.
 use mathlib.Core.Path.{ap, sym, ◌∙◌}
-use native.Mathlib.Omega.{arith}
 use Rattle.lines.specs.Numbers.{number}
-use Rattle.lines.proofs.Words.{minus_inside, unsigned_minus, unsigned_plain}
-use borrow.Author.Rules.{rules}
+use Rattle.lines.proofs.Words.{unsigned_minus, unsigned_plain}
 use Rattle.lines.proofs.numbers.magnitude.Goals as goal
-
-pub slice_bounds-number-count : goal.slice_bounds-number-count
-slice_bounds-number-count c = omega (arith, minus_inside c.args.word.now (sym c.negative.ensures ∙ c.if-negative.true))
-
-pub slice_bounds-number-start : goal.slice_bounds-number-start
-slice_bounds-number-start c = omega (arith, minus_inside c.args.word.now (sym c.negative.ensures ∙ c.if-negative.true))
 
 pub returns-then-negative : goal.returns-then-negative
 returns-then-negative c = c.number.ensures ∙ ap number (unsigned_minus c.args.word.now

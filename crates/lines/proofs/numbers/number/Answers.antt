@@ -2,7 +2,6 @@
 use mathlib.Core.Path.{sym, ◌∙◌}
 use native.Mathlib.Omega.{arith}
 use Rattle.lines.proofs.Words.{number_short, number_long, number_single, number_leading, number_decimal}
-use borrow.Author.Rules.{rules}
 use Rattle.lines.proofs.numbers.number.Goals as goal
 
 pub returns-then-n-lt1 : goal.returns-then-n-lt1

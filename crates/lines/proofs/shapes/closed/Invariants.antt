@@ -1,14 +1,10 @@
 -- The words from `at` on are closed by zero if those from i on are. Assumes nothing.
-use Prim.Native.Nat.{◌-◌, ◌≤◌, ◌<◌}
-use mathlib.Core.Path.{◌≡◌, refl, ap, sym, ◌∙◌}
-use native.Mathlib.Omega.{arith}
-use borrow.Author.Rules.{rules}
-use lib.ListN.{length, take, drop}
+use Prim.Native.Nat.{◌-◌, ◌≤◌}
+use mathlib.Core.Path.{◌≡◌}
+use lib.ListN.{length, drop}
 use Rattle.lines.specs.Lines.{words}
 use Rattle.lines.specs.Shapes.{closed_by_zero}
 use Rattle.lines.specs.Shapes.{good_word}
-use Rattle.lines.proofs.Pieces.{words_none}
-use Rattle.lines.proofs.ShapeLaws.{next_empty, closed_zero, closed_bad, closed_more}
 use Rattle.lines.proofs.shapes.closed.Given as goal
 
 abbrev pub invariant-loop-at : goal.invariant-loop-at

@@ -1,7 +1,6 @@
 -- Assumes nothing.
 use mathlib.Core.Path.{refl, sym, ◌∙◌}
 use Rattle.lines.specs.Shapes.{is_clause}
-use borrow.Author.Rules.{rules}
 use Rattle.lines.proofs.shapes.is_clause.Goals as goal
 
 pub returns-then-is_trimmed : goal.returns-then-is_trimmed

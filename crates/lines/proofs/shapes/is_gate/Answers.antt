@@ -1,7 +1,6 @@
 -- Assumes nothing.
 use mathlib.Core.Path.{◌≡◌, refl, ap, sym, ◌∙◌}
 use mathlib.Core.Bool.{true, false}
-use borrow.Author.Rules.{rules}
 use Rattle.lines.specs.Lines.{words, first, same}
 use Rattle.lines.specs.Shapes.{xor_word, has_three, is_gate}
 use Rattle.lines.proofs.ShapeLaws.{taken_word}

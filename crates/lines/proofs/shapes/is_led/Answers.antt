@@ -5,7 +5,6 @@ use Rattle.lines.specs.Lines.{words, first, second}
 use Rattle.lines.specs.Numbers.{is_name}
 use Rattle.lines.specs.Shapes.{is_trimmed, leads, is_led, closed_by_zero, good_word}
 use Rattle.lines.proofs.ShapeLaws.{taken_word}
-use borrow.Author.Rules.{rules}
 use Rattle.lines.proofs.shapes.is_led.Goals as goal
 
 pub returns-else-is_trimmed : goal.returns-else-is_trimmed

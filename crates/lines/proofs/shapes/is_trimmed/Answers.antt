@@ -5,7 +5,6 @@ use borrow.Author.Tests.{ne_eqb}
 use lib.ListN.{length, get_or, get_or-eq_default}
 use Rattle.lines.specs.Shapes.{is_trimmed}
 use Prim.Native.Nat.{◌-◌}
-use borrow.Author.Rules.{rules}
 use Rattle.lines.proofs.shapes.is_trimmed.Goals as goal
 
 pub returns-then-n-eq0 : goal.returns-then-n-eq0

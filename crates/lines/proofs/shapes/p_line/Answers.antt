@@ -4,7 +4,6 @@ use Rattle.lines.specs.Lines.{words, first, second, same}
 use Rattle.lines.specs.Numbers.{number, unsigned, negative}
 use Rattle.lines.specs.Shapes.{is_problem, ends_problem, is_trimmed, p_word, form_word}
 use Rattle.lines.proofs.ShapeLaws.{taken_word, whole_problem}
-use borrow.Author.Rules.{rules}
 use Rattle.lines.proofs.shapes.p_line.Goals as goal
 
 pub returns : goal.returns

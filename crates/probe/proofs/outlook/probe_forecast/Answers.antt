@@ -2,7 +2,6 @@
 use mathlib.Core.Path.{ap, ◌∙◌}
 use Rattle.forecast.specs.Outcome.{universal_copies, existential_copies}
 use Rattle.probe.specs.Outlook.{outlook_number}
-use borrow.Author.Rules.{rules}
 use Rattle.probe.proofs.outlook.probe_forecast.Goals as goal
 
 pub returns : goal.returns

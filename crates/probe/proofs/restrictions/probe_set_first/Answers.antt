@@ -1,5 +1,4 @@
 -- `probe::restrictions::probe_set_first` meets its contract. Assumes nothing.
-use borrow.Author.Rules.{rules}
 use mathlib.Core.Path.{ap, ◌∙◌}
 use Rattle.restriction.specs.Outcome.{used}
 use Rattle.probe.specs.Restrictions.{set_number}

@@ -2,7 +2,6 @@
 use mathlib.Core.Path.{ap, ◌∙◌}
 use Rattle.probe.specs.TextReader.{text_number, text_told}
 use Rattle.probe.specs.declared.text_reader.Told.{Told}
-use borrow.Author.Rules.{rules}
 use Rattle.probe.proofs.text_reader.probe_read_gates.Goals as goal
 
 pub returns : goal.returns

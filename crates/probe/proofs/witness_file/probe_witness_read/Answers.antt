@@ -1,7 +1,6 @@
 -- `probe::witness_file::probe_witness_read` meets its contract. Assumes nothing.
 use mathlib.Core.Path.{ap, ◌∙◌}
 use Rattle.probe.specs.WitnessFile.{reading_number, record_told}
-use borrow.Author.Rules.{rules}
 use Rattle.probe.proofs.witness_file.probe_witness_read.Goals as goal
 
 pub returns : goal.returns

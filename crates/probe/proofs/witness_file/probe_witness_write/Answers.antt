@@ -1,7 +1,6 @@
 -- `probe::witness_file::probe_witness_write` meets its contract. Assumes nothing.
 use mathlib.Core.Path.{ap, ◌∙◌}
 use Rattle.probe.specs.WitnessFile.{writing_number, length_told}
-use borrow.Author.Rules.{rules}
 use Rattle.probe.proofs.witness_file.probe_witness_write.Goals as goal
 
 pub returns : goal.returns

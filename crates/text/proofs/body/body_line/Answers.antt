@@ -1,17 +1,8 @@
 -- A line is a prefix line, a clause or gate line, or refused. Assumes nothing.
 use mathlib.Core.Path.{refl, sym, ◌∙◌}
-use native.Mathlib.Omega.{arith}
-use Rattle.lines.specs.Shapes.{is_prefix}
 use Rattle.text.specs.Private.Steps.{held}
-use Rattle.text.proofs.BodyLaws.{resized, none_read, marked_bound, body_prefix, body_none, gate_shape, gate_item, clause_item}
-use borrow.Author.Rules.{rules}
+use Rattle.text.proofs.BodyLaws.{resized, body_prefix, body_none, gate_item, clause_item}
 use Rattle.text.proofs.body.body_line.Goals as goal
-
-pub prefix_line-requires : goal.prefix_line-requires
-prefix_line-requires c =
-    let z = c.requires.0 in
-    let none = z.unread (none_read c.args.c.clauses_read (is_prefix c.args.line.now) (sym c.binds.ensures ∙ c.if-binds.true)) in
-    (z.kinds, z.names, omega (arith, z.unknowns), none, z.variables, marked_bound c.args.c.bound c.args.c.free c.args.names.now none c.requires.1)
 
 pub returns-then-binds : goal.returns-then-binds
 unfolding held
@@ -21,15 +12,9 @@ pub returns-else-is_item : goal.returns-else-is_item
 unfolding held
 returns-else-is_item c = rw (body_none c.args.gates (held c.args.c c.args.kinds.now c.args.names.now c.args.literals.now) c.args.line.now (sym c.binds.ensures ∙ c.if-binds.false) (sym c.is_item.ensures ∙ c.if-is_item.false)) (record { sized = resized refl refl refl refl refl refl c.requires.0; marked = c.requires.1; line = refl; free = λ _. refl; right = refl })
 
-pub gate_line-requires : goal.gate_line-requires
-gate_line-requires c = (c.requires.0, c.requires.1, c.requires.2 c.if-gates.true, gate_shape c.args.gates c.args.line.now c.if-gates.true (sym c.is_item.ensures ∙ c.if-is_item.true))
-
 pub returns-then-gates : goal.returns-then-gates
 unfolding held
 returns-then-gates c = gate_item c.args.gates c.if-gates.true (held c.args.c c.args.kinds.now c.args.names.now c.args.literals.now) c.args.line.now (sym c.binds.ensures ∙ c.if-binds.false) (sym c.is_item.ensures ∙ c.if-is_item.true) c.gate_line.ensures
-
-pub clause_line-requires : goal.clause_line-requires
-clause_line-requires c = let z = c.requires.0 in (z.literals, z.names, z.variables, z.unknowns, z.entries, c.requires.1)
 
 pub returns : goal.returns
 unfolding held

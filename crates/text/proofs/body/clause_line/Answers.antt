@@ -8,7 +8,6 @@ use lib.ListN.{take}
 use Rattle.text.specs.Reading.{clause_line, with_entries}
 use Rattle.text.specs.Private.Steps.{free_in, held}
 use Rattle.text.proofs.BodyLaws.{resized, clause_read_unless}
-use borrow.Author.Rules.{rules}
 use Rattle.text.proofs.body.clause_line.Goals as goal
 
 pub returns-then-c : goal.returns-then-c

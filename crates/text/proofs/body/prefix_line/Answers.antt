@@ -5,7 +5,6 @@ use native.Mathlib.Omega.{arith}
 use lib.ListN.{take}
 use Rattle.text.specs.Reading.{State, prefix_line, kind_of_word, bind_all}
 use Rattle.text.specs.Private.Steps.{held}
-use borrow.Author.Rules.{rules}
 use Rattle.text.proofs.body.prefix_line.Goals as goal
 
 pub returns : goal.returns

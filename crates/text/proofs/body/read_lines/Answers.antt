@@ -1,24 +1,17 @@
 -- The lines from `at` on, read after what is held, give what those behind the p line give. Assumes nothing.
-use Prim.Native.Nat.{◌+◌, ◌-◌, ◌^◌, ◌≤◌, ◌<◌}
-use mathlib.Core.Path.{◌≡◌, refl, sym, ◌∙◌}
-use mathlib.Core.Bool.{true}
+use Prim.Native.Nat.{◌<◌}
+use mathlib.Core.Path.{refl, sym, ◌∙◌}
 use native.Mathlib.Omega.{arith}
 use native.Mathlib.Numerals.{add-one}
 use borrow.Author.Tests.{eq-eqb, ne_eqb}
-use borrow.Author.Rules.{rules}
 use lib.ListN.{length, drop, length-drop}
 use Rattle.named.specs.Named.{max_places}
-use Rattle.lines.specs.Lines.{lines}
-use Rattle.text.specs.Reading.{body}
-use Rattle.text.specs.Private.Steps.{Marked, placed_in, Sized, items_at, fresh, held, outcome}
+use Rattle.text.specs.Private.Steps.{fresh, held, outcome}
 use Rattle.lines.proofs.Spans.{before_le}
 use Rattle.lines.proofs.LineLaws.{lines_line, lines_rest, lines_none}
 use Rattle.text.proofs.Places.{marked_none}
 use Rattle.text.proofs.BodyLaws.{resized, marked_bound, settled_refused, items_gates}
 use Rattle.text.proofs.body.read_lines.Goals as goal
-
-pub overflow_add-s : goal.overflow_add-s
-overflow_add-s c = omega (arith, c.requires.at_in_bounds.0, c.requires.at_in_bounds.1, c.well_formed.0)
 
 pub loop-at-init : goal.loop-at-init
 loop-at-init c =
@@ -28,17 +21,8 @@ pub returns-then-end-text : goal.returns-then-end-text
 unfolding outcome held fresh
 returns-then-end-text c = record { sized = resized refl refl refl refl refl refl c.loop-at.invariant.3; right = sym (c.loop-at.invariant.4 ∙ rw (lines_rest c.args.text.now c.loop-at.at c.find-end.result c.find-end.ensures c.loop-at-test.true c.if-end-text.true) refl) }
 
-pub slice_bounds-body_line-count : goal.slice_bounds-body_line-count
-slice_bounds-body_line-count c = omega arith
-
-pub slice_bounds-body_line-start : goal.slice_bounds-body_line-start
-slice_bounds-body_line-start c = omega arith
-
 pub slice_bounds-body_line-end : goal.slice_bounds-body_line-end
 slice_bounds-body_line-end c = omega (arith, before_le 10 (drop c.loop-at.at c.args.text.now), length-drop c.loop-at.at c.args.text.now)
-
-pub body_line-s-requires : goal.body_line-s-requires
-body_line-s-requires c = (c.loop-at.invariant.3, c.loop-at.invariant.5, c.loop-at.invariant.6)
 
 pub returns-then-s-ne0 : goal.returns-then-s-ne0
 unfolding outcome held fresh
@@ -49,19 +33,6 @@ returns-then-s-ne0 c =
       right = sym (c.loop-at.invariant.4 ∙ rw (lines_line c.args.text.now c.loop-at.at c.find-end.result c.find-end.ensures inside, items_gates c.args.gates c.args.o.negative c.args.o.output c.args.o.line, ← c.body_line-s.ensures.right, c.body_line-s.ensures.line) (settled_refused c.body_line-s.result.cause c.if-s-ne0.true _ _ _ _));
     }
 
-pub overflow_add-at : goal.overflow_add-at
-overflow_add-at c = omega (arith, before_le 10 (drop c.loop-at.at c.args.text.now), length-drop c.loop-at.at c.args.text.now, c.well_formed.0)
-
-pub overflow_add-s-in-loop-at : goal.overflow_add-s-in-loop-at
-overflow_add-s-in-loop-at c =
-    let f : c.body_line-s.result.line + 1 < 2 ^ 64 = omega (arith, c.body_line-s.ensures.line, c.loop-at.invariant.1, c.loop-at-test.true, c.well_formed.0) in
-    record { fits = f }
-
-pub loop-at-smaller : goal.loop-at-smaller
-loop-at-smaller c =
-    let inside : c.find-end.result < length c.args.text.now = omega (arith, before_le 10 (drop c.loop-at.at c.args.text.now), length-drop c.loop-at.at c.args.text.now) in
-    omega arith
-
 pub loop-at-preserved : goal.loop-at-preserved
 unfolding held
 loop-at-preserved c =
@@ -71,9 +42,6 @@ loop-at-preserved c =
 pub returns-then-s : goal.returns-then-s
 unfolding outcome held fresh
 returns-then-s c = record { sized = resized refl refl refl refl refl refl c.loop-at.invariant.3; right = sym (c.loop-at.invariant.4 ∙ rw (lines_none c.args.text.now c.loop-at.at c.loop-at-test.false, ne_eqb c.loop-at.s.clauses_read c.loop-at.s.clauses c.if-s.true) refl) }
-
-pub add_output-requires : goal.add_output-requires
-add_output-requires c = let z = c.loop-at.invariant.3 in (z.literals, z.entries, z.made, c.requires.at_in_bounds.3 c.if-gates.true)
 
 pub returns-then-gates : goal.returns-then-gates
 unfolding held fresh

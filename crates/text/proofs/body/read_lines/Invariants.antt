@@ -1,20 +1,11 @@
 -- The lines from `at` on, read after what is held, give what those behind the p line give. Assumes nothing.
-use Prim.Native.Nat.{◌+◌, ◌-◌, ◌^◌, ◌≤◌, ◌<◌}
-use mathlib.Core.Path.{◌≡◌, refl, sym, ◌∙◌}
+use Prim.Native.Nat.{◌+◌, ◌-◌, ◌≤◌}
+use mathlib.Core.Path.{◌≡◌}
 use mathlib.Core.Bool.{true}
-use native.Mathlib.Omega.{arith}
-use native.Mathlib.Numerals.{add-one}
-use borrow.Author.Tests.{eq-eqb, ne_eqb}
-use borrow.Author.Rules.{rules}
-use lib.ListN.{length, drop, length-drop}
-use Rattle.named.specs.Named.{max_places}
+use lib.ListN.{length, drop}
 use Rattle.lines.specs.Lines.{lines}
 use Rattle.text.specs.Reading.{body}
-use Rattle.text.specs.Private.Steps.{Marked, placed_in, Sized, items_at, fresh, held, outcome}
-use Rattle.lines.proofs.Spans.{before_le}
-use Rattle.lines.proofs.LineLaws.{lines_line, lines_rest, lines_none}
-use Rattle.text.proofs.Places.{marked_none}
-use Rattle.text.proofs.BodyLaws.{resized, marked_bound, settled_refused, items_gates}
+use Rattle.text.specs.Private.Steps.{Marked, placed_in, Sized, items_at, held}
 use Rattle.text.proofs.body.read_lines.Given as goal
 
 abbrev pub invariant-loop-at : goal.invariant-loop-at

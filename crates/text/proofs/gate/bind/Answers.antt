@@ -4,7 +4,6 @@ use native.Mathlib.Omega.{arith}
 use lib.ListN.{length-set}
 use lib.Seq.{take-suc-set}
 use Rattle.text.proofs.Places.{marked_more}
-use borrow.Author.Rules.{rules}
 use Rattle.text.proofs.gate.bind.Goals as goal
 
 pub returns : goal.returns

@@ -5,7 +5,6 @@ use borrow.Author.Tests.{lt-ltb, le-ltb}
 use Rattle.formula.specs.Formula.{max_unknowns}
 use Rattle.text.specs.Reading.{max_variables, gate_cause}
 use Rattle.text.proofs.Places.{mark_none, mark_some}
-use borrow.Author.Rules.{rules}
 use Rattle.text.proofs.gate.gate_cause.Goals as goal
 
 pub returns-then-v-gt-LARGEST : goal.returns-then-v-gt-LARGEST

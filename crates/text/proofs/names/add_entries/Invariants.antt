@@ -1,21 +1,11 @@
 -- The words from `at` on, added after what the tables hold, give what the line does after what they held. Assumes nothing.
-use Prim.Native.Nat.{ℕ, ◌+◌, ◌-◌, ◌≤◌, ◌<◌}
-use mathlib.Core.Path.{◌≡◌, refl, ap, sym, subst, ◌∙◌}
-use mathlib.Core.List.{List}
-use native.Mathlib.Omega.{arith}
-use borrow.Author.Rules.{rules}
-use lib.ListN.{length, take, drop, length-set, length-drop, length-append}
-use lib.Seq.{length-take-le}
-use mir.Syntax.{w32}
-use mir.ValLaws.{to_z-of_z}
+use Prim.Native.Nat.{◌+◌, ◌-◌, ◌≤◌}
+use mathlib.Core.Path.{◌≡◌}
+use lib.ListN.{length, take, drop}
 use Rattle.formula.specs.Formula.{max_unknowns, max_entries}
 use Rattle.lines.specs.Lines.{words}
-use Rattle.lines.proofs.Pieces.{words_none}
-use Rattle.named.specs.Closing.{closed_names}
-use Rattle.text.specs.Reading.{State, went, literal_cause, with_entries, add_entries}
+use Rattle.text.specs.Reading.{State, with_entries, add_entries}
 use Rattle.text.specs.Private.Steps.{Marked, free_in, placed_in}
-use Rattle.text.proofs.NameLaws.{add_refused, add_taken}
-use Rattle.text.proofs.InsertLaws.{length_placed}
 use Rattle.text.proofs.names.add_entries.Given as goal
 
 abbrev pub invariant-loop-at : goal.invariant-loop-at

@@ -1,71 +1,15 @@
 -- The names from `at` on, bound after the `count` that the tables hold, give what those from i on do after n, and the names bound are marked. Assumes nothing.
-use Prim.Native.Nat.{◌-◌, ◌≤◌, ◌<◌}
-use mathlib.Core.Path.{◌≡◌, refl, ap, sym, ◌∙◌}
+use Prim.Native.Nat.{◌-◌, ◌<◌}
+use mathlib.Core.Path.{refl, ap, sym, ◌∙◌}
 use native.Mathlib.Omega.{arith}
-use borrow.Author.Rules.{rules}
-use lib.ListN.{length, take, drop, length-set}
+use lib.ListN.{take, drop, length-set}
 use lib.Seq.{length-take-le}
-use Rattle.formula.specs.Formula.{max_unknowns}
 use Rattle.lines.specs.Lines.{words}
-use Rattle.text.specs.Reading.{State, went, with_prefix, bind_all}
-use Rattle.text.specs.Private.Steps.{Marked}
+use Rattle.text.specs.Reading.{with_prefix, bind_all}
 use Rattle.lines.proofs.Pieces.{words_none}
-use Rattle.text.proofs.NameLaws.{bind_ended, bind_refused, bind_taken}
+use Rattle.text.proofs.NameLaws.{bind_taken}
 use Rattle.text.proofs.Places.{marked_more}
 use Rattle.text.proofs.names.bind_all.Goals as goal
-
-pub loop-at-init : goal.loop-at-init
-loop-at-init c = (c.requires.i_in_bounds.0, c.requires.i_in_bounds.1, refl, refl, λ s e. refl, c.requires.marked)
-
-pub returns-then-start-end : goal.returns-then-start-end
-returns-then-start-end c = record { kinds = c.loop-at.invariant.2 ∙ c.requires.i_in_bounds.3; names = c.loop-at.invariant.3 ∙ c.requires.i_in_bounds.4; room = c.loop-at.invariant.1; marked = c.loop-at.invariant.5; right = λ s e. sym (c.loop-at.invariant.4 s e ∙ rw (c.next-w.ensures.none c.if-start-end.true) refl) }
-
-pub slice_bounds-number-count : goal.slice_bounds-number-count
-slice_bounds-number-count c = omega (arith, c.next-w.ensures.ordered)
-
-pub slice_bounds-number-start : goal.slice_bounds-number-start
-slice_bounds-number-start c = omega (arith, c.next-w.ensures.ordered)
-
-pub slice_bounds-number-end : goal.slice_bounds-number-end
-slice_bounds-number-end c = omega (arith, c.next-w.ensures.within)
-
-pub returns-then-v-eq0 : goal.returns-then-v-eq0
-returns-then-v-eq0 c =
-    let h : c.next-w.result.start < c.next-w.result.end = omega (arith, c.next-w.ensures.ordered) in
-    record { kinds = c.loop-at.invariant.2 ∙ c.requires.i_in_bounds.3; names = c.loop-at.invariant.3 ∙ c.requires.i_in_bounds.4; room = c.loop-at.invariant.1; marked = c.loop-at.invariant.5; right = λ s e. sym (c.loop-at.invariant.4 s e ∙ ap (bind_all c.args.kind (with_prefix s (take c.loop-at.count c.loop-at.kinds) (take c.loop-at.count c.loop-at.names))) (c.next-w.ensures.some h) ∙ bind_ended c.args.kind c.loop-at.count c.number-v.result c.loop-at.kinds c.loop-at.names (take (c.next-w.result.end - c.next-w.result.start) (drop c.next-w.result.start c.args.line.now)) (words (drop c.next-w.result.end c.args.line.now)) c.number-v.ensures s c.if-v-eq0.true) }
-
-pub name_cause-cause-requires : goal.name_cause-cause-requires
-name_cause-cause-requires c = omega arith
-
-pub returns-then-cause-ne0 : goal.returns-then-cause-ne0
-returns-then-cause-ne0 c =
-    let l = length-take-le c.loop-at.count c.loop-at.names (omega arith) in
-    let k = c.name_cause-cause.ensures.right (take c.loop-at.count c.loop-at.names) l c.loop-at.invariant.5 in
-    let h : c.next-w.result.start < c.next-w.result.end = omega (arith, c.next-w.ensures.ordered) in
-    record { kinds = c.loop-at.invariant.2 ∙ c.requires.i_in_bounds.3; names = c.loop-at.invariant.3 ∙ c.requires.i_in_bounds.4; room = c.loop-at.invariant.1; marked = c.loop-at.invariant.5; right = λ s e. sym (c.loop-at.invariant.4 s e ∙ ap (bind_all c.args.kind (with_prefix s (take c.loop-at.count c.loop-at.kinds) (take c.loop-at.count c.loop-at.names))) (c.next-w.ensures.some h) ∙ bind_refused c.args.kind c.loop-at.count c.number-v.result c.loop-at.kinds c.loop-at.names (take (c.next-w.result.end - c.next-w.result.start) (drop c.next-w.result.start c.args.line.now)) (words (drop c.next-w.result.end c.args.line.now)) c.number-v.ensures s c.args.variables c.name_cause-cause.result e k c.if-v-eq0.false c.if-cause-ne0.true (went (with_prefix s (take c.loop-at.count c.loop-at.kinds) (take c.loop-at.count c.loop-at.names)))) }
-
-pub bounds-kinds-count : goal.bounds-kinds-count
-bounds-kinds-count c = let z = c.name_cause-cause.ensures.room c.if-cause-ne0.false in omega (arith, z.0, z.1)
-
-pub overflow_cast-names : goal.overflow_cast-names
-overflow_cast-names c = let z = c.name_cause-cause.ensures.room c.if-cause-ne0.false in omega (arith, z.0, z.1)
-
-pub offset_bounds-names-count : goal.offset_bounds-names-count
-offset_bounds-names-count c = omega arith
-
-pub bounds-names-count : goal.bounds-names-count
-bounds-names-count c = let z = c.name_cause-cause.ensures.room c.if-cause-ne0.false in omega (arith, z.0, z.1)
-
-pub overflow_add-count : goal.overflow_add-count
-overflow_add-count c = omega arith
-
-pub bounds-places-v : goal.bounds-places-v
-bounds-places-v c = let z = c.name_cause-cause.ensures.room c.if-cause-ne0.false in omega (arith, z.0, z.1)
-
-pub loop-at-smaller : goal.loop-at-smaller
-loop-at-smaller c =
-    let h : c.next-w.result.start < c.next-w.result.end = omega (arith, c.next-w.ensures.ordered) in
-    omega (arith, c.next-w.ensures.onward h, c.next-w.ensures.within)
 
 pub loop-at-preserved : goal.loop-at-preserved
 loop-at-preserved c =

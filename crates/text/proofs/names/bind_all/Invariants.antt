@@ -1,17 +1,11 @@
 -- The names from `at` on, bound after the `count` that the tables hold, give what those from i on do after n, and the names bound are marked. Assumes nothing.
-use Prim.Native.Nat.{◌-◌, ◌≤◌, ◌<◌}
-use mathlib.Core.Path.{◌≡◌, refl, ap, sym, ◌∙◌}
-use native.Mathlib.Omega.{arith}
-use borrow.Author.Rules.{rules}
-use lib.ListN.{length, take, drop, length-set}
-use lib.Seq.{length-take-le}
+use Prim.Native.Nat.{◌-◌, ◌≤◌}
+use mathlib.Core.Path.{◌≡◌}
+use lib.ListN.{length, take, drop}
 use Rattle.formula.specs.Formula.{max_unknowns}
 use Rattle.lines.specs.Lines.{words}
-use Rattle.text.specs.Reading.{State, went, with_prefix, bind_all}
+use Rattle.text.specs.Reading.{State, with_prefix, bind_all}
 use Rattle.text.specs.Private.Steps.{Marked}
-use Rattle.lines.proofs.Pieces.{words_none}
-use Rattle.text.proofs.NameLaws.{bind_ended, bind_refused, bind_taken}
-use Rattle.text.proofs.Places.{marked_more}
 use Rattle.text.proofs.names.bind_all.Given as goal
 
 abbrev pub invariant-loop-at : goal.invariant-loop-at

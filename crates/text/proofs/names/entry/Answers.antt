@@ -3,7 +3,6 @@ use mathlib.Core.Path.{refl, sym, ◌∙◌}
 use native.Mathlib.Omega.{arith}
 use mir.Syntax.{w32}
 use mir.ValLaws.{to_z-of_z}
-use borrow.Author.Rules.{rules}
 use Rattle.text.proofs.WordLaws.{word_zero, word_above, word_literal}
 use Rattle.text.proofs.names.entry.Goals as goal
 

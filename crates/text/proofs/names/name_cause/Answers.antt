@@ -11,9 +11,6 @@ pub returns-then-variables-v : goal.returns-then-variables-v
 unfolding name_cause
 returns-then-variables-v c = record { room = λ h. absurd (omega arith); right = λ names l x. rw (lt-ltb c.args.variables c.args.v c.if-variables-v.true) refl }
 
-pub bounds-places-v : goal.bounds-places-v
-bounds-places-v c = omega arith
-
 pub returns-then-places-v-ne0 : goal.returns-then-places-v-ne0
 unfolding name_cause
 returns-then-places-v-ne0 c = record { room = λ h. absurd (omega arith); right = λ names l x. rw (le-ltb c.args.variables c.args.v c.if-variables-v.false, mark_some x c.args.v (omega arith) c.if-places-v-ne0.true) refl }

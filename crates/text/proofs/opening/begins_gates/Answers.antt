@@ -1,14 +1,12 @@
 -- The line behind the comments. Assumes nothing.
 use Prim.Native.Nat.{ℕ}
-use mathlib.Core.Path.{◌≡◌, ap, sym, ◌∙◌}
+use mathlib.Core.Path.{ap, sym, ◌∙◌}
 use native.Mathlib.Omega.{arith}
 use lib.ListN.{take, drop, length-drop}
 use Rattle.lines.specs.Lines.{words}
-use Rattle.lines.specs.Places.{before}
 use Rattle.lines.proofs.Spans.{before_le}
 use Rattle.text.specs.Form.{gates_told, begins_gates}
 use Rattle.text.proofs.FormLaws.{width}
-use borrow.Author.Rules.{rules}
 use Rattle.text.proofs.opening.begins_gates.Goals as goal
 
 pub slice_bounds-tells_gates-end : goal.slice_bounds-tells_gates-end

@@ -1,22 +1,16 @@
 -- The lines passed begin with c. Assumes nothing.
-use Prim.Native.Nat.{ℕ, ◌+◌, ◌-◌, ◌≤◌, ◌<◌}
-use mathlib.Core.Path.{◌≡◌, refl, ap, sym, ◌∙◌}
+use Prim.Native.Nat.{ℕ, ◌+◌, ◌<◌}
+use mathlib.Core.Path.{refl, ap, sym, ◌∙◌}
 use native.Mathlib.Omega.{arith}
 use native.Mathlib.Numerals.{add-one}
 use borrow.Author.Tests.{eq-eqb, ne_eqb}
-use mathlib.Core.Bool.{Bool}
-use borrow.Author.Rules.{rules}
 use lib.ListN.{length, drop, get_or, length-drop}
 use Rattle.lines.specs.Lines.{lines}
 use Rattle.text.specs.Reading.{after_comments}
-use Rattle.text.specs.Form.{p_words}
 use Rattle.lines.proofs.Spans.{before_le}
 use Rattle.lines.proofs.LineLaws.{lines_line, lines_rest, lines_none, comment_first}
 use Rattle.text.proofs.FormLaws.{words_line, words_rest, words_comment, words_none}
 use Rattle.text.proofs.opening.comments.Goals as goal
-
-pub loop-at-init : goal.loop-at-init
-loop-at-init c = (omega arith, omega arith, (λ gates. refl), refl)
 
 pub returns-then-end-text : goal.returns-then-end-text
 returns-then-end-text c =
@@ -30,9 +24,6 @@ returns-then-end-text c =
       right = λ gates. rw (← turn.invariant.2 gates, lines_rest text turn.at found.result found.ensures some c.if-end-text.true) refl;
       opens = sym turn.invariant.3 ∙ words_rest text turn.at found.result found.ensures some c.if-end-text.true;
     }
-
-pub bounds-text-at : goal.bounds-text-at
-bounds-text-at c = omega arith
 
 pub returns-then-text-at-ne99 : goal.returns-then-text-at-ne99
 returns-then-text-at-ne99 c =
@@ -52,12 +43,6 @@ pub overflow_add-at : goal.overflow_add-at
 overflow_add-at c =
     let text = c.args.text.now in
     omega (arith, before_le 10 (drop c.loop-at.at text), length-drop c.loop-at.at text)
-
-pub overflow_add-line : goal.overflow_add-line
-overflow_add-line c = omega arith
-
-pub loop-at-smaller : goal.loop-at-smaller
-loop-at-smaller c = omega arith
 
 pub loop-at-preserved : goal.loop-at-preserved
 loop-at-preserved c =

@@ -1,18 +1,11 @@
 -- The lines passed begin with c. Assumes nothing.
-use Prim.Native.Nat.{ℕ, ◌+◌, ◌-◌, ◌≤◌, ◌<◌}
-use mathlib.Core.Path.{◌≡◌, refl, ap, sym, ◌∙◌}
-use native.Mathlib.Omega.{arith}
-use native.Mathlib.Numerals.{add-one}
-use borrow.Author.Tests.{eq-eqb, ne_eqb}
+use Prim.Native.Nat.{◌+◌, ◌-◌, ◌≤◌}
+use mathlib.Core.Path.{◌≡◌}
 use mathlib.Core.Bool.{Bool}
-use borrow.Author.Rules.{rules}
-use lib.ListN.{length, drop, get_or, length-drop}
+use lib.ListN.{length, drop}
 use Rattle.lines.specs.Lines.{lines}
 use Rattle.text.specs.Reading.{after_comments}
 use Rattle.text.specs.Form.{p_words}
-use Rattle.lines.proofs.Spans.{before_le}
-use Rattle.lines.proofs.LineLaws.{lines_line, lines_rest, lines_none, comment_first}
-use Rattle.text.proofs.FormLaws.{words_line, words_rest, words_comment, words_none}
 use Rattle.text.proofs.opening.comments.Given as goal
 
 abbrev pub invariant-loop-at : goal.invariant-loop-at

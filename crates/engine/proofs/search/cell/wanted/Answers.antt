@@ -2,7 +2,6 @@
 use mathlib.Core.Path.{sym}
 use native.Mathlib.Omega.{arith}
 use Rattle.search_cells.proofs.CellLaws.{wants_at}
-use borrow.Author.Rules.{rules}
 use Rattle.engine.proofs.search.cell.wanted.Goals as goal
 
 pub returns : goal.returns

@@ -4,7 +4,6 @@ use mathlib.Core.Logic.{inl, inr}
 use mathlib.Core.Bool.{false≢true}
 use borrow.Author.Tests.{eqb-true}
 use lib.ListN.{get_or}
-use borrow.Author.Rules.{rules}
 use Rattle.engine.proofs.search.clauses.begins.Goals as goal
 
 pub returns-then-start-eq0 : goal.returns-then-start-eq0

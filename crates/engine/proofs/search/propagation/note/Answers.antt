@@ -4,7 +4,6 @@ use native.Mathlib.Omega.{arith}
 use lib.ListN.{length-set}
 use Rattle.formula.specs.Formula.{max_unknowns}
 use Rattle.search_sets.proofs.MaskLaws.{store_behind, kept_trans, kept_grown}
-use borrow.Author.Rules.{rules}
 use Rattle.engine.proofs.search.CallLaws.{grows}
 use Rattle.engine.proofs.search.propagation.note.Goals as goal
 

@@ -2,7 +2,6 @@
 use lib.ListN.{length-set}
 use Rattle.engine.proofs.search.HeldSteps.{same_store}
 use native.Mathlib.Omega.{arith}
-use borrow.Author.Rules.{rules}
 use Rattle.engine.proofs.search.reasons.is_due.Goals as goal
 
 pub bounds-sets-516 : goal.bounds-sets-516

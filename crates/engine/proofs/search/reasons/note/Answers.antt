@@ -2,7 +2,6 @@
 use lib.ListN.{length-set}
 use Rattle.engine.proofs.search.HeldSteps.{same_store, same_trans}
 use native.Mathlib.Omega.{arith}
-use borrow.Author.Rules.{rules}
 use Rattle.engine.proofs.search.reasons.note.Goals as goal
 
 pub bounds-sets-518 : goal.bounds-sets-518

@@ -6,7 +6,6 @@ use mathlib.Core.Path.{refl}
 use native.Mathlib.Omega.{arith}
 use Rattle.search_sets.proofs.MaskLaws.{kept_trans}
 use Rattle.engine.proofs.search.SatisfiedRows.{part_kept}
-use borrow.Author.Rules.{rules}
 use Rattle.engine.proofs.search.satisfied_rows.begin.Goals as goal
 
 pub returns-else-sets-eq-WORDS : goal.returns-else-sets-eq-WORDS

@@ -1,16 +1,10 @@
 -- `better` meets its contract. Assumes nothing.
-use mathlib.Core.Path.{refl, sym, ◌∙◌, subst}
 use Prim.Native.Nat.{ℕ}
+use mathlib.Core.Path.{refl, sym, ap, ◌∙◌, subst}
 use mathlib.Core.Logic.{inl, inr, ⊎_elim}
+use Rattle.engine.specs.declared.search.satisfied_rows.Truth.TheVariants.{At}
 use Rattle.engine.specs.Private.Satisfied.{IsGiven}
-use borrow.Author.Rules.{rules}
 use Rattle.engine.proofs.search.satisfied_rows.better.Goals as goal
-
-pub returns-then-best-eq-GIVEN : goal.returns-then-best-eq-GIVEN
-returns-then-best-eq-GIVEN c = inl refl
-
-pub returns-else-satisfied : goal.returns-else-satisfied
-returns-else-satisfied c = inl refl
 
 pub returns-then-is_given : goal.returns-then-is_given
 returns-then-is_given c = inr (
@@ -22,9 +16,10 @@ returns-then-is_given c = inr (
   ),
 )
 
-pub returns : goal.returns
-returns c = ⊎_elim (λ e. inr (
-  sym c.satisfied.ensures ∙ c.if-satisfied.true,
-  inr
-      (e ∙ c.position-p.ensures.0),
-)) (λ e. inl e) c.earlier.ensures
+pub returns-in-At : goal.returns-in-At
+returns-in-At c = ⊎_elim
+    (λ e. inr (sym c.satisfied.ensures ∙ c.if-satisfied.true, inr (ap (λ (p : ℕ). At p) (e ∙ c.position-p.ensures.0))))
+    (λ e. inl (ap (λ (p : ℕ). At p) e ∙ sym c.in-At.is)) c.earlier.ensures
+
+pub returns-in_default-best : goal.returns-in_default-best
+returns-in_default-best c = inr (sym c.satisfied.ensures ∙ c.if-satisfied.true, inr (ap (λ (p : ℕ). At p) c.position-p.ensures.0))

@@ -1,7 +1,6 @@
 -- `check` meets its contract. Assumes nothing.
 use mathlib.Core.Path.{refl, ◌∙◌}
 use Rattle.engine.proofs.search.SatisfiedRows.{rows_live, checked_after}
-use borrow.Author.Rules.{rules}
 use Rattle.engine.proofs.search.satisfied_rows.check.Goals as goal
 
 pub returns-else-sizes_fit : goal.returns-else-sizes_fit

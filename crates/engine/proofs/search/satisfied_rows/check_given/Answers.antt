@@ -1,7 +1,6 @@
 -- `check_given` meets its contract. Assumes nothing.
 use mathlib.Core.Path.{refl}
 use Rattle.engine.proofs.search.SatisfiedRows.{rows_live}
-use borrow.Author.Rules.{rules}
 use Rattle.engine.proofs.search.satisfied_rows.check_given.Goals as goal
 
 pub returns-else-sizes_fit : goal.returns-else-sizes_fit

@@ -3,7 +3,6 @@ use mathlib.Core.Path.{refl}
 use native.Mathlib.Omega.{arith}
 use Rattle.engine.proofs.search.SatisfiedRows.{false_found, false_unknown}
 use Rattle.search_sets.proofs.MaskLaws.{store_behind}
-use borrow.Author.Rules.{rules}
 use Rattle.engine.proofs.search.satisfied_rows.finds_false.Goals as goal
 
 pub returns-else-sizes_fit : goal.returns-else-sizes_fit

@@ -2,7 +2,6 @@
 use mathlib.Core.Path.{◌∙◌, sym}
 use mathlib.Core.Bool.{false≢true}
 use borrow.Author.Tests.{eqb-true}
-use borrow.Author.Rules.{rules}
 use Rattle.engine.proofs.search.satisfied_rows.is_false.Goals as goal
 
 pub returns-then-begins : goal.returns-then-begins

@@ -3,7 +3,6 @@ use mathlib.Core.Bool.{false≢true}
 use lib.Dec.{eqb}
 use lib.ListN.{get_or}
 use Rattle.engine.proofs.search.SatisfiedRows.{not_true}
-use borrow.Author.Rules.{rules}
 use Rattle.engine.proofs.search.satisfied_rows.is_given.Goals as goal
 
 pub returns-then-p-kinds : goal.returns-then-p-kinds

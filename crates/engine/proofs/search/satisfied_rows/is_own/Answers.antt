@@ -1,6 +1,5 @@
 -- `is_own` meets its contract. Assumes nothing.
 use mathlib.Core.Bool.{false≢true}
-use borrow.Author.Rules.{rules}
 use Rattle.engine.proofs.search.satisfied_rows.is_own.Goals as goal
 
 pub returns-then-p-kinds : goal.returns-then-p-kinds

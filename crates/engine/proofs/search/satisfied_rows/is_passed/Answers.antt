@@ -1,7 +1,6 @@
 -- `is_passed` meets its contract. Assumes nothing.
 use mathlib.Core.Path.{sym, ◌∙◌}
 use Rattle.engine.proofs.search.TermLaws.{term_closed, term_passed}
-use borrow.Author.Rules.{rules}
 use Rattle.engine.proofs.search.satisfied_rows.is_passed.Goals as goal
 
 pub returns-then-is_open : goal.returns-then-is_open

@@ -4,7 +4,6 @@ use native.Mathlib.Omega.{arith}
 use lib.ListN.{length-set}
 use Rattle.engine.proofs.search.SatisfiedRows.{row_unsatisfied, row_row_satisfied}
 use Rattle.search_sets.proofs.MaskLaws.{store_behind, kept_trans}
-use borrow.Author.Rules.{rules}
 use Rattle.engine.proofs.search.satisfied_rows.none_unsatisfied.Goals as goal
 
 pub returns-then-unsatisfied : goal.returns-then-unsatisfied

@@ -2,7 +2,6 @@
 use mathlib.Core.Path.{refl}
 use native.Mathlib.Omega.{arith}
 use Rattle.search_sets.proofs.MaskLaws.{store_behind}
-use borrow.Author.Rules.{rules}
 use Rattle.engine.proofs.search.satisfied_rows.note_true.Goals as goal
 
 pub returns-else-k-lt-UNKNOWNS : goal.returns-else-k-lt-UNKNOWNS

@@ -1,7 +1,6 @@
 -- `row_satisfied` meets its contract. Assumes nothing.
 use mathlib.Core.Path.{refl}
 use Rattle.engine.proofs.search.SatisfiedRows.{told_unsatisfied, told_looked}
-use borrow.Author.Rules.{rules}
 use Rattle.engine.proofs.search.satisfied_rows.row_satisfied.Goals as goal
 
 pub returns-then-left-eq0 : goal.returns-then-left-eq0

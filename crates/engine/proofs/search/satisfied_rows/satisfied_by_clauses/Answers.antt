@@ -1,6 +1,5 @@
 -- `satisfied_by_clauses` meets its contract. Assumes nothing.
 use Rattle.engine.proofs.search.SatisfiedRows.{empties, row_reasons_added}
-use borrow.Author.Rules.{rules}
 use Rattle.engine.proofs.search.satisfied_rows.satisfied_by_clauses.Goals as goal
 
 pub returns : goal.returns

@@ -1,7 +1,6 @@
 -- `satisfied_by_terms` meets its contract. Assumes nothing.
 use Rattle.engine.proofs.search.SatisfiedRows.{empties}
 use Rattle.engine.proofs.search.TermLaws.{row_told, row_read}
-use borrow.Author.Rules.{rules}
 use Rattle.engine.proofs.search.satisfied_rows.satisfied_by_terms.Goals as goal
 
 pub returns-then-terms_met : goal.returns-then-terms_met

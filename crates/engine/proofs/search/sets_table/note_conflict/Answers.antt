@@ -1,6 +1,5 @@
 -- `sets_table::note_conflict` meets its contract: what it writes stands behind the sets. Assumes nothing.
 use native.Mathlib.Omega.{arith}
-use borrow.Author.Rules.{rules}
 use Rattle.engine.proofs.search.HeldSteps.{same_store}
 use Rattle.engine.proofs.search.sets_table.note_conflict.Goals as goal
 

@@ -1,25 +1,6 @@
 -- `decide` meets its contract. Assumes nothing.
 use Rattle.engine.proofs.search.HeldSteps.{decides}
-use native.Mathlib.Omega.{arith}
 use Rattle.engine.proofs.search.shortening.decide.Goals as goal
-
-pub new_level-level-requires : goal.new_level-level-requires
-new_level-level-requires c = omega arith
-
-pub put-requires : goal.put-requires
-put-requires c = (omega arith, omega arith, omega arith, omega arith, omega arith)
-
-pub enqueue_alone-requires : goal.enqueue_alone-requires
-enqueue_alone-requires c = omega arith
-
-pub propagate-requires : goal.propagate-requires
-propagate-requires c = (omega arith, omega arith, omega arith)
-
-pub shape_of-line : goal.shape_of-line
-shape_of-line c = omega arith
-
-pub shape_of-own : goal.shape_of-own
-shape_of-own c = omega arith
 
 pub returns : goal.returns
 returns c =

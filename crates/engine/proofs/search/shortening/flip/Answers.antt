@@ -2,33 +2,7 @@
 use mathlib.Core.Path.{ap}
 use mathlib.Core.Bool.{not}
 use Rattle.engine.proofs.search.HeldSteps.{turns}
-use native.Mathlib.Omega.{arith}
-use borrow.Author.Rules.{rules}
 use Rattle.engine.proofs.search.shortening.flip.Goals as goal
-
-pub open_above-requires : goal.open_above-requires
-open_above-requires c = omega arith
-
-pub inherit-requires : goal.inherit-requires
-inherit-requires c = (omega arith, omega arith)
-
-pub value-requires : goal.value-requires
-value-requires c = (omega arith, omega arith, omega arith)
-
-pub set-requires : goal.set-requires
-set-requires c = (omega arith, omega arith)
-
-pub enqueue_alone-requires : goal.enqueue_alone-requires
-enqueue_alone-requires c = omega arith
-
-pub propagate-requires : goal.propagate-requires
-propagate-requires c = (omega arith, omega arith, omega arith)
-
-pub shape_of-line : goal.shape_of-line
-shape_of-line c = omega arith
-
-pub shape_of-own : goal.shape_of-own
-shape_of-own c = omega arith
 
 pub returns : goal.returns
 returns c =

@@ -3,18 +3,6 @@ use Rattle.engine.proofs.search.HeldSteps.{put_held}
 use native.Mathlib.Omega.{arith}
 use Rattle.engine.proofs.search.shortening.put.Goals as goal
 
-pub value-requires : goal.value-requires
-value-requires c = (omega arith, omega arith, omega arith)
-
-pub set-requires : goal.set-requires
-set-requires c = (omega arith, omega arith)
-
-pub shape_of-line : goal.shape_of-line
-shape_of-line c = omega arith
-
-pub shape_of-own : goal.shape_of-own
-shape_of-own c = omega arith
-
 pub returns : goal.returns
 returns c =
     let value_call = c.value in

@@ -5,17 +5,8 @@ use Rattle.engine.proofs.search.HeldSteps.{inheriting_passed, inheriting_more, h
 use native.Mathlib.Omega.{arith}
 use Rattle.engine.proofs.search.shortening.take.Goals as goal
 
-pub returns-then-l-p : goal.returns-then-l-p
-returns-then-l-p c = λ o so_far. inheriting_passed (omega arith) so_far (λ h n. n (omega arith))
-
-pub shape_of-own-then-has : goal.shape_of-own-then-has
-shape_of-own-then-has c = omega arith
-
 pub returns-then-has : goal.returns-then-has
 returns-then-has c = λ o so_far. inheriting_more (omega arith) so_far (omega arith) (omega arith) c.add.ensures
-
-pub shape_of-own-else-has : goal.shape_of-own-else-has
-shape_of-own-else-has c = omega arith
 
 pub returns-else-has : goal.returns-else-has
 returns-else-has c = λ o so_far. inheriting_passed (omega arith) so_far

@@ -4,7 +4,6 @@ use mathlib.Core.Path.{◌≡◌}
 use native.Mathlib.Omega.{arith}
 use Rattle.engine.proofs.search.PropagationLaws.{lent_existential}
 use Rattle.engine.proofs.search.SatisfiedLaws.{group_checked}
-use borrow.Author.Rules.{rules}
 use Rattle.engine.proofs.search.solve.consequences.Goals as goal
 
 pub propagate_from-requires : goal.propagate_from-requires

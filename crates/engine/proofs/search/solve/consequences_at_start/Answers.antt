@@ -4,7 +4,6 @@ use native.Mathlib.Omega.{arith}
 use lib.ListN.{length}
 use Rattle.engine.proofs.search.PropagationLaws.{lent_existential}
 use Rattle.engine.proofs.search.SatisfiedLaws.{group_checked}
-use borrow.Author.Rules.{rules}
 use Rattle.engine.proofs.search.solve.consequences_at_start.Goals as goal
 
 pub propagate_all-requires : goal.propagate_all-requires

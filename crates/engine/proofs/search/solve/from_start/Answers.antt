@@ -1,8 +1,7 @@
 -- `solve::from_start` meets its contract. Assumes nothing.
 use native.Mathlib.Omega.{arith}
-use mathlib.Core.Path.{refl, ◌∙◌}
+use mathlib.Core.Path.{◌∙◌}
 use Rattle.engine.proofs.search.SearchSteps.{start_searched, start_refuted}
-use borrow.Author.Rules.{rules}
 use Rattle.engine.proofs.search.solve.from_start.Goals as goal
 
 pub consequences_at_start-requires : goal.consequences_at_start-requires

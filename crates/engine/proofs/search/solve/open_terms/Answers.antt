@@ -1,5 +1,4 @@
 -- `solve::open_terms` meets its contract. Assumes nothing.
-use borrow.Author.Rules.{rules}
 use Rattle.engine.proofs.search.solve.open_terms.Goals as goal
 
 pub returns-then-side-eq1 : goal.returns-then-side-eq1

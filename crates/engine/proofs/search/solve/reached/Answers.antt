@@ -1,7 +1,6 @@
 -- `solve::reached` meets its contract: a false clause reaches the universal side's goal. Assumes nothing.
 use native.Mathlib.Omega.{arith}
 use Rattle.engine.proofs.search.GoalLaws.{reached_false, reached_after}
-use borrow.Author.Rules.{rules}
 use Rattle.engine.proofs.search.solve.reached.Goals as goal
 
 pub values_reach-requires : goal.values_reach-requires

@@ -1,10 +1,9 @@
 -- `solve::values_reach` meets its contract: the matrix is the goal on the existential side, and its opposite on the other. Assumes nothing.
-use mathlib.Core.Logic.{inl, inr, ⊎_elim}
+use mathlib.Core.Logic.{inl, inr}
 use native.Mathlib.Omega.{arith}
 use Rattle.formula.specs.Formula.{max_unknowns}
 use Rattle.engine.proofs.search.CallLaws.{matrix_of, fills_kept, fills}
 use Rattle.engine.proofs.search.GoalLaws.{reached_goal, reached_not}
-use borrow.Author.Rules.{rules}
 use Rattle.engine.proofs.search.solve.values_reach.Goals as goal
 use Rattle.engine.proofs.search.solve.values_reach.Goals.{else-side-eq0+then-all-2, then-side-eq0+else-all}
 

@@ -1,6 +1,0 @@
--- The measure is what is left of the table.
-use Rattle.std.proofs.Common.{length, ◌-◌}
-use Rattle.worked.proofs.as_found.Given as goal
-
-abbrev pub decreases-loop-i : goal.decreases-loop-i
-decreases-loop-i l = length l.table - l.i
