@@ -53,10 +53,15 @@ pub slice_bounds-tell-end-6 : goal.slice_bounds-tell-end-6
 slice_bounds-tell-end-6 c = sym (c.run-end.auto.existential_counts ∙ length-replicate {A = ℕ} max_rows 0)
 
 pub tell-requires : goal.tell-requires
-tell-requires c = tables_so c.args.kinds.now c.args.literals.now c.args.names.now c.universal_unknowns-universals.result c.requires c.universal_unknowns-universals.ensures c.run-end.ensures (c.run-end.auto.universal_rows ∙ length-replicate {A = ℕ} (16 * max_rows) 0) (c.run-end.auto.universal_marks ∙ length-replicate {A = ℕ} max_rows 0) (c.run-end.auto.universal_counts ∙ length-replicate {A = ℕ} max_rows 0) (c.run-end.auto.existential_rows ∙ length-replicate {A = ℕ} (16 * max_rows) 0) (c.run-end.auto.existential_marks ∙ length-replicate {A = ℕ} max_rows 0) (c.run-end.auto.existential_counts ∙ length-replicate {A = ℕ} max_rows 0)
+tell-requires c = tables_so c.args.kinds.now c.args.literals.now c.args.names.now c.universal_unknowns-universals.result c.requires
+    c.universal_unknowns-universals.ensures c.run-end.ensures (c.run-end.auto.universal_rows ∙ length-replicate {A = ℕ} (16 * max_rows) 0)
+    (c.run-end.auto.universal_marks ∙ length-replicate {A = ℕ} max_rows 0) (c.run-end.auto.universal_counts ∙ length-replicate {A = ℕ} max_rows 0)
+    (c.run-end.auto.existential_rows ∙ length-replicate {A = ℕ} (16 * max_rows) 0) (c.run-end.auto.existential_marks ∙ length-replicate {A = ℕ} max_rows 0)
+    (c.run-end.auto.existential_counts ∙ length-replicate {A = ℕ} max_rows 0)
 
 pub shape_of-out : goal.shape_of-out
 shape_of-out c = c.tell.auto.out
 
 pub returns : goal.returns
-returns c = delivered_as (ap lines (told_so c.args.kinds.now c.args.literals.now c.args.names.now c.universal_unknowns-universals.result c.requires c.universal_unknowns-universals.ensures c.run-end.ensures c.args.variables c.args.clauses)) c.tell.ensures
+returns c = delivered_as (ap lines (told_so c.args.kinds.now c.args.literals.now c.args.names.now c.universal_unknowns-universals.result c.requires
+    c.universal_unknowns-universals.ensures c.run-end.ensures c.args.variables c.args.clauses)) c.tell.ensures
