@@ -166,6 +166,16 @@ module _ (places : List ℕ) (low : Low places) where
       × (length (walked places 1 t literals) + length (walked places 2 t literals) ≤ 18 * length literals)
   walked_most t literals few short = walk_most (kept_from places literals) t literals (omega arith)
 
+  pub row_most : (claim t : ℕ) (literals : List ℤ) → t ≤ 557056 → length literals ≤ 8192 → length (row_bytes places claim t literals) ≤ 18 * length literals + 2
+  row_most zero t literals few short = omega (arith, (walked_most t literals few short).0)
+  row_most (suc claim) t literals few short =
+      omega (
+        arith,
+        (walked_most t literals few short).1,
+        length-append (walked places 1 t literals ++ walked places 2 t literals) (ascii "0\n"),
+        length-append (walked places 1 t literals) (walked places 2 t literals),
+      )
+
 pub row_zero : (places : List ℕ) (claim t : ℕ) (literals : List ℤ) → claim ≡ 0 → row_bytes places claim t literals ≡ walked places 0 t literals
 row_zero places claim t literals e = rw e refl
 

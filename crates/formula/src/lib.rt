@@ -141,13 +141,25 @@ fn absolute(literal: i32) -> u32
 fn has_other_kind(kinds: &[u8]) -> bool
     ensures { result ≡ any other_kind kinds.now }
 {
-    kinds.iter().any(|kind| *kind > 1)
+    let mut found = false;
+    for kind in kinds {
+        if *kind > 1 {
+            found = true;
+        }
+    }
+    found
 }
 
 fn count_universals(kinds: &[u8]) -> usize
     ensures { result ≡ count universal (prefix kinds.now) }
 {
-    kinds.iter().filter(|kind| **kind > 0).count()
+    let mut universals: usize = 0;
+    for kind in kinds {
+        if *kind != 0 {
+            universals += 1;
+        }
+    }
+    universals
 }
 
 // A count of 32 bits, so that the compiler looks at more entries at once than for one of 64.

@@ -328,19 +328,21 @@ fn mark_value(first: u16, i: usize) -> u16 {
 
 // Whether the table has its own values from an index on.
 fn as_found(table: &[u8], first: u8, from: usize) -> bool {
-    table
-        .iter()
-        .enumerate()
-        .skip(from)
-        .all(|(i, byte)| *byte == value(first, i))
+    for i in from..table.len() {
+        if table[i] != value(first, i) {
+            return false;
+        }
+    }
+    true
 }
 
 fn marks_as_found(marks: &[u16], first: u16, from: usize) -> bool {
-    marks
-        .iter()
-        .enumerate()
-        .skip(from)
-        .all(|(i, mark)| *mark == mark_value(first, i))
+    for i in from..marks.len() {
+        if marks[i] != mark_value(first, i) {
+            return false;
+        }
+    }
+    true
 }
 
 // Whether both tables of a side are as found past a count.
